@@ -1,0 +1,12 @@
+pub mod AgreeLemmas
+pub mod CutLemmas
+pub mod MeansLemmas
+pub mod NumberLemmas
+pub mod ReachLemmas
+pub mod RecordLemmas
+pub mod ScriptLemmas
+pub mod SeatLemmas
+pub mod SlotLemmas
+pub mod TruthLemmas
+pub mod UniqueLemmas
+pub mod Walks

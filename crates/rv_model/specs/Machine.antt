@@ -1,0 +1,9 @@
+-- An automaton as a plain value.
+use Rattle.std.specs.Prelude.{ℕ, List}
+use Rattle.rv_model.specs.declared.automaton.Edge.{Edge}
+
+pub record Machine : Type 0 where
+  pub states : List (List ℕ)
+  pub events : List (List ℕ)
+  pub edges : List Edge
+  pub marked : ℕ

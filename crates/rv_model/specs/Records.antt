@@ -1,0 +1,92 @@
+-- What a history shows of each delivery.
+use Rattle.std.specs.Prelude.{ℕ, ◌+◌, Bool, true, false, List, [], ◌∷◌, ◌++◌, filter, map, zip, reverse, flat_map, slice_range, nat_le, if◌then◌else◌}
+use Rattle.std.specs.List.{list_any}
+use Rattle.rv_model.specs.declared.entry.Act.{Act}
+use Rattle.rv_model.specs.declared.entry.Act.TheVariants.{Deliver, Stop, Look}
+use Rattle.rv_model.specs.declared.entry.Entry.{Entry}
+use Rattle.rv_model.specs.declared.entry.Answer.{Answer}
+use Rattle.rv_model.specs.declared.entry.Answer.TheVariants.{Looked}
+use Rattle.rv_model.specs.declared.work.Delivery.{Delivery}
+use Rattle.rv_model.specs.declared.work.Turn.{Turn}
+use Rattle.rv_model.specs.declared.record.Delivered.{Delivered}
+use Rattle.rv_model.specs.declared.record.Delivered.TheVariants.{Done, Racing}
+use Rattle.rv_model.specs.declared.record.Record.{Record}
+use Rattle.rv_model.specs.Numbers.{has_bit}
+use Rattle.rv_model.specs.Judging.{Judge}
+use Rattle.rv_model.specs.Scripts.{Played, played, is_shown, fails}
+use Rattle.rv_model.specs.Histories.{Input}
+
+-- ---- one script
+
+abbrev pub is_look_act : Act → Bool
+is_look_act Look = true
+is_look_act _ = false
+
+abbrev pub is_delivery_act : Act → Bool
+is_delivery_act (Deliver _ _) = true
+is_delivery_act (Stop _) = true
+is_delivery_act _ = false
+
+abbrev pub is_look : Played → Bool
+is_look p = is_look_act p.0.act
+
+abbrev pub is_delivery : Played → Bool
+is_delivery p = is_delivery_act p.0.act
+
+abbrev pub until_look : List Played → List Played
+until_look [] = []
+until_look (p ∷ ps) = if is_look p then [] else p ∷ until_look ps
+
+abbrev pub from_look : List Played → List Played
+from_look [] = []
+from_look (p ∷ ps) = if is_look p then p ∷ ps else from_look ps
+
+abbrev pub outcome_of : Act → Answer → Delivered
+outcome_of (Stop _) a = Racing
+outcome_of _ a = Done a
+
+abbrev pub look_word : Answer → ℕ
+look_word (Looked word) = word
+look_word _ = 0
+
+abbrev pub record_of : ℕ → ℕ → Delivery × Played → Record
+record_of line look (d, p) = record { order = d.order; line = line; monitor = d.monitor; instance = d.instance; hit = d.hit; outcome = outcome_of p.0.act p.1; reacting = has_bit look 33 }
+
+-- the j-th delivery or stop of a turn makes the j-th of the deliveries that its look shows on
+abbrev pub turn_records : ℕ → ℕ → List Delivery → List Played → List Record
+turn_records line look ds ps = map (record_of line look) (zip (filter (is_shown look) ds) (filter is_delivery ps))
+
+abbrev pub script_records : List Delivery → List Turn → List Played → List Record
+script_records ds [] ps = []
+script_records ds (t ∷ turns) [] = []
+script_records ds (t ∷ turns) (p ∷ ps) = turn_records t.line (look_word p.1) (slice_range ds t.from t.to) (until_look ps) ++ script_records ds turns (from_look ps)
+
+-- ---- the whole history
+
+abbrev pub insert_record : Record → List Record → List Record
+insert_record r [] = r ∷ []
+insert_record r (x ∷ rs) = if nat_le r.order x.order then r ∷ x ∷ rs else x ∷ insert_record r rs
+
+abbrev pub sort_records : List Record → List Record
+sort_records [] = []
+sort_records (r ∷ rs) = insert_record r (sort_records rs)
+
+abbrev pub records : Input → List Judge → List Entry → List Record
+records input js h = sort_records (flat_map (λ w. script_records w.deliveries w.turns (played input.setup js (2 + w.cpu) (reverse h))) input.works)
+
+abbrev pub failed_outcome : Delivered → Bool
+failed_outcome (Done a) = fails a
+failed_outcome Racing = false
+
+abbrev pub racing_outcome : Delivered → Bool
+racing_outcome (Done a) = false
+racing_outcome Racing = true
+
+abbrev pub is_failure : Record → Bool
+is_failure r = failed_outcome r.outcome
+
+abbrev pub is_stopped : Record → Bool
+is_stopped r = racing_outcome r.outcome
+
+abbrev pub status : List Record → ℕ
+status rs = if list_any is_failure rs then 1 else if list_any is_stopped rs then 6 else 0

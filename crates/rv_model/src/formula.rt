@@ -1,0 +1,136 @@
+//! Formulas of linear temporal logic, and what a monitor may be specified by.
+ghost use Rattle.std.specs.Prelude.{◌≡◌, ◌↔◌, IfOk, IsTrue};
+ghost use Rattle.rv_model.specs.Formulas.{ltl};
+
+use crate::automaton::Automaton;
+use crate::name::Names;
+use std::alloc::{AllocError, Global};
+use std::marker::Model;
+
+/// Contracts see it as plain data, without the boxes.
+#[derive(Drop)]
+pub enum Formula {
+    True,
+    False,
+    /// By its place in the rule's list of atoms.
+    Atom(u8),
+    Not(Box<Formula>),
+    Next(Box<Formula>),
+    Always(Box<Formula>),
+    Eventually(Box<Formula>),
+    And(Box<Formula>, Box<Formula>),
+    Or(Box<Formula>, Box<Formula>),
+    Imply(Box<Formula>, Box<Formula>),
+    Equivalent(Box<Formula>, Box<Formula>),
+    Until(Box<Formula>, Box<Formula>),
+}
+
+/// A formula and the names of its atoms: at most 32, ascending by bytes.
+#[derive(Drop)]
+pub struct Rule {
+    pub atoms: Names,
+    pub formula: Formula,
+}
+
+impl Model for Rule {
+    ghost use Rattle.rv_model.specs.Formulas.{RuleValue, coded_rule, ltl, IsRule};
+
+    ghost Value = { RuleValue };
+
+    ghost coded = { coded_rule };
+
+    ghost view = { λ r. record { atoms = r.atoms; formula = ltl r.formula } };
+
+    ghost invariant = { λ r. IsRule (record { atoms = r.atoms; formula = ltl r.formula }) };
+}
+
+/// What a monitor is specified by.
+#[derive(Drop)]
+pub enum Spec {
+    Da(Automaton),
+    Ltl(Rule),
+}
+
+impl Formula {
+    /// An equal formula.
+    pub fn copy(&self, alloc: Global) -> Result<Formula, AllocError>
+        ensures { IfOk result (λ copy. ltl copy ≡ ltl self.now) }
+    {
+        match self {
+            Formula::True => Ok(Formula::True),
+            Formula::False => Ok(Formula::False),
+            Formula::Atom(a) => Ok(Formula::Atom(*a)),
+            Formula::Not(f) => Ok(Formula::Not(Box::new(alloc, f.copy(alloc)?)?)),
+            Formula::Next(f) => Ok(Formula::Next(Box::new(alloc, f.copy(alloc)?)?)),
+            Formula::Always(f) => Ok(Formula::Always(Box::new(alloc, f.copy(alloc)?)?)),
+            Formula::Eventually(f) => Ok(Formula::Eventually(Box::new(alloc, f.copy(alloc)?)?)),
+            Formula::And(f, g) => {
+                let left = Box::new(alloc, f.copy(alloc)?)?;
+                Ok(Formula::And(left, Box::new(alloc, g.copy(alloc)?)?))
+            }
+            Formula::Or(f, g) => {
+                let left = Box::new(alloc, f.copy(alloc)?)?;
+                Ok(Formula::Or(left, Box::new(alloc, g.copy(alloc)?)?))
+            }
+            Formula::Imply(f, g) => {
+                let left = Box::new(alloc, f.copy(alloc)?)?;
+                Ok(Formula::Imply(left, Box::new(alloc, g.copy(alloc)?)?))
+            }
+            Formula::Equivalent(f, g) => {
+                let left = Box::new(alloc, f.copy(alloc)?)?;
+                Ok(Formula::Equivalent(left, Box::new(alloc, g.copy(alloc)?)?))
+            }
+            Formula::Until(f, g) => {
+                let left = Box::new(alloc, f.copy(alloc)?)?;
+                Ok(Formula::Until(left, Box::new(alloc, g.copy(alloc)?)?))
+            }
+        }
+    }
+
+    /// Whether the two are the same formula.
+    pub fn equals(&self, other: &Formula) -> bool
+        ensures { IsTrue result ↔ ltl self.now ≡ ltl other.now }
+    {
+        match self {
+            Formula::True => matches!(other, Formula::True),
+            Formula::False => matches!(other, Formula::False),
+            Formula::Atom(a) => matches!(other, Formula::Atom(b) if *a == *b),
+            Formula::Not(f) => match other {
+                Formula::Not(g) => f.equals(g),
+                _ => false,
+            },
+            Formula::Next(f) => match other {
+                Formula::Next(g) => f.equals(g),
+                _ => false,
+            },
+            Formula::Always(f) => match other {
+                Formula::Always(g) => f.equals(g),
+                _ => false,
+            },
+            Formula::Eventually(f) => match other {
+                Formula::Eventually(g) => f.equals(g),
+                _ => false,
+            },
+            Formula::And(f, h) => match other {
+                Formula::And(g, k) => f.equals(g) && h.equals(k),
+                _ => false,
+            },
+            Formula::Or(f, h) => match other {
+                Formula::Or(g, k) => f.equals(g) && h.equals(k),
+                _ => false,
+            },
+            Formula::Imply(f, h) => match other {
+                Formula::Imply(g, k) => f.equals(g) && h.equals(k),
+                _ => false,
+            },
+            Formula::Equivalent(f, h) => match other {
+                Formula::Equivalent(g, k) => f.equals(g) && h.equals(k),
+                _ => false,
+            },
+            Formula::Until(f, h) => match other {
+                Formula::Until(g, k) => f.equals(g) && h.equals(k),
+                _ => false,
+            },
+        }
+    }
+}

@@ -1,0 +1,30 @@
+//! Laws of the definitions, each the contract of a call that does nothing.
+ghost use Rattle.std.specs.Prelude.{◌↔◌, ℕ, List, IsTrue};
+ghost use Rattle.rv_model.specs.Histories.{OneHasNoStop, OneIsUnique};
+ghost use Rattle.rv_model.specs.Ltl.{Ltl};
+ghost use Rattle.rv_model.specs.Meaning.{meaning};
+ghost use Rattle.rv_model.specs.Meant.{TablesMean, TablesJudge};
+ghost use Rattle.rv_model.specs.Slots.{SlotsApart};
+ghost use Rattle.rv_model.specs.Truth.{View, Satisfies};
+
+/// The test that computes says what satisfaction is.
+pub fn satisfaction_is_tested()
+    ensures { (formula : Ltl) (view : View) (letters : List ℕ) → IsTrue (meaning formula view letters) ↔ Satisfies view letters formula }
+{}
+
+/// The table of an automaton means it.
+pub fn tables_mean()
+    ensures mean { TablesMean }
+    ensures judge { TablesJudge }
+{}
+
+/// One thread has one history, which stops nothing.
+pub fn one_history()
+    ensures stop { OneHasNoStop }
+    ensures unique { OneIsUnique }
+{}
+
+/// What a slot is doing is told by the entries on it alone.
+pub fn slots_apart()
+    ensures { SlotsApart }
+{}

@@ -1,0 +1,24 @@
+//! The plain types that all crates of the tool share, and the definitions that they are judged by.
+#![tactic(auto)]
+
+mod automaton;
+mod closed;
+mod entry;
+mod formula;
+mod hit;
+mod laws;
+mod name;
+mod reactor;
+mod record;
+mod work;
+
+pub use automaton::{Automaton, Edge};
+pub use closed::{Closed, Keeps};
+pub use entry::{Act, Answer, Entry};
+pub use formula::{Formula, Rule, Spec};
+pub use hit::{Hit, Letter, Mode, What};
+pub use laws::{one_history, satisfaction_is_tested, slots_apart, tables_mean};
+pub use name::{Name, Names};
+pub use reactor::Reactor;
+pub use record::{Delivered, Record, Task};
+pub use work::{Change, CpuWork, Delivery, Scope, Turn};
