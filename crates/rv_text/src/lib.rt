@@ -2,11 +2,13 @@
 #![tactic(auto)]
 
 mod decimals;
+mod line;
 mod numbers;
 mod refusals;
 mod runs;
 
 pub use decimals::decimal;
+pub use line::Line;
 pub use numbers::{
     BIND_SYNTAX, CONTROL_SYNTAX, CYCLE, DEFINED_TWICE, DOT_SYNTAX, INVALID, LOST_EVENTS,
     LTL_SYNTAX, NAME_TWICE, NO_INITIAL, NO_PID, NO_RULE, NO_SUCH_FILE, NOT_DETERMINISTIC, TOO_BIG,
