@@ -1,0 +1,21 @@
+//! What every reader of the tool shares: places in a text, decimal numbers and refusals.
+#![tactic(auto)]
+
+mod decimals;
+mod line;
+mod numbers;
+mod refusals;
+mod runs;
+
+pub use decimals::decimal;
+pub use line::Line;
+pub use numbers::{
+    BIND_SYNTAX, CONTROL_SYNTAX, CYCLE, DEFINED_TWICE, DOT_SYNTAX, INVALID, LOST_EVENTS,
+    LTL_SYNTAX, NAME_TWICE, NO_INITIAL, NO_PID, NO_RULE, NO_SUCH_FILE, NOT_DETERMINISTIC, TOO_BIG,
+    TOO_LONG, TOO_MANY_ATOMS, TOO_MANY_CPUS, TOO_MANY_DELIVERIES, TOO_MANY_EVENTS,
+    TOO_MANY_MONITORS, TOO_MANY_NODES, TOO_MANY_PARTS, TOO_MANY_RULES, TOO_MANY_STATES,
+    TOO_MANY_TASKS, TOO_WIDE, TRACE_SYNTAX, TWO_INITIALS, UNDECLARED_STATE, UNKNOWN_ATOM,
+    UNKNOWN_EVENT, USAGE,
+};
+pub use refusals::{Refusal, Refused};
+pub use runs::{Kind, run_end};
