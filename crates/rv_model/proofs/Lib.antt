@@ -1,12 +1,14 @@
 pub mod AgreeLemmas
 pub mod CutLemmas
+pub mod GoodLemmas
+pub mod JudgeLemmas
 pub mod MeansLemmas
 pub mod NumberLemmas
 pub mod ReachLemmas
-pub mod RecordLemmas
 pub mod ScriptLemmas
 pub mod SeatLemmas
 pub mod SlotLemmas
+pub mod TableJudgeLemmas
 pub mod TruthLemmas
 pub mod UniqueLemmas
 pub mod Walks

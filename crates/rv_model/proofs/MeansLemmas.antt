@@ -1,5 +1,5 @@
 -- The table of an automaton means the automaton.
-use Rattle.std.proofs.Common.{◌≡◌, ℕ, zero, suc, ◌+◌, ◌<◌, ◌≤◌, ◌==◌, ◌&&◌, Bool, true, false, cond, ◌⊎◌, inl, inr, List, [], ◌∷◌, ◌++◌, length, get_or, Option, Some, None, arith, refl, sym, ap, ◌∙◌, subst, add-one, length-append}
+use Rattle.std.proofs.Common.{◌≡◌, ℕ, zero, suc, ◌+◌, ◌<◌, ◌≤◌, ◌==◌, ◌&&◌, Bool, true, false, cond, ◌⊎◌, inl, inr, List, [], ◌∷◌, ◌++◌, length, get_or, Option, Some, None, arith, IsTrue, refl, sym, ap, ◌∙◌, subst, add-one, length-append}
 use Rattle.std.proofs.lemmas.Option.{slice_get-get_or, slice_get_past}
 use Rattle.std.proofs.lemmas.List.{get_or_append_left, get_or_default}
 use Rattle.std.proofs.Math.Seq.{get_or-append_seam}
@@ -11,10 +11,13 @@ use Rattle.rv_model.specs.Machine.{Machine}
 use Rattle.rv_model.specs.WellFormed.{IsAutomaton, EdgeIsBefore}
 use Rattle.rv_model.specs.Numbers.{list_of}
 use Rattle.rv_model.specs.Language.{IsPath, HasEdge, Accepts}
+use Rattle.rv_model.specs.declared.formula.Spec.{Spec}
 use Rattle.rv_model.specs.declared.formula.Spec.TheVariants.{Da}
-use Rattle.rv_model.specs.Table.{next_row, table_of, entry, is_next, Follows, end_of, Reaches}
-use Rattle.rv_model.specs.Judging.{Judge, Means, JudgesByTable, JudgesBySpec}
+use Rattle.rv_model.specs.Table.{Table, first_row, next_row, table_of, entry, is_next, Follows, end_of, Reaches}
+use Rattle.rv_model.specs.Judging.{IsGood, Judge, Means, JudgesByTable, JudgesBySpec}
+use Rattle.rv_model.proofs.GoodLemmas.{good_letters}
 use Rattle.rv_model.proofs.NumberLemmas.{nat_lt_or}
+use Rattle.rv_model.proofs.ReachLemmas.{Reaches-start}
 
 -- ---- lists by their places
 pub length-list_of : {X : Type 0} (f : ℕ → X) (n : ℕ) → length (list_of f n) ≡ n
@@ -192,9 +195,14 @@ module _ (a : Machine) (k : IsAutomaton a) where
   pub table_means : Means (table_of a) (Da a)
   table_means word some = (λ r. reach-good word r.0 r.1, good-reach word)
 
-  -- whoever judges by the table judges by the automaton
-  pub judged_by_spec : (j : Judge) → JudgesByTable (table_of a) j → JudgesBySpec (Da a) (table_of a) j
-  judged_by_spec j h = record {
-    holds = λ word. (λ t. let r = (h.holds word).0 t in reach-good word r.0 r.1, λ good. (h.holds word).1 (good-reach word good));
-    reaches = h.reaches;
-  }
+-- whoever judges by a table judges by what it means: no letter reaches the start row, and is good
+pub judged_by_spec : (spec : Spec) (t : Table) (j : Judge) → Means t spec → JudgesByTable t j → JudgesBySpec spec t j
+judged_by_spec spec t j means h = record { holds = λ letters. (good letters, held letters); reaches = h.reaches }
+  where
+    good : (letters : List Letter) → IsTrue (j.holds letters) → IsGood spec letters
+    good [] holds = good_letters.empty spec
+    good (x ∷ letters) holds = (means (x ∷ letters) (omega arith)).0 ((h.holds (x ∷ letters)).0 holds)
+
+    held : (letters : List Letter) → IsGood spec letters → IsTrue (j.holds letters)
+    held [] holds = (h.holds []).1 (first_row t, Reaches-start t)
+    held (x ∷ letters) holds = (h.holds (x ∷ letters)).1 ((means (x ∷ letters) (omega arith)).1 holds)

@@ -1,5 +1,6 @@
 pub mod Cuts
 pub mod Formulas
+pub mod GoodLetters
 pub mod Histories
 pub mod Judging
 pub mod Language
@@ -16,6 +17,7 @@ pub mod Scripts
 pub mod Setups
 pub mod SharedWords
 pub mod Slots
+pub mod Stepping
 pub mod Table
 pub mod Truth
 pub mod WellFormed

@@ -1,12 +1,14 @@
--- Laws: the table of an automaton means it, and whoever judges by a table that means a specification, on no letter too, judges by the specification.
+-- Laws: the table of an automaton means it, and who judges by a table judges by what the table means.
+use Rattle.rv_model.specs.declared.formula.Spec.{Spec}
 use Rattle.rv_model.specs.declared.formula.Spec.TheVariants.{Da}
 use Rattle.rv_model.specs.Machine.{Machine}
 use Rattle.rv_model.specs.WellFormed.{IsAutomaton}
-use Rattle.rv_model.specs.Table.{table_of}
+use Rattle.rv_model.specs.Table.{Table, table_of}
 use Rattle.rv_model.specs.Judging.{Judge, Means, JudgesByTable, JudgesBySpec}
 
 abbrev pub TablesMean : Type 0
 TablesMean = (a : Machine) → IsAutomaton a → Means (table_of a) (Da a)
 
+-- no letter is good by every specification and reaches the start row, so one meaning is enough
 abbrev pub TablesJudge : Type 0
-TablesJudge = (a : Machine) → IsAutomaton a → (j : Judge) → JudgesByTable (table_of a) j → JudgesBySpec (Da a) (table_of a) j
+TablesJudge = (spec : Spec) (t : Table) (j : Judge) → Means t spec → JudgesByTable t j → JudgesBySpec spec t j

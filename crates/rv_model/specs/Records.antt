@@ -71,8 +71,8 @@ abbrev pub sort_records : List Record → List Record
 sort_records [] = []
 sort_records (r ∷ rs) = insert_record r (sort_records rs)
 
-abbrev pub records : Input → List Judge → List Entry → List Record
-records input js h = sort_records (flat_map (λ w. script_records w.deliveries w.turns (played input.setup js (2 + w.cpu) (reverse h))) input.works)
+abbrev pub records_of : Input → List Judge → List Entry → List Record
+records_of input js h = sort_records (flat_map (λ w. script_records w.deliveries w.turns (played input.setup js (2 + w.cpu) (reverse h))) input.works)
 
 abbrev pub failed_outcome : Delivered → Bool
 failed_outcome (Done a) = fails a
@@ -88,5 +88,5 @@ is_failure r = failed_outcome r.outcome
 abbrev pub is_stopped : Record → Bool
 is_stopped r = racing_outcome r.outcome
 
-abbrev pub status : List Record → ℕ
-status rs = if list_any is_failure rs then 1 else if list_any is_stopped rs then 6 else 0
+abbrev pub status_of : List Record → ℕ
+status_of rs = if list_any is_failure rs then 1 else if list_any is_stopped rs then 6 else 0

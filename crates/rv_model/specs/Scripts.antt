@@ -55,15 +55,7 @@ PlaysTurns s panics (turn ∷ turns) (p ∷ ps) =
     (look : ℕ) × (p.0.act ≡ Look) × (p.1 ≡ Looked look)
     × MatchBool (has_bit look 34) (ps ≡ []) (Delivers s panics look (filter (is_shown look) turn) (PlaysTurns s panics turns) ps)
 
--- no reactor is panic
-abbrev pub no_panics : ℕ → Bool
-no_panics m = false
-
--- no look shows halted
-abbrev pub NoneHalted : List Played → Type 0
-NoneHalted [] = Unit {0}
-NoneHalted (p ∷ ps) = ((look : ℕ) → p.0.act ≡ Look → p.1 ≡ Looked look → has_bit look 34 ≡ false) × NoneHalted ps
-
+-- the deliveries of each turn
 abbrev pub turns_of : Work → List (List Delivery)
 turns_of w = map (λ turn. slice_range w.deliveries turn.from turn.to) w.turns
 

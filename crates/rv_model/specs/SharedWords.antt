@@ -19,8 +19,8 @@ abbrev pub switch : ℕ → List Entry → ℕ → Bool
 switch opening [] b = has_bit opening b
 switch opening (e ∷ past) b = switch_after b e.act (switch opening past b)
 
-abbrev pub switches : ℕ → List Entry → ℕ
-switches opening past = number_of (switch opening past) 64
+abbrev pub switches_of : ℕ → List Entry → ℕ
+switches_of opening past = number_of (switch opening past) 64
 
 -- the rows in the high half, the levels in the low half
 abbrev pub packed : Judge → ℕ → Phase → ℕ
@@ -39,7 +39,7 @@ abbrev pub word_on : Setup → List Judge → List Entry → Act → ℕ
 word_on s js past (Deliver slot _) = word_of s js past slot
 word_on s js past (Stop slot) = word_of s js past slot
 word_on s js past (Clear slot) = word_of s js past slot
-word_on s js past _ = switches s.switches past
+word_on s js past _ = switches_of s.switches past
 
 abbrev pub answer_at : Setup → List Judge → List Entry → Entry → Act → Answer
 answer_at s js past e (Deliver slot hit) = answer_to (judge_of s js slot) (start_of s slot) past e (Deliver slot hit)

@@ -17,7 +17,10 @@ pub use closed::{Closed, Keeps};
 pub use entry::{Act, Answer, Entry};
 pub use formula::{Formula, Rule, Spec};
 pub use hit::{Hit, Letter, Mode, What};
-pub use laws::{one_history, satisfaction_is_tested, slots_apart, tables_mean};
+pub use laws::{
+    letters_may_be_cut, one_history, satisfaction_is_tested, slots_apart, tables_are_judged,
+    tables_mean,
+};
 pub use name::{Name, Names};
 pub use reactor::Reactor;
 pub use record::{Delivered, Record, Task};

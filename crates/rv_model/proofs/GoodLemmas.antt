@@ -1,0 +1,166 @@
+-- What holds weakly holds weakly of each front, and what holds strongly holds strongly of each extension (Eisner and others, 2003).
+use Rattle.std.proofs.Common.{◌≡◌, ℕ, Bool, true, false, not, ◌&&◌, ◌||◌, List, [], ◌∷◌, ◌++◌, map, refl, sym, ◌∙◌, subst}
+use Rattle.std.proofs.lemmas.Bool.{false≢true}
+use Rattle.std.proofs.lemmas.List.{map-append}
+use Rattle.rv_model.specs.declared.hit.Letter.{Letter}
+use Rattle.rv_model.specs.declared.formula.Spec.{Spec}
+use Rattle.rv_model.specs.declared.formula.Spec.TheVariants.{Da, Ltl as Rule}
+use Rattle.rv_model.specs.Letters.{atoms_in}
+use Rattle.rv_model.specs.Ltl.{Ltl, True, False, Atom, Not, Next, Always, Eventually, And, Or, Imply, Equivalent, Until}
+use Rattle.rv_model.specs.Truth.{Weak, Strong, Satisfies}
+use Rattle.rv_model.specs.Meaning.{Meaning, true_m, not_m, and_m, or_m, next_m, until_m, meaning}
+use Rattle.rv_model.specs.Language.{IsPath, HasEdge, Accepts}
+use Rattle.rv_model.specs.Machine.{Machine}
+use Rattle.rv_model.specs.Judging.{IsGood}
+use Rattle.rv_model.specs.GoodLetters.{GoodLetters}
+use Rattle.rv_model.proofs.TruthLemmas.{proper, tells}
+
+-- the weak test passes on each front, the strong one on each extension
+record Cuts (p : Meaning) : Type 0 where
+  weak : (w more : List ℕ) → p Weak (w ++ more) ≡ true → p Weak w ≡ true
+  strong : (w more : List ℕ) → p Strong w ≡ true → p Strong (w ++ more) ≡ true
+
+or_mono : (a b c d : Bool) → (a ≡ true → c ≡ true) → (b ≡ true → d ≡ true) → (a || b) ≡ true → (c || d) ≡ true
+or_mono true b c d f g e = rw (f refl) refl
+or_mono false b true d f g e = refl
+or_mono false b false d f g e = g e
+
+and_mono : (a b c d : Bool) → (a ≡ true → c ≡ true) → (b ≡ true → d ≡ true) → (a && b) ≡ true → (c && d) ≡ true
+and_mono true b c d f g e = rw (f refl) (g e)
+and_mono false b c d f g e = cc
+
+not_anti : (a b : Bool) → (b ≡ true → a ≡ true) → not a ≡ true → not b ≡ true
+not_anti true true f e = cc
+not_anti false true f e = absurd (false≢true (f refl))
+not_anti a false f e = refl
+
+true_cuts : Cuts true_m
+true_cuts = record { weak = weak; strong = strong }
+  where
+    weak : (w more : List ℕ) → true_m Weak (w ++ more) ≡ true → true_m Weak w ≡ true
+    weak [] more e = refl
+    weak (x ∷ t) more e = refl
+
+    strong : (w more : List ℕ) → true_m Strong w ≡ true → true_m Strong (w ++ more) ≡ true
+    strong [] more e = cc
+    strong (x ∷ t) more e = refl
+
+false_cuts : Cuts (meaning False)
+false_cuts = record { weak = weak; strong = strong }
+  where
+    weak : (w more : List ℕ) → meaning False Weak (w ++ more) ≡ true → meaning False Weak w ≡ true
+    weak [] more e = refl
+    weak (x ∷ t) more e = cc
+
+    strong : (w more : List ℕ) → meaning False Strong w ≡ true → meaning False Strong (w ++ more) ≡ true
+    strong [] more e = cc
+    strong (x ∷ t) more e = cc
+
+atom_cuts : (a : ℕ) → Cuts (meaning (Atom a))
+atom_cuts a = record { weak = weak; strong = strong }
+  where
+    weak : (w more : List ℕ) → meaning (Atom a) Weak (w ++ more) ≡ true → meaning (Atom a) Weak w ≡ true
+    weak [] more e = refl
+    weak (x ∷ t) more e = e
+
+    strong : (w more : List ℕ) → meaning (Atom a) Strong w ≡ true → meaning (Atom a) Strong (w ++ more) ≡ true
+    strong [] more e = cc
+    strong (x ∷ t) more e = e
+
+not_cuts : (p : Meaning) → Cuts p → Cuts (not_m p)
+not_cuts p h = record { weak = weak; strong = strong }
+  where
+    weak : (w more : List ℕ) → not_m p Weak (w ++ more) ≡ true → not_m p Weak w ≡ true
+    weak [] more e = refl
+    weak (x ∷ t) more e = not_anti (p Strong (x ∷ t ++ more)) (p Strong (x ∷ t)) (h.strong (x ∷ t) more) e
+
+    strong : (w more : List ℕ) → not_m p Strong w ≡ true → not_m p Strong (w ++ more) ≡ true
+    strong [] more e = cc
+    strong (x ∷ t) more e = not_anti (p Weak (x ∷ t)) (p Weak (x ∷ t ++ more)) (h.weak (x ∷ t) more) e
+
+and_cuts : (p q : Meaning) → Cuts p → Cuts q → Cuts (and_m p q)
+and_cuts p q h k = record { weak = weak; strong = strong }
+  where
+    weak : (w more : List ℕ) → and_m p q Weak (w ++ more) ≡ true → and_m p q Weak w ≡ true
+    weak [] more e = refl
+    weak (x ∷ t) more e = and_mono _ _ (p Weak (x ∷ t)) (q Weak (x ∷ t)) (h.weak (x ∷ t) more) (k.weak (x ∷ t) more) e
+
+    strong : (w more : List ℕ) → and_m p q Strong w ≡ true → and_m p q Strong (w ++ more) ≡ true
+    strong [] more e = cc
+    strong (x ∷ t) more e = and_mono _ _ (p Strong (x ∷ t ++ more)) (q Strong (x ∷ t ++ more)) (h.strong (x ∷ t) more) (k.strong (x ∷ t) more) e
+
+or_cuts : (p q : Meaning) → Cuts p → Cuts q → Cuts (or_m p q)
+or_cuts p q h k = record { weak = weak; strong = strong }
+  where
+    weak : (w more : List ℕ) → or_m p q Weak (w ++ more) ≡ true → or_m p q Weak w ≡ true
+    weak [] more e = refl
+    weak (x ∷ t) more e = or_mono _ _ (p Weak (x ∷ t)) (q Weak (x ∷ t)) (h.weak (x ∷ t) more) (k.weak (x ∷ t) more) e
+
+    strong : (w more : List ℕ) → or_m p q Strong w ≡ true → or_m p q Strong (w ++ more) ≡ true
+    strong [] more e = cc
+    strong (x ∷ t) more e = or_mono _ _ (p Strong (x ∷ t ++ more)) (q Strong (x ∷ t ++ more)) (h.strong (x ∷ t) more) (k.strong (x ∷ t) more) e
+
+next_cuts : (p : Meaning) → Cuts p → Cuts (next_m p)
+next_cuts p h = record { weak = weak; strong = strong }
+  where
+    weak : (w more : List ℕ) → next_m p Weak (w ++ more) ≡ true → next_m p Weak w ≡ true
+    weak [] more e = refl
+    weak (x ∷ t) more e = h.weak t more e
+
+    strong : (w more : List ℕ) → next_m p Strong w ≡ true → next_m p Strong (w ++ more) ≡ true
+    strong [] more e = cc
+    strong (x ∷ t) more e = h.strong t more e
+
+until_weak : (p q : Meaning) → Cuts p → Cuts q → (w more : List ℕ) → until_m p q Weak (w ++ more) ≡ true → until_m p q Weak w ≡ true
+until_weak p q h k [] more e = refl
+until_weak p q h k (x ∷ t) more e =
+    or_mono _ _ (q Weak (x ∷ t)) (p Weak (x ∷ t) && until_m p q Weak t) (k.weak (x ∷ t) more)
+    (and_mono _ _ (p Weak (x ∷ t)) (until_m p q Weak t) (h.weak (x ∷ t) more) (until_weak p q h k t more)) e
+
+until_strong : (p q : Meaning) → Cuts p → Cuts q → (w more : List ℕ) → until_m p q Strong w ≡ true → until_m p q Strong (w ++ more) ≡ true
+until_strong p q h k [] more e = cc
+until_strong p q h k (x ∷ t) more e =
+    or_mono _ _ (q Strong (x ∷ t ++ more)) (p Strong (x ∷ t ++ more) && until_m p q Strong (t ++ more)) (k.strong (x ∷ t) more)
+    (and_mono _ _ (p Strong (x ∷ t ++ more)) (until_m p q Strong (t ++ more)) (h.strong (x ∷ t) more) (until_strong p q h k t more)) e
+
+until_cuts : (p q : Meaning) → Cuts p → Cuts q → Cuts (until_m p q)
+until_cuts p q h k = record { weak = until_weak p q h k; strong = until_strong p q h k }
+
+cuts : (f : Ltl) → Cuts (meaning f)
+cuts True = true_cuts
+cuts False = false_cuts
+cuts (Atom a) = atom_cuts a
+cuts (Not f) = not_cuts _ (cuts f)
+cuts (Next f) = next_cuts _ (cuts f)
+cuts (And f g) = and_cuts _ _ (cuts f) (cuts g)
+cuts (Or f g) = or_cuts _ _ (cuts f) (cuts g)
+cuts (Imply f g) = or_cuts _ _ (not_cuts _ (cuts f)) (cuts g)
+cuts (Equivalent f g) = or_cuts _ _ (and_cuts _ _ (cuts f) (cuts g)) (and_cuts _ _ (not_cuts _ (cuts f)) (not_cuts _ (cuts g)))
+cuts (Until f g) = until_cuts _ _ (cuts f) (cuts g)
+cuts (Eventually f) = until_cuts _ _ true_cuts (cuts f)
+cuts (Always f) = not_cuts _ (until_cuts _ _ true_cuts (not_cuts _ (cuts f)))
+
+-- a path over letters begins with a path over their front
+path_front : (a : Machine) (state : ℕ) (front back : List Letter) (path : List ℕ) → IsPath (HasEdge a) state path (front ++ back) → (begun : List ℕ) × IsPath (HasEdge a) state begun front
+path_front a state [] back path p = ([], tt)
+path_front a state (x ∷ front) back [] p = absurd p
+path_front a state (x ∷ front) back (next ∷ path) p =
+    let later = path_front a next front back path p.1 in
+    (next ∷ later.0, (p.0, later.1))
+
+good_empty : (spec : Spec) → IsGood spec []
+good_empty (Da a) = ([], tt)
+good_empty (Rule r) = (tells r.formula Weak []).0 (proper r.formula Weak)
+
+good_cut : (spec : Spec) (front back : List Letter) → IsGood spec (front ++ back) → IsGood spec front
+good_cut (Da a) front back (path, p) = path_front a 0 front back path p
+good_cut (Rule r) front back good =
+    let whole : meaning r.formula Weak (map atoms_in front ++ map atoms_in back) ≡ true =
+    subst (λ w. meaning r.formula Weak w ≡ true) (map-append atoms_in front back) ((tells r.formula Weak (map atoms_in (front ++ back))).1 good) in
+    (tells r.formula Weak (map atoms_in front)).0 ((cuts r.formula).weak (map atoms_in front) (map atoms_in back) whole)
+
+strong_goes_on : (f : Ltl) (front back : List ℕ) → Satisfies Strong front f → Satisfies Strong (front ++ back) f
+strong_goes_on f front back h = (tells f Strong (front ++ back)).0 ((cuts f).strong front back ((tells f Strong front).1 h))
+
+pub good_letters : GoodLetters
+good_letters = record { empty = good_empty; cut = good_cut; strong = strong_goes_on }
