@@ -1,0 +1,6 @@
+//! Bindings: which automata and rules watch a trace, which events feed them, and what is done about a failure.
+#![tactic(auto)]
+
+mod bindings;
+
+pub use bindings::{Bindings, Item, Monitor, On, Test};
