@@ -1,3 +1,7 @@
 pub mod LeastLemmas
 pub mod DecimalLemmas
 pub mod ReadingLaws
+pub mod SelectLemmas
+pub mod TextLineLemmas
+pub mod WordLemmas
+pub mod LinesStand

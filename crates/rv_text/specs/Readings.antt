@@ -1,5 +1,5 @@
 -- What a reader answers: the definition's value or refusal, unless memory ran out.
-use Rattle.std.specs.Prelude.{◌≡◌, ℕ, Option, Some, None, Result, Ok, Err}
+use Rattle.std.specs.Prelude.{◌≡◌, ℕ, Result, Ok, Err}
 use Rattle.rv_text.specs.declared.refusals.Refusal.{Refusal}
 use Rattle.rv_text.specs.declared.refusals.Refused.{Refused}
 use Rattle.rv_text.specs.declared.refusals.Refused.TheVariants as refuseds
@@ -26,8 +26,3 @@ refused_at number line = Err (record { number = number; line = line })
 abbrev pub and_then : {X Y : Type 0} → Result X Refusal → (X → Result Y Refusal) → Result Y Refusal
 and_then (Ok x) next = next x
 and_then (Err refusal) next = Err refusal
-
--- a value that is not there is refused
-abbrev pub or_refusal : {X : Type 0} → Option X → Refusal → Result X Refusal
-or_refusal (Some x) refusal = Ok x
-or_refusal None refusal = Err refusal

@@ -1,12 +1,15 @@
 //! What every reader of the tool shares: places in a text, decimal numbers and refusals.
 #![tactic(auto)]
 
+mod cursor;
 mod decimals;
 mod line;
 mod numbers;
 mod refusals;
 mod runs;
+mod words;
 
+pub use cursor::{Cursor, TextLine};
 pub use decimals::decimal;
 pub use line::Line;
 pub use numbers::{
@@ -19,3 +22,4 @@ pub use numbers::{
 };
 pub use refusals::{Refusal, Refused};
 pub use runs::{Kind, run_end};
+pub use words::Words;

@@ -15,6 +15,24 @@ pub struct Refusal {
     pub line: u32,
 }
 
+impl Refusal {
+    /// A refusal that names no line.
+    #[inline(always)]
+    pub fn whole(number: u8) -> Refusal
+        ensures { result ≡ record { number = number; line = 0 } }
+    {
+        Refusal { number, line: 0 }
+    }
+
+    /// A refusal that names its line.
+    #[inline(always)]
+    pub fn at(number: u8, line: u32) -> Refusal
+        ensures { result ≡ record { number = number; line = line } }
+    {
+        Refusal { number, line }
+    }
+}
+
 /// Why a reader that takes memory has no value.
 #[derive(Clone, Copy, Debug, Drop, PartialEq, Eq, Error)]
 pub enum Refused {
