@@ -1,0 +1,5 @@
+pub mod Calls
+pub mod Files
+pub mod MemSinks
+pub mod MemStores
+pub mod Taken

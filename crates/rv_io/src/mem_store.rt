@@ -1,0 +1,157 @@
+//! A store whose files are in memory, with calls that fail as they are listed.
+ghost use Rattle.std.specs.Prelude.{◌≡◌, ◌≤◌, ◌↔◌, ◌∷◌, [], ◌++◌, ℕ, List, Bool, true, Some, None, take, bytes_eq, OnOk, OnErr, IfOk, IsErrOf, IsTrue, position, false, find, option_copied};
+ghost use Rattle.rv_io.specs.Calls.{is_listed};
+ghost use Rattle.rv_io.specs.Files.{Reads};
+ghost use Rattle.rv_io.specs.MemStores.{lookup, counted, Copies, IsReplaced};
+
+use crate::calls::Calls;
+use crate::{READ_LIMIT, ReadError, Store};
+use std::alloc::{AllocError, Global};
+use std::marker::Model;
+
+/// A file, seen as its name and its bytes.
+#[derive(Drop)]
+struct MemFile {
+    name: String,
+    bytes: Vec<u8>,
+}
+
+impl Model for MemFile {
+    ghost use Rattle.std.specs.Prelude.{List, ℕ, string_bytes};
+
+    ghost Value = { List ℕ × List ℕ };
+
+    ghost view = { λ f. (string_bytes f.name, f.bytes.items) };
+}
+
+impl MemFile {
+    fn new(alloc: Global, name: &str, bytes: &[u8]) -> Result<MemFile, AllocError>
+        ensures { IfOk result (λ file. file ≡ (name.now, bytes.now)) }
+    {
+        Ok(MemFile {
+            name: String::from_str(alloc, name)?,
+            bytes: Vec::from_slice(alloc, bytes)?,
+        })
+    }
+
+    fn has_name(&self, name: &str) -> bool
+        ensures { result ≡ bytes_eq self.now.0 name.now }
+    {
+        self.name.as_str() == name
+    }
+
+    fn bytes(&self) -> &[u8]
+        ensures { result.now ≡ self.now.1 }
+    {
+        self.bytes.as_slice()
+    }
+}
+
+/// The front of the bytes, at most so many.
+fn cut(bytes: &[u8], most: usize) -> &[u8]
+    ensures { result.now ≡ take most bytes.now }
+{
+    if bytes.len() <= most {
+        bytes
+    } else {
+        &bytes[..most]
+    }
+}
+
+/// The place of the file of the name.
+fn place_of(files: &[MemFile], name: &str) -> Option<usize>
+    ensures { result ≡ position (λ file. bytes_eq file.0 name.now) files.now }
+{
+    files.iter().position(|file| file.has_name(name))
+}
+
+/// The file of the name.
+fn held<'a>(files: &'a [MemFile], name: &str) -> Option<&'a MemFile>
+    ensures { option_copied result ≡ find (λ file. bytes_eq file.0 name.now) files.now }
+{
+    files.iter().find(|file| file.has_name(name))
+}
+
+/// A copy of the bytes that the name has, cut after `READ_LIMIT` of them.
+fn copy_of(files: &[MemFile], alloc: Global, name: &str) -> Result<Vec<u8>, ReadError>
+    ensures { Copies (lookup files.now name.now) result }
+{
+    let Some(file) = held(files, name) else {
+        return Err(ReadError::NoFile);
+    };
+    match Vec::from_slice(alloc, cut(file.bytes(), READ_LIMIT)) {
+        Ok(bytes) => Ok(bytes),
+        Err(AllocError) => Err(ReadError::Memory),
+    }
+}
+
+/// Each name has one file. It tells its files, and fails at its listed calls alone.
+#[derive(Drop)]
+pub struct MemStore {
+    alloc: Global,
+    files: Vec<MemFile>,
+    calls: Calls,
+}
+
+impl Model for MemStore {
+    ghost use Rattle.rv_io.specs.MemStores.{StoreValue};
+
+    ghost Value = { StoreValue };
+
+    ghost view = { λ s. record { files = s.files.items; calls = s.calls } };
+}
+
+impl MemStore {
+    pub fn new(alloc: Global) -> MemStore
+        ensures { result ≡ record { files = []; calls = record { listed = []; made = 0; faults = 0 } } }
+    {
+        MemStore {
+            alloc,
+            files: Vec::new(alloc),
+            calls: Calls::new(alloc),
+        }
+    }
+
+    /// Adds a file, in place of an older one of the name.
+    pub fn add(&mut self, name: &str, bytes: &[u8]) -> Result<(), AllocError>
+        ensures ok { OnOk result (IsReplaced self.old.files self.new.files name.now bytes.now) }
+        ensures calls { self.new.calls ≡ self.old.calls }
+        ensures err { OnErr result (self.new ≡ self.old) }
+    {
+        let file = MemFile::new(self.alloc, name, bytes)?;
+        match place_of(&self.files, name) {
+            Some(place) => self.files[place] = file,
+            None => self.files.push(file)?,
+        }
+        Ok(())
+    }
+
+    /// Lists a call, counted from 1: a read that has this number fails.
+    pub fn fail_at(&mut self, call: u64) -> Result<(), AllocError>
+        ensures ok { OnOk result (self.new ≡ record self.old { calls = record self.old.calls { listed = self.old.calls.listed ++ call ∷ [] } }) }
+        ensures err { OnErr result (self.new ≡ self.old) }
+    {
+        self.calls.list(call)
+    }
+}
+
+impl Store for MemStore {
+    ghost files = { λ s. Some (lookup s.files) };
+
+    ghost faults = { λ s. s.calls.faults };
+
+    fn read(&mut self, alloc: Global, name: &str) -> Result<Vec<u8>, ReadError>
+        ensures later { self.old.calls.faults ≤ self.new.calls.faults }
+        ensures read { Reads (Some (lookup self.old.files)) name.now self.old.calls.faults self.new.calls.faults result }
+        ensures failed { IsErrOf result ReadError.Failed ↔ IsTrue (is_listed self.old.calls) }
+        ensures no_file { IsErrOf result ReadError.NoFile ↔ ((is_listed self.old.calls ≡ false) × (lookup self.old.files name.now ≡ None)) }
+        ensures counted { self.new ≡ record self.old { calls = counted self.old.calls } }
+    {
+        if self.calls.is_next_listed() {
+            self.calls.fail();
+            return Err(ReadError::Failed);
+        }
+        self.calls.pass();
+        copy_of(&self.files, alloc, name)
+    }
+}

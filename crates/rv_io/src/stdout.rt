@@ -1,0 +1,45 @@
+//! Standard output: the trusted edge, so as little as can be.
+ghost use Rattle.std.specs.Prelude.{◌≡◌, None};
+
+use crate::{PutFault, Sink};
+use std::io::Write;
+use std::marker::Model;
+
+/// It tells nothing of what it took, and is seen as its count of faults.
+#[derive(Drop)]
+pub struct Stdout<'a, R> {
+    rt: &'a R,
+    faults: u64,
+}
+
+impl<'a, R> Model for Stdout<'a, R> {
+    ghost use Rattle.std.specs.Prelude.{ℕ};
+
+    ghost Value = { ℕ };
+
+    ghost view = { λ s. s.faults };
+}
+
+impl<'a, R: Print> Stdout<'a, R> {
+    pub fn new(rt: &'a R) -> Stdout<'a, R>
+        ensures { result ≡ 0 }
+    {
+        Stdout { rt, faults: 0 }
+    }
+}
+
+impl<R: Print> Sink for Stdout<'_, R> {
+    ghost taken = { λ _. None };
+
+    ghost faults = { λ s. s };
+
+    fn put(&mut self, bytes: &[u8]) -> Result<usize, PutFault> {
+        match std::io::writer(self.rt).write(bytes) {
+            Ok(count) if count > 0 || bytes.is_empty() => Ok(count),
+            _ => {
+                self.faults = self.faults.saturating_add(1);
+                Err(PutFault)
+            }
+        }
+    }
+}

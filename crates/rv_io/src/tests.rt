@@ -1,0 +1,1 @@
+//! What no clause says: that real files and standard output are reached, and that calls succeed.
