@@ -1,0 +1,4 @@
+pub mod Forms
+pub mod FormViews
+pub mod LineReads
+pub mod RuleValues

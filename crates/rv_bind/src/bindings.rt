@@ -1,6 +1,7 @@
 //! What a bindings file says, as plain data.
 
 use rv_model::{Hit, Name, Names, Reactor, Scope, Spec};
+use std::marker::Model;
 
 /// A condition on a field of a trace line.
 #[derive(Drop)]
@@ -11,7 +12,7 @@ pub enum Test {
     IsNot { field: Name, value: Name },
 }
 
-/// A rule: which lines hit a monitor's instance, and how.
+/// A rule: which lines hit a monitor's instance, and how. Contracts see the tests as a list.
 #[derive(Drop)]
 pub struct On {
     /// The monitor's place in the list.
@@ -22,6 +23,14 @@ pub struct On {
     pub by: Option<Name>,
     pub tests: Vec<Test>,
     pub hit: Hit,
+}
+
+impl Model for On {
+    ghost use Rattle.rv_bind.specs.RuleValues.{OnValue};
+
+    ghost Value = { OnValue };
+
+    ghost view = { λ o. record { monitor = o.monitor; event = o.event; by = o.by; tests = o.tests.items; hit = o.hit } };
 }
 
 /// A specification, the instances that it has, and what is done about a failure.

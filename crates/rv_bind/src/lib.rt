@@ -2,5 +2,9 @@
 #![tactic(auto)]
 
 mod bindings;
+mod fault;
+mod forms;
+mod words;
 
 pub use bindings::{Bindings, Item, Monitor, On, Test};
+pub use fault::BindFault;

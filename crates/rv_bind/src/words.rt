@@ -1,0 +1,168 @@
+//! The words of a bindings line, taken from the left.
+ghost use Rattle.std.specs.Prelude.{◌≡◌, ◌≤◌, ℕ, List, Option, Some, None, not, bytes_eq, position, codes, length, IfSome, IfOk, MatchOption, IsTrue};
+ghost use Rattle.std.specs.List.{list_all};
+ghost use Rattle.rv_bind.specs.LineReads.{Faults, Reads, Takes};
+ghost use Rattle.rv_bind.specs.Forms.{word_at, ended, is_name, is_name_byte, is_field, is_field_byte, scope_named, mode_named, reactor_named, test_of, test_behind, or_syntax, when};
+ghost use Rattle.std.specs.Str.{is_utf8};
+
+use crate::bindings::Test;
+use crate::fault::LineFault;
+use rv_model::{Mode, Name, Reactor, Scope};
+use rv_text::{BIND_SYNTAX, Words};
+use std::alloc::Global;
+
+/// A line that has none of the forms.
+pub(crate) const SYNTAX: LineFault = LineFault::Number(BIND_SYNTAX);
+
+/// Whether the word is this one.
+pub(crate) fn is(word: &[u8], said: &str) -> bool
+    ensures { result ≡ bytes_eq word.now said.now }
+{
+    word == said.as_bytes()
+}
+
+/// The next word.
+pub(crate) fn word<'a>(words: &mut Words<'a>) -> Result<&'a [u8], LineFault>
+    ensures { Takes (λ word. word.now) result words.new (word_at words.old) }
+{
+    match words.next_word() {
+        Some(word) => Ok(word),
+        None => Err(SYNTAX),
+    }
+}
+
+/// No word is left.
+pub(crate) fn end(words: &mut Words<'_>) -> Result<(), LineFault>
+    ensures { Reads (λ done. tt) result (ended words.old) }
+{
+    match words.next_word() {
+        Some(_) => Err(SYNTAX),
+        None => Ok(()),
+    }
+}
+
+fn is_name_byte(byte: u8) -> bool
+    ensures { result ≡ is_name_byte byte }
+{
+    byte >= b'a' && byte <= b'z' || (byte >= b'0' && byte <= b'9' || byte == b'_')
+}
+
+fn is_field_byte(byte: u8) -> bool
+    ensures { result ≡ is_field_byte byte }
+{
+    is_name_byte(byte) || byte >= b'A' && byte <= b'Z'
+}
+
+fn has_name_bytes(word: &[u8]) -> bool
+    ensures { result ≡ list_all is_name_byte word.now }
+{
+    word.iter().all(|byte| is_name_byte(*byte))
+}
+
+/// At most 32 lower-case letters, digits and `_`.
+pub(crate) fn is_name(word: &[u8]) -> bool
+    ensures { result ≡ is_name word.now }
+{
+    word.len() <= 32 && has_name_bytes(word)
+}
+
+/// Letters, digits and `_`.
+pub(crate) fn is_field(word: &[u8]) -> bool
+    ensures { result ≡ is_field word.now }
+{
+    word.iter().all(|byte| is_field_byte(*byte))
+}
+
+/// The word, if it passes.
+pub(crate) fn allowed(word: &[u8], passes: bool) -> Result<&[u8], LineFault>
+    ensures { Reads (λ word. word.now) result (when passes word.now) }
+{
+    if passes { Ok(word) } else { Err(SYNTAX) }
+}
+
+pub(crate) fn scope(word: &[u8]) -> Result<Scope, LineFault>
+    ensures { Reads (λ scope. scope) result (or_syntax (scope_named word.now)) }
+{
+    if is(word, "global") {
+        Ok(Scope::Global)
+    } else if is(word, "cpu") {
+        Ok(Scope::Cpu)
+    } else if is(word, "task") {
+        Ok(Scope::Task)
+    } else {
+        Err(SYNTAX)
+    }
+}
+
+pub(crate) fn mode(word: &[u8]) -> Result<Mode, LineFault>
+    ensures { Reads (λ mode. mode) result (or_syntax (mode_named word.now)) }
+{
+    if is(word, "event") {
+        Ok(Mode::Event)
+    } else if is(word, "start") {
+        Ok(Mode::Start)
+    } else if is(word, "start_run") {
+        Ok(Mode::StartRun)
+    } else {
+        Err(SYNTAX)
+    }
+}
+
+pub(crate) fn reactor(word: &[u8]) -> Result<Reactor, LineFault>
+    ensures { Reads (λ reactor. reactor) result (or_syntax (reactor_named word.now)) }
+{
+    if is(word, "nop") {
+        Ok(Reactor::Nop)
+    } else if is(word, "printk") {
+        Ok(Reactor::Printk)
+    } else if is(word, "panic") {
+        Ok(Reactor::Panic)
+    } else {
+        Err(SYNTAX)
+    }
+}
+
+/// The word as text.
+pub(crate) fn text(word: &[u8]) -> Result<&str, LineFault>
+    ensures { Reads (λ text. text.now) result (when (is_utf8 word.now) word.now) }
+{
+    match std::str::from_utf8(word) {
+        Ok(text) => Ok(text),
+        Err(_) => Err(SYNTAX),
+    }
+}
+
+/// Where the name of a field ends.
+fn field_end(word: &[u8]) -> Option<usize>
+    ensures value { result ≡ position (λ byte. not (is_field_byte byte)) word.now }
+    ensures within { IfSome result (λ end. end ≤ length word.now) }
+{
+    word.iter().position(|byte| !is_field_byte(*byte))
+}
+
+/// `=` and a value, or `!=` and a value.
+fn test_behind(alloc: Global, field: &[u8], rest: &[u8]) -> Result<Test, LineFault>
+    ensures { Reads (λ test. test) result (or_syntax (test_behind field.now rest.now)) }
+{
+    match rest {
+        [b'=', value @ ..] if !value.is_empty() => Ok(Test::Is {
+            field: Name::new(alloc, field)?,
+            value: Name::new(alloc, value)?,
+        }),
+        [b'!', b'=', value @ ..] if !value.is_empty() => Ok(Test::IsNot {
+            field: Name::new(alloc, field)?,
+            value: Name::new(alloc, value)?,
+        }),
+        _ => Err(SYNTAX),
+    }
+}
+
+/// A test: `F=W` or `F!=W`.
+pub(crate) fn test(alloc: Global, word: &[u8]) -> Result<Test, LineFault>
+    ensures { Reads (λ test. test) result (or_syntax (test_of word.now)) }
+{
+    match field_end(word) {
+        None | Some(0) => Err(SYNTAX),
+        Some(end) => test_behind(alloc, &word[..end], &word[end..]),
+    }
+}
