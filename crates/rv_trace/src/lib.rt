@@ -1,0 +1,12 @@
+//! The kernel's trace text, line by line.
+#![tactic(auto)]
+
+mod fields;
+mod head;
+mod line;
+mod parts;
+mod trace;
+
+pub use fields::field;
+pub use line::{LAST_CPU, Span, TraceLine, read_line};
+pub use trace::{MAX_BYTES, MAX_LINES, read_trace};
