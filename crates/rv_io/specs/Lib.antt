@@ -2,4 +2,5 @@ pub mod Calls
 pub mod Files
 pub mod MemSinks
 pub mod MemStores
+pub mod Reading
 pub mod Taken

@@ -1,5 +1,7 @@
 //! Standard output: the trusted edge, so as little as can be.
-ghost use Rattle.std.specs.Prelude.{◌≡◌, None};
+ghost use Rattle.std.specs.Prelude.{◌≡◌, ◌≤◌, None, OnOk, OnErr};
+ghost use Rattle.rv_io.specs.Calls.{risen};
+ghost use Rattle.rv_io.specs.Taken.{Puts};
 
 use crate::{PutFault, Sink};
 use std::io::Write;
@@ -33,7 +35,12 @@ impl<R: Print> Sink for Stdout<'_, R> {
 
     ghost faults = { λ s. s };
 
-    fn put(&mut self, bytes: &[u8]) -> Result<usize, PutFault> {
+    fn put(&mut self, bytes: &[u8]) -> Result<usize, PutFault>
+        ensures later { self.old ≤ self.new }
+        ensures put { Puts None None self.old self.new bytes.now result }
+        ensures ok { OnOk result (self.new ≡ self.old) }
+        ensures err { OnErr result (self.new ≡ risen self.old) }
+    {
         match std::io::writer(self.rt).write(bytes) {
             Ok(count) if count > 0 || bytes.is_empty() => Ok(count),
             _ => {

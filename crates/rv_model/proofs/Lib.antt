@@ -6,6 +6,7 @@ pub mod MeansLemmas
 pub mod NumberLemmas
 pub mod ReachLemmas
 pub mod ScriptLemmas
+pub mod ScriptPartLemmas
 pub mod SeatLemmas
 pub mod SlotLemmas
 pub mod TableJudgeLemmas

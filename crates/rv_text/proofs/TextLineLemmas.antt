@@ -1,7 +1,8 @@
 -- From one line of a text to the next.
-use Rattle.std.proofs.Common.{◌≡◌, ◌≢◌, ℕ, ◌+◌, ◌-◌, ◌<◌, ◌≤◌, inl, inr, true, eqb, List, [], ◌∷◌, length, get_or, drop, min, sym, ◌∙◌, ap, subst, arith}
+use Rattle.std.proofs.Common.{◌≡◌, ◌≢◌, ℕ, ◌+◌, ◌-◌, ◌<◌, ◌≤◌, inl, inr, true, eqb, List, [], ◌∷◌, length, get_or, drop, min, sym, ◌∙◌, ap, subst, arith, ◌++◌, take, length-append, length-drop, refl}
 use Rattle.std.proofs.lemmas.Bool.{or_from, or_right, ne_eqb, eq-eqb, eqb-true, eqb-false, cases_lt}
-use Rattle.std.proofs.lemmas.List.{get_or-take, get_or-drop}
+use Rattle.std.proofs.Math.ListN.{get_or-append}
+use Rattle.std.proofs.lemmas.List.{drop-append-le, take-append-le, get_or-take, get_or-drop}
 use Rattle.std.specs.List.{slice_range}
 use Rattle.rv_text.proofs.LeastLemmas.{least-is, least-before, least-at, least-low, least-high}
 use Rattle.rv_text.proofs.SelectLemmas.{select-skip, select-first, select-none}
@@ -87,3 +88,23 @@ pub start-behind : (text : List ℕ) (from : ℕ) → from < length text → min
 start-behind text from inside more =
     let same : line_end text from + 1 ≡ min (line_end text from + 1) (length text) = omega arith in
     subst (λ (n : ℕ). is_line_start text n ≡ true) same (start-next text from (omega arith) (omega arith))
+
+-- a line that has its line end is the same, whatever follows
+module _ (text more : List ℕ) (number from : ℕ) where
+  -- it ends at the same place
+  line_end-append : line_end text from < length text → line_end (text ++ more) from ≡ line_end text from
+  line_end-append ended =
+      let low : from ≤ line_end text from = line_end-low text from in
+      line_end-is (text ++ more) from (line_end text from) low (omega (arith, length-append text more))
+      (λ k l h e. line_end-other text from k l h (sym (get_or-append text more 0 k (omega arith)) ∙ e))
+      (λ h. get_or-append text more 0 (line_end text from) ended ∙ line_end-byte text from (omega arith) ended)
+
+  -- and has the same bytes
+  pub line_here-append : line_end text from < length text → line_here (text ++ more) number from ≡ line_here text number from
+  line_here-append ended =
+      let low : from ≤ line_end text from = line_end-low text from in
+      let end : line_end (text ++ more) from ≡ line_end text from = line_end-append ended in
+      let size : min (line_end text from + 1) (length (text ++ more)) ≡ min (line_end text from + 1) (length text) = omega (arith, length-append text more) in
+      let front : drop from (text ++ more) ≡ drop from text ++ more = drop-append-le from text more (omega arith) in
+      let piece : take (line_end text from - from) (drop from text ++ more) ≡ take (line_end text from - from) (drop from text) = take-append-le (line_end text from - from) (drop from text) more (omega (arith, length-drop from text)) in
+      rw (end, size, front, piece) refl

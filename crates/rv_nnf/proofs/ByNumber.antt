@@ -1,0 +1,34 @@
+-- A value by numbers is what its step says.
+use Rattle.std.proofs.Common.{◌≡◌, ℕ, zero, suc, ◌<◌, List, refl, ap, arith}
+use mathlib.Core.Path.{ap₂}
+use Rattle.rv_model.specs.Ltl.{False}
+use Rattle.rv_model.specs.Meaning.{Meaning, meaning, and_m, or_m, next_m, until_m, release_m}
+use Rattle.rv_nnf.specs.Parts.{Piece, Label, Later, Both, Either, Awaits, Releases, by_number, piece_at, piece_meaning, part_meaning, OperandsBelow, IsNormal}
+
+-- the step at a number looks at smaller numbers alone
+abbrev pub Local : {A : Type 0} → ((ℕ → A) → ℕ → A) → Type 0
+Local {A} step = (f g : ℕ → A) (k : ℕ) → ((i : ℕ) → i < k → f i ≡ g i) → step f k ≡ step g k
+
+pub enough : {A : Type 0} (d : A) (step : (ℕ → A) → ℕ → A) → Local step → (n m k : ℕ) → k < n → k < m → by_number d step n k ≡ by_number d step m k
+enough d step loc zero m k h l = absurd (omega arith)
+enough d step loc (suc n) zero k h l = absurd (omega arith)
+enough d step loc (suc n) (suc m) k h l = loc _ _ k (λ i s. enough d step loc n m i (omega arith) (omega arith))
+
+pub by_number_is : {A : Type 0} (d : A) (step : (ℕ → A) → ℕ → A) → Local step → (k : ℕ) → by_number d step (suc k) k ≡ step (λ i. by_number d step (suc i) i) k
+by_number_is d step loc k = loc _ _ k (λ i s. enough d step loc k (suc i) i s (omega arith))
+
+same_piece : (f g : ℕ → Meaning) (k : ℕ) (p : Piece) → OperandsBelow k p → ((i : ℕ) → i < k → f i ≡ g i) → piece_meaning f p ≡ piece_meaning g p
+same_piece f g k (Label x) b h = refl
+same_piece f g k (Later i) b h = ap next_m (h i b)
+same_piece f g k (Both i j) b h = ap₂ and_m (h i b.0) (h j b.1)
+same_piece f g k (Either i j) b h = ap₂ or_m (h i b.0) (h j b.1)
+same_piece f g k (Awaits i j) b h = ap₂ until_m (h i b.0) (h j b.1)
+same_piece f g k (Releases i j) b h = ap₂ release_m (h i b.0) (h j b.1)
+
+-- a part says what its operands make
+pub part_meaning_by : (ps : List Piece) → ((k : ℕ) → OperandsBelow k (piece_at ps k)) → (k : ℕ) → part_meaning ps k ≡ piece_meaning (part_meaning ps) (piece_at ps k)
+unfolding part_meaning
+part_meaning_by ps below k = by_number_is (meaning False) (λ m k. piece_meaning m (piece_at ps k)) (λ f g k h. same_piece f g k (piece_at ps k) (below k) h) k
+
+pub part_meaning_is : (ps : List Piece) → IsNormal ps → (k : ℕ) → part_meaning ps k ≡ piece_meaning (part_meaning ps) (piece_at ps k)
+part_meaning_is ps n k = part_meaning_by ps n.below k

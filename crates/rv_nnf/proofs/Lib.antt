@@ -1,0 +1,15 @@
+pub mod Denials
+pub mod NarrowViews
+pub mod TruthKept
+pub mod ByNumber
+pub mod Places
+pub mod Settled
+pub mod Walked
+pub mod NumberedSays
+pub mod TreeLabels
+pub mod LastPart
+pub mod EnterLemmas
+pub mod OneByOne
+pub mod Signs
+pub mod RefusedExactly
+pub mod Sleep

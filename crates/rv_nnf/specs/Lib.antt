@@ -1,0 +1,7 @@
+pub mod Tree
+pub mod Lists
+pub mod Parts
+pub mod NormalForm
+pub mod Entering
+pub mod Views
+pub mod Codes

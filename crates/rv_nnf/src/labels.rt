@@ -1,0 +1,34 @@
+//! Labels: formulas without temporal operators.
+ghost use Rattle.std.specs.Prelude.{◌≡◌, IfOk};
+ghost use Rattle.rv_model.specs.Formulas.{ltl};
+ghost use Rattle.rv_nnf.specs.Tree.{is_plain as plain, signed};
+
+use rv_model::Formula;
+use std::alloc::{AllocError, Global};
+
+/// Has the formula no temporal operator?
+pub fn is_plain(formula: &Formula) -> bool
+    ensures { result ≡ plain (ltl formula.now) }
+{
+    match formula {
+        Formula::True | Formula::False | Formula::Atom(_) => true,
+        Formula::Not(f) => is_plain(f),
+        Formula::And(f, g) | Formula::Or(f, g) | Formula::Imply(f, g) | Formula::Equivalent(f, g) =>
+            is_plain(f) && is_plain(g),
+        _ => false,
+    }
+}
+
+/// The label of a formula without temporal operators, or of its negation.
+pub fn label(alloc: Global, formula: &Formula, positive: bool) -> Result<Formula, AllocError>
+    ensures { IfOk result (λ label. ltl label ≡ signed positive (ltl formula.now)) }
+{
+    if positive {
+        return formula.copy(alloc);
+    }
+    match formula {
+        Formula::True => Ok(Formula::False),
+        Formula::False => Ok(Formula::True),
+        _ => Ok(Formula::Not(Box::new(alloc, formula.copy(alloc)?)?)),
+    }
+}

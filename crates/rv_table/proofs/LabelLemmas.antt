@@ -1,0 +1,112 @@
+-- A formula's rows by the bits of their sets.
+use Rattle.std.proofs.Common.{◌≡◌, ℕ, zero, suc, ◌+◌, ◌-◌, ◌^◌, ◌<◌, ◌≤◌, ◌==◌, ◌&&◌, ◌||◌, nat_lt, max, bit_or, Bool, true, false, List, [], length, map, arith, refl, sym, ap, ◌∙◌, add-one, subst}
+use Rattle.std.specs.List.{All, list_all}
+use Rattle.std.specs.Int.{bit_at}
+use Rattle.std.proofs.lemmas.List.{get_or_past, get_or-map, length-map}
+use Rattle.std.proofs.lemmas.Nat.Bits.{bit_at-lt, bit_at-zero, bit_at_or}
+use Rattle.rv_model.specs.declared.hit.Letter.{Letter}
+use Rattle.rv_model.specs.declared.formula.Formula.{Formula}
+use Rattle.rv_model.specs.Letters.{atoms_in}
+use Rattle.rv_model.specs.Formulas.{ltl}
+use Rattle.rv_model.specs.Meaning.{true_on}
+use Rattle.rv_model.specs.Numbers.{has_bit}
+use Rattle.rv_model.specs.Table.{of_labels, Node, node_at}
+use Rattle.rv_model.specs.Stepping.{some_follows, step_set}
+use Rattle.rv_table.specs.Rows.{some_next, IsLabel}
+use Rattle.rv_table.proofs.SetLemmas.{some_follows-none, some_follows-more, is_step_set}
+
+-- what holds of each formula of a list holds of each in the list without boxes, and the other way round
+pub All-ltl : (fs : List Formula) → All IsLabel (map ltl fs) → All (λ f. IsLabel (ltl f)) fs
+All-ltl fs all = λ i d lt. let l : i < length (map ltl fs) = subst (λ n. i < n) (sym (length-map fs ltl)) lt in subst IsLabel (get_or-map ltl fs i d (ltl d) lt) (all i (ltl d) l)
+
+has_max : (m n : ℕ) → m < 2 → n < 2 → (max m n == 1) ≡ (m == 1 || n == 1)
+has_max zero zero h k = refl
+has_max zero (suc zero) h k = refl
+has_max (suc zero) zero h k = refl
+has_max (suc zero) (suc zero) h k = refl
+has_max (suc (suc m)) n h k = absurd (omega arith)
+has_max zero (suc (suc n)) h k = absurd (omega arith)
+has_max (suc zero) (suc (suc n)) h k = absurd (omega arith)
+
+-- the members of a union
+pub has_or : (s t k : ℕ) → has_bit (bit_or s t) k ≡ (has_bit s k || has_bit t k)
+has_or s t k = ap (λ n. n == 1) (bit_at_or s t k) ∙ has_max (bit_at s k) (bit_at t k) (bit_at-lt s k) (bit_at-lt t k)
+
+-- one more row
+pub some_next_more : (nodes : List Node) (set n q : ℕ) → some_next nodes set (n + 1) q ≡ (some_next nodes set n q || (has_bit set n && has_bit (node_at nodes n).next q))
+some_next_more nodes set n q = rw (add-one n) refl
+
+or_none : (a b : Bool) → (a || (b && false)) ≡ a
+or_none true b = refl
+or_none false true = refl
+or_none false false = refl
+
+no_bit : (q : ℕ) → has_bit 0 q ≡ false
+no_bit q = ap (λ n. n == 1) (bit_at-zero q)
+
+-- past the rows there are no next rows
+next-past : (nodes : List Node) (set q more : ℕ) → some_next nodes set (more + length nodes) q ≡ some_next nodes set (length nodes) q
+next-past nodes set q zero = ap (λ n. some_next nodes set n q) (none (length nodes))
+  where
+    none : (n : ℕ) → 0 + n ≡ n
+    none n = omega arith
+next-past nodes set q (suc more) =
+    let nothing : has_bit (node_at nodes (more + length nodes)).next q ≡ false = ap (λ (node : Node). has_bit node.next q) (get_or_past nodes (more + length nodes) (record { labels = []; next = 0 }) (omega arith)) ∙ no_bit q in
+    ap (λ n. some_next nodes set n q) (one (length nodes))
+    ∙ some_next_more nodes set (more + length nodes) q
+    ∙ ap (λ b. some_next nodes set (more + length nodes) q || (has_bit set (more + length nodes) && b)) nothing
+    ∙ or_none (some_next nodes set (more + length nodes) q) (has_bit set (more + length nodes)) ∙ next-past nodes set q more
+  where
+    one : (n : ℕ) → suc more + n ≡ more + n + 1
+    one n = omega arith
+
+both-ways : (row some all here next : Bool) → ((row && (some && all)) || (here && (row && (next && all)))) ≡ (row && ((some || (here && next)) && all))
+both-ways true true true here next = refl
+both-ways true true false true true = refl
+both-ways true true false true false = refl
+both-ways true true false false next = refl
+both-ways true false true true true = refl
+both-ways true false true true false = refl
+both-ways true false true false next = refl
+both-ways true false false true true = refl
+both-ways true false false true false = refl
+both-ways true false false false next = refl
+both-ways false some all true next = refl
+both-ways false some all false next = refl
+
+and_none : (row all : Bool) → false ≡ (row && (false && all))
+and_none true all = refl
+and_none false all = refl
+
+module _ (nodes : List Node) (set : ℕ) (x : Letter) (q : ℕ) where
+  abbrev is_row : Bool
+  is_row = nat_lt q (length nodes)
+
+  abbrev allows : Bool
+  allows = list_all (true_on (atoms_in x)) (node_at nodes q).labels
+
+  -- a row that follows is a next row whose labels are true
+  follows-next : (n : ℕ) → some_follows (of_labels nodes) set x n q ≡ (is_row && (some_next nodes set n q && allows))
+  follows-next zero = some_follows-none (of_labels nodes) set x q ∙ and_none is_row allows
+  follows-next (suc n) =
+      ap (λ k. some_follows (of_labels nodes) set x k q) (sym (add-one n)) ∙ some_follows-more (of_labels nodes) set x n q
+      ∙ ap (λ b. b || (has_bit set n && (is_row && (has_bit (node_at nodes n).next q && allows)))) (follows-next n)
+      ∙ both-ways is_row (some_next nodes set n q) allows (has_bit set n) (has_bit (node_at nodes n).next q)
+
+  pub follows-rows : length nodes ≤ 32 → some_follows (of_labels nodes) set x 32 q ≡ (is_row && (some_next nodes set (length nodes) q && allows))
+  follows-rows few = go (32 - length nodes) (omega arith)
+    where
+      go : (more : ℕ) → more + length nodes ≡ 32 → some_follows (of_labels nodes) set x 32 q ≡ (is_row && (some_next nodes set (length nodes) q && allows))
+      go more e =
+          follows-next 32 ∙ ap (λ b. is_row && (b && allows)) (ap (λ n. some_next nodes set n q) (sym e) ∙ next-past nodes set q more)
+
+-- the rows whose bits are so are those that follow
+pub is_label_step : (nodes : List Node) (set : ℕ) (x : Letter) (next out : ℕ) → length nodes ≤ 32 → out < 2 ^ 32
+    → ((q : ℕ) → has_bit next q ≡ some_next nodes set (length nodes) q)
+    → ((q : ℕ) → q < 32 → has_bit out q ≡ (nat_lt q (length nodes) && (has_bit next q && list_all (true_on (atoms_in x)) (node_at nodes q).labels)))
+    → out ≡ step_set (of_labels nodes) set x
+is_label_step nodes set x next out few fits next_is out_is =
+    is_step_set (of_labels nodes) set x out fits (λ q lt.
+    out_is q lt
+    ∙ ap (λ b. nat_lt q (length nodes) && (b && list_all (true_on (atoms_in x)) (node_at nodes q).labels)) (next_is q)
+    ∙ sym (follows-rows nodes set x q few))

@@ -1,0 +1,4 @@
+pub mod BuildLemmas
+pub mod LabelLemmas
+pub mod RowLemmas
+pub mod SetLemmas

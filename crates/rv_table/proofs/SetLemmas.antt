@@ -1,0 +1,64 @@
+-- Sets of rows by their bits.
+use Rattle.std.proofs.Common.{◌≡◌, ◌≢◌, ℕ, zero, suc, ◌+◌, ◌*◌, ◌%◌, ◌^◌, ◌<◌, ◌==◌, ◌&&◌, ◌||◌, add-one, not, nat_eq, bit_and, bit_or, Bool, true, false, ◌⊎◌, inl, inr, arith, refl, sym, ap, ◌∙◌, max, List, Option}
+use Rattle.std.specs.Int.{bit_at}
+use Rattle.std.proofs.lemmas.Nat.Bits.{and_pow, bit_at-zero, bit_at-lt, bit_at_or, bit_at-pow_same, bit_at-pow_other}
+use Rattle.std.proofs.lemmas.Nat.{one_shl, pow_pos}
+use Rattle.rv_model.specs.declared.hit.Letter.{Letter}
+use Rattle.rv_model.specs.declared.hit.Letter.TheVariants.{Atoms}
+use Rattle.rv_model.specs.Numbers.{has_bit}
+use Rattle.rv_model.specs.Table.{Table, of_events, follows}
+use Rattle.rv_model.specs.Stepping.{some_follows, step_set}
+use Rattle.rv_model.proofs.NumberLemmas.{bit_of, bit_or_not, is_number_of}
+
+-- the test for a member reads its bit
+pub test_bit : (set member : ℕ) → member < 32 → not (nat_eq (bit_and set (1 * 2 ^ member % 4294967296)) 0) ≡ has_bit set member
+test_bit set member h = rw (one_shl member 32 h, and_pow set member) (go (bit_at set member) (bit_at-lt set member) (pow_pos member))
+  where
+    go : (b : ℕ) → b < 2 → zero < 2 ^ member → not (nat_eq (b * 2 ^ member) 0) ≡ (b == 1)
+    go zero lt p = grind arith
+    go (suc b) lt p = let z : b ≡ 0 = omega arith in grind arith
+
+same_or_not : (a b : ℕ) → (a ≡ b) ⊎ (b ≢ a)
+same_or_not a b = grind arith
+
+max_bit : (a : ℕ) → a < 2 → (max a 1 == 1) ≡ (a == 1 || true)
+max_bit a h = grind arith
+
+max_none : (a : ℕ) → (max a 0 == 1) ≡ (a == 1 || false)
+max_none a = grind arith
+
+-- a member that is put in, and the others
+pub set_bit : (set member q : ℕ) → member < 32 → has_bit (bit_or set (1 * 2 ^ member % 4294967296)) q ≡ (has_bit set q || (member == q))
+set_bit set member q h = rw (one_shl member 32 h, bit_at_or set (2 ^ member) q) (go (same_or_not member q))
+  where
+    go : (member ≡ q) ⊎ (q ≢ member) → (max (bit_at set q) (bit_at (2 ^ member) q) == 1) ≡ (has_bit set q || (member == q))
+    go (inl e) = let t : (q == q) ≡ true = grind arith in rw (e, bit_at-pow_same q, t) (max_bit (bit_at set q) (bit_at-lt set q))
+    go (inr n) = let f : (member == q) ≡ false = grind arith in rw (bit_at-pow_other member q n, f) (max_none (bit_at set q))
+
+-- no row is before row 0
+pub some_follows-none : (t : Table) (set : ℕ) (x : Letter) (q : ℕ) → some_follows t set x 0 q ≡ false
+unfolding some_follows
+some_follows-none t set x q = refl
+
+-- one more row
+pub some_follows-more : (t : Table) (set : ℕ) (x : Letter) (n q : ℕ) → some_follows t set x (n + 1) q ≡ (some_follows t set x n q || (has_bit set n && follows t n x q))
+unfolding some_follows
+some_follows-more t set x n q = rw (add-one n) refl
+
+-- a set with the bits of the step is the step
+pub is_step_set : (t : Table) (set : ℕ) (x : Letter) (out : ℕ) → out < 2 ^ 32 → ((q : ℕ) → q < 32 → has_bit out q ≡ some_follows t set x 32 q) → out ≡ step_set t set x
+is_step_set t set x out fits bits = is_number_of (some_follows t set x 32) 32 out fits (λ q h. bit_or_not out q ∙ ap bit_of (bits q h))
+
+-- no row of an automaton follows by a set of atoms
+none-follow : (count : ℕ) (rows : List (List (Option ℕ))) (set atoms n q : ℕ) → some_follows (of_events count rows) set (Atoms atoms) n q ≡ false
+unfolding some_follows
+none-follow count rows set atoms zero q = refl
+none-follow count rows set atoms (suc n) q = rw (none-follow count rows set atoms n q) (none (has_bit set n))
+  where
+    none : (b : Bool) → (false || (b && false)) ≡ false
+    none true = refl
+    none false = refl
+
+-- so the step by it is empty
+pub step_set-atoms : (count : ℕ) (rows : List (List (Option ℕ))) (set atoms : ℕ) → 0 ≡ step_set (of_events count rows) set (Atoms atoms)
+step_set-atoms count rows set atoms = is_step_set (of_events count rows) set (Atoms atoms) 0 (omega arith) (λ q h. rw (bit_at-zero q) refl ∙ sym (none-follow count rows set atoms 32 q))

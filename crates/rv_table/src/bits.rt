@@ -1,0 +1,19 @@
+//! Sets of numbers below 32: rows, or atoms.
+ghost use Rattle.std.specs.Prelude.{◌≡◌, ℕ, ◌<◌, ◌==◌, ◌||◌};
+ghost use Rattle.rv_model.specs.Numbers.{has_bit};
+
+/// The set with this member.
+pub fn with(set: u32, member: u8) -> u32
+    requires { member < 32 }
+    ensures { (other : ℕ) → other < 32 → has_bit result other ≡ (has_bit set other || (member == other)) }
+{
+    set | 1 << member
+}
+
+/// Whether the set has this member.
+pub fn contains(set: u32, member: u8) -> bool
+    requires { member < 32 }
+    ensures { result ≡ has_bit set member }
+{
+    set & 1 << member != 0
+}

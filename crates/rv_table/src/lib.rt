@@ -1,0 +1,12 @@
+//! Tables: from a set of rows, and a letter, to the set of the rows that follow.
+#![tactic(auto)]
+
+mod bits;
+mod node;
+mod row;
+mod steps;
+mod table;
+mod truth;
+
+pub use node::Node;
+pub use table::Table;

@@ -1,0 +1,40 @@
+//! The rows of a formula's table (Gerth, Peled, Vardi, Wolper, 1995).
+
+ghost use Rattle.std.specs.Prelude.{◌≡◌, All};
+ghost use Rattle.std.specs.List.{list_all};
+ghost use Rattle.rv_model.specs.Meaning.{true_on};
+ghost use Rattle.rv_table.specs.Rows.{IsLabel};
+
+use crate::truth::all_true;
+use rv_model::Formula;
+use std::marker::Model;
+
+/// A row is entered by a letter that makes all its labels true. Bit k of `next` is set where row k may come next.
+#[derive(Drop)]
+pub struct Node {
+    pub labels: Vec<Formula>,
+    pub next: u32,
+}
+
+impl Model for Node {
+    ghost use Rattle.std.specs.Prelude.{map};
+    ghost use Rattle.rv_model.specs.Formulas.{ltl};
+    ghost use Rattle.rv_model.specs.Table.{Node as NodeValue};
+    ghost use Rattle.rv_table.specs.Rows.{coded_node};
+
+    ghost Value = { NodeValue };
+
+    ghost coded = { coded_node };
+
+    ghost view = { λ n. record { labels = map ltl n.labels.items; next = n.next } };
+}
+
+impl Node {
+    /// Whether the letter makes all labels true.
+    pub fn allows(&self, letter: u32) -> bool
+        requires { All IsLabel self.now.labels }
+        ensures { result ≡ list_all (true_on letter) self.now.labels }
+    {
+        all_true(&self.labels, letter)
+    }
+}
