@@ -13,9 +13,13 @@ Files = List ℕ → Option (List ℕ)
 abbrev pub Rose : ℕ → ℕ → Type 0
 Rose before now = (before < now) ⊎ (now ≡ 2 ^ 64 - 1)
 
+-- what one read gives of a file's bytes
+unfoldable pub front_read : List ℕ → List ℕ
+front_read bytes = take READ_LIMIT bytes
+
 -- a read of a name where the files are told: that file's bytes, cut, or what there is of them
 abbrev pub ReadsTold : Option (List ℕ) → ℕ → ℕ → Result (Vec ℕ Global) ReadError → Type 0
-ReadsTold (Some bytes) before now (Ok read) = read.items ≡ take READ_LIMIT bytes
+ReadsTold (Some bytes) before now (Ok read) = read.items ≡ front_read bytes
 ReadsTold None before now (Ok read) = ⊥
 ReadsTold (Some bytes) before now (Err NoFile) = ⊥
 ReadsTold None before now (Err NoFile) = now ≡ before

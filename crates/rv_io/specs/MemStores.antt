@@ -1,9 +1,9 @@
 -- A store in memory.
-use Rattle.std.specs.Prelude.{◌≡◌, ℕ, List, Option, Some, None, if◌then◌else◌, bytes_eq, option_map, find, take, Vec, Result, Ok, Err}
+use Rattle.std.specs.Prelude.{◌≡◌, ℕ, List, Option, Some, None, if◌then◌else◌, bytes_eq, option_map, find, Vec, Result, Ok, Err}
 use Rattle.std.specs.declared.alloc.Global.{Global}
 use Rattle.rv_io.specs.declared.store.ReadError.{ReadError}
 use Rattle.rv_io.specs.declared.store.ReadError.TheVariants.{NoFile, Memory}
-use Rattle.rv_io.specs.declared.store.TheConstants.{READ_LIMIT}
+use Rattle.rv_io.specs.Files.{front_read}
 use Rattle.rv_io.specs.Calls.{Calls, is_listed, passed, failed}
 
 -- files with their names and bytes, and the calls
@@ -22,7 +22,7 @@ IsReplaced old new name bytes = (other : List ℕ) → lookup new other ≡ (if 
 -- a copy of the bytes that a name has, cut
 abbrev pub Copies : Option (List ℕ) → Result (Vec ℕ Global) ReadError → Type 0
 Copies None result = result ≡ Err NoFile
-Copies (Some bytes) (Ok read) = read.items ≡ take READ_LIMIT bytes
+Copies (Some bytes) (Ok read) = read.items ≡ front_read bytes
 Copies (Some bytes) (Err refused) = refused ≡ Memory
 
 -- after a read: a fault is counted exactly where the call is listed

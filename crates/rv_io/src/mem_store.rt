@@ -1,7 +1,7 @@
 //! A store whose files are in memory, with calls that fail as they are listed.
 ghost use Rattle.std.specs.Prelude.{◌≡◌, ◌≤◌, ◌↔◌, ◌∷◌, [], ◌++◌, ℕ, List, Bool, true, Some, None, take, bytes_eq, OnOk, OnErr, IfOk, IsErrOf, IsTrue, position, false, find, option_copied};
 ghost use Rattle.rv_io.specs.Calls.{is_listed};
-ghost use Rattle.rv_io.specs.Files.{Reads};
+ghost use Rattle.rv_io.specs.Files.{Reads, front_read};
 ghost use Rattle.rv_io.specs.MemStores.{lookup, counted, Copies, IsReplaced};
 
 use crate::calls::Calls;
@@ -58,6 +58,14 @@ fn cut(bytes: &[u8], most: usize) -> &[u8]
     }
 }
 
+/// What one read gives of the bytes.
+#[tactic(auto, unfolding(crate::specs::Files::front_read))]
+fn front_read(bytes: &[u8]) -> &[u8]
+    ensures { result.now ≡ front_read bytes.now }
+{
+    cut(bytes, READ_LIMIT)
+}
+
 /// The place of the file of the name.
 fn place_of(files: &[MemFile], name: &str) -> Option<usize>
     ensures { result ≡ position (λ file. bytes_eq file.0 name.now) files.now }
@@ -79,7 +87,7 @@ fn copy_of(files: &[MemFile], alloc: Global, name: &str) -> Result<Vec<u8>, Read
     let Some(file) = held(files, name) else {
         return Err(ReadError::NoFile);
     };
-    match Vec::from_slice(alloc, cut(file.bytes(), READ_LIMIT)) {
+    match Vec::from_slice(alloc, front_read(file.bytes())) {
         Ok(bytes) => Ok(bytes),
         Err(AllocError) => Err(ReadError::Memory),
     }
