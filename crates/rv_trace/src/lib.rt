@@ -12,3 +12,6 @@ pub use fields::field;
 pub use laws::{heads_by_places, lines_move, lines_stay, stamps_by_places};
 pub use line::{LAST_CPU, Span, TraceLine, read_line};
 pub use trace::{MAX_BYTES, MAX_LINES, read_trace};
+
+#[cfg(test)]
+mod tests;
