@@ -1,0 +1,11 @@
+-- How many slots the monitors have (Linux, Documentation/trace/rv: global, per-CPU and per-task monitors).
+use Rattle.std.specs.Prelude.{ℕ}
+use Rattle.rv_model.specs.declared.work.Scope.{Scope}
+use Rattle.rv_model.specs.declared.work.Scope.TheVariants.{Global, Cpu, Task}
+use Rattle.rv_slots.specs.declared.shape.TheConstants.{CPUS}
+
+-- the slots of a monitor of the scope, in a run with so many tasks
+abbrev pub count_of : ℕ → Scope → ℕ
+count_of tasks Global = 1
+count_of tasks Cpu = CPUS
+count_of tasks Task = tasks

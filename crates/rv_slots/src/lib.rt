@@ -1,0 +1,12 @@
+//! The tasks of a run by their numbers, and the slots of its monitors by their numbers.
+#![tactic(auto)]
+
+mod shape;
+mod task;
+mod tasks;
+#[cfg(test)]
+mod tests;
+
+pub use shape::{CPUS, MAX_MONITORS, MAX_SLOTS, Place, Shape};
+pub use task::Task;
+pub use tasks::{MAX_TASKS, TaskFault, Tasks};
