@@ -1,0 +1,15 @@
+pub mod SetLemmas
+pub mod CoverSays
+pub mod PairLists
+pub mod RowSets
+pub mod CompleteLists
+pub mod NewNodes
+pub mod SetLists
+pub mod UnderWay
+pub mod PartAt
+pub mod CoverSet
+pub mod Capped
+pub mod BranchCount
+pub mod CoverLen
+pub mod Turns
+pub mod EmptyCovers
