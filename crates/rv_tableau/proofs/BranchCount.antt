@@ -1,5 +1,5 @@
 -- Branch numbers that are kept up to a cap.
-use Rattle.std.proofs.Common.{◌≡◌, ℕ, zero, suc, ◌+◌, ◌*◌, ◌<◌, ◌≤◌, min, cond, List, [], ◌∷◌, ◌++◌, length, get_or, ◌⊎◌, inl, inr, length-append, refl, sym, ap, ◌∙◌, subst, arith, add-one}
+use Rattle.std.proofs.Common.{◌≡◌, ℕ, ◌+◌, ◌*◌, ◌<◌, ◌≤◌, min, cond, List, [], ◌∷◌, ◌++◌, length, get_or, ◌⊎◌, inl, inr, length-append, refl, sym, ap, ◌∙◌, subst, arith, add-one}
 use mathlib.Core.Path.{ap₂}
 use Rattle.std.specs.Prelude.{slice_index}
 use Rattle.std.proofs.lemmas.List.{length-map}
@@ -7,7 +7,7 @@ use Rattle.std.proofs.Math.Seq.{get_or-append_seam}
 use Rattle.std.proofs.lemmas.List.{get_or_append_left}
 use Rattle.std.proofs.lemmas.Bool.{cases_lt}
 use Rattle.rv_model.specs.Numbers.{has_bit}
-use Rattle.rv_tableau.specs.Branches.{AreBranchNumbers, label_branches, piece_branches, part_branches, branches_below, branch_number}
+use Rattle.rv_tableau.specs.Branches.{AreBranchNumbers, piece_branches, part_branches, branches_below}
 use Rattle.rv_nnf.specs.Parts.{Piece, Label, Later, Both, Either, Awaits, Releases, piece_at, OperandsBelow}
 use Rattle.rv_nnf.proofs.ByNumber.{by_number_is}
 use Rattle.rv_nnf.specs.Views.{piece, pieces}

@@ -1,6 +1,6 @@
 -- The table of a complete list of nodes, in whatever order, reaches some row by letters exactly where the whole formula's part
 -- holds weakly on them.
-use Rattle.std.proofs.Common.{◌≡◌, ℕ, zero, suc, ◌+◌, ◌-◌, ◌^◌, ◌<◌, ◌≤◌, Bool, true, false, not, ◌&&◌, ◌||◌, cond, nat_lt, List, [], ◌∷◌, ◌++◌, map, length, get_or, refl, sym, ap, ◌∙◌, subst, arith, ◌↔◌, IsTrue}
+use Rattle.std.proofs.Common.{◌≡◌, ℕ, zero, suc, ◌+◌, ◌-◌, ◌<◌, ◌≤◌, Bool, true, false, not, ◌&&◌, ◌||◌, cond, List, [], ◌∷◌, map, length, get_or, refl, sym, ap, ◌∙◌, subst, arith, ◌↔◌, IsTrue}
 use mathlib.Core.Path.{ap₂}
 use Rattle.std.specs.Bool.{Decides}
 use Rattle.std.specs.List.{list_any, list_all}
@@ -11,10 +11,9 @@ use Rattle.rv_model.specs.declared.hit.Letter.{Letter}
 use Rattle.rv_model.specs.Judging.{ReachesSome}
 use Rattle.rv_model.specs.Language.{IsPath}
 use Rattle.rv_model.specs.Letters.{atoms_in}
-use Rattle.rv_model.specs.Ltl.{Ltl}
 use Rattle.rv_model.specs.Meaning.{true_on}
 use Rattle.rv_model.specs.Numbers.{has_bit}
-use Rattle.rv_model.specs.Table.{Node, Table, of_labels, node_at, follows, Follows, end_of}
+use Rattle.rv_model.specs.Table.{Node, of_labels, node_at, Follows, end_of}
 use Rattle.rv_model.specs.Truth.{Weak}
 use Rattle.rv_nnf.specs.Parts.{Piece, Label, Later, Both, Either, Awaits, Releases, piece_at, part_meaning, IsNormal}
 use Rattle.rv_tableau.specs.declared.pairs.Pair.{Pair}
@@ -22,7 +21,7 @@ use Rattle.rv_tableau.specs.Pairs.{nothing, is_in}
 use Rattle.rv_tableau.specs.Cover.{cover_of}
 use Rattle.rv_tableau.specs.Holding.{all_below, set_holds, piece_true, label_true, pair_holds}
 use Rattle.rv_tableau.specs.Nodes.{whole}
-use Rattle.rv_tableau.specs.Rows.{piece_labels, labels_below, rows_in, next_rows, node_row, rows_of, set_at, IsComplete}
+use Rattle.rv_tableau.specs.Rows.{piece_labels, labels_below, next_rows, node_row, rows_of, set_at, IsComplete}
 use Rattle.rv_tableau.proofs.SetLemmas.{and_true, all_one}
 use Rattle.rv_tableau.proofs.CoverSays.{empty_holds, set_says}
 use Rattle.rv_tableau.proofs.PairLists.{any_witness, any_from, in_index}

@@ -1,5 +1,5 @@
 -- The cover of a set says what the set says.
-use Rattle.std.proofs.Common.{◌≡◌, ◌≢◌, ℕ, zero, suc, ◌+◌, ◌^◌, ◌<◌, ◌≤◌, Bool, true, false, not, ◌&&◌, ◌||◌, cond, List, [], ◌∷◌, ◌++◌, length, refl, sym, ap, ◌∙◌, subst, arith}
+use Rattle.std.proofs.Common.{◌≡◌, ℕ, zero, suc, ◌<◌, ◌≤◌, Bool, true, false, not, ◌&&◌, ◌||◌, cond, List, [], ◌∷◌, ◌++◌, length, refl, sym, ap, ◌∙◌, arith}
 use mathlib.Core.Path.{ap₂}
 use Rattle.std.specs.List.{list_any}
 use Rattle.std.proofs.lemmas.List.Folds.{list_any-append}
@@ -9,12 +9,12 @@ use Rattle.rv_model.specs.Truth.{View, Weak, Strong, other}
 use Rattle.rv_model.specs.Numbers.{has_bit}
 use Rattle.rv_nnf.specs.Tree.{is_plain}
 use Rattle.rv_tableau.specs.declared.pairs.Pair.{Pair}
-use Rattle.rv_tableau.specs.Pairs.{nothing, join, unions, and_later, later_alone, label_alone}
+use Rattle.rv_tableau.specs.Pairs.{nothing, unions, and_later, later_alone, label_alone}
 use Rattle.rv_tableau.specs.Cover.{label_cover, piece_cover, part_cover, cover_below, cover_of}
 use Rattle.rv_tableau.specs.Holding.{all_below, set_holds, piece_true, label_true, pair_holds}
 use Rattle.rv_model.specs.Meaning.{Meaning, is_weak, meaning, not_m, until_m, release_m, true_on}
 use Rattle.rv_model.proofs.TruthLemmas.{proper}
-use Rattle.rv_nnf.specs.Parts.{Piece, Label, Later, Both, Either, Awaits, Releases, by_number, piece_at, piece_meaning, part_meaning, OperandsBelow, HasLabel, IsNormal}
+use Rattle.rv_nnf.specs.Parts.{Piece, Label, Later, Both, Either, Awaits, Releases, piece_at, piece_meaning, part_meaning, OperandsBelow, HasLabel, IsNormal}
 use Rattle.rv_nnf.proofs.ByNumber.{part_meaning_is, by_number_is}
 use Rattle.rv_tableau.proofs.SetLemmas.{and_assoc4, and_true, all_or, all_none, all_one, Splits, any_unions, any_later, or_false}
 

@@ -1,7 +1,6 @@
 -- One more part of a set.
-use Rattle.std.proofs.Common.{◌≡◌, ℕ, suc, ◌+◌, cond, List, refl, sym, ap, ◌∙◌, add-one}
+use Rattle.std.proofs.Common.{◌≡◌, ℕ, ◌+◌, cond, List, ap, add-one}
 use Rattle.rv_model.specs.Numbers.{has_bit}
-use Rattle.rv_tableau.specs.declared.pairs.Pair.{Pair}
 use Rattle.rv_tableau.specs.Pairs.{unions}
 use Rattle.rv_tableau.specs.Cover.{part_cover, cover_below}
 use Rattle.rv_nnf.specs.Parts.{Piece}

@@ -13,3 +13,7 @@ pub mod BranchCount
 pub mod CoverLen
 pub mod Turns
 pub mod EmptyCovers
+pub mod RowsMade
+pub mod AtomsBelow
+pub mod FitRows
+pub mod TableMeans

@@ -1,8 +1,8 @@
 -- What is known of a part that was read.
-use Rattle.std.proofs.Common.{◌≡◌, ℕ, ◌<◌, List, ◌++◌, map, length, get_or, refl, sym, ap, ◌∙◌, subst}
+use Rattle.std.proofs.Common.{◌≡◌, ℕ, ◌<◌, List, ◌++◌, map, length, get_or, sym, ap, ◌∙◌, subst}
 use Rattle.std.proofs.lemmas.List.{get_or-map}
 use Rattle.rv_model.specs.Ltl.{False}
-use Rattle.rv_nnf.specs.Parts.{Piece, Label, piece_at, OperandsBelow}
+use Rattle.rv_nnf.specs.Parts.{Label, piece_at, OperandsBelow}
 use Rattle.rv_nnf.specs.Views.{piece, pieces}
 use Rattle.rv_nnf.specs.declared.parts.Part.{Part}
 use Rattle.rv_tableau.specs.declared.pairs.Pair.{Pair}

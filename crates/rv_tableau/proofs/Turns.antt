@@ -1,9 +1,9 @@
 -- One turn of the work, as the code makes it.
-use Rattle.std.proofs.Common.{◌≡◌, ℕ, zero, suc, ◌+◌, ◌-◌, ◌<◌, ◌≤◌, min, Bool, true, false, cond, nat_eq, List, [], ◌∷◌, ◌++◌, map, length, get_or, ◌^◌, Result, Ok, Err, refl, sym, ap, ◌∙◌, subst, arith, length-append}
+use Rattle.std.proofs.Common.{◌≡◌, ℕ, zero, suc, ◌+◌, ◌-◌, ◌<◌, ◌≤◌, min, cond, nat_eq, List, [], ◌∷◌, ◌++◌, map, length, get_or, ◌^◌, Result, Ok, refl, sym, ap, ◌∙◌, arith, length-append}
 use mathlib.Core.Path.{ap₂}
 use Rattle.std.specs.Prelude.{nat_lt, nat_le, slice_index}
 use Rattle.std.proofs.lemmas.Bool.{le-leb, lt-leb, lt-ltb, le-ltb}
-use Rattle.rv_nnf.specs.Parts.{Piece, IsNormal}
+use Rattle.rv_nnf.specs.Parts.{Piece}
 use Rattle.rv_nnf.specs.Lists.{firsts}
 use Rattle.rv_tableau.specs.declared.pairs.Pair.{Pair}
 use Rattle.rv_tableau.specs.Cover.{cover_of}

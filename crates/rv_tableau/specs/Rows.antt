@@ -1,5 +1,5 @@
 -- The table of a list of nodes: row 0, and a row for each node.
-use Rattle.std.specs.Prelude.{◌≡◌, ℕ, zero, suc, ◌+◌, ◌^◌, ◌≤◌, true, cond, List, [], ◌∷◌, ◌++◌, length, map, slice_index_or, bit_or, Result, Ok}
+use Rattle.std.specs.Prelude.{◌≡◌, ℕ, zero, suc, ◌^◌, ◌≤◌, true, cond, List, [], ◌∷◌, ◌++◌, length, map, slice_index_or, bit_or, Result, Ok}
 use Rattle.rv_text.specs.declared.refusals.Refusal.{Refusal}
 use Rattle.rv_text.specs.Readings.{and_then}
 use Rattle.rv_model.specs.Ltl.{Ltl}

@@ -9,5 +9,7 @@ mod laws;
 mod listing;
 mod nodes;
 mod pairs;
+mod rows;
 
-pub use laws::{complete_is_right, cover_is_right};
+pub use laws::{complete_is_right, cover_is_right, table_means_rule};
+pub use rows::tableau;

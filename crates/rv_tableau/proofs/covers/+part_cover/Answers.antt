@@ -1,7 +1,7 @@
-use Rattle.std.proofs.Common.{◌≡◌, ◌<◌, List, [], ◌∷◌, map, ◌++◌, sym, ap, ◌∙◌, arith}
+use Rattle.std.proofs.Common.{[], ◌∷◌, ◌++◌, sym, ◌∙◌, arith}
 use mathlib.Core.Path.{ap₂}
-use Rattle.std.proofs.lemmas.Result.{IfOk-weaker, on_ok_weaker}
-use Rattle.rv_tableau.specs.Pairs.{unions, and_later, join}
+use Rattle.std.proofs.lemmas.Result.{IfOk-weaker}
+use Rattle.rv_tableau.specs.Pairs.{unions}
 use Rattle.rv_tableau.proofs.EmptyCovers.{empty_cover}
 use Rattle.rv_tableau.proofs.PartAt.{operands_at, cover_at, joined_made}
 use Rattle.rv_tableau.proofs.covers.+part_cover.Goals as goal

@@ -1,4 +1,4 @@
-use Rattle.std.proofs.Common.{◌≡◌, sym, ◌∙◌}
+use Rattle.std.proofs.Common.{sym, ◌∙◌}
 use Rattle.rv_tableau.proofs.EmptyCovers.{empty_set_cover}
 use Rattle.rv_tableau.proofs.covers.set_cover.Goals as goal
 

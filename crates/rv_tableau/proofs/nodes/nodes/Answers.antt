@@ -1,4 +1,4 @@
-use Rattle.std.proofs.Common.{◌≡◌, ℕ, ◌+◌, ◌++◌, map, nat_eq, ◌≤◌, ◌<◌, min, length, sym, ap, ◌∙◌, arith}
+use Rattle.std.proofs.Common.{◌++◌, map, nat_eq, min, length, sym, ap, ◌∙◌, arith}
 use mathlib.Core.Path.{ap₂}
 use Rattle.std.proofs.lemmas.List.{length-map}
 use Rattle.rv_nnf.specs.Views.{piece, pieces}
@@ -8,7 +8,7 @@ use Rattle.rv_tableau.specs.declared.pairs.Pair.{Pair}
 use Rattle.rv_tableau.specs.Cover.{cover_of}
 use Rattle.rv_tableau.specs.Branches.{branch_number}
 use Rattle.rv_tableau.specs.Nodes.{new_nodes}
-use Rattle.rv_tableau.proofs.Turns.{left, begun, ended, at_end, at_wide, at_many, at_turn, read_is, first_set}
+use Rattle.rv_tableau.proofs.Turns.{begun, ended, at_end, at_wide, at_many, at_turn, read_is, first_set}
 use Rattle.rv_tableau.proofs.nodes.nodes.Goals as goal
 
 pub loop-i-init : goal.loop-i-init

@@ -1,4 +1,4 @@
-use Rattle.std.proofs.Common.{◌≡◌, ◌++◌, take}
+use Rattle.std.proofs.Common.{◌≡◌, take}
 use Rattle.rv_tableau.specs.Pairs.{unions}
 use Rattle.rv_tableau.proofs.pairs.unions.Given as goal
 
