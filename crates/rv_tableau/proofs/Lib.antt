@@ -17,3 +17,4 @@ pub mod RowsMade
 pub mod AtomsBelow
 pub mod FitRows
 pub mod TableMeans
+pub mod WorkedTables
