@@ -12,4 +12,4 @@ pub mod EnterLemmas
 pub mod OneByOne
 pub mod Signs
 pub mod RefusedExactly
-pub mod Sleep
+pub mod SleepRule

@@ -1,4 +1,4 @@
--- A worked example: the eleven parts of the sleep rule, and the parts of a chain of `next`.
+-- A worked example: the eleven parts of the sleep rule.
 use Rattle.std.proofs.Common.{◌≡◌, List, [], ◌∷◌, Ok, refl}
 use native.Mathlib.Decide.{ℕ_discrete}
 use Rattle.rv_model.specs.Ltl.{Ltl, False, Atom, Not, Always, And, Or, Imply, Until}
@@ -6,16 +6,16 @@ use Rattle.rv_nnf.specs.NormalForm.{normal_of}
 use Rattle.rv_nnf.specs.Parts.{Piece, Label, Both, Either, Awaits, Releases}
 
 -- whoever sleeps in real time has a good reason and is woken well, or is on the list of exceptions
-abbrev sleep_rule : Ltl
+abbrev pub sleep_rule : Ltl
 sleep_rule = Always (Imply (And (Atom 0) (Atom 1)) (Or (And (Or (Atom 2) (Atom 3)) (Until (Not (Atom 4)) (Atom 5))) (Atom 6)))
 
 -- its parts
-abbrev sleep_parts : List Piece
+abbrev pub sleep_parts : List Piece
 sleep_parts =
     Label False ∷ Label (Not (And (Atom 0) (Atom 1))) ∷ Label (Or (Atom 2) (Atom 3)) ∷ Label (Not (Atom 4)) ∷ Label (Atom 5)
     ∷ Awaits 3 4 ∷ Both 2 5 ∷ Label (Atom 6) ∷ Either 6 7 ∷ Either 1 8 ∷ Releases 0 9 ∷ []
 
 -- they are its normal form
-sleep_normal : normal_of sleep_rule ≡ Ok sleep_parts
+pub sleep_normal : normal_of sleep_rule ≡ Ok sleep_parts
 unfolding ℕ_discrete
 sleep_normal = refl

@@ -1,0 +1,122 @@
+-- Sets of parts as numbers.
+use Rattle.std.proofs.Common.{◌≡◌, ◌≢◌, ℕ, zero, suc, ◌^◌, ◌<◌, ◌≤◌, max, Bool, true, false, not, ◌&&◌, ◌||◌, nat_eq, List, [], ◌∷◌, map, refl, sym, ap, ◌∙◌, ⊎_elim, arith, bit_or}
+use mathlib.Core.Path.{ap₂}
+use Rattle.std.specs.Int.{bit_at}
+use Rattle.std.specs.List.{list_any}
+use Rattle.std.proofs.lemmas.Nat.Bits.{bit_at_or, bit_at-lt, bit_at-zero, bit_at-pow_same, bit_at-pow_other}
+use Rattle.std.proofs.lemmas.Bool.{cases_eq}
+use Rattle.std.proofs.lemmas.List.Folds.{list_any-append}
+use Rattle.rv_model.specs.Numbers.{has_bit}
+use Rattle.rv_tableau.specs.declared.pairs.Pair.{Pair}
+use Rattle.rv_tableau.specs.Pairs.{nothing, join, unions, and_later, later_alone}
+use Rattle.rv_tableau.specs.Holding.{all_below}
+
+-- ---- tests
+
+pub and_assoc4 : (a b c d : Bool) → ((a && b) && (c && d)) ≡ ((a && c) && (b && d))
+and_assoc4 true true c d = refl
+and_assoc4 true false true d = refl
+and_assoc4 true false false d = refl
+and_assoc4 false b c d = refl
+
+guard_or : (s t p : Bool) → (not (s || t) || p) ≡ ((not s || p) && (not t || p))
+guard_or true true true = refl
+guard_or true true false = refl
+guard_or true false true = refl
+guard_or true false false = refl
+guard_or false true p = refl
+guard_or false false p = refl
+
+pub and_true : (a : Bool) → (a && true) ≡ a
+and_true true = refl
+and_true false = refl
+
+pub or_false : (a : Bool) → (a || false) ≡ a
+or_false true = refl
+or_false false = refl
+
+and_or : (a b c : Bool) → (a && (b || c)) ≡ ((a && b) || (a && c))
+and_or true b c = refl
+and_or false b c = refl
+
+or_and : (a b c : Bool) → ((a || b) && c) ≡ ((a && c) || (b && c))
+or_and true true true = refl
+or_and true true false = refl
+or_and true false true = refl
+or_and true false false = refl
+or_and false b c = refl
+
+-- ---- members
+
+has_max : (m n : ℕ) → m < 2 → n < 2 → nat_eq (max m n) 1 ≡ (nat_eq m 1 || nat_eq n 1)
+has_max zero zero h k = refl
+has_max zero (suc zero) h k = refl
+has_max (suc zero) zero h k = refl
+has_max (suc zero) (suc zero) h k = refl
+has_max (suc (suc m)) n h k = absurd (omega arith)
+has_max zero (suc (suc n)) h k = absurd (omega arith)
+has_max (suc zero) (suc (suc n)) h k = absurd (omega arith)
+
+pub has_or : (s t k : ℕ) → has_bit (bit_or s t) k ≡ (has_bit s k || has_bit t k)
+has_or s t k = ap (λ n. nat_eq n 1) (bit_at_or s t k) ∙ has_max (bit_at s k) (bit_at t k) (bit_at-lt s k) (bit_at-lt t k)
+
+pub has_none : (k : ℕ) → has_bit 0 k ≡ false
+has_none k = ap (λ n. nat_eq n 1) (bit_at-zero k)
+
+pub has_same : (k : ℕ) → has_bit (2 ^ k) k ≡ true
+has_same k = ap (λ n. nat_eq n 1) (bit_at-pow_same k)
+
+pub has_other : (k i : ℕ) → i ≢ k → has_bit (2 ^ k) i ≡ false
+has_other k i h = ap (λ n. nat_eq n 1) (bit_at-pow_other k i h)
+
+pub all_or : (n s t : ℕ) (p : ℕ → Bool) → all_below n (bit_or s t) p ≡ (all_below n s p && all_below n t p)
+all_or zero s t p = refl
+all_or (suc n) s t p =
+    ap₂ (λ a b. a && b) (all_or n s t p) (ap (λ b. not b || p n) (has_or s t n) ∙ guard_or (has_bit s n) (has_bit t n) (p n))
+    ∙ and_assoc4 (all_below n s p) (all_below n t p) (not (has_bit s n) || p n) (not (has_bit t n) || p n)
+
+pub all_none : (n : ℕ) (p : ℕ → Bool) → all_below n 0 p ≡ true
+all_none zero p = refl
+all_none (suc n) p = ap₂ (λ a b. a && (not b || p n)) (all_none n p) (has_none n)
+
+all_past : (n k : ℕ) (p : ℕ → Bool) → n ≤ k → all_below n (2 ^ k) p ≡ true
+all_past zero k p h = refl
+all_past (suc n) k p h = ap₂ (λ a b. a && (not b || p n)) (all_past n k p (omega arith)) (has_other k n (λ e. omega arith))
+
+one_step : (n k : ℕ) (p : ℕ → Bool) → (k < n → all_below n (2 ^ k) p ≡ p k) → k < suc n → all_below (suc n) (2 ^ k) p ≡ p k
+one_step n k p ih h = ⊎_elim last before (cases_eq n k)
+  where
+    last : n ≡ k → all_below (suc n) (2 ^ k) p ≡ p k
+    last e = ap₂ (λ a b. a && (not b || p n)) (all_past n k p (omega arith)) (ap (has_bit (2 ^ k)) e ∙ has_same k) ∙ ap p e
+
+    before : (n ≡ k → ⊥) → all_below (suc n) (2 ^ k) p ≡ p k
+    before e = ap₂ (λ a b. a && (not b || p n)) (ih (omega arith)) (has_other k n e) ∙ and_true (p k)
+
+pub all_one : (n k : ℕ) (p : ℕ → Bool) → k < n → all_below n (2 ^ k) p ≡ p k
+all_one zero k p h = absurd (omega arith)
+all_one (suc n) k p h = one_step n k p (all_one n k p) h
+
+-- ---- pairs
+
+-- a test of pairs that holds of a union exactly where it holds of both
+pub record Splits (f : Pair → Bool) : Type 0 where
+  pub none : f nothing ≡ true
+  pub both : (p q : Pair) → f (join p q) ≡ (f p && f q)
+
+any_joined : (f : Pair → Bool) → Splits f → (p : Pair) (qs : List Pair) → list_any f (map (join p) qs) ≡ (f p && list_any f qs)
+any_joined f s p [] = sym (and_false (f p))
+  where
+    and_false : (a : Bool) → (a && false) ≡ false
+    and_false true = refl
+    and_false false = refl
+any_joined f s p (q ∷ qs) = ap₂ (λ a b. a || b) (s.both p q) (any_joined f s p qs) ∙ sym (and_or (f p) (f q) (list_any f qs))
+
+pub any_unions : (f : Pair → Bool) → Splits f → (ps qs : List Pair) → list_any f (unions ps qs) ≡ (list_any f ps && list_any f qs)
+any_unions f s [] qs = refl
+any_unions f s (p ∷ ps) qs =
+    list_any-append f (map (join p) qs) (unions ps qs)
+    ∙ ap₂ (λ a b. a || b) (any_joined f s p qs) (any_unions f s ps qs)
+    ∙ sym (or_and (f p) (list_any f ps) (list_any f qs))
+
+pub any_later : (f : Pair → Bool) → Splits f → (k : ℕ) (ps : List Pair) → list_any f (and_later k ps) ≡ (f (later_alone k) && list_any f ps)
+any_later f s k ps = any_joined f s (later_alone k) ps

@@ -1,0 +1,6 @@
+pub mod Pairs
+pub mod Cover
+pub mod Branches
+pub mod Holding
+pub mod Nodes
+pub mod Rows
