@@ -11,7 +11,7 @@ use Rattle.rv_text.specs.declared.refusals.Refusal.{Refusal}
 use Rattle.rv_trace.specs.declared.head.Head.{Head}
 use Rattle.rv_trace.specs.declared.parts.Part.{Part}
 use Rattle.rv_trace.specs.declared.parts.Parts.{Parts}
-use Rattle.rv_trace.specs.declared.line.TheConstants.{LAST_CPU}
+use Rattle.rv_trace.specs.declared.line.TheConstants.{LAST_PID, LAST_CPU}
 use Rattle.rv_trace.specs.declared.line.Span.{Span}
 use Rattle.rv_trace.specs.declared.line.TraceLine.{TraceLine}
 use Rattle.rv_trace.specs.Heads.{head_of}
@@ -63,10 +63,11 @@ is_lost text = starts_with nat_eq text (codes "CPU:") && ends_with nat_eq text (
 unfoldable pub number_up_to : List ℕ → ℕ → Option ℕ
 number_up_to digits limit = if nat_le (number_of digits) limit then Some (number_of digits) else None
 
--- the numbers that stand in a head
+-- the PID that stands in a head
 abbrev pub pid_of : List ℕ → Head → Option ℕ
-pid_of text head = number_up_to (between text (head.dash + 1) head.digits) 4294967295
+pid_of text head = number_up_to (between text (head.dash + 1) head.digits) LAST_PID
 
+-- the CPU that stands in a head
 abbrev pub cpu_of : List ℕ → Head → Option ℕ
 cpu_of text head = number_up_to (between text (head.bracket + 1) head.close) LAST_CPU
 

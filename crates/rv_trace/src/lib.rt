@@ -10,7 +10,7 @@ mod trace;
 
 pub use fields::field;
 pub use laws::{heads_by_places, lines_move, lines_stay, stamps_by_places};
-pub use line::{LAST_CPU, Span, TraceLine, read_line};
+pub use line::{LAST_CPU, LAST_PID, Span, TraceLine, read_line};
 pub use trace::{MAX_BYTES, MAX_LINES, read_trace};
 
 #[cfg(test)]

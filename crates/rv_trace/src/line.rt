@@ -8,6 +8,8 @@ use crate::head::byte_at;
 use crate::parts::{Parts, parts_of};
 use rv_text::{Kind, LOST_EVENTS, Refusal, TOO_MANY_CPUS, TRACE_SYNTAX, decimal, run_end};
 
+/// The largest PID that there may be.
+pub const LAST_PID: u32 = 4_294_967_295;
 /// The largest number that a CPU may have.
 pub const LAST_CPU: u8 = 63;
 
@@ -74,7 +76,7 @@ fn said(text: &[u8], from: u32, number: u32, parts: Parts) -> Result<TraceLine, 
 {
     let head = parts.head;
     let digits = &text[head.dash + 1..head.digits];
-    let pid = number_up_to(digits, u32::MAX as u64).ok_or(Refusal::at(TRACE_SYNTAX, number))?;
+    let pid = number_up_to(digits, LAST_PID as u64).ok_or(Refusal::at(TRACE_SYNTAX, number))?;
     let digits = &text[head.bracket + 1..head.close];
     let cpu = number_up_to(digits, LAST_CPU as u64).ok_or(Refusal::at(TOO_MANY_CPUS, number))?;
     Ok(TraceLine {
