@@ -1,5 +1,5 @@
 -- One act keeps what the machine keeps, and its answer is the model's.
-use Rattle.std.proofs.Common.{◌≡◌, ◌≢◌, ℕ, ◌+◌, ◌^◌, ◌<◌, Bool, true, false, ◌⊎◌, inl, inr, List, [], ◌∷◌, ◌++◌, length, get_or, set, arith, refl, sym, ap, ◌∙◌, subst, get_or-set_same, get_or-set_other, length-set, add-one, reverse, sum}
+use Rattle.std.proofs.Common.{◌≡◌, ◌≢◌, ℕ, ◌+◌, ◌^◌, ◌<◌, Bool, ◌⊎◌, inl, inr, List, [], ◌∷◌, ◌++◌, length, get_or, set, arith, refl, sym, ap, ◌∙◌, subst, get_or-set_same, get_or-set_other, length-set, reverse, sum}
 use Rattle.std.proofs.lemmas.List.{get_or_default, get_or-map, reverse-append}
 use Rattle.std.proofs.lemmas.List.Elements.{All-get_or}
 use Rattle.rv_model.specs.declared.entry.Act.{Act}
@@ -10,19 +10,19 @@ use Rattle.rv_model.specs.Numbers.{number_of}
 use Rattle.rv_model.specs.Table.{Table}
 use Rattle.rv_model.specs.Judging.{Judge, JudgesByTable}
 use Rattle.rv_model.specs.Stepping.{IsTable, table_judge}
-use Rattle.rv_model.specs.Phases.{Phase, level, levels_of, phase_of, answer_to}
+use Rattle.rv_model.specs.Phases.{Phase, level, answer_to}
 use Rattle.rv_model.specs.SharedWords.{switch, switches_of, packed, slot_word, word_of, word_on, answer_at}
 use Rattle.rv_model.specs.Setups.{Setup, monitor_of, judge_of, start_of}
 use Rattle.rv_model.specs.Histories.{FitsWords}
 use Rattle.rv_model.proofs.CutLemmas.{at_each-snoc}
 use Rattle.rv_model.proofs.TableJudgeLemmas.{every_table_is_judged}
-use Rattle.rv_core.specs.Advance.{FitsTable, WhatFits, acted}
+use Rattle.rv_core.specs.Advance.{FitsTable, acted}
 use Rattle.rv_core.specs.Setup.{IsSetup, ActFits, FitsAct, place_of, table_at, no_table, table_of_act, start_of_act, judges_of}
 use Rattle.rv_core.specs.Core.{IsCore, IsLive, slot_phase}
 use Rattle.rv_core.proofs.PlaceLemmas.{monitor_of-lt}
 use Rattle.rv_core.proofs.SwitchLemmas.{switch-acted, switch-other}
 use Rattle.rv_core.proofs.TurnLemmas.{fits-start}
-use Rattle.rv_core.proofs.WordLemmas.{Acts, levels_now, acted-same, live-same, deliver-answer, packed-other, phase_after-other}
+use Rattle.rv_core.proofs.WordLemmas.{Acts, acted-same, live-same, deliver-answer, packed-other, phase_after-other}
 
 -- ---- places
 same_or_not : (a b : ℕ) → (a ≡ b) ⊎ (a ≢ b)

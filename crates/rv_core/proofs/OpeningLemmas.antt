@@ -1,5 +1,5 @@
 -- The opening words are those of an empty history.
-use Rattle.std.proofs.Common.{◌≡◌, ℕ, zero, suc, ◌+◌, ◌^◌, ◌<◌, List, [], ◌∷◌, ◌++◌, length, arith, refl, sym, ap, ◌∙◌, add-one, sum}
+use Rattle.std.proofs.Common.{◌≡◌, ℕ, ◌+◌, ◌^◌, ◌<◌, List, [], ◌∷◌, ◌++◌, arith, refl, sym, ap, ◌∙◌, add-one, sum}
 use Rattle.rv_model.specs.Numbers.{number_of, list_of, has_bit}
 use Rattle.rv_model.specs.Setups.{Setup, start_of}
 use Rattle.rv_model.specs.Histories.{FitsWords}

@@ -1,5 +1,5 @@
 -- What an act makes of a slot's word is what it makes of the phase and the levels.
-use Rattle.std.proofs.Common.{◌≡◌, ◌≢◌, ℕ, ◌+◌, ◌*◌, ◌/◌, ◌%◌, ◌^◌, ◌<◌, ◌==◌, Bool, true, false, arith, refl, sym, ap, ◌∙◌, subst}
+use Rattle.std.proofs.Common.{◌≡◌, ◌≢◌, ℕ, ◌+◌, ◌*◌, ◌^◌, ◌<◌, ◌==◌, Bool, true, false, arith, refl, sym, ap, ◌∙◌, subst}
 use Rattle.std.specs.Bool.{if◌then◌else◌}
 use Rattle.rv_model.specs.declared.hit.Letter.{Letter}
 use Rattle.rv_model.specs.declared.hit.What.{What}

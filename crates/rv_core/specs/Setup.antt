@@ -1,5 +1,5 @@
 -- What a setup keeps, and which acts fit it.
-use Rattle.std.specs.Prelude.{◌≡◌, ℕ, ◌+◌, ◌^◌, ◌<◌, List, [], map, length, sum, All, slice_index, slice_index_or}
+use Rattle.std.specs.Prelude.{◌≡◌, ℕ, ◌+◌, ◌^◌, ◌<◌, List, [], map, length, sum, All, slice_index_or}
 use Rattle.rv_model.specs.declared.entry.Act.{Act}
 use Rattle.rv_model.specs.declared.entry.Act.TheVariants.{Deliver, Stop, Raise, Lower, Clear}
 use Rattle.rv_model.specs.Table.{Table, of_events}

@@ -1,6 +1,6 @@
 -- The opening words are those of an empty history.
-use Rattle.std.proofs.Common.{◌≡◌, ◌∷◌, ◌++◌, [], ℕ, List, arith, sum, sym, ap, ◌∙◌, rules}
-use Rattle.rv_core.proofs.OpeningLemmas.{opening_words, opens-none, opens-more, core-opens}
+use Rattle.std.proofs.Common.{◌≡◌, ◌∷◌, ◌++◌, [], ℕ, arith, sum, ap, ◌∙◌, rules}
+use Rattle.rv_core.proofs.OpeningLemmas.{opens-none, opens-more, core-opens}
 use Rattle.rv_core.proofs.machine.Core.new.Goals as goal
 
 pub loop-slot-init : goal.loop-slot-init

@@ -1,5 +1,5 @@
 -- The slot's monitor has a starting value.
-use Rattle.std.proofs.Common.{◌≡◌, ◌+◌, ◌<◌, ◌^◌, ℕ, arith, ap, ◌∙◌, subst}
+use Rattle.std.proofs.Common.{◌+◌, ◌^◌, arith, ap, ◌∙◌}
 use Rattle.rv_core.proofs.PlaceLemmas.{place-below, start-read}
 use Rattle.rv_core.proofs.setup.Setup.opening.Goals as goal
 

@@ -1,5 +1,5 @@
 -- The slot's monitor has a table.
-use Rattle.std.proofs.Common.{◌≡◌, ◌<◌, ℕ, arith}
+use Rattle.std.proofs.Common.{arith}
 use Rattle.rv_core.proofs.PlaceLemmas.{place-below, table-read}
 use Rattle.rv_core.proofs.setup.Setup.table.Goals as goal
 
