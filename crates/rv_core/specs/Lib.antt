@@ -1,0 +1,5 @@
+pub mod Advance
+pub mod Core
+pub mod Judged
+pub mod Levels
+pub mod Setup

@@ -1,0 +1,12 @@
+//! The machine over entries, on one thread: any act, after any acts.
+#![tactic(auto)]
+
+mod act;
+mod machine;
+mod setup;
+mod turn;
+mod word;
+
+pub use machine::Core;
+pub use setup::Setup;
+pub use word::{Step, advance};

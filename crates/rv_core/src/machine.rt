@@ -1,0 +1,101 @@
+//! The machine, which does any act after any others.
+ghost use Rattle.std.specs.Prelude.{IfOk, ◌≡◌, []};
+ghost use Rattle.rv_model.specs.Histories.{Replays};
+ghost use Rattle.rv_core.specs.Setup.{FitsAct, IsSetup, judges_of};
+ghost use Rattle.rv_core.specs.Core.{Steps, CoreValue};
+ghost use Rattle.rv_core.specs.Judged.{JudgesBySpecs};
+
+use crate::act::{act_on, place_of};
+use crate::setup::Setup;
+use rv_model::{Act, Answer, Closed, Entry, Keeps};
+use rv_slots::Shape;
+use std::alloc::{AllocError, Global};
+use std::marker::Model;
+
+/// Contracts see its setup and its history.
+#[derive(Drop)]
+pub struct Core {
+    setup: Setup,
+    /// The switches, and then a word for each slot.
+    words: Vec<u64>,
+    history: Closed,
+}
+
+impl Model for Core {
+    ghost use Rattle.rv_model.specs.contracts.entry.Entry as entry;
+    ghost use Rattle.rv_core.specs.Core.{CoreValue, coded_core, IsCore};
+
+    ghost Value = { CoreValue };
+
+    ghost coded = { coded_core entry.the_row.coded };
+
+    ghost view = { λ c. record { setup = c.setup; history = c.history } };
+
+    ghost invariant = { λ c. IsCore c.setup c.words.items c.history };
+}
+
+impl Keeps for Core {
+    ghost history = { λ c. c.history };
+}
+
+impl Core {
+    /// Every slot waits, and the history is empty.
+    pub fn new(alloc: Global, setup: Setup) -> Result<Core, AllocError>
+        ensures { IfOk result (λ core. core ≡ record { setup = setup; history = [] }) }
+    {
+        setup.known();
+        let slots = setup.shape.slots();
+        let mut words = Vec::new(alloc);
+        words.push(setup.switches)?;
+        for slot in 0..slots {
+            words.push(setup.opening(slot))?;
+        }
+        Ok(Core {
+            setup,
+            words,
+            history: Closed::new(),
+        })
+    }
+
+    /// What is known of every machine. Where its tables mean specifications, the specifications are its judges.
+    pub fn known(&self)
+        ensures setup { IsSetup self.now.setup }
+        ensures replays { Replays self.now.setup (judges_of self.now.setup) self.now.history }
+        ensures judges { JudgesBySpecs self.now.setup }
+    {
+        let _ = &self.words;
+    }
+
+    /// The shape of its setup.
+    pub fn shape(&self) -> &Shape
+        ensures { result.now ≡ self.now.setup.shape }
+    {
+        &self.setup.shape
+    }
+
+    /// Does the act, whatever acts came before, and adds its entry to the history.
+    pub fn step(&mut self, seat: u32, act: &Act) -> Answer
+        requires { FitsAct self.old.setup act.now }
+        ensures { Steps self.old self.new seat act.now result }
+    {
+        let place = place_of(act);
+        let before = self.words[place];
+        let step = act_on(&self.setup, before, act);
+        self.words[place] = step.word;
+        let entry = Entry {
+            seat,
+            act: *act,
+            before,
+            after: step.word,
+        };
+        self.history.push(&entry);
+        step.answer
+    }
+
+    /// The history.
+    pub fn close(self) -> Closed
+        ensures { result ≡ self.history }
+    {
+        Closed::of(&self)
+    }
+}
