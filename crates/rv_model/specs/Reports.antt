@@ -61,9 +61,13 @@ abbrev pub state_text : ℕ → List (List ℕ) → ℕ → List ℕ
 state_text row [] set = []
 state_text row (state ∷ states) set = if has_bit set row then state else state_text (row + 1) states set
 
--- what is wrong: state k has the row k + 1
+-- what an automaton does not allow: state k has the row k + 1
+abbrev pub denied_text : Machine → What → ℕ → List ℕ
+denied_text a what set = codes " does not allow event " ++ event_text a.events what ++ codes " on state " ++ state_text 1 a.states set
+
+-- what is wrong
 abbrev pub fault_text : Spec → What → ℕ → List ℕ
-fault_text (spec.Da a) what set = codes " does not allow event " ++ event_text a.events what ++ codes " on state " ++ state_text 1 a.states set
+fault_text (spec.Da a) what set = denied_text a what set
 fault_text (spec.Ltl rule) what set = codes ": violation detected"
 
 -- the same for each reactor that prints
@@ -106,13 +110,17 @@ is_at monitor instance r = is_of monitor r && r.instance == instance
 abbrev pub instance_count : ℕ → List Record → ℕ → ℕ
 instance_count monitor records n = count_by (λ instance. list_any (is_at monitor instance) records) (list_of (λ instance. instance) n)
 
+-- a monitor's line, by its shown name and its counts
+abbrev pub count_text : List ℕ → ℕ → ℕ → ℕ → ℕ → List ℕ
+count_text shown instances deliveries failures stopped =
+    shown ++ codes ": instances " ++ decimal instances ++ codes ", deliveries " ++ decimal deliveries ++ codes ", failures " ++ decimal failures
+    ++ codes ", stopped " ++ decimal stopped ++ line_end
+
 -- a monitor's line
 abbrev pub summary_text : List Task → List Record → ℕ → Reported → List ℕ
 summary_text tasks records monitor m =
-    m.shown ++ codes ": instances " ++ decimal (instance_count monitor records (instances_in tasks m.scope))
-    ++ codes ", deliveries " ++ decimal (count_by (is_of monitor) records)
-    ++ codes ", failures " ++ decimal (count_by (λ r. is_of monitor r && is_failure r) records)
-    ++ codes ", stopped " ++ decimal (count_by (λ r. is_of monitor r && is_stopped r) records) ++ line_end
+    count_text m.shown (instance_count monitor records (instances_in tasks m.scope)) (count_by (is_of monitor) records)
+    (count_by (λ r. is_of monitor r && is_failure r) records) (count_by (λ r. is_of monitor r && is_stopped r) records)
 
 -- a line for each monitor, the first of which has this number
 abbrev pub summaries_text : List Task → List Record → ℕ → List Reported → List ℕ
