@@ -13,6 +13,7 @@ pub mod Meant
 pub mod Numbers
 pub mod Phases
 pub mod Records
+pub mod Reports
 pub mod ScriptParts
 pub mod Scripts
 pub mod Setups

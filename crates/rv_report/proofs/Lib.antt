@@ -1,0 +1,5 @@
+pub mod ChainLemmas
+pub mod CountLemmas
+pub mod ExitLemmas
+pub mod StateLemmas
+pub mod SummaryLemmas

@@ -1,0 +1,25 @@
+-- The first state whose row is in the set.
+use Rattle.std.proofs.Common.{◌≡◌, ℕ, ◌+◌, ◌<◌, List, [], ◌++◌, true, length, arith, sym, ap, ◌∙◌, append-nil}
+use Rattle.std.proofs.lemmas.Result.{on_ok_weaker}
+use Rattle.std.proofs.lemmas.Option.{get_or_from_slice_get}
+use Rattle.rv_model.specs.Numbers.{has_bit}
+use Rattle.rv_model.specs.Reports.{state_text}
+use Rattle.rv_report.proofs.StateLemmas.{state-at, state-none}
+use Rattle.rv_report.proofs.reactions.state.Goals as goal
+
+pub returns-then-has_row : goal.returns-then-has_row
+returns-then-has_row c =
+    let states : List (List ℕ) = c.args.states.now in
+    let place : ℕ = c.loop-place.place in
+    let name : List ℕ = c.get.result.now in
+    let below : place < length states = let a = c.loop-place-test.true in let b = c.len-place-end.ensures in omega arith in
+    let row : 1 + place ≡ place + 1 = omega arith in
+    let has : has_bit c.args.set (1 + place) ≡ true = ap (has_bit c.args.set) row ∙ sym c.has_row.ensures ∙ c.if-has_row.true in
+    let is : state_text 1 states c.args.set ≡ name = state-at 1 states c.args.set place name below c.loop-place.invariant.none has ∙ get_or_from_slice_get states place name name c.get.ensures in
+    on_ok_weaker c.text.result (λ new. new ∙ ap (λ (z : List ℕ). z ++ c.bytes.result.now) c.loop-place.invariant.same ∙ ap (λ (z : List ℕ). c.args.out.now ++ z) (c.bytes.ensures ∙ sym is)) c.text.ensures.ok
+
+pub returns : goal.returns
+returns c =
+    let states : List (List ℕ) = c.args.states.now in
+    let none : state_text 1 states c.args.set ≡ [] = state-none 1 states c.args.set (λ j lt. c.loop-place.invariant.none j (let a = c.loop-place-test.false in let b = c.len-place-end.ensures in omega arith)) in
+    c.loop-place.invariant.same ∙ sym (append-nil c.args.out.now) ∙ ap (λ (z : List ℕ). c.args.out.now ++ z) (sym none)

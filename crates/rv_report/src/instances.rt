@@ -1,0 +1,84 @@
+//! How monitors and their instances are called.
+ghost use Rattle.std.specs.Prelude.{◌≡◌, ◌++◌, [], OnOk, slice_index_or};
+ghost use Rattle.rv_model.specs.Reports.{task_at, task_text, place_text};
+ghost use Rattle.rv_report.specs.Shown.{shown_by};
+
+use rv_model::{Name, Names, Scope, Task};
+use rv_text::Line;
+use std::alloc::AllocError;
+
+/// Appends the name at this place, where there is one.
+pub(crate) fn name_at(out: &mut Line, names: &Names, place: usize) -> Result<(), AllocError>
+    ensures { OnOk result (out.new ≡ out.old ++ slice_index_or names.now place []) }
+{
+    if place < names.len() {
+        out.text(names.get(place).bytes())
+    } else {
+        Ok(())
+    }
+}
+
+/// Appends a monitor's shown name.
+pub(crate) fn shown(
+    out: &mut Line,
+    containers: &Names,
+    container: Option<u8>,
+    name: &Name,
+) -> Result<(), AllocError>
+    ensures { OnOk result (out.new ≡ out.old ++ shown_by containers.now container name.now) }
+{
+    match container {
+        Some(place) => {
+            name_at(out, containers, place as usize)?;
+            out.text(b":")?;
+        }
+        None => (),
+    }
+    out.text(name.bytes())
+}
+
+/// The task of this number.
+fn task_at(tasks: &[Task], number: u32) -> Task
+    ensures { result ≡ task_at tasks.now number }
+{
+    match tasks.get(number as usize) {
+        Some(task) => *task,
+        None => Task { pid: 0, cpu: 0 },
+    }
+}
+
+/// Appends a task.
+fn task(out: &mut Line, task: Task) -> Result<(), AllocError>
+    ensures { OnOk result (out.new ≡ out.old ++ task_text task) }
+{
+    out.number(task.pid as u64)?;
+    if task.pid == 0 {
+        out.text(b" cpu ")?;
+        out.number(task.cpu as u64)?;
+    }
+    Ok(())
+}
+
+/// Appends which instance of its monitor it is.
+pub(crate) fn place(
+    out: &mut Line,
+    tasks: &[Task],
+    scope: Scope,
+    instance: u32,
+) -> Result<(), AllocError>
+    ensures { OnOk result (out.new ≡ out.old ++ place_text tasks.now scope instance) }
+{
+    match scope {
+        Scope::Global => Ok(()),
+        Scope::Cpu => {
+            out.text(b"[cpu ")?;
+            out.number(instance as u64)?;
+            out.text(b"]")
+        }
+        Scope::Task => {
+            out.text(b"[task ")?;
+            task(out, task_at(tasks, instance))?;
+            out.text(b"]")
+        }
+    }
+}

@@ -1,0 +1,119 @@
+//! The lines of the summary.
+ghost use Rattle.std.specs.Prelude.{◌≡◌, ◌++◌, ◌&&◌, OnOk, IfOk, count_by};
+ghost use Rattle.rv_model.specs.Records.{is_failure, is_stopped};
+ghost use Rattle.rv_model.specs.Reports.{instances_in, is_of, instance_count, count_text, summary_text};
+ghost use Rattle.rv_report.specs.Shown.{reported, shown_by};
+
+use crate::instances::shown;
+use rv_bind::Monitor;
+use rv_model::{Answer, Delivered, Names, Record, Scope, Task};
+use rv_text::Line;
+use std::alloc::{AllocError, Global};
+
+/// How many records a monitor has, and how many of each kind that the summary tells apart.
+#[derive(Clone, Copy, Drop)]
+struct Tally {
+    deliveries: usize,
+    failures: usize,
+    stopped: usize,
+}
+
+/// The counts of the monitor at this place.
+fn tally_of(records: &[Record], place: usize) -> Tally
+    ensures deliveries { result.deliveries ≡ count_by (is_of place) records.now }
+    ensures failures { result.failures ≡ count_by (λ r. is_of place r && is_failure r) records.now }
+    ensures stopped { result.stopped ≡ count_by (λ r. is_of place r && is_stopped r) records.now }
+{
+    let mut tally = Tally {
+        deliveries: 0,
+        failures: 0,
+        stopped: 0,
+    };
+    for record in records {
+        if record.monitor as usize == place {
+            tally.deliveries += 1;
+            match record.outcome {
+                Delivered::Done(Answer::Failed(_)) => tally.failures += 1,
+                Delivered::Done(_) => (),
+                Delivered::Racing => tally.stopped += 1,
+            }
+        }
+    }
+    tally
+}
+
+/// How many instances a monitor of this scope has.
+fn instances_in(tasks: &[Task], scope: Scope) -> usize
+    ensures { result ≡ instances_in tasks.now scope }
+{
+    match scope {
+        Scope::Global => 1,
+        Scope::Cpu => 64,
+        Scope::Task => tasks.len(),
+    }
+}
+
+/// How many of the first `count` instances of the monitor at this place have a record.
+fn instance_count(
+    alloc: Global,
+    records: &[Record],
+    place: usize,
+    count: usize,
+) -> Result<usize, AllocError>
+    ensures { IfOk result (λ n. n ≡ instance_count place records.now count) }
+{
+    let mut seen = vec![in alloc; false; count]?;
+    for record in records {
+        let instance = record.instance as usize;
+        if record.monitor as usize == place && instance < count {
+            seen[instance] = true;
+        }
+    }
+    let mut number: usize = 0;
+    for instance in 0..count {
+        if seen[instance] {
+            number += 1;
+        }
+    }
+    Ok(number)
+}
+
+/// Appends a monitor's line.
+fn count_line(
+    out: &mut Line,
+    containers: &Names,
+    monitor: &Monitor,
+    instances: usize,
+    tally: Tally,
+) -> Result<(), AllocError>
+    ensures { OnOk result (out.new ≡ out.old ++ count_text (shown_by containers.now monitor.now.container monitor.now.name) instances tally.deliveries tally.failures tally.stopped) }
+{
+    shown(out, containers, monitor.container, &monitor.name)?;
+    out.text(b": instances ")?;
+    out.number(instances as u64)?;
+    out.text(b", deliveries ")?;
+    out.number(tally.deliveries as u64)?;
+    out.text(b", failures ")?;
+    out.number(tally.failures as u64)?;
+    out.text(b", stopped ")?;
+    out.number(tally.stopped as u64)?;
+    out.text(b"\n")
+}
+
+/// Appends the line of the monitor at this place.
+pub(crate) fn summary(
+    alloc: Global,
+    out: &mut Line,
+    containers: &Names,
+    monitor: &Monitor,
+    place: usize,
+    tasks: &[Task],
+    records: &[Record],
+) -> Result<(), AllocError>
+    ensures { OnOk result (out.new ≡ out.old ++ summary_text tasks.now records.now place (reported containers.now monitor.now)) }
+{
+    let tally = tally_of(records, place);
+    let count = instances_in(tasks, monitor.scope);
+    let instances = instance_count(alloc, records, place, count)?;
+    count_line(out, containers, monitor, instances, tally)
+}
