@@ -1,0 +1,13 @@
+-- Lists with a first element, and with a last one.
+use Rattle.std.proofs.Common.{◌≡◌, ℕ, zero, suc, ◌-◌, ◌<◌, ◌≤◌, List, [], ◌∷◌, length, take, drop, get_or, arith, refl, sym, ap, ◌∙◌, sub-one}
+use Rattle.std.proofs.lemmas.List.{take_all}
+
+-- a list that is not empty has a first element and others
+pub split_first : {X : Type 0} (xs : List X) (d : X) → 1 ≤ length xs → xs ≡ get_or xs 0 d ∷ take (length xs - 1) (drop 1 xs)
+split_first [] d le = absurd (omega arith)
+split_first (x ∷ xs) d le = ap (λ ys. x ∷ ys) (rw sub-one (sym (take_all (length xs) xs (omega arith))))
+
+-- a list that is not longer than 0 is empty
+pub is_empty : {X : Type 0} (xs : List X) → length xs < 1 → xs ≡ []
+is_empty [] lt = refl
+is_empty (x ∷ xs) lt = absurd (omega arith)
