@@ -1,4 +1,7 @@
+pub mod EntryLemmas
 pub mod ListLemmas
 pub mod NumberLemmas
 pub mod PathLemmas
+pub mod PhaseLemmas
+pub mod RowLemmas
 pub mod TestLemmas

@@ -1,2 +1,4 @@
 pub mod Edges
+pub mod Monitors
+pub mod PlainPhases
 pub mod Views

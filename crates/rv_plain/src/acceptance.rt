@@ -12,14 +12,14 @@ pub fn accepts(automaton: &Automaton, letters: &[Letter]) -> bool
     accepts_from(automaton, 0, letters)
 }
 
-fn accepts_from(automaton: &Automaton, state: u8, letters: &[Letter]) -> bool
+fn accepts_from(automaton: &Automaton, state: usize, letters: &[Letter]) -> bool
     ensures { IsTrue result ↔ ((path : List ℕ) × IsPath (HasEdge automaton.now) state path letters.now) }
 {
     let [first, rest @ ..] = letters else {
         return true;
     };
     for edge in &automaton.edges {
-        if leads(edge, state, *first) && accepts_from(automaton, edge.to, rest) {
+        if leads(edge, state, *first) && accepts_from(automaton, edge.to as usize, rest) {
             return true;
         }
     }
@@ -27,11 +27,11 @@ fn accepts_from(automaton: &Automaton, state: u8, letters: &[Letter]) -> bool
 }
 
 /// Whether the edge leads from the state by the letter.
-fn leads(edge: &Edge, state: u8, letter: Letter) -> bool
+pub fn leads(edge: &Edge, state: usize, letter: Letter) -> bool
     ensures { result ≡ is_edge_by state letter edge.now }
 {
     match letter {
-        Letter::Event(event) => edge.from == state && edge.event == event,
+        Letter::Event(event) => edge.from as usize == state && edge.event == event,
         Letter::Atoms(_) => false,
     }
 }

@@ -2,7 +2,14 @@
 #![tactic(auto)]
 
 mod acceptance;
+mod bits;
+mod levels;
+mod monitor;
+mod phase;
 mod satisfaction;
 
 pub use acceptance::accepts;
+pub use levels::{letter_at, level, levels_of};
+pub use monitor::{Monitor, Node};
+pub use phase::Phase;
 pub use satisfaction::{View, satisfies};

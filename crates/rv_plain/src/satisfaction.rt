@@ -3,10 +3,10 @@ ghost use Rattle.std.specs.Prelude.{◌≡◌, ◌↔◌, map, IsTrue};
 ghost use Rattle.rv_model.specs.Letters.{atoms_in};
 ghost use Rattle.rv_model.specs.Formulas.{ltl};
 ghost use Rattle.rv_model.specs.Meaning.{is_weak, meaning};
-ghost use Rattle.rv_model.specs.Numbers.{has_bit};
 ghost use Rattle.rv_model.specs.Truth.{other, Satisfies};
 ghost use Rattle.rv_plain.specs.Views.{view_of};
 
+use crate::bits::has_bit;
 use rv_model::{Formula, Letter};
 
 /// How letters that may go on are judged.
@@ -56,13 +56,6 @@ pub fn atoms_of(letter: Letter) -> u32
     }
 }
 
-/// Whether the set has the atom.
-pub fn has_atom(set: u32, atom: u8) -> bool
-    ensures { result ≡ has_bit set atom }
-{
-    atom < 32 && (set >> atom) & 1 == 1
-}
-
 fn tested(formula: &Formula, view: View, letters: &[Letter]) -> bool
     ensures { result ≡ meaning (ltl formula.now) (view_of view) (map atoms_in letters.now) }
 {
@@ -72,7 +65,7 @@ fn tested(formula: &Formula, view: View, letters: &[Letter]) -> bool
     match formula {
         Formula::True => true,
         Formula::False => false,
-        Formula::Atom(atom) => has_atom(atoms_of(*first), *atom),
+        Formula::Atom(atom) => has_bit(atoms_of(*first) as u64, *atom as u64),
         Formula::Not(f) => !tested(f, view.other(), letters),
         Formula::Next(f) => tested(f, view, rest),
         Formula::And(f, g) => tested(f, view, letters) && tested(g, view, letters),
