@@ -1,4 +1,5 @@
 pub mod Edges
 pub mod Monitors
 pub mod PlainPhases
+pub mod Plans
 pub mod Views

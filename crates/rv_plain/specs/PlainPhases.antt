@@ -6,6 +6,7 @@ use Rattle.rv_model.specs.declared.hit.Letter.{Letter}
 use Rattle.rv_model.specs.declared.hit.Mode.{Mode}
 use Rattle.rv_model.specs.Judging.{Judge, JudgesBySpec}
 use Rattle.rv_model.specs.Phases as model
+use Rattle.rv_model.specs.SharedWords.{packed}
 use Rattle.rv_plain.specs.declared.monitor.Monitor.{Monitor}
 use Rattle.rv_plain.specs.declared.phase.Phase.{Phase}
 use Rattle.rv_plain.specs.declared.phase.Phase.TheVariants.{Waiting, Running, Stopped}
@@ -37,3 +38,7 @@ IsPhaseOf m history slot phase = ByJudge m (λ j. phase_in phase ≡ model.phase
 -- the answer is that of the entry after what went before
 abbrev pub IsAnswer : Monitor → List Entry → Entry → Answer → Type 0
 IsAnswer m before entry answer = ByJudge m (λ j. answer ≡ model.answer_to j m.start (reverse before) entry entry.act)
+
+-- the word of a phase and levels
+abbrev pub IsPacked : Monitor → ℕ → Phase → ℕ → Type 0
+IsPacked m levels phase word = ByJudge m (λ j. word ≡ packed j levels (phase_in phase))
