@@ -1,5 +1,6 @@
 pub mod Edges
 pub mod Monitors
 pub mod PlainPhases
+pub mod PlainRecords
 pub mod Plans
 pub mod Views

@@ -1,7 +1,8 @@
 -- A plan as the definitions' setup, and its slots.
-use Rattle.std.specs.Prelude.{ℕ, ◌<◌, List, length, map}
+use Rattle.std.specs.Prelude.{ℕ, ◌<◌, List, length, map, All}
 use Rattle.rv_model.specs.declared.entry.Act.{Act}
 use Rattle.rv_model.specs.declared.entry.Act.TheVariants.{Deliver, Stop, Clear, Look, Raise, Lower}
+use Rattle.rv_model.specs.declared.entry.Entry.{Entry}
 use Rattle.rv_model.specs.declared.formula.Spec.{Spec}
 use Rattle.rv_model.specs.Judging.{Judge}
 use Rattle.rv_model.specs.Histories.{AreJudges}
@@ -36,3 +37,7 @@ HasSlotOf p (Deliver slot hit) = HasSlot p slot
 HasSlotOf p (Stop slot) = HasSlot p slot
 HasSlotOf p (Clear slot) = HasSlot p slot
 HasSlotOf p _ = Unit {0}
+
+-- each slot that the history's acts are on is one of a monitor
+abbrev pub HasSlots : Plan → List Entry → Type 0
+HasSlots p history = All (λ e. HasSlotOf p e.act) history

@@ -7,7 +7,9 @@ mod levels;
 mod monitor;
 mod phase;
 mod plan;
+mod records;
 mod satisfaction;
+mod script;
 mod switches;
 
 pub use acceptance::accepts;
@@ -15,5 +17,7 @@ pub use levels::{letter_at, level, levels_of};
 pub use monitor::{Monitor, Node};
 pub use phase::Phase;
 pub use plan::Plan;
+pub use records::status_of;
 pub use satisfaction::{View, satisfies};
+pub use script::look_place;
 pub use switches::{switch, switches_of};
