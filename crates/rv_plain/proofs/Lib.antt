@@ -6,3 +6,4 @@ pub mod PhaseLemmas
 pub mod PlanLemmas
 pub mod RowLemmas
 pub mod TestLemmas
+pub mod WellFormedLemmas

@@ -4,3 +4,4 @@ pub mod PlainPhases
 pub mod PlainRecords
 pub mod Plans
 pub mod Views
+pub mod Worked

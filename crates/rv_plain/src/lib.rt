@@ -11,6 +11,7 @@ mod records;
 mod satisfaction;
 mod script;
 mod switches;
+pub mod worked;
 
 pub use acceptance::accepts;
 pub use levels::{letter_at, level, levels_of};
