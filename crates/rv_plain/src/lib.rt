@@ -11,7 +11,10 @@ mod records;
 mod satisfaction;
 mod script;
 mod switches;
+#[cfg(test)]
+mod tests;
 pub mod worked;
+pub mod works;
 
 pub use acceptance::accepts;
 pub use levels::{letter_at, level, levels_of};
