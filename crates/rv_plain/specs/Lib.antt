@@ -1,0 +1,7 @@
+pub mod Edges
+pub mod Monitors
+pub mod PlainPhases
+pub mod PlainRecords
+pub mod Plans
+pub mod Views
+pub mod Worked
