@@ -1,0 +1,10 @@
+//! What is printed about a failure (Linux, Documentation/trace/rv, "Reactors").
+#![tactic(auto)]
+
+mod pieces;
+mod react;
+#[cfg(test)]
+mod tests;
+
+pub use react::{Fault, reaction};
+pub use rv_model::Reactor;
