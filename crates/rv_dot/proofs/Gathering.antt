@@ -1,0 +1,44 @@
+-- What is gathered from one saying more.
+use Rattle.std.proofs.Common.{◌≡◌, ℕ, ◌+◌, ◌<◌, Bool, List, [], ◌∷◌, ◌++◌, length, take, get_or, Option, Some, None, refl, sym, ap, ◌∙◌, Bor}
+use Rattle.std.specs.Prelude.{map}
+use Rattle.std.specs.List.{filter_map, flat_map, cons_option}
+use Rattle.std.specs.Option.{option_map, option_to_list}
+use Rattle.std.proofs.lemmas.List.{map_more, map-append}
+use Rattle.std.proofs.lemmas.List.Elements.{filter_map-append}
+use Rattle.std.proofs.lemmas.List.Concat.{flat_map-append}
+use Rattle.rv_dot.specs.declared.saying.Saying.{Saying}
+use Rattle.rv_dot.specs.declared.gather.Arc.{Arc as Held}
+use Rattle.rv_dot.specs.Statements.{Claim}
+use Rattle.rv_dot.specs.Gathered.{Arc, arcs_of}
+use Rattle.rv_dot.specs.Sayings.{said, all_said, arc}
+use Rattle.rv_dot.specs.Sets.{bytes_of}
+
+option_front : {A : Type 0} (o : Option A) → cons_option o [] ≡ option_to_list o
+option_front None = refl
+option_front (Some x) = refl
+
+map-option : {A B : Type 0} (f : A → B) (o : Option A) → map f (option_to_list o) ≡ option_to_list (option_map f o)
+map-option f None = refl
+map-option f (Some x) = refl
+
+-- at most one name more
+pub one_more : (h : Claim → Option (List ℕ)) (sayings : List Saying) (i : ℕ) (d : Saying) (found found' : List (Bor (List ℕ))) (name : Option (Bor (List ℕ))) → i < length sayings
+    → map bytes_of found ≡ filter_map h (all_said (take i sayings)) → option_map bytes_of name ≡ h (said (get_or sayings i d)) → found' ≡ found ++ option_to_list name
+    → map bytes_of found' ≡ filter_map h (all_said (take (i + 1) sayings))
+one_more h sayings i d found found' name lt so_far is grown =
+    ap (map bytes_of) grown ∙ map-append bytes_of found (option_to_list name) ∙ ap (λ (ns : List (List ℕ)). ns ++ map bytes_of (option_to_list name)) so_far
+    ∙ ap (λ (ns : List (List ℕ)). filter_map h (all_said (take i sayings)) ++ ns) (map-option bytes_of name ∙ ap option_to_list is ∙ sym (option_front (h (said (get_or sayings i d)))))
+    ∙ sym (filter_map-append h (all_said (take i sayings)) (said (get_or sayings i d) ∷ [])) ∙ ap (filter_map h) (sym (map_more said sayings i d lt))
+
+-- the arcs of one saying more
+pub arcs_more : (sayings : List Saying) (i : ℕ) (d : Saying) (found found' more : List Held) → i < length sayings
+    → map arc found ≡ flat_map arcs_of (all_said (take i sayings)) → map arc more ≡ arcs_of (said (get_or sayings i d)) → found' ≡ found ++ more
+    → map arc found' ≡ flat_map arcs_of (all_said (take (i + 1) sayings))
+arcs_more sayings i d found found' more lt so_far is grown =
+    ap (map arc) grown ∙ map-append arc found more ∙ ap (λ (as' : List Arc). as' ++ map arc more) so_far
+    ∙ ap (λ (as' : List Arc). flat_map arcs_of (all_said (take i sayings)) ++ as') (is ∙ sym (append_nil (arcs_of (said (get_or sayings i d)))))
+    ∙ sym (flat_map-append arcs_of (all_said (take i sayings)) (said (get_or sayings i d) ∷ [])) ∙ ap (flat_map arcs_of) (sym (map_more said sayings i d lt))
+  where
+    append_nil : (xs : List Arc) → xs ++ [] ≡ xs
+    append_nil [] = refl
+    append_nil (x ∷ xs) = ap (λ (as' : List Arc). x ∷ as') (append_nil xs)

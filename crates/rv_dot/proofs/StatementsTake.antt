@@ -1,0 +1,215 @@
+-- What is read is spelled so: statements and files.
+use Rattle.std.proofs.Common.{◌≡◌, ℕ, zero, suc, ◌<◌, Bool, true, false, eqb, List, [], ◌∷◌, ◌++◌, length, Option, Some, None, cond, refl, sym, ap, ◌∙◌, append_assoc, arith, inl, inr}
+use Rattle.std.specs.Prelude.{map, codes, ◌&&◌, Result, Ok, Err, IfOk}
+use Rattle.std.proofs.Common.{Vec, Global}
+use Rattle.rv_dot.specs.declared.fact.Fact.{Fact}
+use Rattle.rv_dot.specs.declared.fault.ReadError.{ReadError}
+use Rattle.std.specs.List.{flat_map, AllByRecursion}
+use Rattle.std.specs.Str.{bytes_eq}
+use Rattle.std.proofs.lemmas.Option.{same_Some}
+use Rattle.std.specs.Cmp.Lexicographic.{bytes_decides}
+use Rattle.std.proofs.lemmas.Bool.Decides.{nat_tests}
+use Rattle.rv_dot.specs.declared.token.Mark.TheVariants.{OpenBrace, CloseBrace, OpenBracket, CloseBracket, Equals, Semicolon, Arrow}
+use Rattle.rv_dot.specs.Tokens.{Lexeme, sign, word, Gives}
+use Rattle.rv_dot.specs.Marks.{begins, expects, without, is_assignment}
+use Rattle.rv_dot.specs.Names.{name_of}
+use Rattle.rv_dot.specs.Statements.{Claim, claims, declares, leads, held, word_at, value_at, name_at, bracket_at, optional_bracket_at, names_at, declared_at, ranked_at, group_at, assignment_at, edge_at, named_at, statement_at, statements_within, statements_at, claims_of}
+use Rattle.rv_dot.specs.Grammar.{semicolon, inside, optional_bracket, Group, group, Statement, assigns, declaration, rank, node, edge, statement, ended, File, file, IsName, IsStatement, IsFile, says, file_says}
+use Rattle.rv_dot.proofs.MarkLaws.{bind_some, chosen, expects_takes, begins_takes, semicolon_takes}
+use Rattle.rv_dot.proofs.ListsTake.{word_takes, value_takes, name_takes, bracket_takes, optional_bracket_takes, group_takes}
+use Rattle.rv_dot.proofs.StatementsAgain.{declared_each}
+
+-- a statement was read off the front
+abbrev pub Took : List Lexeme → List Claim × List Lexeme → Type 0
+Took tokens x = (s : Statement) × IsStatement s × (tokens ≡ statement s ++ x.1) × (says s ≡ x.0)
+
+abbrev behind_of : List Claim × List Lexeme → List Lexeme
+behind_of y = y.1
+
+abbrev claims_in : List Claim × List Lexeme → List Claim
+claims_in y = y.0
+
+assignment_takes : (tokens : List Lexeme) (x : List Claim × List Lexeme) → assignment_at tokens ≡ Some x → Took tokens x
+unfolding assignment_at
+assignment_takes tokens x h =
+    let key = bind_some (word_at tokens) _ x h in
+    let behind = bind_some (expects Equals key.0.1) _ x key.2 in
+    let value = bind_some (value_at behind.0) _ x behind.2 in
+    let e = same_Some _ x value.2 in
+    let v = value_takes behind.0 value.0 value.1 in (
+      assigns key.0.0 value.0.0,
+      v.1,
+      word_takes tokens key.0 key.1 ∙ ap (λ (ts : List Lexeme). word key.0.0 ∷ ts) (expects_takes Equals key.0.1 behind.0 behind.1 ∙ ap (λ (ts : List Lexeme). sign Equals ∷ ts) (v.0 ∙ ap (λ (y : List Claim × List Lexeme). value.0.0 ∷ y.1) e)),
+      ap claims_in e,
+    )
+
+edge_takes : (from : Lexeme) (tokens : List Lexeme) (x : List Claim × List Lexeme) → IsName from → edge_at from tokens ≡ Some x → Took (from ∷ sign Arrow ∷ tokens) x
+unfolding edge_at
+edge_takes from tokens x k h =
+    let to = bind_some (name_at tokens) _ x h in
+    let label = bind_some (optional_bracket_at (codes "label") to.0.1) _ x to.2 in
+    let e = same_Some _ x label.2 in
+    let t = name_takes tokens to.0 to.1 in
+    let b = optional_bracket_takes (codes "label") to.0.1 label.0 label.1 in (
+      edge from to.0.0 b.0,
+      (k, t.1, b.1),
+      ap (λ (ts : List Lexeme). from ∷ sign Arrow ∷ ts) (t.0 ∙ ap (λ (ts : List Lexeme). to.0.0 ∷ ts) (b.2 ∙ ap (λ (y : List Claim × List Lexeme). optional_bracket b.0 ++ y.1) e)),
+      ap (λ (l : Option Lexeme). leads (name_of from) (name_of to.0.0) (held l) ∷ []) b.3 ∙ ap claims_in e,
+    )
+
+named_takes : (tokens : List Lexeme) (x : List Claim × List Lexeme) → named_at tokens ≡ Some x → Took tokens x
+unfolding named_at
+named_takes tokens x h =
+    let from = bind_some (name_at tokens) _ x h in
+    let f = name_takes tokens from.0 from.1 in
+    elim (chosen (begins Arrow from.0.1) _ _ (Some x) from.2) [
+      | inl p ↦
+          let took = edge_takes from.0.0 (without Arrow from.0.1) x f.1 p.1 in
+          (took.0, took.1, f.0 ∙ ap (λ (ts : List Lexeme). from.0.0 ∷ ts) (begins_takes Arrow from.0.1 p.0) ∙ took.2, took.3)
+      | inr p ↦
+          let ignored = bind_some (optional_bracket_at [] from.0.1) _ x p.1 in
+          let e = same_Some _ x ignored.2 in
+          let b = optional_bracket_takes [] from.0.1 ignored.0 ignored.1 in
+          (node from.0.0 b.0, (f.1, b.1), f.0 ∙ ap (λ (ts : List Lexeme). from.0.0 ∷ ts) (b.2 ∙ ap (λ (y : List Claim × List Lexeme). optional_bracket b.0 ++ y.1) e), ap claims_in e)
+    ]
+
+some_name : {A : Type 0} (g : Group) (x y : A) → cond (eqb (length (map (λ n. n.0) g)) 0) None (Some x) ≡ Some y → 0 < length g
+some_name [] x y h = absurd (cc)
+some_name (n ∷ g) x y h = omega arith
+
+declared_takes : (tokens : List Lexeme) (x : List Claim × List Lexeme) → declared_at tokens ≡ Some x → Took (sign OpenBrace ∷ word (codes "node") ∷ tokens) x
+unfolding declared_at
+declared_takes tokens x h =
+    let behind = bind_some (expects OpenBracket tokens) _ x h in
+    let shape = bind_some (bracket_at (codes "shape") behind.0) _ x behind.2 in
+    let names = bind_some (names_at shape.0.1) _ x shape.2 in
+    let b = bracket_takes (codes "shape") behind.0 shape.0 shape.1 in
+    let g = group_takes shape.0.1 names.0 names.1 in
+    let said = map (λ name. declares (name_of name) (held shape.0.0)) names.0.0 in
+    let guarded : cond (eqb (length (map (λ (n : Lexeme × Bool). n.0) g.0)) 0) None (Some (said, names.0.1)) ≡ Some x = rw g.3 names.2 in
+    let some : 0 < length g.0 = some_name g.0 (said, names.0.1) x guarded in
+    elim (chosen (eqb (length names.0.0) 0) None (Some (said, names.0.1)) (Some x) names.2) [
+      | inl p ↦ absurd (cc)
+      | inr p ↦
+          let e = same_Some (said, names.0.1) x p.1 in (
+            declaration b.0 g.0,
+            (b.1, g.1, some),
+            ap (λ (ts : List Lexeme). sign OpenBrace ∷ word (codes "node") ∷ ts)
+                (expects_takes OpenBracket tokens behind.0 behind.1 ∙ ap (λ (ts : List Lexeme). sign OpenBracket ∷ ts)
+                (b.2 ∙ ap (λ (ts : List Lexeme). inside b.0 ++ sign CloseBracket ∷ ts) (g.2 ∙ ap (λ (y : List Claim × List Lexeme). group g.0 ++ y.1) e)
+                ∙ sym (append_assoc (inside b.0 ++ sign CloseBracket ∷ []) (group g.0) x.1 ∙ append_assoc (inside b.0) (sign CloseBracket ∷ []) (group g.0 ++ x.1)))),
+            ap (λ (o : Option Lexeme). map (λ (n : Lexeme × Bool). declares (name_of n.0) (held o)) g.0) b.3 ∙ sym (declared_each g.0 shape.0.0) ∙ ap (λ (ns : List Lexeme). map (λ (name : Lexeme). declares (name_of name) (held shape.0.0)) ns) g.3 ∙ ap claims_in e,
+          )
+    ]
+
+ranked_takes : (key : List ℕ) (tokens : List Lexeme) (x : List Claim × List Lexeme) → ranked_at tokens ≡ Some x → Took (sign OpenBrace ∷ word key ∷ sign Equals ∷ tokens) x
+unfolding ranked_at
+ranked_takes key tokens x h =
+    let value = bind_some (value_at tokens) _ x h in
+    let names = bind_some (names_at (without Semicolon value.0.1)) _ x value.2 in
+    let e = same_Some _ x names.2 in
+    let v = value_takes tokens value.0 value.1 in
+    let s = semicolon_takes value.0.1 in
+    let g = group_takes (without Semicolon value.0.1) names.0 names.1 in (
+      rank key value.0.0 s.0 g.0,
+      (v.1, g.1),
+      ap (λ (ts : List Lexeme). sign OpenBrace ∷ word key ∷ sign Equals ∷ ts)
+          (v.0 ∙ ap (λ (ts : List Lexeme). value.0.0 ∷ ts)
+          (s.1 ∙ ap (λ (ts : List Lexeme). semicolon s.0 ++ ts) (g.2 ∙ ap (λ (y : List Claim × List Lexeme). group g.0 ++ y.1) e) ∙ sym (append_assoc (semicolon s.0) (group g.0) x.1))),
+      ap claims_in e,
+    )
+
+group_statement_takes : (tokens : List Lexeme) (x : List Claim × List Lexeme) → group_at tokens ≡ Some x → Took (sign OpenBrace ∷ tokens) x
+unfolding group_at
+group_statement_takes tokens x h =
+    let head = bind_some (word_at tokens) _ x h in
+    let w = word_takes tokens head.0 head.1 in
+    elim (chosen (begins Equals head.0.1) _ _ (Some x) head.2) [
+      | inl p ↦
+          let took = ranked_takes head.0.0 (without Equals head.0.1) x p.1 in
+          (took.0, took.1, ap (λ (ts : List Lexeme). sign OpenBrace ∷ ts) (w ∙ ap (λ (ts : List Lexeme). word head.0.0 ∷ ts) (begins_takes Equals head.0.1 p.0)) ∙ took.2, took.3)
+      | inr p ↦
+          elim (chosen (bytes_eq head.0.0 (codes "node")) _ _ (Some x) p.1) [
+            | inl q ↦
+                let took = declared_takes head.0.1 x q.1 in
+                let is_node = (bytes_decides head.0.0 (codes "node")).0 q.0 in
+                (took.0, took.1, ap (λ (ts : List Lexeme). sign OpenBrace ∷ ts) (w ∙ ap (λ (k : List ℕ). word k ∷ head.0.1) is_node) ∙ took.2, took.3)
+            | inr q ↦ absurd (cc)
+          ]
+    ]
+
+pub statement_takes : (tokens : List Lexeme) (x : List Claim × List Lexeme) → statement_at tokens ≡ Some x → Took tokens x
+unfolding statement_at
+statement_takes tokens x h =
+    elim (chosen (begins OpenBrace tokens) _ _ (Some x) h) [
+      | inl p ↦
+          let took = group_statement_takes (without OpenBrace tokens) x p.1 in
+          (took.0, took.1, begins_takes OpenBrace tokens p.0 ∙ took.2, took.3)
+      | inr p ↦
+          elim (chosen (is_assignment tokens) _ _ (Some x) p.1) [
+            | inl q ↦ assignment_takes tokens x q.1
+            | inr q ↦ named_takes tokens x q.1
+          ]
+    ]
+
+pub statements_take : (n : ℕ) (tokens : List Lexeme) (x : List Claim × List Lexeme) → statements_within n tokens ≡ Some x
+    → (ss : List (Statement × Bool)) × AllByRecursion (λ s. IsStatement s.0) ss × (tokens ≡ flat_map ended ss ++ sign CloseBrace ∷ x.1) × (flat_map (λ s. says s.0) ss ≡ x.0)
+unfolding statements_within
+statements_take zero tokens x h = absurd (cc)
+statements_take (suc n) tokens x h =
+    elim (chosen (begins CloseBrace tokens) _ _ (Some x) h) [
+      | inl p ↦
+          let e = same_Some _ x p.1 in
+          ([], tt, begins_takes CloseBrace tokens p.0 ∙ ap (λ (y : List Claim × List Lexeme). sign CloseBrace ∷ y.1) e, ap claims_in e)
+      | inr p ↦
+          let first = bind_some (statement_at tokens) _ x p.1 in
+          let others = bind_some (statements_within n (without Semicolon first.0.1)) _ x first.2 in
+          let e = same_Some _ x others.2 in
+          let took = statement_takes tokens first.0 first.1 in
+          let s = semicolon_takes first.0.1 in
+          let more = statements_take n (without Semicolon first.0.1) others.0 others.1 in
+          let tail = flat_map ended more.0 ++ sign CloseBrace ∷ others.0.1 in (
+            (took.0, s.0) ∷ more.0,
+            (took.1, more.1),
+            took.2 ∙ ap (λ (ts : List Lexeme). statement took.0 ++ ts) (s.1 ∙ ap (λ (ts : List Lexeme). semicolon s.0 ++ ts) more.2)
+                ∙ sym (append_assoc (statement took.0 ++ semicolon s.0) (flat_map ended more.0) (sign CloseBrace ∷ others.0.1) ∙ append_assoc (statement took.0) (semicolon s.0) tail)
+                ∙ ap (λ (y : List Claim × List Lexeme). flat_map ended ((took.0, s.0) ∷ more.0) ++ sign CloseBrace ∷ y.1) e,
+            ap (λ (cs : List Claim). cs ++ flat_map (λ (s : Statement × Bool). says s.0) more.0) took.3 ∙ ap (λ (cs : List Claim). first.0.0 ++ cs) more.3 ∙ ap claims_in e,
+          )
+    ]
+
+nil_from_length : {A : Type 0} (xs : List A) → eqb (length xs) 0 ≡ true → xs ≡ []
+nil_from_length [] h = refl
+nil_from_length (x ∷ xs) h = absurd (grind (arith, nat_tests))
+
+both : (a b : Bool) → (a && b) ≡ true → (a ≡ true) × (b ≡ true)
+both true b h = (refl, h)
+both false b h = absurd (cc)
+
+-- what is read is spelled so
+pub file_takes : (tokens : List Lexeme) (said : List Claim) → claims_of tokens ≡ Some said → (f : File) × IsFile f × (tokens ≡ file f) × (file_says f ≡ said)
+unfolding claims_of statements_at
+file_takes tokens said h =
+    let head = bind_some (word_at tokens) _ said h in
+    let title = bind_some (word_at head.0.1) _ said head.2 in
+    let behind = bind_some (expects OpenBrace title.0.1) _ said title.2 in
+    let ss = bind_some (statements_within (length behind.0) behind.0) _ said behind.2 in
+    elim (chosen (bytes_eq head.0.0 (codes "digraph") && eqb (length ss.0.1) 0) _ _ (Some said) ss.2) [
+      | inl p ↦
+          let tests = both _ _ p.0 in
+          let is_digraph = (bytes_decides head.0.0 (codes "digraph")).0 tests.0 in
+          let is_end = nil_from_length ss.0.1 tests.1 in
+          let took = statements_take (length behind.0) behind.0 ss.0 ss.1 in (
+            record { title = title.0.0; statements = took.0 },
+            took.1,
+            word_takes tokens head.0 head.1 ∙ ap (λ (k : List ℕ). word k ∷ head.0.1) is_digraph ∙ ap (λ (ts : List Lexeme). word (codes "digraph") ∷ ts)
+                (word_takes head.0.1 title.0 title.1 ∙ ap (λ (ts : List Lexeme). word title.0.0 ∷ ts) (expects_takes OpenBrace title.0.1 behind.0 behind.1 ∙ ap (λ (ts : List Lexeme). sign OpenBrace ∷ ts)
+                (took.2 ∙ ap (λ (ts : List Lexeme). flat_map ended took.0 ++ sign CloseBrace ∷ ts) is_end))),
+            took.3 ∙ same_Some ss.0.0 said p.1,
+          )
+      | inr p ↦ absurd (cc)
+    ]
+
+pub is_found : (tokens : List Lexeme) (r : Result (Vec Fact Global) ReadError) → Gives (λ v. claims v.items) r (claims_of tokens) → IfOk r (λ v. (f : File) × IsFile f × (tokens ≡ file f) × (file_says f ≡ claims v.items))
+is_found tokens (Ok v) h = file_takes tokens (claims v.items) h
+is_found tokens (Err e) h = tt

@@ -1,0 +1,6 @@
+use Rattle.std.proofs.Common.{◌≡◌, length, map, take, drop, ◌≤◌}
+use Rattle.rv_dot.specs.Sets.{bytes_of}
+use Rattle.rv_dot.proofs.drawing.names.Given as goal
+
+abbrev pub invariant-names : goal.invariant-names
+invariant-names l = l.names ≡ map bytes_of (take l.name-index l.list)

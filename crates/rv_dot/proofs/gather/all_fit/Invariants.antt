@@ -1,0 +1,11 @@
+use Rattle.std.proofs.Common.{◌≡◌, length, map}
+use Rattle.std.specs.List.{list_all}
+use Rattle.rv_dot.specs.Gathered.{fits}
+use Rattle.rv_dot.specs.Sayings.{all_said}
+use Rattle.rv_dot.proofs.gather.all_fit.Given as goal
+
+abbrev pub invariant-loop-rest : goal.invariant-loop-rest
+invariant-loop-rest l = list_all fits (all_said l.rest) ≡ list_all fits (all_said l.said)
+
+abbrev pub decreases-loop-rest : goal.decreases-loop-rest
+decreases-loop-rest l = length l.rest

@@ -1,0 +1,10 @@
+use Rattle.std.proofs.Common.{◌≡◌, ◌≤◌, length, take}
+use Rattle.rv_dot.specs.Statements.{last_of}
+use Rattle.rv_dot.specs.Settings.{settings}
+use Rattle.rv_dot.proofs.lists.last_of.Given as goal
+
+abbrev pub invariant-loop-count : goal.invariant-loop-count
+invariant-loop-count l = record { within : l.count ≤ length l.attributes; value : last_of l.key (settings (take l.count l.attributes)) ≡ last_of l.key (settings l.attributes) }
+
+abbrev pub decreases-loop-count : goal.decreases-loop-count
+decreases-loop-count l = l.count

@@ -1,0 +1,7 @@
+use Rattle.std.proofs.Common.{◌≡◌, length, map, take, drop, ◌≤◌}
+use Rattle.rv_dot.specs.Sayings.{arc}
+use Rattle.rv_dot.specs.Sets.{bytes_of}
+use Rattle.rv_dot.proofs.reading.events.Given as goal
+
+abbrev pub invariant-arcs : goal.invariant-arcs
+invariant-arcs l = map bytes_of l.found.items ≡ map (λ a. a.event) (map arc (take l.one-index l.arcs))

@@ -1,0 +1,127 @@
+-- The grammar of a DOT text (this project's subset): a tree, its tokens, when it is well formed, and what it says.
+use Rattle.std.specs.Prelude.{ℕ, ◌<◌, Bool, true, false, codes, List, [], ◌∷◌, ◌++◌, length, map, Option, Some, None, ◌≡◌}
+use Rattle.std.specs.List.{flat_map, AllByRecursion}
+use Rattle.rv_dot.specs.declared.token.Mark.TheVariants.{OpenBrace, CloseBrace, OpenBracket, CloseBracket, Equals, Semicolon, Comma, Arrow}
+use Rattle.rv_dot.specs.Tokens.{Lexeme, sign, word, text}
+use Rattle.rv_dot.specs.Statements.{Attribute, Claim, declares, leads, held, is_keyword, last_of}
+use Rattle.rv_dot.specs.Names.{name_of}
+
+-- a semicolon, or none
+abbrev pub semicolon : Bool → List Lexeme
+semicolon true = sign Semicolon ∷ []
+semicolon false = []
+
+-- what may stand behind an attribute
+pub data Separator : Type 0 where
+  nothing : Separator
+  comma : Separator
+  semi : Separator
+
+abbrev pub separator : Separator → List Lexeme
+separator nothing = []
+separator comma = sign Comma ∷ []
+separator semi = sign Semicolon ∷ []
+
+-- attributes, each with what stands behind it
+abbrev pub Bracket : Type 0
+Bracket = List (Attribute × Separator)
+
+abbrev pub attribute : Attribute × Separator → List Lexeme
+attribute a = word a.0.key ∷ sign Equals ∷ a.0.value ∷ separator a.1
+
+abbrev pub inside : Bracket → List Lexeme
+inside b = flat_map attribute b
+
+abbrev pub bracket : Bracket → List Lexeme
+bracket b = sign OpenBracket ∷ inside b ++ sign CloseBracket ∷ []
+
+abbrev pub optional_bracket : Option Bracket → List Lexeme
+optional_bracket None = []
+optional_bracket (Some b) = bracket b
+
+-- names, each with a semicolon or none behind it
+abbrev pub Group : Type 0
+Group = List (Lexeme × Bool)
+
+abbrev pub named : Lexeme × Bool → List Lexeme
+named n = n.0 ∷ semicolon n.1
+
+abbrev pub group : Group → List Lexeme
+group g = flat_map named g ++ sign CloseBrace ∷ []
+
+pub data Statement : Type 0 where
+  assigns : List ℕ → Lexeme → Statement
+  declaration : Bracket → Group → Statement
+  rank : List ℕ → Lexeme → Bool → Group → Statement
+  node : Lexeme → Option Bracket → Statement
+  edge : Lexeme → Lexeme → Option Bracket → Statement
+
+-- the tokens of a statement, without its semicolon
+abbrev pub statement : Statement → List Lexeme
+statement (assigns key value) = word key ∷ sign Equals ∷ value ∷ []
+statement (declaration b g) = sign OpenBrace ∷ word (codes "node") ∷ bracket b ++ group g
+statement (rank key value s g) = sign OpenBrace ∷ word key ∷ sign Equals ∷ value ∷ semicolon s ++ group g
+statement (node name b) = name ∷ optional_bracket b
+statement (edge from to b) = from ∷ sign Arrow ∷ to ∷ optional_bracket b
+
+abbrev pub ended : Statement × Bool → List Lexeme
+ended s = statement s.0 ++ semicolon s.1
+
+-- a title, and statements, each with a semicolon or none behind it
+pub record File : Type 0 where
+  pub title : List ℕ
+  pub statements : List (Statement × Bool)
+
+abbrev pub file : File → List Lexeme
+file f = word (codes "digraph") ∷ word f.title ∷ sign OpenBrace ∷ flat_map ended f.statements ++ sign CloseBrace ∷ []
+
+-- a value is a word or a string
+abbrev pub IsValue : Lexeme → Type 0
+IsValue (sign mark) = ⊥
+IsValue (word w) = Unit {0}
+IsValue (text t) = Unit {0}
+
+-- a name is a string, or a word that is no keyword
+abbrev pub IsName : Lexeme → Type 0
+IsName (sign mark) = ⊥
+IsName (word w) = is_keyword w ≡ false
+IsName (text t) = Unit {0}
+
+abbrev pub IsBracket : Bracket → Type 0
+IsBracket b = AllByRecursion (λ a. IsValue a.0.value) b
+
+abbrev pub IsOptionalBracket : Option Bracket → Type 0
+IsOptionalBracket None = Unit {0}
+IsOptionalBracket (Some b) = IsBracket b
+
+abbrev pub IsGroup : Group → Type 0
+IsGroup g = AllByRecursion (λ n. IsName n.0) g
+
+abbrev pub IsStatement : Statement → Type 0
+IsStatement (assigns key value) = IsValue value
+IsStatement (declaration b g) = IsBracket b × IsGroup g × (0 < length g)
+IsStatement (rank key value s g) = IsValue value × IsGroup g
+IsStatement (node name b) = IsName name × IsOptionalBracket b
+IsStatement (edge from to b) = IsName from × IsName to × IsOptionalBracket b
+
+abbrev pub IsFile : File → Type 0
+IsFile f = AllByRecursion (λ s. IsStatement s.0) f.statements
+
+-- the value that counts for a key in a bracket: the last one
+abbrev pub value_in : List ℕ → Bracket → Option Lexeme
+value_in key b = last_of key (map (λ a. a.0) b)
+
+abbrev pub value_in_optional : List ℕ → Option Bracket → Option Lexeme
+value_in_optional key None = None
+value_in_optional key (Some b) = value_in key b
+
+-- what a statement says of the automaton
+abbrev pub says : Statement → List Claim
+says (assigns key value) = []
+says (declaration b g) = map (λ n. declares (name_of n.0) (held (value_in (codes "shape") b))) g
+says (rank key value s g) = []
+says (node name b) = []
+says (edge from to b) = leads (name_of from) (name_of to) (held (value_in_optional (codes "label") b)) ∷ []
+
+abbrev pub file_says : File → List Claim
+file_says f = flat_map (λ s. says s.0) f.statements

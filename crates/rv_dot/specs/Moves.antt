@@ -1,0 +1,36 @@
+-- Moves by number: their order, sets of them, and when two of them clash.
+use Rattle.std.specs.Prelude.{ℕ, ◌&&◌, ◌||◌, ◌==◌, Bool, false, List, [], ◌∷◌}
+use Rattle.std.specs.List.{fold}
+use Rattle.std.specs.BTreeSet.{insert_key}
+use Rattle.std.specs.Ordering.{nat_cmp, ordering_then}
+use Rattle.std.specs.declared.cmp.Ordering.{Ordering}
+use Rattle.rv_model.specs.declared.automaton.Edge.{Edge}
+use Rattle.rv_dot.specs.declared.moves.Move.{Move}
+use Rattle.rv_dot.specs.Gathered.{Arc}
+use Rattle.rv_dot.specs.Sets.{number_in}
+
+-- by from, then by event, then by to
+abbrev pub move_cmp : Move → Move → Ordering
+move_cmp a b = ordering_then (nat_cmp a.from b.from) (ordering_then (nat_cmp a.event b.event) (nat_cmp a.to b.to))
+
+-- the moves, ascending, each once
+unfoldable pub moves_of : List Move → List Move
+moves_of moves = fold (insert_key move_cmp) [] moves
+
+-- an arc by the places of its names
+abbrev pub numbered : List (List ℕ) → List (List ℕ) → Arc → Move
+numbered states events a = record { from = number_in states a.from; event = number_in events a.event; to = number_in states a.to }
+
+-- a move as an edge
+abbrev pub edge_of : Move → Edge
+edge_of m = record { from = m.from; event = m.event; to = m.to }
+
+-- from one state by one event
+abbrev pub same_key : Move → Move → Bool
+same_key a b = a.from == b.from && a.event == b.event
+
+-- two neighbours have one state and one event
+abbrev pub has_clash : List Move → Bool
+has_clash [] = false
+has_clash (a ∷ []) = false
+has_clash (a ∷ b ∷ moves) = same_key a b || has_clash (b ∷ moves)

@@ -1,0 +1,24 @@
+//! The DOT files of automata: tokens, statements, and the automaton.
+#![tactic(auto)]
+
+mod attribute;
+mod drawing;
+mod fact;
+mod fault;
+mod front;
+mod gather;
+mod label;
+mod lists;
+mod marks;
+mod moves;
+mod names;
+mod numbering;
+mod reading;
+mod runs;
+mod saying;
+mod statement;
+#[cfg(test)]
+mod tests;
+mod token;
+
+pub use reading::read_dot;

@@ -1,0 +1,104 @@
+//! Attributes in a bracket, and names in a group.
+ghost use Rattle.std.specs.Prelude.{◌≡◌, ◌<◌, ◌≤◌, length, IfSome, IfOk};
+ghost use Rattle.std.specs.Option.{option_map};
+ghost use Rattle.rv_dot.specs.Tokens.{Gives, lexeme, lexemes};
+ghost use Rattle.rv_dot.specs.Statements.{separated, attribute_at, attributes_at, last_of, bracket_at, names_at};
+ghost use Rattle.rv_dot.specs.Settings.{setting, settings};
+
+use crate::attribute::Attribute;
+use crate::fault::ReadError;
+use crate::marks::{begins, expect, name_at, value_at, without, word_at};
+use crate::token::{Mark, Token};
+use std::alloc::Global;
+
+/// The tokens behind at most one comma or semicolon.
+#[tactic(auto, unfolding(crate::specs::Statements::separated))]
+fn separated<'t, 'a>(tokens: &'t [Token<'a>]) -> &'t [Token<'a>]
+    ensures value { lexemes result.now ≡ separated (lexemes tokens.now) }
+    ensures within { length result.now ≤ length tokens.now }
+{
+    if begins(tokens, Mark::Comma) {
+        without(tokens, Mark::Comma)
+    } else {
+        without(tokens, Mark::Semicolon)
+    }
+}
+
+#[tactic(auto, unfolding(crate::specs::Statements::attribute_at))]
+fn attribute_at<'t, 'a>(tokens: &'t [Token<'a>]) -> Option<(Attribute<'a>, &'t [Token<'a>])>
+    ensures value { option_map (λ x. (setting x.0, lexemes x.1.now)) result ≡ attribute_at (lexemes tokens.now) }
+    ensures within { IfSome result (λ x. length x.1.now < length tokens.now) }
+{
+    let (key, rest) = word_at(tokens)?;
+    let rest = expect(rest, Mark::Equals)?;
+    let (value, rest) = value_at(rest)?;
+    Some((Attribute { key, value }, rest))
+}
+
+/// Behind an opening bracket: the attributes, and the tokens behind the closing bracket.
+fn attributes<'t, 'a>(
+    alloc: Global,
+    tokens: &'t [Token<'a>],
+) -> Result<(Vec<Attribute<'a>>, &'t [Token<'a>]), ReadError>
+    ensures value { Gives (λ x. (settings x.0.items, lexemes x.1.now)) result (attributes_at (lexemes tokens.now)) }
+    ensures within { IfOk result (λ x. length x.1.now ≤ length tokens.now) }
+{
+    let mut found = Vec::new(alloc);
+    let mut rest = tokens;
+    'attributes: while !begins(rest, Mark::CloseBracket) {
+        let Some((attribute, after)) = attribute_at(rest) else {
+            return Err(ReadError::Syntax);
+        };
+        found.push(attribute)?;
+        rest = separated(after);
+    }
+    Ok((found, without(rest, Mark::CloseBracket)))
+}
+
+/// The value that counts for the key: the last one.
+fn last_of<'a>(attributes: &[Attribute<'a>], key: &[u8]) -> Option<Token<'a>>
+    ensures { option_map lexeme result ≡ last_of key.now (settings attributes.now) }
+{
+    let mut count = attributes.len();
+    while 0 < count {
+        count -= 1;
+        if attributes[count].key == key {
+            return Some(attributes[count].value);
+        }
+    }
+    None
+}
+
+/// Behind an opening bracket: the value that counts for the key, and the tokens behind the closing bracket.
+#[tactic(auto, unfolding(crate::specs::Statements::bracket_at))]
+pub fn bracket<'t, 'a>(
+    alloc: Global,
+    tokens: &'t [Token<'a>],
+    key: &[u8],
+) -> Result<(Option<Token<'a>>, &'t [Token<'a>]), ReadError>
+    ensures value { Gives (λ x. (option_map lexeme x.0, lexemes x.1.now)) result (bracket_at key.now (lexemes tokens.now)) }
+    ensures within { IfOk result (λ x. length x.1.now ≤ length tokens.now) }
+{
+    let (attributes, rest) = attributes(alloc, tokens)?;
+    Ok((last_of(&attributes, key), rest))
+}
+
+/// The names up to the closing brace, and the tokens behind it.
+pub fn names<'t, 'a>(
+    alloc: Global,
+    tokens: &'t [Token<'a>],
+) -> Result<(Vec<Token<'a>>, &'t [Token<'a>]), ReadError>
+    ensures value { Gives (λ x. (lexemes x.0.items, lexemes x.1.now)) result (names_at (lexemes tokens.now)) }
+    ensures within { IfOk result (λ x. length x.1.now ≤ length tokens.now) }
+{
+    let mut found = Vec::new(alloc);
+    let mut rest = tokens;
+    'names: while !begins(rest, Mark::CloseBrace) {
+        let Some((name, after)) = name_at(rest) else {
+            return Err(ReadError::Syntax);
+        };
+        found.push(name)?;
+        rest = without(after, Mark::Semicolon);
+    }
+    Ok((found, without(rest, Mark::CloseBrace)))
+}

@@ -1,0 +1,83 @@
+//! What tokens say as names and values, and which names are of states, events and markers.
+ghost use Rattle.std.specs.Prelude.{◌≡◌, ◌&&◌, ◌==◌, not, IfOk};
+ghost use Rattle.std.specs.List.{list_all};
+ghost use Rattle.rv_dot.specs.Runs.{is_word_byte};
+ghost use Rattle.std.specs.Option.{option_map};
+ghost use Rattle.rv_dot.specs.Tokens.{lexeme};
+ghost use Rattle.rv_dot.specs.Names.{content_of, name_byte, name_of, is_marker, is_state_name, is_event_name, marks};
+ghost use Rattle.rv_dot.specs.Sets.{bytes_of};
+
+use crate::runs::is_word_byte;
+use crate::token::Token;
+use std::alloc::{AllocError, Global};
+
+/// What a word or a string holds.
+pub fn content<'a>(token: Token<'a>) -> &'a [u8]
+    ensures { result.now ≡ content_of (lexeme token.entry) }
+{
+    match token {
+        Token::Sign(_) => b"",
+        Token::Word(bytes) => bytes,
+        Token::Text(bytes) => bytes,
+    }
+}
+
+/// In a name every comma reads as `_`.
+fn name_byte(byte: u8) -> u8
+    ensures { result ≡ name_byte byte }
+{
+    if byte == b',' { b'_' } else { byte }
+}
+
+/// The name that a word or a string is.
+pub fn name(alloc: Global, token: Token<'_>) -> Result<Vec<u8>, AllocError>
+    ensures { IfOk result (λ v. v.items ≡ name_of (lexeme token.entry)) }
+{
+    content(token)
+        .iter()
+        .map(|byte| name_byte(*byte))
+        .collect(alloc)
+}
+
+/// Names of markers begin so, and no others.
+pub fn is_marker(name: &[u8]) -> bool
+    ensures { result ≡ is_marker name.now }
+{
+    name.starts_with(b"__init_")
+}
+
+fn has_state_bytes(name: &[u8]) -> bool
+    ensures { result ≡ list_all is_word_byte name.now }
+{
+    name.iter().all(|byte| is_word_byte(*byte))
+}
+
+fn has_event_bytes(name: &[u8]) -> bool
+    ensures { result ≡ list_all (λ b. is_word_byte b && not (b == 46)) name.now }
+{
+    name.iter().all(|byte| is_word_byte(*byte) && *byte != b'.')
+}
+
+/// 1 to 64 letters, digits, `_` and `.`.
+pub fn is_state_name(name: &[u8]) -> bool
+    ensures { result ≡ is_state_name name.now }
+{
+    !name.is_empty() && name.len() <= 64 && has_state_bytes(name)
+}
+
+/// 1 to 64 letters, digits and `_`.
+pub fn is_event_name(name: &[u8]) -> bool
+    ensures { result ≡ is_event_name name.now }
+{
+    !name.is_empty() && name.len() <= 64 && has_event_bytes(name)
+}
+
+/// A shape that marks the state that is declared with it.
+pub fn marks(shape: Option<&[u8]>) -> bool
+    ensures { result ≡ marks (option_map bytes_of shape.entry) }
+{
+    match shape {
+        None => false,
+        Some(shape) => shape == b"doublecircle".as_slice() || shape == b"ellipse".as_slice(),
+    }
+}

@@ -1,0 +1,207 @@
+//! From tokens to what the statements say.
+ghost use Rattle.std.specs.Prelude.{◌≡◌, ◌<◌, ◌≤◌, length, IfOk, map, Some};
+ghost use Rattle.std.specs.Option.{option_map};
+ghost use Rattle.rv_dot.specs.Tokens.{Gives, lexeme, lexemes};
+ghost use Rattle.rv_dot.specs.Names.{name_of};
+ghost use Rattle.rv_dot.specs.Grammar.{File, IsFile, file, file_says};
+ghost use Rattle.rv_dot.specs.Statements.{claims, declares, held, optional_bracket_at, declared_at, ranked_at, group_at, assignment_at, edge_at, named_at, statement_at, statements_at, claims_of};
+
+use crate::fact::Fact;
+use crate::fault::ReadError;
+use crate::lists::{bracket, names};
+use crate::marks::{begins, expect, is_assignment, name_at, value_at, without, word_at};
+use crate::token::{Mark, Token};
+use std::alloc::{AllocError, Global};
+
+type Said<'t, 'a> = Result<(Vec<Fact<'a>>, &'t [Token<'a>]), ReadError>;
+
+#[tactic(auto, unfolding(crate::specs::Statements::optional_bracket_at))]
+fn optional_bracket<'t, 'a>(
+    alloc: Global,
+    tokens: &'t [Token<'a>],
+    key: &[u8],
+) -> Result<(Option<Token<'a>>, &'t [Token<'a>]), ReadError>
+    ensures value { Gives (λ x. (option_map lexeme x.0, lexemes x.1.now)) result (optional_bracket_at key.now (lexemes tokens.now)) }
+    ensures within { IfOk result (λ x. length x.1.now ≤ length tokens.now) }
+{
+    if begins(tokens, Mark::OpenBracket) {
+        bracket(alloc, without(tokens, Mark::OpenBracket), key)
+    } else {
+        Ok((None, tokens))
+    }
+}
+
+/// Each of the names is declared with this shape.
+fn declared_names<'a>(
+    alloc: Global,
+    names: &[Token<'a>],
+    shape: Option<Token<'a>>,
+) -> Result<Vec<Fact<'a>>, AllocError>
+    ensures { IfOk result (λ v. claims v.items ≡ map (λ name. declares (name_of name) (held (option_map lexeme shape.entry))) (lexemes names.now)) }
+{
+    let mut facts = Vec::new(alloc);
+    for name in names {
+        facts.push(Fact::Declares { name: *name, shape })?;
+    }
+    Ok(facts)
+}
+
+/// Behind `{ node`: attributes, and one name or more.
+#[tactic(auto, unfolding(crate::specs::Statements::declared_at))]
+fn declared<'t, 'a>(alloc: Global, tokens: &'t [Token<'a>]) -> Said<'t, 'a>
+    ensures value { Gives (λ x. (claims x.0.items, lexemes x.1.now)) result (declared_at (lexemes tokens.now)) }
+    ensures within { IfOk result (λ x. length x.1.now ≤ length tokens.now) }
+{
+    let Some(rest) = expect(tokens, Mark::OpenBracket) else {
+        return Err(ReadError::Syntax);
+    };
+    let (shape, rest) = bracket(alloc, rest, b"shape")?;
+    let (names, rest) = names(alloc, rest)?;
+    if names.is_empty() {
+        return Err(ReadError::Syntax);
+    }
+    Ok((declared_names(alloc, &names, shape)?, rest))
+}
+
+/// Behind `{ word =`: a rank group, which says nothing.
+#[tactic(auto, unfolding(crate::specs::Statements::ranked_at))]
+fn ranked<'t, 'a>(alloc: Global, tokens: &'t [Token<'a>]) -> Said<'t, 'a>
+    ensures value { Gives (λ x. (claims x.0.items, lexemes x.1.now)) result (ranked_at (lexemes tokens.now)) }
+    ensures within { IfOk result (λ x. length x.1.now ≤ length tokens.now) }
+{
+    let Some((_, rest)) = value_at(tokens) else {
+        return Err(ReadError::Syntax);
+    };
+    let (_, rest) = names(alloc, without(rest, Mark::Semicolon))?;
+    Ok((Vec::new(alloc), rest))
+}
+
+/// Behind `{`.
+#[tactic(auto, unfolding(crate::specs::Statements::group_at))]
+fn group<'t, 'a>(alloc: Global, tokens: &'t [Token<'a>]) -> Said<'t, 'a>
+    ensures value { Gives (λ x. (claims x.0.items, lexemes x.1.now)) result (group_at (lexemes tokens.now)) }
+    ensures within { IfOk result (λ x. length x.1.now < length tokens.now) }
+{
+    let Some((head, rest)) = word_at(tokens) else {
+        return Err(ReadError::Syntax);
+    };
+    if begins(rest, Mark::Equals) {
+        ranked(alloc, without(rest, Mark::Equals))
+    } else if head == b"node".as_slice() {
+        declared(alloc, rest)
+    } else {
+        Err(ReadError::Syntax)
+    }
+}
+
+/// `word = value`, which says nothing.
+#[tactic(auto, unfolding(crate::specs::Statements::assignment_at))]
+fn assignment<'t, 'a>(alloc: Global, tokens: &'t [Token<'a>]) -> Said<'t, 'a>
+    ensures value { Gives (λ x. (claims x.0.items, lexemes x.1.now)) result (assignment_at (lexemes tokens.now)) }
+    ensures within { IfOk result (λ x. length x.1.now < length tokens.now) }
+{
+    let Some((_, rest)) = word_at(tokens) else {
+        return Err(ReadError::Syntax);
+    };
+    let Some(rest) = expect(rest, Mark::Equals) else {
+        return Err(ReadError::Syntax);
+    };
+    let Some((_, rest)) = value_at(rest) else {
+        return Err(ReadError::Syntax);
+    };
+    Ok((Vec::new(alloc), rest))
+}
+
+/// Behind `name ->`.
+#[tactic(auto, unfolding(crate::specs::Statements::edge_at))]
+fn edge<'t, 'a>(alloc: Global, from: Token<'a>, tokens: &'t [Token<'a>]) -> Said<'t, 'a>
+    ensures value { Gives (λ x. (claims x.0.items, lexemes x.1.now)) result (edge_at (lexeme from.entry) (lexemes tokens.now)) }
+    ensures within { IfOk result (λ x. length x.1.now < length tokens.now) }
+{
+    let Some((to, rest)) = name_at(tokens) else {
+        return Err(ReadError::Syntax);
+    };
+    let (label, rest) = optional_bracket(alloc, rest, b"label")?;
+    let mut facts = Vec::new(alloc);
+    facts.push(Fact::Leads { from, to, label })?;
+    Ok((facts, rest))
+}
+
+/// A node, of which nothing is said, or an edge.
+#[tactic(auto, unfolding(crate::specs::Statements::named_at))]
+fn named<'t, 'a>(alloc: Global, tokens: &'t [Token<'a>]) -> Said<'t, 'a>
+    ensures value { Gives (λ x. (claims x.0.items, lexemes x.1.now)) result (named_at (lexemes tokens.now)) }
+    ensures within { IfOk result (λ x. length x.1.now < length tokens.now) }
+{
+    let Some((from, rest)) = name_at(tokens) else {
+        return Err(ReadError::Syntax);
+    };
+    if begins(rest, Mark::Arrow) {
+        edge(alloc, from, without(rest, Mark::Arrow))
+    } else {
+        let (_, rest) = optional_bracket(alloc, rest, b"")?;
+        Ok((Vec::new(alloc), rest))
+    }
+}
+
+/// A statement, without its semicolon.
+#[tactic(auto, unfolding(crate::specs::Statements::statement_at))]
+fn statement<'t, 'a>(alloc: Global, tokens: &'t [Token<'a>]) -> Said<'t, 'a>
+    ensures value { Gives (λ x. (claims x.0.items, lexemes x.1.now)) result (statement_at (lexemes tokens.now)) }
+    ensures within { IfOk result (λ x. length x.1.now < length tokens.now) }
+{
+    if begins(tokens, Mark::OpenBrace) {
+        group(alloc, without(tokens, Mark::OpenBrace))
+    } else if is_assignment(tokens) {
+        assignment(alloc, tokens)
+    } else {
+        named(alloc, tokens)
+    }
+}
+
+/// Statements up to the closing brace, and the tokens behind it.
+fn statements<'t, 'a>(alloc: Global, tokens: &'t [Token<'a>]) -> Said<'t, 'a>
+    ensures { Gives (λ x. (claims x.0.items, lexemes x.1.now)) result (statements_at (lexemes tokens.now)) }
+{
+    let mut found = Vec::new(alloc);
+    let mut rest = tokens;
+    'statements: while !begins(rest, Mark::CloseBrace) {
+        let (facts, after) = statement(alloc, rest)?;
+        found.extend_from_slice(&facts)?;
+        rest = without(after, Mark::Semicolon);
+    }
+    Ok((found, without(rest, Mark::CloseBrace)))
+}
+
+/// What all the tokens say.
+#[tactic(auto, unfolding(crate::specs::Statements::claims_of))]
+fn all<'a>(alloc: Global, tokens: &[Token<'a>]) -> Result<Vec<Fact<'a>>, ReadError>
+    ensures { Gives (λ v. claims v.items) result (claims_of (lexemes tokens.now)) }
+{
+    let Some((head, rest)) = word_at(tokens) else {
+        return Err(ReadError::Syntax);
+    };
+    let Some((_, rest)) = word_at(rest) else {
+        return Err(ReadError::Syntax);
+    };
+    let Some(rest) = expect(rest, Mark::OpenBrace) else {
+        return Err(ReadError::Syntax);
+    };
+    let (facts, rest) = statements(alloc, rest)?;
+    if head == b"digraph".as_slice() && rest.is_empty() {
+        Ok(facts)
+    } else {
+        Err(ReadError::Syntax)
+    }
+}
+
+/// What the file says that these tokens spell.
+pub fn facts<'a>(alloc: Global, tokens: &[Token<'a>]) -> Result<Vec<Fact<'a>>, ReadError>
+    // What is read is spelled so.
+    ensures found { IfOk result (λ v. (f : File) × IsFile f × (lexemes tokens.now ≡ file f) × (file_says f ≡ claims v.items)) }
+    // What is spelled so is read, unless memory runs out.
+    ensures only { (f : File) → IsFile f → lexemes tokens.now ≡ file f → Gives (λ v. claims v.items) result (Some (file_says f)) }
+    ensures exact { Gives (λ v. claims v.items) result (claims_of (lexemes tokens.now)) }
+{
+    all(alloc, tokens)
+}
