@@ -1,0 +1,10 @@
+pub mod Operators
+pub mod Unreads
+pub mod Grammar
+pub mod Parse
+pub mod File
+pub mod Postfix
+pub mod Pieces
+pub mod Texts
+pub mod Names
+pub mod Tokens
