@@ -64,7 +64,7 @@ gathers_none pieces i d keys lt other so_far =
 
 -- ---- the order
 
-all_at : {K : Type 0} (P : K → Type 0) (xs : List K) (i : ℕ) (d : K) → AllByRecursion P xs → i < length xs → P (get_or xs i d)
+pub all_at : {K : Type 0} (P : K → Type 0) (xs : List K) (i : ℕ) (d : K) → AllByRecursion P xs → i < length xs → P (get_or xs i d)
 all_at P [] i d all lt = absurd (omega arith)
 all_at P (x ∷ xs) zero d all lt = all.0
 all_at P (x ∷ xs) (suc i) d all lt = all_at P xs i d all.1 (omega arith)

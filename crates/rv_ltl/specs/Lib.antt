@@ -8,3 +8,14 @@ pub mod Pieces
 pub mod Texts
 pub mod Names
 pub mod Tokens
+pub mod Replace
+pub mod Reach
+pub mod Atoms
+pub mod RuleFile
+pub mod Machine
+pub mod Weights
+pub mod Settles
+pub mod Reached
+pub mod Collected
+pub mod Uses
+pub mod Rules
