@@ -1,0 +1,8 @@
+use Rattle.rv_ltl.specs.Machine.{defs}
+use Rattle.rv_ltl.specs.Collected.{is_free}
+use Rattle.rv_ltl.proofs.Collecting.{code_fails}
+use Rattle.rv_ltl.proofs.atoms.put_code.Goals as goal
+
+pub returns-then-not-fits : goal.returns-then-not-fits
+returns-then-not-fits c =
+    code_fails (is_free (defs c.args.definitions.now)) c.args.code.now c.code.step-index _ c.code.out.items c.put_step.new.out.items _ c.in_ok-fits.fits c.code-test.true c.if-not-fits.true c.in_ok-fits.ensures c.code.invariant.is

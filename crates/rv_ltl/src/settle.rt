@@ -1,0 +1,116 @@
+//! The weight of what each definition stands for, from the inside out, without writing any of it out.
+//! Which definitions use which is asked first, so that each formula is weighed once.
+
+ghost use Rattle.std.specs.Prelude.{◌≡◌, ◌<◌, ℕ, length, IfOk, IsTrue, true, false};
+ghost use Rattle.rv_ltl.specs.Machine.{defs, AllCoded};
+ghost use Rattle.rv_ltl.specs.Weights.{IsDistinct, IsSure, Learns, Passes, known_at, known_count};
+ghost use Rattle.rv_ltl.specs.Settles.{Settles};
+ghost use Rattle.rv_ltl.specs.Reached.{AreUses, flag_at};
+ghost use Rattle.rv_ltl.specs.declared.weight.Weight.TheVariants.{Open};
+
+use crate::definitions::Definition;
+use crate::weighing::{known, weigh};
+use crate::weight::Weight;
+use std::alloc::{AllocError, Global};
+
+// Whether the weights of all that the row flags are known.
+fn is_ready(row: &[bool], weights: &[Weight]) -> bool
+    ensures { result ≡ false → (j : ℕ) × (j < length row.now) × (flag_at row.now j ≡ true) × (known_at weights.now j ≡ Open) }
+{
+    for j in 0..row.len() {
+        if row[j] && known(weights, j).is_open() {
+            return false;
+        }
+    }
+    true
+}
+
+fn any_open(weights: &[Weight]) -> bool
+    ensures yes { IsTrue result → (i : ℕ) × (i < length weights.now) × (known_at weights.now i ≡ Open) }
+    ensures no { (i : ℕ) → i < length weights.now → known_at weights.now i ≡ Open → IsTrue result }
+{
+    for i in 0..weights.len() {
+        if weights[i].is_open() {
+            return true;
+        }
+    }
+    false
+}
+
+// Puts down the weight of the definition, and says whether it could.
+fn learn(
+    alloc: Global,
+    definitions: &[Definition],
+    uses: &[Vec<bool>],
+    weights: &mut Vec<Weight>,
+    i: usize,
+) -> Result<bool, AllocError>
+    requires each { length weights.old.items ≡ length definitions.now }
+    requires place { i < length definitions.now }
+    requires distinct { IsDistinct (defs definitions.now) }
+    requires coded { AllCoded definitions.now }
+    requires uses { AreUses (defs definitions.now) uses.now (length definitions.now) }
+    ensures { IfOk result (λ more. Learns (defs definitions.now) weights.old.items weights.new.items i more) }
+{
+    if !weights[i].is_open() {
+        return Ok(false);
+    }
+    if !is_ready(&uses[i], weights) {
+        return Ok(false);
+    }
+    let weight = weigh(alloc, definitions, weights, &definitions[i].code)?;
+    if weight.is_open() {
+        return Ok(false);
+    }
+    weights[i] = weight;
+    Ok(true)
+}
+
+// Puts down each weight that follows from those that are known, and says whether there was one.
+fn pass(
+    alloc: Global,
+    definitions: &[Definition],
+    uses: &[Vec<bool>],
+    weights: &mut Vec<Weight>,
+) -> Result<bool, AllocError>
+    requires each { length weights.old.items ≡ length definitions.now }
+    requires distinct { IsDistinct (defs definitions.now) }
+    requires coded { AllCoded definitions.now }
+    requires uses { AreUses (defs definitions.now) uses.now (length definitions.now) }
+    requires sure { IsSure (defs definitions.now) weights.old.items (known_count weights.old.items) }
+    ensures { IfOk result (λ more. Passes (defs definitions.now) weights.old.items weights.new.items more (length definitions.now)) }
+{
+    let mut more = false;
+    for i in 0..definitions.len() {
+        let learnt = learn(alloc, definitions, uses, weights, i)?;
+        if learnt {
+            more = true;
+        }
+    }
+    Ok(more)
+}
+
+/// The weight of what each definition stands for; none where one reaches itself.
+pub fn settle(
+    alloc: Global,
+    definitions: &[Definition],
+    uses: &[Vec<bool>],
+) -> Result<Option<Vec<Weight>>, AllocError>
+    requires distinct { IsDistinct (defs definitions.now) }
+    requires coded { AllCoded definitions.now }
+    requires uses { AreUses (defs definitions.now) uses.now (length definitions.now) }
+    ensures { IfOk result (λ weights. Settles (defs definitions.now) weights) }
+{
+    let mut weights = Vec::new(alloc);
+    for _ in 0..definitions.len() {
+        weights.push(Weight::Open)?;
+    }
+    let mut goes_on = true;
+    while goes_on {
+        goes_on = pass(alloc, definitions, uses, &mut weights)?;
+    }
+    if any_open(&weights) {
+        return Ok(None);
+    }
+    Ok(Some(weights))
+}
