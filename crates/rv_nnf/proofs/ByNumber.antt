@@ -9,14 +9,17 @@ use Rattle.rv_nnf.specs.Parts.{Piece, Label, Later, Both, Either, Awaits, Releas
 abbrev pub Local : {A : Type 0} → ((ℕ → A) → ℕ → A) → Type 0
 Local {A} step = (f g : ℕ → A) (k : ℕ) → ((i : ℕ) → i < k → f i ≡ g i) → step f k ≡ step g k
 
+-- more turns than the number needs give the same value
 pub enough : {A : Type 0} (d : A) (step : (ℕ → A) → ℕ → A) → Local step → (n m k : ℕ) → k < n → k < m → by_number d step n k ≡ by_number d step m k
 enough d step loc zero m k h l = absurd (omega arith)
 enough d step loc (suc n) zero k h l = absurd (omega arith)
 enough d step loc (suc n) (suc m) k h l = loc _ _ k (λ i s. enough d step loc n m i (omega arith) (omega arith))
 
+-- the value at a number is its step on the values
 pub by_number_is : {A : Type 0} (d : A) (step : (ℕ → A) → ℕ → A) → Local step → (k : ℕ) → by_number d step (suc k) k ≡ step (λ i. by_number d step (suc i) i) k
 by_number_is d step loc k = loc _ _ k (λ i s. enough d step loc k (suc i) i s (omega arith))
 
+-- what a part says rests on its operands alone
 same_piece : (f g : ℕ → Meaning) (k : ℕ) (p : Piece) → OperandsBelow k p → ((i : ℕ) → i < k → f i ≡ g i) → piece_meaning f p ≡ piece_meaning g p
 same_piece f g k (Label x) b h = refl
 same_piece f g k (Later i) b h = ap next_m (h i b)
@@ -30,5 +33,6 @@ pub part_meaning_by : (ps : List Piece) → ((k : ℕ) → OperandsBelow k (piec
 unfolding part_meaning
 part_meaning_by ps below k = by_number_is (meaning False) (λ m k. piece_meaning m (piece_at ps k)) (λ f g k h. same_piece f g k (piece_at ps k) (below k) h) k
 
+-- the same of a normal form
 pub part_meaning_is : (ps : List Piece) → IsNormal ps → (k : ℕ) → part_meaning ps k ≡ piece_meaning (part_meaning ps) (piece_at ps k)
 part_meaning_is ps n k = part_meaning_by ps n.below k

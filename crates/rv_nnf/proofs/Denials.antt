@@ -8,14 +8,17 @@ use Rattle.rv_model.specs.Meaning.{Meaning, is_weak, true_m, not_m, and_m, or_m,
 
 -- ---- tests
 
+-- a test denied twice
 not_not : (b : Bool) → not (not b) ≡ b
 not_not true = refl
 not_not false = refl
 
+-- the denial of both
 not_and : (a b : Bool) → not (a && b) ≡ (not a || not b)
 not_and true b = refl
 not_and false b = refl
 
+-- the denial of one of two
 not_or : (a b : Bool) → not (a || b) ≡ (not a && not b)
 not_or true b = refl
 not_or false b = refl
@@ -40,6 +43,7 @@ not_same_weak false true false false h k = refl
 not_same_weak false false false true h k = absurd (false≢true (k refl))
 not_same_weak false false false false h k = refl
 
+-- the same where the weak truths are the wider ones
 not_same_strong : (a b aw bw : Bool) → Le a aw → Le b bw → not ((aw && bw) || (not a && not b)) ≡ ((a && not bw) || (not aw && b))
 not_same_strong true b false bw h k = absurd (false≢true (h refl))
 not_same_strong true true true true h k = refl
@@ -57,14 +61,17 @@ not_same_strong false false false false h k = refl
 
 -- ---- meanings
 
+-- the other view of the other view
 other_other : (v : View) → other (other v) ≡ v
 other_other Weak = refl
 other_other Strong = refl
 
+-- on no letters one view denies the other
 not_weak : (v : View) → not (is_weak (other v)) ≡ is_weak v
 not_weak Weak = refl
 not_weak Strong = refl
 
+-- two meanings are one where they agree in each view on all letters
 pub same : (p q : Meaning) → ((v : View) (w : List ℕ) → p v w ≡ q v w) → p ≡ q
 same p q h = fun_ext (λ v. fun_ext (h v))
 
@@ -76,6 +83,7 @@ Proper p = (v : View) → p v [] ≡ is_weak v
 abbrev pub Narrow : Meaning → Type 0
 Narrow p = (w : List ℕ) → Le (p Strong w) (p Weak w)
 
+-- a denial denied
 pub not_not_m : (p : Meaning) → Proper p → not_m (not_m p) ≡ p
 not_not_m p h = same _ _ at
   where
@@ -83,6 +91,7 @@ not_not_m p h = same _ _ at
     at v [] = sym (h v)
     at v (x ∷ t) = not_not _ ∙ ap (λ u. p u (x ∷ t)) (other_other v)
 
+-- the denial of an `and` is an `or` of denials
 pub not_and_m : (p q : Meaning) → not_m (and_m p q) ≡ or_m (not_m p) (not_m q)
 not_and_m p q = same _ _ at
   where
@@ -90,6 +99,7 @@ not_and_m p q = same _ _ at
     at v [] = refl
     at v (x ∷ t) = not_and _ _
 
+-- the denial of an `or` is an `and` of denials
 pub not_or_m : (p q : Meaning) → not_m (or_m p q) ≡ and_m (not_m p) (not_m q)
 not_or_m p q = same _ _ at
   where
@@ -97,6 +107,7 @@ not_or_m p q = same _ _ at
     at v [] = refl
     at v (x ∷ t) = not_or _ _
 
+-- the denial of a `next` is the `next` of the denial
 pub not_next_m : (p : Meaning) → Proper p → not_m (next_m p) ≡ next_m (not_m p)
 not_next_m p h = same _ _ at
   where
@@ -105,6 +116,7 @@ not_next_m p h = same _ _ at
     at v (x ∷ []) = ap not (h (other v)) ∙ not_weak v
     at v (x ∷ y ∷ t) = refl
 
+-- the denial of true is false
 pub not_true_m : not_m true_m ≡ meaning False
 not_true_m = same _ _ at
   where
@@ -112,6 +124,7 @@ not_true_m = same _ _ at
     at v [] = refl
     at v (x ∷ t) = refl
 
+-- the denial of false is true
 pub not_false_m : not_m (meaning False) ≡ true_m
 not_false_m = same _ _ at
   where
@@ -119,9 +132,11 @@ not_false_m = same _ _ at
     at v [] = refl
     at v (x ∷ t) = refl
 
+-- the denial of an until is the release of the denials
 pub not_until_m : (p q : Meaning) → Proper p → Proper q → not_m (until_m p q) ≡ release_m (not_m p) (not_m q)
 not_until_m p q hp hq = sym (ap (λ r. not_m (until_m r (not_m (not_m q)))) (not_not_m p hp) ∙ ap (λ r. not_m (until_m p r)) (not_not_m q hq))
 
+-- the denial of an equivalence says that exactly one holds
 pub not_same_m : (p q : Meaning) → Narrow p → Narrow q → not_m (or_m (and_m p q) (and_m (not_m p) (not_m q))) ≡ or_m (and_m p (not_m q)) (and_m (not_m p) q)
 not_same_m p q hp hq = same _ _ at
   where

@@ -13,28 +13,35 @@ use Rattle.rv_text.specs.Readings.{refused_with}
 use Rattle.rv_nnf.specs.Entering.{Entered, enter, try_enter}
 use Rattle.rv_nnf.proofs.Places.{decided_decides, place_le, place_end, among_from_place, not_among}
 
+-- the test of parts decides
 pub same_piece_decides : (a b : Piece) → Decides (same_piece a b) (a ≡ b)
 same_piece_decides a b = decided_decides _
 
+-- a part that has a place stays where it is
 pub enter_old : (ps : List Piece) (p : Piece) → place same_piece ps p < length ps → enter ps p ≡ (ps, place same_piece ps p)
 enter_old ps p h = ap (λ b. let qs = cond b ps (ps ++ p ∷ []) in let r : Entered = (qs, place same_piece qs p) in r) (among_from_place same_piece same_piece_decides ps p h)
 
+-- a part that has none comes last
 pub enter_new : (ps : List Piece) (p : Piece) → length ps ≤ place same_piece ps p → enter ps p ≡ (ps ++ p ∷ [], length ps)
 enter_new ps p h =
     let no = not_among same_piece same_piece_decides ps p h in
     ap (λ b. let qs = cond b ps (ps ++ p ∷ []) in let r : Entered = (qs, place same_piece qs p) in r) no
     ∙ ap (λ n. let r : Entered = (ps ++ p ∷ [], n) in r) (place_end same_piece same_piece_decides ps p no)
 
+-- a place is within the list
 pub place_most : (parts : List Part) (p : Piece) → place same_piece (pieces parts) p ≤ length parts
 place_most parts p = let l = length-map parts piece in let h = place_le same_piece same_piece_decides (pieces parts) p in omega arith
 
+-- one more part, as plain data
 pub pieces_push : (parts : List Part) (p : Part) → pieces (parts ++ p ∷ []) ≡ pieces parts ++ piece p ∷ []
 pieces_push parts p = map-append piece parts (p ∷ [])
 
+-- what the code answers for a part that is there
 pub entered_old : (parts : List Part) (p : Piece) (n : ℕ) → n ≡ place same_piece (pieces parts) p → n < length parts → (let r : Entered = (pieces parts, n) in r) ≡ enter (pieces parts) p
 entered_old parts p n e h =
     ap (λ n. let r : Entered = (pieces parts, n) in r) e ∙ sym (enter_old (pieces parts) p (let l = length-map parts piece in omega arith))
 
+-- what the code leaves where the part is new
 pub entered_new : (parts news : List Part) (q : Part) (n : ℕ) → news ≡ parts ++ q ∷ [] → n ≡ place same_piece (pieces parts) (piece q) → length parts ≤ n → (let r : Entered = (pieces news, n) in r) ≡ enter (pieces parts) (piece q)
 entered_new parts news q n s e h =
     let l = length-map parts piece in
@@ -44,6 +51,7 @@ entered_new parts news q n s e h =
     ∙ ap (λ n. let r : Entered = (pieces parts ++ piece q ∷ [], n) in r) k
     ∙ sym (enter_new (pieces parts) (piece q) (omega arith))
 
+-- a new part where the list is full would be one too many
 pub entered_full : (parts : List Part) (p : Piece) (n : ℕ) → n ≡ place same_piece (pieces parts) p → length parts ≤ n → n ≡ 64 → 64 < length (enter (pieces parts) p).0
 entered_full parts p n e h k =
     let l = length-map parts piece in
@@ -52,6 +60,7 @@ entered_full parts p n e h k =
     let t = length-append (pieces parts) (p ∷ []) in
     omega arith
 
+-- the two halves of an answer
 pub split_pair : (ps : List Piece) (n : ℕ) (r : Entered) → (let q : Entered = (ps, n) in q) ≡ r → (r.0 ≡ ps) × (r.1 ≡ n)
 split_pair ps n r e = (sym (ap (λ (q : Entered). q.0) e), sym (ap (λ (q : Entered). q.1) e))
 

@@ -18,6 +18,7 @@ use Rattle.rv_nnf.proofs.TruthKept.{keeps}
 
 -- ---- the whole stands last
 
+-- how many subtrees a tree has, repeats counted
 abbrev size : Tree → ℕ
 size (Label f) = 1
 size (Later a) = size a + 1
@@ -30,15 +31,19 @@ size (Releases a b) = size a + size b + 1
 abbrev Small : ℕ → List Tree → Type 0
 Small n ts = (u : Tree) → There ts u → size u ≤ n
 
+-- of two such lists
 small_append : (n : ℕ) (xs ys : List Tree) → Small n xs → Small n ys → Small n (xs ++ ys)
 small_append n xs ys h k u i = ⊎_elim (h u) (k u) (or_cases _ _ (sym (among_append same_tree same_tree_decides xs ys u) ∙ i))
 
+-- of one tree
 small_one : (n : ℕ) (t : Tree) → size t ≤ n → Small n (t ∷ [])
 small_one n t h u i = ⊎_elim (λ e. subst (λ u. size u ≤ n) ((same_tree_decides t u).0 e) h) (λ e. absurd (false≢true e)) (or_cases (same_tree t u) false i)
 
+-- a bound may be wider
 small_more : (m n : ℕ) (ts : List Tree) → m ≤ n → Small m ts → Small n ts
 small_more m n ts h s u i = let l = s u i in omega arith
 
+-- one more small tree
 small_new : (n : ℕ) (ts : List Tree) (t : Tree) → Small n ts → size t ≤ n → Small n (with_new same_tree ts t)
 small_new n ts t h l = go (among same_tree ts t)
   where
@@ -46,6 +51,7 @@ small_new n ts t h l = go (among same_tree ts t)
     go true = h
     go false = small_append n ts (t ∷ []) h (small_one n t l)
 
+-- after a walk over a small tree
 after_small : (n : ℕ) (t : Tree) (ts : List Tree) → size t ≤ n → Small n ts → Small n (after ts t)
 after_small n (Label f) ts l h = small_new n ts (Label f) h l
 after_small n (Later a) ts l h = subst (Small n) (sym (after_one ts a (Later a))) (small_new n (after ts a) (Later a) (after_small n a ts (omega arith) h) l)
@@ -54,6 +60,7 @@ after_small n (Either a b) ts l h = subst (Small n) (sym (after_two ts a b (Eith
 after_small n (Awaits a b) ts l h = subst (Small n) (sym (after_two ts a b (Awaits a b))) (small_new n (after (after ts a) b) (Awaits a b) (after_small n b (after ts a) (omega arith) (after_small n a ts (omega arith) h)) l)
 after_small n (Releases a b) ts l h = subst (Small n) (sym (after_two ts a b (Releases a b))) (small_new n (after (after ts a) b) (Releases a b) (after_small n b (after ts a) (omega arith) (after_small n a ts (omega arith) h)) l)
 
+-- of no tree
 small_nil : (n : ℕ) → Small n []
 small_nil n u h = absurd (false≢true h)
 
@@ -61,6 +68,7 @@ small_nil n u h = absurd (false≢true h)
 abbrev EndsWith : List Tree → Tree → Type 0
 EndsWith ts t = (front : List Tree) × (among same_tree front t ≡ false) × (ts ≡ front ++ t ∷ [])
 
+-- a tree that is larger than all others is new, and comes last
 ends_new : (n : ℕ) (ts : List Tree) (t : Tree) → Small n ts → n < size t → EndsWith (with_new same_tree ts t) t
 ends_new n ts t h l = go (among same_tree ts t) refl
   where
@@ -68,9 +76,11 @@ ends_new n ts t h l = go (among same_tree ts t) refl
     go true e = let s = h t e in absurd (omega arith)
     go false e = (ts, e, refl)
 
+-- the subtrees of two operands are no larger than both together
 two_small : (a b : Tree) → Small (size a + size b) (after (after [] a) b)
 two_small a b = after_small (size a + size b) b (after [] a) (omega arith) (after_small (size a + size b) a [] (omega arith) (small_nil _))
 
+-- the whole tree stands last
 ends : (t : Tree) → EndsWith (parts_of t) t
 ends (Label f) = ([], refl, refl)
 ends (Later a) = subst (λ ts. EndsWith ts (Later a)) (sym (after_one [] a (Later a))) (ends_new (size a) (after [] a) (Later a) (after_small (size a) a [] (omega arith) (small_nil _)) (omega arith))
@@ -79,10 +89,12 @@ ends (Either a b) = subst (λ ts. EndsWith ts (Either a b)) (sym (after_two [] a
 ends (Awaits a b) = subst (λ ts. EndsWith ts (Awaits a b)) (sym (after_two [] a b (Awaits a b))) (ends_new (size a + size b) (after (after [] a) b) (Awaits a b) (two_small a b) (omega arith))
 ends (Releases a b) = subst (λ ts. EndsWith ts (Releases a b)) (sym (after_two [] a b (Releases a b))) (ends_new (size a + size b) (after (after [] a) b) (Releases a b) (two_small a b) (omega arith))
 
+-- its place is the last
 last_place : (ts : List Tree) (t : Tree) → EndsWith ts t → place same_tree ts t ≡ length ts - 1
 last_place ts t (front, h, e) =
     ap (λ ts. place same_tree ts t) e ∙ place_end same_tree same_tree_decides front t h ∙ (let l = length-append front (t ∷ []) in let m = ap length e in omega arith)
 
+-- so there is some part
 some_parts : (ts : List Tree) (t : Tree) → EndsWith ts t → 1 ≤ length ts
 some_parts ts t (front, h, e) = let l = length-append front (t ∷ []) in let m = ap length e in omega arith
 
@@ -97,6 +109,7 @@ last_says f a =
     let e : length (numbered ts) - 1 ≡ place same_tree ts t = (let l = length-map ts (piece_of ts) in let p = last_place ts t (ends t) in omega arith) in
     ap (part_meaning (numbered ts)) e ∙ numbered_says ts w.0 t w.1 ∙ keeps f true
 
+-- up to 64 numbered parts are a normal form
 pub normal_is : (f : Ltl) → HasAtomsBelow 32 f → length (parts_of (tree_of f true)) ≤ 64 → IsNormal (numbered (parts_of (tree_of f true)))
 normal_is f a h =
     let t = tree_of f true in

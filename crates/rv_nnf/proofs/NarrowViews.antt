@@ -8,47 +8,58 @@ use Rattle.rv_nnf.proofs.Denials.{Le, Narrow}
 
 -- ---- the strong view is the narrower
 
+-- a denial turns the order
 le_not : (a b : Bool) → Le a b → Le (not b) (not a)
 le_not true true h = λ e. e
 le_not true false h = λ e. absurd (false≢true (h refl))
 le_not false b h = λ e. refl
 
+-- both keep it
 le_and : (a b c d : Bool) → Le a b → Le c d → Le (a && c) (b && d)
 le_and true b c d h k = λ e. ap (λ r. r && d) (h refl) ∙ k e
 le_and false b c d h k = λ e. absurd (false≢true e)
 
+-- one of two keeps it
 le_or : (a b c d : Bool) → Le a b → Le c d → Le (a || c) (b || d)
 le_or true b c d h k = λ e. ap (λ r. r || d) (h refl)
 le_or false true c d h k = λ e. refl
 le_or false false c d h k = λ e. k e
 
+-- on no letters
 le_empty : Le false true
 le_empty e = refl
 
+-- a denial
 not_narrow : (p : Meaning) → Narrow p → Narrow (not_m p)
 not_narrow p h [] = le_empty
 not_narrow p h (x ∷ t) = le_not _ _ (h (x ∷ t))
 
+-- an `and`
 and_narrow : (p q : Meaning) → Narrow p → Narrow q → Narrow (and_m p q)
 and_narrow p q h k [] = le_empty
 and_narrow p q h k (x ∷ t) = le_and _ _ _ _ (h (x ∷ t)) (k (x ∷ t))
 
+-- an `or`
 or_narrow : (p q : Meaning) → Narrow p → Narrow q → Narrow (or_m p q)
 or_narrow p q h k [] = le_empty
 or_narrow p q h k (x ∷ t) = le_or _ _ _ _ (h (x ∷ t)) (k (x ∷ t))
 
+-- a `next`
 next_narrow : (p : Meaning) → Narrow p → Narrow (next_m p)
 next_narrow p h [] = le_empty
 next_narrow p h (x ∷ t) = h t
 
+-- an until
 until_narrow : (p q : Meaning) → Narrow p → Narrow q → Narrow (until_m p q)
 until_narrow p q h k [] = le_empty
 until_narrow p q h k (x ∷ t) = le_or _ _ _ _ (k (x ∷ t)) (le_and _ _ _ _ (h (x ∷ t)) (until_narrow p q h k t))
 
+-- what looks at the first letter alone
 letter_narrow : (b : ℕ → Bool) → Narrow (on_letter (λ v x t. b x))
 letter_narrow b [] = le_empty
 letter_narrow b (x ∷ t) = λ e. e
 
+-- what a formula says strongly it says weakly
 pub narrow : (f : Ltl) → Narrow (meaning f)
 narrow True = letter_narrow (λ x. true)
 narrow False = letter_narrow (λ x. false)

@@ -15,6 +15,7 @@ use Rattle.rv_nnf.proofs.Settled.{same_tree_decides, Operands, HasPlainRoot, The
 
 -- ---- what numbered parts say
 
+-- operands that stand before a place are below it
 below_of : (ts : List Tree) (k : ℕ) (u : Tree) → Operands (λ o. place same_tree ts o < k) u → OperandsBelow k (piece_of ts u)
 below_of ts k (Label f) h = tt
 below_of ts k (Later a) h = h
@@ -23,6 +24,7 @@ below_of ts k (Either a b) h = h
 below_of ts k (Awaits a b) h = h
 below_of ts k (Releases a b) h = h
 
+-- a proper label stays one as a part
 label_of : (ts : List Tree) (u : Tree) → HasPlainRoot u → HasLabel (piece_of ts u)
 label_of ts (Label f) h = h
 label_of ts (Later a) h = tt
@@ -40,6 +42,7 @@ back ts (Piece.Either i j) = Either (get_or ts i (Label False)) (get_or ts j (La
 back ts (Piece.Awaits i j) = Awaits (get_or ts i (Label False)) (get_or ts j (Label False))
 back ts (Piece.Releases i j) = Releases (get_or ts i (Label False)) (get_or ts j (Label False))
 
+-- the subtree comes back from its part
 pub back_is : (ts : List Tree) (u : Tree) → Operands (There ts) u → back ts (piece_of ts u) ≡ u
 unfolding back
 back_is ts (Label f) h = refl
@@ -50,25 +53,31 @@ back_is ts (Awaits a b) h = ap₂ Awaits (get_place same_tree same_tree_decides 
 back_is ts (Releases a b) h = ap₂ Releases (get_place same_tree same_tree_decides ts a (Label False) h.0) (get_place same_tree same_tree_decides ts b (Label False) h.1)
 
 module _ (ts : List Tree) (s : IsSettled ts) where
+  -- the part at a place is that of the subtree there
   piece_is : (k : ℕ) → k < length ts → piece_at (numbered ts) k ≡ piece_of ts (get_or ts k (Label False))
   piece_is k h = get_or-map (piece_of ts) ts k (Label False) (Piece.Label False) h
 
+  -- past the list there is `false`
   past_is : (k : ℕ) → length ts ≤ k → piece_at (numbered ts) k ≡ Piece.Label False
   past_is k h = get_or_past (numbered ts) k (Piece.Label False) (let l = length-map ts (piece_of ts) in omega (arith, l, h))
 
+  -- what stands at a place is there
   at_is : (k : ℕ) → k < length ts → There ts (get_or ts k (Label False))
   at_is k h = among_get same_tree same_tree_decides ts k (Label False) h
 
+  -- the operands of each part are below it
   below_at : (k : ℕ) → (k < length ts) ⊎ (length ts ≤ k) → OperandsBelow k (piece_at (numbered ts) k)
   below_at k (inl h) =
       let u = get_or ts k (Label False) in
       subst (OperandsBelow k) (sym (piece_is k h)) (below_of ts k u (subst (λ n. Operands (λ o. place same_tree ts o < n) u) (s.once k h) (s.before u (at_is k h))))
   below_at k (inr h) = subst (OperandsBelow k) (sym (past_is k h)) tt
 
+  -- each label is proper
   labels_at : (k : ℕ) → (k < length ts) ⊎ (length ts ≤ k) → HasLabel (piece_at (numbered ts) k)
   labels_at k (inl h) = subst HasLabel (sym (piece_is k h)) (label_of ts (get_or ts k (Label False)) (s.plain (get_or ts k (Label False)) (at_is k h)))
   labels_at k (inr h) = subst HasLabel (sym (past_is k h)) (refl, tt)
 
+  -- parts that are the same stand at one place
   distinct_at : (j k : ℕ) → j < length ts → k < length ts → piece_at (numbered ts) j ≡ piece_at (numbered ts) k → j ≡ k
   distinct_at j k h l e =
       let u = get_or ts j (Label False) in
@@ -77,6 +86,7 @@ module _ (ts : List Tree) (s : IsSettled ts) where
       let trees : u ≡ v = sym (back_is ts u (s.there u (at_is j h))) ∙ ap (back ts) same ∙ back_is ts v (s.there v (at_is k l)) in
       sym (s.once j h) ∙ ap (place same_tree ts) trees ∙ s.once k l
 
+  -- the numbered list is a normal form
   pub numbered_normal : 1 ≤ length ts → length ts ≤ 64 → IsNormal (numbered ts)
   numbered_normal h l =
       let e = length-map ts (piece_of ts) in
@@ -88,12 +98,15 @@ module _ (ts : List Tree) (s : IsSettled ts) where
         distinct = λ j k a b. distinct_at j k (omega (arith, e, a)) (omega (arith, e, b));
       }
 
+  -- the part at the place of a subtree is its own
   tree_at : (u : Tree) → There ts u → piece_at (numbered ts) (place same_tree ts u) ≡ piece_of ts u
   tree_at u h = piece_is (place same_tree ts u) (place_lt same_tree same_tree_decides ts u h) ∙ ap (piece_of ts) (get_place same_tree same_tree_decides ts u (Label False) h)
 
+  -- a part says what its operands make
   step_at : (u : Tree) → There ts u → part_meaning (numbered ts) (place same_tree ts u) ≡ piece_meaning (part_meaning (numbered ts)) (piece_of ts u)
   step_at u h = part_meaning_by (numbered ts) (λ k. below_at k (cases_lt k (length ts))) (place same_tree ts u) ∙ ap (piece_meaning (part_meaning (numbered ts))) (tree_at u h)
 
+  -- the part of a subtree says what the subtree says
   pub numbered_says : (u : Tree) → There ts u → part_meaning (numbered ts) (place same_tree ts u) ≡ tree_meaning u
   numbered_says (Label f) h = step_at (Label f) h
   numbered_says (Later a) h = step_at (Later a) h ∙ ap next_m (numbered_says a (s.there (Later a) h))

@@ -35,10 +35,12 @@ abbrev AllThere : List Tree → List Tree → Type 0
 AllThere ts [] = Unit {0}
 AllThere ts (u ∷ us) = Operands (There ts) u × AllThere ts us
 
+-- a part is among the parts exactly where its subtree is among the subtrees
 among_parts : (ts us : List Tree) (u : Tree) → AllThere ts us → Operands (There ts) u → among same_piece (map (piece_of ts) us) (piece_of ts u) ≡ among same_tree us u
 among_parts ts [] u h k = refl
 among_parts ts (v ∷ us) u h k = ap₂ (λ a b. a || b) (same_parts ts v u h.0 k) (among_parts ts us u h.1 k)
 
+-- and has the same place
 place_parts : (ts us : List Tree) (u : Tree) → AllThere ts us → Operands (There ts) u → place same_piece (map (piece_of ts) us) (piece_of ts u) ≡ place same_tree us u
 place_parts ts [] u h k = refl
 place_parts ts (v ∷ us) u h k = ap₂ (λ a n. cond a 0 (suc n)) (same_parts ts v u h.0 k) (place_parts ts us u h.1 k)
@@ -52,10 +54,12 @@ piece_kept ts more (Either a b) h = ap₂ Piece.Either (place_append same_tree s
 piece_kept ts more (Awaits a b) h = ap₂ Piece.Awaits (place_append same_tree same_tree_decides ts more a h.0) (place_append same_tree same_tree_decides ts more b h.1)
 piece_kept ts more (Releases a b) h = ap₂ Piece.Releases (place_append same_tree same_tree_decides ts more a h.0) (place_append same_tree same_tree_decides ts more b h.1)
 
+-- so do all of them
 pieces_kept : (ts more us : List Tree) → AllThere ts us → map (piece_of (ts ++ more)) us ≡ map (piece_of ts) us
 pieces_kept ts more [] h = refl
 pieces_kept ts more (u ∷ us) h = ap₂ (λ p ps. p ∷ ps) (piece_kept ts more u h.0) (pieces_kept ts more us h.1)
 
+-- the operands of a settled list are there
 all_there : (ts : List Tree) → IsSettled ts → (us : List Tree) → ((u : Tree) → among same_tree us u ≡ true → There ts u) → AllThere ts us
 all_there ts s [] h = tt
 all_there ts s (u ∷ us) h = (s.there u (h u (first u us)), all_there ts s us (λ v e. h v (later u us v e)))
@@ -100,9 +104,11 @@ entered ts s t ops = ap (λ b. let qs = cond b (numbered ts) (numbered ts ++ pie
 
 -- ---- a whole tree
 
+-- the numbered list, and the number of a subtree
 Numbered : List Tree → Tree → List Piece × ℕ
 Numbered ts t = (numbered ts, place same_tree ts t)
 
+-- a tree of two operands
 linked_two : (C : Tree → Tree → Tree) (P : ℕ → ℕ → Piece) (ts : List Tree) (a b : Tree) → ((ts : List Tree) → piece_of ts (C a b) ≡ P (place same_tree ts a) (place same_tree ts b)) → IsSettled (after (after ts a) b) → There (after ts a) a → Operands (There (after (after ts a) b)) (C a b) → numbering (numbered ts) a ≡ Numbered (after ts a) a → numbering (numbered (after ts a)) b ≡ Numbered (after (after ts a) b) b → (let r = numbering (numbered ts) a in let q = numbering r.0 b in enter q.0 (P r.1 q.1)) ≡ Numbered (firsts same_tree ts (walk a ++ (walk b ++ C a b ∷ []))) (C a b)
 unfolding Numbered
 linked_two C P ts a b shape s ha ops ea eb =
@@ -115,6 +121,7 @@ linked_two C P ts a b shape s ha ops ea eb =
     ∙ entered t2 s (C a b) ops
     ∙ ap (λ ts. let r : List Piece × ℕ = (numbered ts, place same_tree ts (C a b)) in r) (sym (after_two ts a b (C a b)))
 
+-- entering a tree adds its subtrees to the numbered list
 linked : (t : Tree) → IsPlainTree t → (ts : List Tree) → IsSettled ts → numbering (numbered ts) t ≡ Numbered (after ts t) t
 unfolding Numbered
 linked (Label f) p ts s = entered ts s (Label f) tt

@@ -14,18 +14,22 @@ abbrev says : Bool → Meaning → Meaning
 says true m = m
 says false m = not_m m
 
+-- the label of a negation denies
 negated_says : (f : Ltl) → meaning (negated f) ≡ not_m (meaning f)
 negated_says True = sym not_true_m
 negated_says False = sym not_false_m
 negated_says f = refl
 
+-- at either sign
 signed_says : (s : Bool) (f : Ltl) → meaning (signed s f) ≡ says s (meaning f)
 signed_says true f = refl
 signed_says false f = negated_says f
 
+-- a formula that is one label, or its tree
 label_says : (f : Ltl) (s : Bool) (t : Tree) → tree_meaning t ≡ says s (meaning f) → tree_meaning (or_label f s t) ≡ says s (meaning f)
 label_says f s t h = elim (is_plain f) as (λ b. tree_meaning (cond b (Label (signed s f)) t) ≡ says s (meaning f)) [ true ↦ signed_says s f | false ↦ h ]
 
+-- the normal form says what the formula says, and that of the negation what its denial says
 pub keeps : (f : Ltl) (s : Bool) → tree_meaning (tree_of f s) ≡ says s (meaning f)
 keeps True s = signed_says s True
 keeps False s = signed_says s False
@@ -49,5 +53,6 @@ keeps (Always f) false = ap (until_m true_m) (keeps f false) ∙ sym (not_not_m 
 keeps (Eventually f) true = ap (until_m true_m) (keeps f true)
 keeps (Eventually f) false = ap (release_m (meaning False)) (keeps f false) ∙ ap (λ m. release_m m (not_m (meaning f))) (sym not_true_m) ∙ sym (not_until_m true_m (meaning f) (λ v. refl) (proper f))
 
+-- in each view, on all letters
 pub keeps_at : (f : Ltl) (s : Bool) (v : View) (w : List ℕ) → tree_meaning (tree_of f s) v w ≡ says s (meaning f) v w
 keeps_at f s v w = ap (λ (m : Meaning). m v w) (keeps f s)

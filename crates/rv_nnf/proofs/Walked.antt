@@ -9,6 +9,7 @@ use Rattle.rv_nnf.proofs.Settled.{same_tree_decides, Operands, HasPlainRoot, The
 
 -- ---- a whole walk
 
+-- all labels of the tree are proper
 abbrev pub IsPlainTree : Tree → Type 0
 IsPlainTree (Label f) = IsLabel f
 IsPlainTree (Later a) = IsPlainTree a
@@ -21,23 +22,29 @@ IsPlainTree (Releases a b) = IsPlainTree a × IsPlainTree b
 abbrev pub after : List Tree → Tree → List Tree
 after ts t = firsts same_tree ts (walk t)
 
+-- a walk over one operand, then the tree
 pub after_one : (ts : List Tree) (a t : Tree) → firsts same_tree ts (walk a ++ t ∷ []) ≡ with_new same_tree (after ts a) t
 after_one ts a t = firsts_append same_tree same_tree_decides ts (walk a) (t ∷ [])
 
+-- a walk over two operands, then the tree
 pub after_two : (ts : List Tree) (a b t : Tree) → firsts same_tree ts (walk a ++ (walk b ++ t ∷ [])) ≡ with_new same_tree (after (after ts a) b) t
 after_two ts a b t = firsts_append same_tree same_tree_decides ts (walk a) (walk b ++ t ∷ []) ∙ after_one (after ts a) b t
 
+-- the list is settled and has the tree
 abbrev IsWalked : List Tree → Tree → Type 0
 IsWalked ts t = IsSettled ts × There ts t
 
+-- one more tree whose operands are there
 walked_new : (ts : List Tree) → IsSettled ts → (t : Tree) → Operands (There ts) t → HasPlainRoot t → IsWalked (with_new same_tree ts t) t
 walked_new ts s t ops pl = (settled_new ts s t ops pl, new_there same_tree same_tree_decides ts t)
 
+-- the same for two operands
 walked_two : (ts : List Tree) (a b t : Tree) → IsWalked (after ts a) a → IsWalked (after (after ts a) b) b → (There (after (after ts a) b) a → There (after (after ts a) b) b → Operands (There (after (after ts a) b)) t) → HasPlainRoot t → IsWalked (firsts same_tree ts (walk a ++ (walk b ++ t ∷ []))) t
 walked_two ts a b t wa wb ops pl =
     subst (λ ts. IsWalked ts t) (sym (after_two ts a b t))
     (walked_new (after (after ts a) b) wb.0 t (ops (firsts_kept same_tree same_tree_decides (after ts a) (walk b) a wa.1) wb.1) pl)
 
+-- after a walk the list is settled and has the tree
 pub walked : (t : Tree) → IsPlainTree t → (ts : List Tree) → IsSettled ts → IsWalked (after ts t) t
 walked (Label f) p ts s = walked_new ts s (Label f) tt p
 walked (Later a) p ts s = let w = walked a p ts s in subst (λ ts. IsWalked ts (Later a)) (sym (after_one ts a (Later a))) (walked_new (after ts a) w.0 (Later a) w.1 tt)

@@ -15,6 +15,7 @@ use Rattle.rv_nnf.specs.declared.parts.Part.{Part}
 use Rattle.rv_tableau.proofs.Capped.{capped_sum, capped_product}
 use Rattle.rv_tableau.proofs.PartAt.{AllBelow, piece_is}
 
+-- a branch number rests on the operands alone
 same_branches : (f g : ℕ → ℕ) (k : ℕ) (p : Piece) → OperandsBelow k p → ((i : ℕ) → i < k → f i ≡ g i) → piece_branches f p ≡ piece_branches g p
 same_branches f g k (Label x) b h = refl
 same_branches f g k (Later i) b h = refl
@@ -23,10 +24,12 @@ same_branches f g k (Either i j) b h = ap₂ (λ x y. x + y) (h i b.0) (h j b.1)
 same_branches f g k (Awaits i j) b h = ap₂ (λ x y. y + x) (h i b.0) (h j b.1)
 same_branches f g k (Releases i j) b h = ap₂ (λ x y. x * y + y) (h i b.0) (h j b.1)
 
+-- the branch number of a part is what its operands make
 pub branches_by : (ps : List Piece) → ((k : ℕ) → OperandsBelow k (piece_at ps k)) → (k : ℕ) → part_branches ps k ≡ piece_branches (part_branches ps) (piece_at ps k)
 unfolding part_branches
 branches_by ps below k = by_number_is 0 (λ b k. piece_branches b (piece_at ps k)) (λ f g k h. same_branches f g k (piece_at ps k) (below k) h) k
 
+-- a product and a sum, each kept up to the cap
 two_caps : (x y z : ℕ) → min (min (min x 4097 * min y 4097) 4097 + min y 4097) 4097 ≡ min (x * y + y) 4097
 two_caps x y z = ap (λ n. min (n + min y 4097) 4097) (capped_product x y) ∙ capped_sum (x * y) y
 
@@ -42,6 +45,7 @@ capped_piece f g k (Releases i j) b h =
     ∙ (let p = capped_product (g i) (g j) in let e : min (min (g i) 4097 * min (g j) 4097 + min (g j) 4097) 4097 ≡ min (min (min (g i) 4097 * min (g j) 4097) 4097 + min (g j) 4097) 4097 = omega arith in e)
     ∙ two_caps (g i) (g j) 0
 
+-- what the code finds for a part
 pub capped_part : (parts : List Part) (below : List ℕ) (k r : ℕ) (p : Part) → p ≡ get_or parts k p → k < length parts → AllBelow parts → length below ≡ k → ((i : ℕ) → i < length below → slice_index below i ≡ min (part_branches (pieces parts) i) 4097) → r ≡ min (piece_branches (slice_index below) (piece p)) 4097 → r ≡ min (part_branches (pieces parts) k) 4097
 capped_part parts below k r p e h b l f m =
     let at = piece_is parts k p p e refl h in
@@ -56,9 +60,11 @@ number_at parts numbers k are h = are.each k (let l = length-map parts piece in 
 pub branches_next : (ps : List Piece) (set k : ℕ) → branches_below ps set (k + 1) ≡ cond (has_bit set k) (branches_below ps set k * part_branches ps k) (branches_below ps set k)
 branches_next ps set k = ap (branches_below ps set) (add-one k)
 
+-- the product with one more part
 pub capped_next : (ps : List Piece) (set k b r : ℕ) → b ≡ min (branches_below ps set k) 4097 → r ≡ min (part_branches ps k) 4097 → min (b * r) 4097 ≡ min (branches_below ps set k * part_branches ps k) 4097
 capped_next ps set k b r e f = ap₂ (λ x y. min (x * y) 4097) e f ∙ capped_product (branches_below ps set k) (part_branches ps k)
 
+-- one more number at the end of the list
 pub push_each : (out news : List ℕ) (r k : ℕ) (f : ℕ → ℕ) → news ≡ out ++ r ∷ [] → length out ≡ k → ((i : ℕ) → i < length out → slice_index out i ≡ f i) → r ≡ f k → (length news ≡ k + 1) × ((i : ℕ) → i < length news → slice_index news i ≡ f i)
 push_each out news r k f e l h m = (let s = ap length e in let t = length-append out (r ∷ []) in omega arith, λ i s. at i s (cases_lt i (length out)))
   where

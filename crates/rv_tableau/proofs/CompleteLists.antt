@@ -53,9 +53,11 @@ abbrev none : Node
 none = record { labels = []; next = 0 }
 
 module _ (ps : List Piece) (normal : IsNormal ps) (nodes : List Pair) (complete : IsComplete ps nodes) where
+  -- the rows of the nodes
   rows : List Node
   rows = rows_of ps nodes
 
+  -- the node of a number
   node : ℕ → Pair
   node k = get_or nodes k nothing
 
@@ -70,6 +72,7 @@ module _ (ps : List Piece) (normal : IsNormal ps) (nodes : List Pair) (complete 
   unfolding rows node
   labels_are k h = ap (λ (r : Node). r.labels) (get_or-map (node_row ps nodes) nodes k nothing none h)
 
+  -- row 0, and one for each node
   rows_len : length rows ≡ suc (length nodes)
   unfolding rows
   rows_len = ap suc (length-map nodes (node_row ps nodes))
@@ -78,10 +81,12 @@ module _ (ps : List Piece) (normal : IsNormal ps) (nodes : List Pair) (complete 
   Next : ℕ → ℕ → ℕ → Type 0
   Next r x q = (q < length rows) × (has_bit (node_at rows r).next q ≡ true) × (list_all (true_on x) (node_at rows q).labels ≡ true)
 
+  -- such a row follows by the letter
   to_follows : (r q : ℕ) (x : Letter) → Next r (atoms_in x) q → Follows (of_labels rows) r x q
   unfolding Next
   to_follows r q x n = and_from _ _ (lt-ltb q (length rows) n.0) (and_from _ _ n.1 n.2)
 
+  -- and only such a row
   from_follows : (r q : ℕ) (x : Letter) → Follows (of_labels rows) r x q → Next r (atoms_in x) q
   unfolding Next
   from_follows r q x f = let p = and_parts _ _ f in let l = and_parts _ _ p.1 in (ltb-true q (length rows) p.0, l.0, l.1)
@@ -135,6 +140,7 @@ module _ (ps : List Piece) (normal : IsNormal ps) (nodes : List Pair) (complete 
   decides [] r h = (λ _. ([], tt), λ _. empty_holds ps normal (set_at ps nodes r))
   decides (x ∷ t) r h = (goes_on r h x t (λ q l. (decides t q l).0), came r h x t (λ q l. (decides t q l).1))
 
+  -- the set of the whole holds where its part does
   whole_is : (w : List ℕ) → set_holds ps (whole ps) w ≡ part_meaning ps (length ps - 1) Weak w
   whole_is w = all_one (length ps) (length ps - 1) (λ k. part_meaning ps k Weak w) (let s = normal.some in omega arith)
 

@@ -20,6 +20,7 @@ use Rattle.rv_tableau.proofs.SetLemmas.{and_assoc4, and_true, all_or, all_none, 
 
 -- ---- on the empty word
 
+-- on no letters a part holds weakly alone
 piece_proper : (m : ℕ → Meaning) (p : Piece) (v : View) → piece_meaning m p v [] ≡ is_weak v
 piece_proper m (Label f) v = proper f v
 piece_proper m (Later i) v = refl
@@ -28,9 +29,11 @@ piece_proper m (Either i j) v = refl
 piece_proper m (Awaits i j) v = refl
 piece_proper m (Releases i j) v = refl
 
+-- so does the part of a number
 pub part_proper : (ps : List Piece) → IsNormal ps → (k : ℕ) (v : View) → part_meaning ps k v [] ≡ is_weak v
 part_proper ps n k v = ap (λ (m : Meaning). m v []) (part_meaning_is ps n k) ∙ piece_proper (part_meaning ps) (piece_at ps k) v
 
+-- a test that always holds
 all_true : (n set : ℕ) (p : ℕ → Bool) → ((k : ℕ) → p k ≡ true) → all_below n set p ≡ true
 all_true zero set p h = refl
 all_true (suc n) set p h = ap₂ (λ a b. a && (not (has_bit set n) || b)) (all_true n set p h) (h n) ∙ or_true (has_bit set n)
@@ -39,6 +42,7 @@ all_true (suc n) set p h = ap₂ (λ a b. a && (not (has_bit set n) || b)) (all_
     or_true true = refl
     or_true false = refl
 
+-- on no letters each set holds
 pub empty_holds : (ps : List Piece) → IsNormal ps → (set : ℕ) → set_holds ps set [] ≡ true
 empty_holds ps n set = all_true (length ps) set _ (λ k. part_proper ps n k Weak)
 
@@ -64,6 +68,7 @@ plain_is (Until f g) h v x t = absurd (false≢true h)
 
 -- ---- a cover is what its step says
 
+-- a cover rests on the operands alone
 same_cover : (f g : ℕ → List Pair) (k : ℕ) (p : Piece) → OperandsBelow k p → ((i : ℕ) → i < k → f i ≡ g i) → piece_cover f k p ≡ piece_cover g k p
 same_cover f g k (Label x) b h = refl
 same_cover f g k (Later i) b h = refl
@@ -72,19 +77,23 @@ same_cover f g k (Either i j) b h = ap₂ (λ a c. a ++ c) (h i b.0) (h j b.1)
 same_cover f g k (Awaits i j) b h = ap₂ (λ a c. c ++ and_later k a) (h i b.0) (h j b.1)
 same_cover f g k (Releases i j) b h = ap₂ (λ a c. unions a c ++ and_later k c) (h i b.0) (h j b.1)
 
+-- the cover of a part is what its operands make
 pub cover_by : (ps : List Piece) → ((k : ℕ) → OperandsBelow k (piece_at ps k)) → (k : ℕ) → part_cover ps k ≡ piece_cover (part_cover ps) k (piece_at ps k)
 unfolding part_cover
 cover_by ps below k = by_number_is [] (λ c k. piece_cover c k (piece_at ps k)) (λ f g k h. same_cover f g k (piece_at ps k) (below k) h) k
 
+-- the same of a normal form
 pub cover_is : (ps : List Piece) → IsNormal ps → (k : ℕ) → part_cover ps k ≡ piece_cover (part_cover ps) k (piece_at ps k)
 cover_is ps n k = cover_by ps n.below k
 
 -- ---- the main induction
 
+-- a release on the rest of the letters, by the until that it denies
 release_is : (p q : Meaning) (t : List ℕ) → release_m p q Weak t ≡ not (until_m (not_m p) (not_m q) Strong t)
 release_is p q [] = refl
 release_is p q (x ∷ t) = refl
 
+-- a release on the first letter: both now, or the second now and the release later
 release_step : (a b u : Bool) → ((a && b) || (not u && b)) ≡ not (not b || (not a && u))
 release_step true true u = refl
 release_step true false true = refl
@@ -94,6 +103,7 @@ release_step false true false = refl
 release_step false false true = refl
 release_step false false false = refl
 
+-- an until on the first letter: the second now, or the first now and the until later
 until_step : (a b u : Bool) → (b || (u && a)) ≡ (b || (a && u))
 until_step a true u = refl
 until_step true false true = refl
@@ -102,12 +112,15 @@ until_step false false true = refl
 until_step false false false = refl
 
 module _ (ps : List Piece) (normal : IsNormal ps) (x : ℕ) (t : List ℕ) where
+  -- what each part says weakly
   says : ℕ → Bool
   says k = part_meaning ps k Weak (x ∷ t)
 
+  -- what each pair asks
   holds : Pair → Bool
   holds p = pair_holds ps x t p
 
+  -- a union holds exactly where both do
   splits : Splits holds
   unfolding holds
   splits = record {
@@ -127,18 +140,22 @@ module _ (ps : List Piece) (normal : IsNormal ps) (x : ℕ) (t : List ℕ) where
   unfolding holds
   label_holds k h = ap₂ (λ a b. a && b) (all_one (length ps) k (label_true ps x) h) (all_none (length ps) (λ k. part_meaning ps k Weak t)) ∙ and_true (label_true ps x k)
 
+  -- a part says what its operands make
   part_is : (k : ℕ) (p : Piece) → piece_at ps k ≡ p → (v : View) (w : List ℕ) → part_meaning ps k v w ≡ piece_meaning (part_meaning ps) p v w
   part_is k p e v w = ap (λ (m : Meaning). m v w) (part_meaning_is ps normal k) ∙ ap (λ q. piece_meaning (part_meaning ps) q v w) e
 
+  -- the cover of a label that is no constant
   one_label : (k : ℕ) (f : Ltl) → k < length ps → piece_at ps k ≡ Label f → is_plain f ≡ true → list_any holds ((label_alone k) ∷ []) ≡ meaning f Weak (x ∷ t)
   one_label k f h e p =
       or_false (holds (label_alone k)) ∙ label_holds k h ∙ ap (piece_true x) e ∙ sym (plain_is f p Weak x t)
 
+  -- the cover of a label says what the label says
   label_says : (k : ℕ) (f : Ltl) → k < length ps → piece_at ps k ≡ Label f → is_plain f ≡ true → list_any holds (label_cover k f) ≡ meaning f Weak (x ∷ t)
   label_says k True h e p = or_false (holds nothing) ∙ splits.none
   label_says k False h e p = refl
   label_says k f h e p = one_label k f h e p
 
+  -- the cover of a part says what the part says, where those of its operands do
   piece_says : (k : ℕ) (p : Piece) → k < length ps → piece_at ps k ≡ p → OperandsBelow k p → HasLabel p → ((i : ℕ) → i < k → list_any holds (part_cover ps i) ≡ says i) → list_any holds (piece_cover (part_cover ps) k p) ≡ piece_meaning (part_meaning ps) p Weak (x ∷ t)
   unfolding says
   piece_says k (Label f) h e b l ih = label_says k f h e l.0
@@ -156,6 +173,7 @@ module _ (ps : List Piece) (normal : IsNormal ps) (x : ℕ) (t : List ℕ) where
       (any_later holds splits k (part_cover ps j) ∙ ap₂ (λ a c. a && c) (later_holds k h ∙ part_is k (Releases i j) e Weak t ∙ release_is (part_meaning ps i) (part_meaning ps j) t) (ih j b.1))
       ∙ release_step (says i) (says j) (until_m (not_m (part_meaning ps i)) (not_m (part_meaning ps j)) Strong t)
 
+  -- the cover of each part says what the part says
   cover_says_below : (n k : ℕ) → k < n → k < length ps → list_any holds (part_cover ps k) ≡ says k
   unfolding says
   cover_says_below zero k l h = absurd (omega arith)
@@ -164,14 +182,17 @@ module _ (ps : List Piece) (normal : IsNormal ps) (x : ℕ) (t : List ℕ) where
       ∙ piece_says k (piece_at ps k) h refl (normal.below k) (normal.labels k) (λ i s. cover_says_below n i (omega arith) (omega arith))
       ∙ sym (part_is k (piece_at ps k) refl Weak (x ∷ t))
 
+  -- a set with one more part
   step_says : (n set : ℕ) → n < length ps → list_any holds (cover_below ps set n) ≡ all_below n set says → (b : Bool) → list_any holds (cond b (unions (cover_below ps set n) (part_cover ps n)) (cover_below ps set n)) ≡ (all_below n set says && (not b || says n))
   step_says n set h ih true = any_unions holds splits (cover_below ps set n) (part_cover ps n) ∙ ap₂ (λ a c. a && c) ih (cover_says_below (suc n) n (omega arith) h)
   step_says n set h ih false = ih ∙ sym (and_true (all_below n set says))
 
+  -- the parts of a set below a number
   set_says_below : (n set : ℕ) → n ≤ length ps → list_any holds (cover_below ps set n) ≡ all_below n set says
   set_says_below zero set h = or_false (holds nothing) ∙ splits.none
   set_says_below (suc n) set h = step_says n set (omega arith) (set_says_below n set (omega arith)) (has_bit set n)
 
+-- the cover of a set says what the set says
 pub set_says : (ps : List Piece) → IsNormal ps → (set x : ℕ) (t : List ℕ) → set_holds ps set (x ∷ t) ≡ list_any (pair_holds ps x t) (cover_of ps set)
 unfolding says holds
 set_says ps n set x t = sym (set_says_below ps n x t (length ps) set (omega arith))

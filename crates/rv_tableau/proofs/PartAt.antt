@@ -14,12 +14,15 @@ use Rattle.rv_tableau.proofs.CoverSays.{cover_by}
 abbrev pub AllBelow : List Part → Type 0
 AllBelow parts = (k : ℕ) → OperandsBelow k (piece_at (pieces parts) k)
 
+-- the part as plain data
 pub piece_is : (parts : List Part) (k : ℕ) (p q : Part) → p ≡ get_or parts k p → p ≡ q → k < length parts → piece_at (pieces parts) k ≡ piece q
 piece_is parts k p q e f h = get_or-map piece parts k p (Label False) h ∙ ap piece (sym e ∙ f)
 
+-- its operands are below it
 pub operands_at : (parts : List Part) (k : ℕ) (p q : Part) → p ≡ get_or parts k p → p ≡ q → k < length parts → AllBelow parts → OperandsBelow k (piece q)
 operands_at parts k p q e f h b = subst (OperandsBelow k) (piece_is parts k p q e f h) (b k)
 
+-- its cover is what its operands make
 pub cover_at : (parts : List Part) (k : ℕ) (p q : Part) → p ≡ get_or parts k p → p ≡ q → k < length parts → AllBelow parts → part_cover (pieces parts) k ≡ piece_cover (part_cover (pieces parts)) k (piece q)
 cover_at parts k p q e f h b = cover_by (pieces parts) b k ∙ ap (piece_cover (part_cover (pieces parts)) k) (piece_is parts k p q e f h)
 

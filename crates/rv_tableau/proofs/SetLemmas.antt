@@ -13,12 +13,14 @@ use Rattle.rv_tableau.specs.Holding.{all_below}
 
 -- ---- tests
 
+-- four tests in another order
 pub and_assoc4 : (a b c d : Bool) → ((a && b) && (c && d)) ≡ ((a && c) && (b && d))
 and_assoc4 true true c d = refl
 and_assoc4 true false true d = refl
 and_assoc4 true false false d = refl
 and_assoc4 false b c d = refl
 
+-- a test that one of two asks for
 guard_or : (s t p : Bool) → (not (s || t) || p) ≡ ((not s || p) && (not t || p))
 guard_or true true true = refl
 guard_or true true false = refl
@@ -27,18 +29,22 @@ guard_or true false false = refl
 guard_or false true p = refl
 guard_or false false p = refl
 
+-- a test and true
 pub and_true : (a : Bool) → (a && true) ≡ a
 and_true true = refl
 and_true false = refl
 
+-- a test or false
 pub or_false : (a : Bool) → (a || false) ≡ a
 or_false true = refl
 or_false false = refl
 
+-- both spread over one of two
 and_or : (a b c : Bool) → (a && (b || c)) ≡ ((a && b) || (a && c))
 and_or true b c = refl
 and_or false b c = refl
 
+-- from the right
 or_and : (a b c : Bool) → ((a || b) && c) ≡ ((a && c) || (b && c))
 or_and true true true = refl
 or_and true true false = refl
@@ -48,6 +54,7 @@ or_and false b c = refl
 
 -- ---- members
 
+-- a bit of two numbers
 has_max : (m n : ℕ) → m < 2 → n < 2 → nat_eq (max m n) 1 ≡ (nat_eq m 1 || nat_eq n 1)
 has_max zero zero h k = refl
 has_max zero (suc zero) h k = refl
@@ -57,32 +64,40 @@ has_max (suc (suc m)) n h k = absurd (omega arith)
 has_max zero (suc (suc n)) h k = absurd (omega arith)
 has_max (suc zero) (suc (suc n)) h k = absurd (omega arith)
 
+-- members of a union
 pub has_or : (s t k : ℕ) → has_bit (bit_or s t) k ≡ (has_bit s k || has_bit t k)
 has_or s t k = ap (λ n. nat_eq n 1) (bit_at_or s t k) ∙ has_max (bit_at s k) (bit_at t k) (bit_at-lt s k) (bit_at-lt t k)
 
+-- the empty set has no member
 pub has_none : (k : ℕ) → has_bit 0 k ≡ false
 has_none k = ap (λ n. nat_eq n 1) (bit_at-zero k)
 
+-- a set of one has that one
 pub has_same : (k : ℕ) → has_bit (2 ^ k) k ≡ true
 has_same k = ap (λ n. nat_eq n 1) (bit_at-pow_same k)
 
+-- and no other
 pub has_other : (k i : ℕ) → i ≢ k → has_bit (2 ^ k) i ≡ false
 has_other k i h = ap (λ n. nat_eq n 1) (bit_at-pow_other k i h)
 
+-- each member of a union passes exactly where each of both does
 pub all_or : (n s t : ℕ) (p : ℕ → Bool) → all_below n (bit_or s t) p ≡ (all_below n s p && all_below n t p)
 all_or zero s t p = refl
 all_or (suc n) s t p =
     ap₂ (λ a b. a && b) (all_or n s t p) (ap (λ b. not b || p n) (has_or s t n) ∙ guard_or (has_bit s n) (has_bit t n) (p n))
     ∙ and_assoc4 (all_below n s p) (all_below n t p) (not (has_bit s n) || p n) (not (has_bit t n) || p n)
 
+-- all members of the empty set pass
 pub all_none : (n : ℕ) (p : ℕ → Bool) → all_below n 0 p ≡ true
 all_none zero p = refl
 all_none (suc n) p = ap₂ (λ a b. a && (not b || p n)) (all_none n p) (has_none n)
 
+-- a member past the bound is not asked
 all_past : (n k : ℕ) (p : ℕ → Bool) → n ≤ k → all_below n (2 ^ k) p ≡ true
 all_past zero k p h = refl
 all_past (suc n) k p h = ap₂ (λ a b. a && (not b || p n)) (all_past n k p (omega arith)) (has_other k n (λ e. omega arith))
 
+-- a set of one below one more number
 one_step : (n k : ℕ) (p : ℕ → Bool) → (k < n → all_below n (2 ^ k) p ≡ p k) → k < suc n → all_below (suc n) (2 ^ k) p ≡ p k
 one_step n k p ih h = ⊎_elim last before (cases_eq n k)
   where
@@ -92,6 +107,7 @@ one_step n k p ih h = ⊎_elim last before (cases_eq n k)
     before : (n ≡ k → ⊥) → all_below (suc n) (2 ^ k) p ≡ p k
     before e = ap₂ (λ a b. a && (not b || p n)) (ih (omega arith)) (has_other k n e) ∙ and_true (p k)
 
+-- the member of a set of one passes exactly where it does
 pub all_one : (n k : ℕ) (p : ℕ → Bool) → k < n → all_below n (2 ^ k) p ≡ p k
 all_one zero k p h = absurd (omega arith)
 all_one (suc n) k p h = one_step n k p (all_one n k p) h
@@ -103,6 +119,7 @@ pub record Splits (f : Pair → Bool) : Type 0 where
   pub none : f nothing ≡ true
   pub both : (p q : Pair) → f (join p q) ≡ (f p && f q)
 
+-- a pair joined to each
 any_joined : (f : Pair → Bool) → Splits f → (p : Pair) (qs : List Pair) → list_any f (map (join p) qs) ≡ (f p && list_any f qs)
 any_joined f s p [] = sym (and_false (f p))
   where
@@ -111,6 +128,7 @@ any_joined f s p [] = sym (and_false (f p))
     and_false false = refl
 any_joined f s p (q ∷ qs) = ap₂ (λ a b. a || b) (s.both p q) (any_joined f s p qs) ∙ sym (and_or (f p) (f q) (list_any f qs))
 
+-- some union passes exactly where some of each does
 pub any_unions : (f : Pair → Bool) → Splits f → (ps qs : List Pair) → list_any f (unions ps qs) ≡ (list_any f ps && list_any f qs)
 any_unions f s [] qs = refl
 any_unions f s (p ∷ ps) qs =
@@ -118,5 +136,6 @@ any_unions f s (p ∷ ps) qs =
     ∙ ap₂ (λ a b. a || b) (any_joined f s p qs) (any_unions f s ps qs)
     ∙ sym (or_and (f p) (list_any f ps) (list_any f qs))
 
+-- the pairs with one more part to hold later
 pub any_later : (f : Pair → Bool) → Splits f → (k : ℕ) (ps : List Pair) → list_any f (and_later k ps) ≡ (f (later_alone k) && list_any f ps)
 any_later f s k ps = any_joined f s (later_alone k) ps

@@ -37,6 +37,7 @@ record IsUnderWay (ps : List Piece) (n i : ℕ) (sets : List ℕ) (nodes : List 
   few : length nodes ≤ 31
   turns : n + i ≡ 33
 
+-- before the first turn
 begun : (ps : List Piece) → IsUnderWay ps 33 0 (whole ps ∷ []) []
 begun ps = record {
   first = or_left _ _ (eq-eqb (whole ps) (whole ps) refl);
@@ -60,13 +61,16 @@ module _ (ps : List Piece) (n i : ℕ) (sets : List ℕ) (nodes : List Pair) (u 
       closed (suc k) l = covered (get_or nodes k nothing).next (u.nexts (get_or nodes k nothing) (get_in nodes k l))
 
 module _ (ps : List Piece) (n i : ℕ) (sets : List ℕ) (nodes : List Pair) (u : IsUnderWay ps (suc n) i sets nodes) (more : i < length sets) where
+  -- the set that is taken
   set : ℕ
   set = slice_index sets i
 
+  -- its new nodes
   new : List Pair
   unfolding set
   new = new_nodes nodes (cover_of ps (slice_index sets i))
 
+  -- what was taken is covered, and so is this set
   taken_on : (k : ℕ) → (k < i) ⊎ (i ≤ k) → k < suc i → IsCovered ps (nodes ++ new) (slice_index (joined sets (map (λ (p : Pair). p.next) new)) k)
   unfolding new
   taken_on k (inl h) l p e =
@@ -77,6 +81,7 @@ module _ (ps : List Piece) (n i : ℕ) (sets : List ℕ) (nodes : List Pair) (u 
       let s = joined_get sets (map (λ (p : Pair). p.next) new) k (omega (arith, i_is, more)) ∙ ap (slice_index sets) i_is in
       in_append p nodes new ∙ ⊎_elim (or_left _ _) (or_right _ _) (new_covers nodes (cover_of ps (slice_index sets i)) p (ap (λ s. is_in p (cover_of ps s)) (sym s) ∙ e))
 
+  -- a turn keeps all this
   turn : length (nodes ++ new) ≤ 31 → IsUnderWay ps n (suc i) (joined sets (map (λ (p : Pair). p.next) new)) (nodes ++ new)
   turn h =
       let xs = map (λ (p : Pair). p.next) new in
@@ -96,6 +101,7 @@ module _ (ps : List Piece) (n i : ℕ) (sets : List ℕ) (nodes : List Pair) (u 
 abbrev IsDone : List Piece → List Pair → Type 0
 IsDone ps nodes = IsComplete ps nodes × (length nodes ≤ 31)
 
+-- what the turns give is complete
 worked : (ps : List Piece) (n i : ℕ) (sets : List ℕ) (nodes all : List Pair) → IsUnderWay ps n i sets nodes → nodes_from ps n i sets nodes ≡ Ok all → IsDone ps all
 unfolding new set nodes_from
 worked ps zero i sets nodes all u e =
@@ -114,6 +120,7 @@ worked ps (suc n) i sets nodes all u e = go (nat_le (length sets) i) (nat_lt 409
     go false false true h k e ih = absurd (cc)
     go false false false h k e ih = ih (turn ps n i sets nodes u (leb-false (length sets) i h) (ltb-false 31 (length (nodes ++ fresh)) k)) e
 
+-- the nodes are complete, and at most 31
 pub nodes_complete : (ps : List Piece) (nodes : List Pair) → nodes_of ps ≡ Ok nodes → IsComplete ps nodes × (length nodes ≤ 31)
 unfolding nodes_of
 nodes_complete ps nodes e = worked ps 33 0 (whole ps ∷ []) [] nodes (begun ps) e

@@ -1,12 +1,11 @@
 -- Worked examples: the nine nodes of the sleep rule, the table of `eventually A`, and a chain of `next` that is refused.
-use Rattle.std.proofs.Common.{◌≡◌, ℕ, zero, suc, List, [], ◌∷◌, Result, Ok, refl}
+use Rattle.std.proofs.Common.{◌≡◌, ℕ, zero, suc, List, [], ◌∷◌, Ok, refl}
 use Rattle.rv_text.specs.declared.numbers.TheConstants.{TOO_MANY_NODES}
 use Rattle.rv_text.specs.Readings.{refused_with}
-use Rattle.rv_model.specs.Ltl.{Ltl, True, False, Atom, Not, And, Or}
+use Rattle.rv_model.specs.Ltl.{Ltl, True, Atom, Not, And, Or}
 use Rattle.rv_model.specs.Table.{Node, of_labels}
 use Rattle.rv_nnf.specs.Parts.{Piece, Label, Later, Awaits}
 use Rattle.rv_nnf.proofs.SleepRule.{sleep_parts}
-use Rattle.rv_tableau.specs.declared.pairs.Pair.{Pair}
 use Rattle.rv_tableau.specs.Cover.{part_cover}
 use Rattle.rv_tableau.specs.Branches.{part_branches, branch_number}
 use Rattle.rv_tableau.specs.Nodes.{nodes_of, nodes_from}
@@ -25,9 +24,11 @@ sleep_branches = refl
 abbrev awake : Ltl
 awake = Not (And (Atom 0) (Atom 1))
 
+-- a good reason
 abbrev reason : Ltl
 reason = Or (Atom 2) (Atom 3)
 
+-- not woken
 abbrev asleep : Ltl
 asleep = Not (Atom 4)
 

@@ -123,7 +123,10 @@ fn masks_reach_the_last_of_63_parts(rt: HostRuntime) -> Result<(), Fail> {
     assert_eq!(rt; parts.parts.len(), 63);
     let table = tableau(rt.alloc(), &parts)?;
     assert_eq!(rt; table.rows(), 3);
-    assert_eq!(rt; refusal_of(compile(rt.alloc(), &nexts(rt.alloc(), 62)?)), TOO_MANY_NODES);
+    assert_eq!(rt;
+        refusal_of(compile(rt.alloc(), &nexts(rt.alloc(), 62)?)),
+        TOO_MANY_NODES
+    );
     Ok(())
 }
 
@@ -131,7 +134,10 @@ fn masks_reach_the_last_of_63_parts(rt: HostRuntime) -> Result<(), Fail> {
 fn a_table_has_31_nodes_at_most(rt: HostRuntime) -> Result<(), Fail> {
     let table = compile(rt.alloc(), &nexts(rt.alloc(), 29)?)?;
     assert_eq!(rt; table.rows(), 31);
-    assert_eq!(rt; refusal_of(compile(rt.alloc(), &nexts(rt.alloc(), 30)?)), TOO_MANY_NODES);
+    assert_eq!(rt;
+        refusal_of(compile(rt.alloc(), &nexts(rt.alloc(), 30)?)),
+        TOO_MANY_NODES
+    );
     Ok(())
 }
 
@@ -237,7 +243,10 @@ fn tables_agree_with_satisfaction_on_four_letters(rt: HostRuntime) -> Result<(),
             for word in 0..256u32 {
                 let letters = [word & 3, word >> 2 & 3, word >> 4 & 3, word >> 6 & 3];
                 for length in 0..5usize {
-                    assert!(rt; agrees(&table, &f, &letters[..length]), "at {place} on {word}");
+                    assert!(rt;
+                        agrees(&table, &f, &letters[..length]),
+                        "at {place} on {word}"
+                    );
                 }
             }
         }
