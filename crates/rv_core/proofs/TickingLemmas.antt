@@ -10,9 +10,11 @@ use Rattle.rv_model.specs.WellFormed.{IsAutomaton, IsBefore, IsStateName, IsName
 one-ordered : {X : Type 0} (R : X → X → Type 0) (x : X) → AllPairs R (x ∷ [])
 one-ordered R x = λ i j d lt below. absurd (omega arith)
 
+-- nor is anything else asked of no element
 none-ordered : {X : Type 0} (R : X → X → Type 0) → AllPairs R []
 none-ordered R = λ i j d lt below. absurd (omega arith)
 
+-- what holds of the one element
 one-all : {X : Type 0} (P : X → Type 0) (x : X) → P x → All P (x ∷ [])
 one-all P x p = All-cons P x [] p (All-nil P)
 
@@ -20,6 +22,7 @@ one-all P x p = All-cons P x [] p (All-nil P)
 named : (is_byte : ℕ → Bool) (b : ℕ) → IsTrue (is_byte b) → IsNameOf is_byte (b ∷ [])
 named is_byte b is = (omega arith, omega arith, one-all (λ b. IsTrue (is_byte b)) b is)
 
+-- the edge back
 abbrev pub loop : Edge
 loop = record { from = 0; event = 0; to = 0 }
 
@@ -27,6 +30,7 @@ loop = record { from = 0; event = 0; to = 0 }
 abbrev pub ticking : Machine
 ticking = record { states = (97 ∷ []) ∷ []; events = (98 ∷ []) ∷ []; edges = loop ∷ []; marked = 1 }
 
+-- it keeps all that an automaton keeps
 pub is_automaton : IsAutomaton ticking
 is_automaton = record {
   some_state = omega arith;
