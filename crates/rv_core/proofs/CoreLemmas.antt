@@ -28,6 +28,7 @@ use Rattle.rv_core.proofs.WordLemmas.{Acts, acted-same, live-same, deliver-answe
 same_or_not : (a b : ℕ) → (a ≡ b) ⊎ (a ≢ b)
 same_or_not a b = grind arith
 
+-- an act's word is one of the words
 place-below : (s : Setup) (act : Act) → FitsAct s act → place_of act < sum s.shape + 1
 place-below s (Deliver slot hit) f = let l = f.0 in omega arith
 place-below s (Stop slot) f = omega arith
@@ -57,16 +58,20 @@ acted-at s w i Look e = refl
 acted-at s w i (Raise _) e = refl
 acted-at s w i (Lower _) e = refl
 
+-- the entry of an act
 abbrev entry_of : ℕ → Act → ℕ → ℕ → Entry
 entry_of seat act before after = record { seat = seat; act = act; before = before; after = after }
 
 module _ (s : Setup) (k : IsSetup s) where
+  -- the table of a slot is a table
   pub table_at-is : (i : ℕ) → i < sum s.shape → IsTable (table_at s i)
   table_at-is i lt = All-get_or IsTable s.tables (monitor_of s.shape i) no_table (let m = monitor_of-lt s.shape i lt in let n = k.fits.many in omega arith) k.are_tables
 
+  -- its own judge judges by its paths
   judges-it : (i : ℕ) → i < sum s.shape → JudgesByTable (table_at s i) (table_judge (table_at s i))
   judges-it i lt = every_table_is_judged (table_at s i) (table_at-is i lt)
 
+  -- which is the judge of the slot
   pub judge-at : (i : ℕ) → i < sum s.shape → judge_of s (judges_of s) i ≡ table_judge (table_at s i)
   judge-at i lt = get_or-map table_judge s.tables (monitor_of s.shape i) no_table _ (let m = monitor_of-lt s.shape i lt in let n = k.fits.many in omega arith)
 
@@ -137,6 +142,7 @@ module _ (s : Setup) (words : List ℕ) (h : List Entry) (k : IsCore s words h)
             rw get_or-set_other (k.switches_are ∙ sym (switch-other act (switch s.switches past) other))
       ]
 
+  -- the words of the slots after the act
   slot_is : (i : ℕ) → i < sum s.shape → get_or (set words place after) (i + 1) 0 ≡ word_of s (judges_of s) (e ∷ past) i
   slot_is i lt =
       let t : Table = table_at s i in
@@ -159,6 +165,7 @@ module _ (s : Setup) (words : List ℕ) (h : List Entry) (k : IsCore s words h)
             rw get_or-set_other (had ∙ sym (packed-other j start was i act p other) ∙ sym has)
       ]
 
+  -- and what runs then
   live_is : (i : ℕ) → i < sum s.shape → IsLive (table_judge (table_at s i)) (slot_phase s (e ∷ past) i)
   live_is i lt =
       let j : Judge = table_judge (table_at s i) in
@@ -187,5 +194,6 @@ module _ (s : Setup) (words : List ℕ) (h : List Entry) (k : IsCore s words h)
     replays = at_each-snoc (FitsWords s (judges_of s)) h e k.replays fits-words;
   }
 
+  -- its answer is the one that the past gives
   pub core-answer : (acted (table_of_act s act) (start_of_act s act) before act).0 ≡ answer_at s (judges_of s) past e act
   core-answer = answer-is s k.is_setup past seat before after act fits bits k.live (before_is ∙ word_on-is s k.is_setup words past k.switches_are k.words_are act fits) after_is

@@ -4,5 +4,6 @@ pub mod LevelLemmas
 pub mod OpeningLemmas
 pub mod PlaceLemmas
 pub mod SwitchLemmas
+pub mod TickingLemmas
 pub mod TurnLemmas
 pub mod WordLemmas

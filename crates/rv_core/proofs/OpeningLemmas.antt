@@ -31,6 +31,7 @@ opens-more s slot words fits is =
     ∙ ap (λ n. opening_words s slot ++ (2 ^ 32 + n) ∷ []) (sym (number_of-bits (start_of s slot) 32 fits))
     ∙ ap (opening_words s) (sym (add-one slot))
 
+-- the machine begins so
 pub core-opens : (s : Setup) → IsSetup s → IsCore s (opening_words s (sum s.shape)) []
 core-opens s k = record {
   is_setup = k;

@@ -25,14 +25,17 @@ monitor_of-lt (count ∷ shape) slot lt = go (monitor_of-lt shape (slot - count)
 
 -- what is read at a monitor's place is what the slot has
 module _ (s now : Setup) (same : s ≡ now) (slot place : ℕ) (lt : slot < sum now.shape) (is : place ≡ monitor_of s.shape slot) where
+  -- the monitor's place is in the lists
   pub place-below : (count : ℕ) → count ≡ length s.shape → place < count
   place-below count many = let b = monitor_of-lt s.shape slot (subst (λ (v : Setup). slot < sum v.shape) (sym same) lt) in omega arith
 
+  -- its starting levels
   pub start-read : (start : ℕ) → length s.starts ≡ length s.shape → start ≡ get_or s.starts place start → start ≡ start_of now slot
   start-read start many read =
       read ∙ get_or_default s.starts place start 0 (place-below (length s.starts) many)
       ∙ ap (λ n. get_or s.starts n 0) is ∙ ap (λ (v : Setup). start_of v slot) same
 
+  -- its table
   pub table-read : (t : Table) → length s.tables ≡ length s.shape → t ≡ get_or s.tables place t → t ≡ table_at now slot
   table-read t many read =
       read ∙ get_or_default s.tables place t no_table (place-below (length s.tables) many)

@@ -22,8 +22,10 @@ set_of j waiting = 1
 set_of j (running word) = rows_of j word
 set_of j stopped = 0
 
+-- it waits or runs
 abbrev pub IsGoing : Phase → Type 0
 IsGoing waiting = Unit {0}
+-- it waits or runs
 IsGoing (running word) = Unit {0}
 IsGoing stopped = ⊥
 
@@ -31,12 +33,15 @@ IsGoing stopped = ⊥
 abbrev pub shown : Judge → Answer × Phase → Answer × ℕ
 shown j r = (r.0, set_of j r.1)
 
+-- one of two answers with their sets
 abbrev pick_set : Bool → Answer × ℕ → Answer × ℕ → Answer × ℕ
 pick_set b x y = if b then x else y
 
+-- one of two answers with their phases
 abbrev pick_phase : Bool → Answer × Phase → Answer × Phase → Answer × Phase
 pick_phase b x y = if b then x else y
 
+-- choosing comes before or after showing
 picks : (j : Judge) (b : Bool) (x y : Answer × Phase) → pick_set b (shown j y) (shown j x) ≡ shown j (pick_phase (not b) x y)
 picks j true x y = refl
 picks j false x y = refl
@@ -47,6 +52,7 @@ set-positive j waiting going live = refl
 set-positive j (running word) going live = let n = live.0 in grind arith
 set-positive j stopped going live = absurd going
 
+-- a run goes on or waits again
 going-if : (b : Bool) (a c : Answer) (word : List Letter) → IsGoing (pick_phase b (a, running word) (c, waiting)).1
 going-if true a c word = tt
 going-if false a c word = tt
@@ -63,13 +69,19 @@ turn-going j stopped going m x = absurd going
 abbrev pub MayStart : Table → Mode → Type 0
 MayStart t m = IsRun m ⊎ (first_row t ≡ 1)
 
+-- a hit that fits begins so
 pub fits-start : (t : Table) (m : Mode) (w : What) → FitsKind t m w → MayStart t m
+-- a hit that fits begins so
 fits-start (of_events n rows) m w fits = inr refl
+-- a hit that fits begins so
 fits-start (of_labels nodes) m (Da _) fits = absurd fits
+-- a hit that fits begins so
 fits-start (of_labels nodes) m (Ltl _ _ _) fits = inl fits
 
+-- a list to which a letter was added has one
 snoc-letter : (word : List Letter) (x : Letter) → HasLetter (word ++ x ∷ [])
 snoc-letter [] x = tt
+-- a list to which a letter was added has one
 snoc-letter (y ∷ word) x = tt
 
 module _ (t : Table) (it : IsTable t) (j : Judge) (judges : JudgesByTable t j) where
@@ -97,9 +109,11 @@ module _ (t : Table) (it : IsTable t) (j : Judge) (judges : JudgesByTable t j) w
       let rows : rows_of j [] ≡ 2 = rows-start t it j judges ∙ two in
       ((λ e. absurd (omega arith)), (λ e. absurd (omega arith)))
 
+  -- what runs after a turn has rows, and not row 0 alone
   pub turn-live : (p : Phase) (m : Mode) → MayStart t m → (x : Letter) → IsLive j (turn j p m x).1
   turn-live stopped m may x = tt
   turn-live waiting mode.Event may x = tt
   turn-live waiting mode.Start may x = begun may
   turn-live waiting mode.StartRun may x = lives (x ∷ []) tt (j.holds (x ∷ [])) (Failed (rows_of j [])) refl Started
+  -- what runs after a turn has rows, and not row 0 alone
   turn-live (running word) m may x = lives (word ++ x ∷ []) (snoc-letter word x) (j.holds (word ++ x ∷ [])) (Failed (rows_of j word)) refl Kept

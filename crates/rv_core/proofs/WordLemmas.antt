@@ -35,6 +35,7 @@ turned j levels r = (r.0, packed j levels r.1)
 abbrev with_levels : ℕ → Answer × ℕ → Answer × ℕ
 with_levels levels r = (r.0, r.1 * 2 ^ 32 + levels)
 
+-- the two are one where it goes
 with_levels-shown : (j : Judge) (levels : ℕ) (r : Answer × Phase) → IsGoing r.1 → with_levels levels (shown j r) ≡ turned j levels r
 with_levels-shown j levels r going = ap (λ (n : ℕ). (r.0, n)) (sym (packed-going j levels r.1 going))
 
@@ -47,8 +48,11 @@ levels-are : (w : What) (was : ℕ → Bool) → WhatFits w → number_of (λ at
 levels-are (Da _) was fits = refl
 levels-are (Ltl on off pulse) was fits = levels_are_bits.levels_of was on off pulse fits.0.0 fits.0.1
 
+-- the letter, by the levels with the hit
 letter-is : (w : What) (now : ℕ → Bool) → WhatFits w → letter_at now w ≡ letter_by w (number_of now 32)
+-- the letter, by the levels with the hit
 letter-is (Da _) now fits = refl
+-- the letter, by the levels with the hit
 letter-is (Ltl on off pulse) now fits = levels_are_bits.letters now on off pulse fits.1
 
 module _ (t : Table) (it : IsTable t) (j : Judge) (judges : JudgesByTable t j) where
@@ -79,9 +83,11 @@ module _ (t : Table) (it : IsTable t) (j : Judge) (judges : JudgesByTable t j) w
   advanced-is was hit fits (running word) live = going-is was hit fits (running word) tt live
   advanced-is was hit fits stopped live = refl
 
+-- one place is one slot
 same_slot : (slot i : ℕ) → slot + 1 ≡ i + 1 → (slot == i) ≡ true
 same_slot slot i e = grind arith
 
+-- another place is another slot
 other_slot : (slot i : ℕ) → slot + 1 ≢ i + 1 → (slot == i) ≡ false
 other_slot slot i n = grind arith
 
@@ -136,6 +142,7 @@ phase_after-other j on i Look p n = refl
 phase_after-other j on i (Raise _) p n = refl
 phase_after-other j on i (Lower _) p n = refl
 
+-- leaves the levels
 level_after-other : (start i atom : ℕ) (act : Act) (was : Bool) → place_of act ≢ i + 1 → level_after start i atom act was ≡ was
 level_after-other start i atom (Deliver slot hit) was n = rw (other_slot slot i n) refl
 level_after-other start i atom (Stop slot) was n = refl

@@ -44,6 +44,7 @@ abbrev pub PulseFits : What → Type 0
 PulseFits (Da _) = Unit {0}
 PulseFits (Ltl _ _ pulse) = pulse < 2 ^ 32
 
+-- all sets of atoms fit
 abbrev pub WhatFits : What → Type 0
 WhatFits w = LevelsFit w × PulseFits w
 
@@ -61,9 +62,11 @@ letter_by (Ltl _ _ pulse) levels = Atoms (bit_or levels pulse)
 abbrev pub begins : ℕ → ℕ → Answer × ℕ
 begins start next = if next == 0 then (Failed start, 1) else (Started, next)
 
+-- the same of a run, whose rows are told where it fails
 abbrev pub goes_on : ℕ → ℕ → Answer × ℕ
 goes_on set next = if next == 0 then (Failed set, 1) else (Kept, next)
 
+-- of an instance that waits
 abbrev pub from_waiting : Table → Mode → Letter → Answer × ℕ
 from_waiting t mode.Event x = (Passed, 1)
 from_waiting t mode.Start x = (Started, start_set t)

@@ -13,6 +13,7 @@ use Rattle.rv_model.specs.SharedWords.{switches_of, word_of, answer_at}
 use Rattle.rv_model.specs.Histories.{FitsWords, Replays}
 use Rattle.rv_core.specs.Setup.{IsSetup, judges_of, table_at}
 
+-- what it began with, and its entries, the first one first
 pub record CoreValue : Type 0 where
   pub setup : Setup
   pub history : List Entry
@@ -38,9 +39,11 @@ IsLive j waiting = Unit {0}
 IsLive j (running word) = (rows_of j word ≢ 0) × (rows_of j word ≢ 1)
 IsLive j stopped = Unit {0}
 
+-- the phase of a slot, by its own table
 abbrev pub slot_phase : Setup → List Entry → ℕ → Phase
 slot_phase s past i = phase_of (table_judge (table_at s i)) (start_of s i) past i
 
+-- the words are those that the history gives, and the history replays
 pub record IsCore (s : Setup) (words : List ℕ) (h : List Entry) : Type 0 where
   pub is_setup : IsSetup s
   pub count : length words ≡ sum s.shape + 1

@@ -13,5 +13,6 @@ AllMean [] [] = Unit {0}
 AllMean (spec ∷ specs) (t ∷ tables) = Means t spec × AllMean specs tables
 AllMean _ _ = ⊥
 
+-- the tables that judge are then judges by the specifications
 abbrev pub JudgesBySpecs : Setup → Type 0
 JudgesBySpecs s = (specs : List Spec) → AllMean specs s.tables → AreJudges specs s.tables (judges_of s)

@@ -6,9 +6,11 @@ use Rattle.rv_model.specs.declared.hit.What.TheVariants.{Ltl}
 use Rattle.rv_model.specs.Numbers.{number_of}
 use Rattle.rv_model.specs.Phases.{level_by, letter_at}
 
+-- the levels without `off`, and then with `on`
 abbrev pub new_levels : ℕ → ℕ → ℕ → ℕ
 new_levels low on off = bit_or (bit_and low (bit_not w32 off)) on
 
+-- the definitions of levels and letters, atom by atom, are operations on bits
 pub record LevelsAreBits : Type 0 where
   -- `on` wins over `off`
   pub levels_of : (has : ℕ → Bool) (on off pulse : ℕ) → on < 2 ^ 32 → off < 2 ^ 32 → number_of (λ atom. level_by (Ltl on off pulse) atom (has atom)) 32 ≡ new_levels (number_of has 32) on off

@@ -14,13 +14,16 @@ pub record FitsShape (s : Setup) : Type 0 where
   pub many_starts : length s.starts ≡ length s.shape
   pub known_switches : s.switches < 2 ^ 35
 
+-- what is known of every setup
 pub record IsSetup (s : Setup) : Type 0 where
   pub fits : FitsShape s
   pub are_tables : All IsTable s.tables
 
+-- where there is no monitor
 abbrev pub no_table : Table
 no_table = of_events 0 []
 
+-- the table of a slot
 abbrev pub table_at : Setup → ℕ → Table
 table_at s slot = slice_index_or s.tables (monitor_of s.shape slot) no_table
 

@@ -4,6 +4,8 @@
 mod act;
 mod machine;
 mod setup;
+#[cfg(test)]
+mod tests;
 mod turn;
 mod word;
 

@@ -19,13 +19,18 @@ use Rattle.rv_table.proofs.SetLemmas.{some_follows-none, some_follows-more, is_s
 pub All-ltl : (fs : List Formula) → All IsLabel (map ltl fs) → All (λ f. IsLabel (ltl f)) fs
 All-ltl fs all = λ i d lt. let l : i < length (map ltl fs) = subst (λ n. i < n) (sym (length-map fs ltl)) lt in subst IsLabel (get_or-map ltl fs i d (ltl d) lt) (all i (ltl d) l)
 
+-- one bit of a union
 has_max : (m n : ℕ) → m < 2 → n < 2 → (max m n == 1) ≡ (m == 1 || n == 1)
 has_max zero zero h k = refl
 has_max zero (suc zero) h k = refl
+-- one bit of a union
 has_max (suc zero) zero h k = refl
+-- one bit of a union
 has_max (suc zero) (suc zero) h k = refl
+-- one bit of a union
 has_max (suc (suc m)) n h k = absurd (omega arith)
 has_max zero (suc (suc n)) h k = absurd (omega arith)
+-- one bit of a union
 has_max (suc zero) (suc (suc n)) h k = absurd (omega arith)
 
 -- the members of a union
@@ -36,11 +41,13 @@ has_or s t k = ap (λ n. n == 1) (bit_at_or s t k) ∙ has_max (bit_at s k) (bit
 pub some_next_more : (nodes : List Node) (set n q : ℕ) → some_next nodes set (n + 1) q ≡ (some_next nodes set n q || (has_bit set n && has_bit (node_at nodes n).next q))
 some_next_more nodes set n q = rw (add-one n) refl
 
+-- nothing is added
 or_none : (a b : Bool) → (a || (b && false)) ≡ a
 or_none true b = refl
 or_none false true = refl
 or_none false false = refl
 
+-- the empty set has no member
 no_bit : (q : ℕ) → has_bit 0 q ≡ false
 no_bit q = ap (λ n. n == 1) (bit_at-zero q)
 
@@ -60,6 +67,7 @@ next-past nodes set q (suc more) =
     one : (n : ℕ) → suc more + n ≡ more + n + 1
     one n = omega arith
 
+-- a row that follows by the earlier rows or by this one
 both-ways : (row some all here next : Bool) → ((row && (some && all)) || (here && (row && (next && all)))) ≡ (row && ((some || (here && next)) && all))
 both-ways true true true here next = refl
 both-ways true true false true true = refl
@@ -74,6 +82,7 @@ both-ways true false false false next = refl
 both-ways false some all true next = refl
 both-ways false some all false next = refl
 
+-- no row is before row 0
 and_none : (row all : Bool) → false ≡ (row && (false && all))
 and_none true all = refl
 and_none false all = refl

@@ -14,9 +14,11 @@ use Rattle.rv_model.specs.Stepping.{IsTable}
 use Rattle.rv_model.proofs.MeansLemmas.{is_next-true}
 use Rattle.rv_table.specs.Rows.{IsEntryBelow, IsEventRows, IsNodeBelow, IsLabelRows, IsRows}
 
+-- a place is in a list or past it
 within : (i n : ℕ) → (i < n) ⊎ (n ≤ i)
 within i n = grind arith
 
+-- no entry is no row
 no_entry : (next : ℕ) → None ≡ Some next → ⊥
 no_entry next e = cc
 
@@ -40,6 +42,7 @@ entry-rows rows it row event next e = go (within row (length rows))
         let none : get_or rows row [] ≡ [] = get_or_past rows row [] past in
         absurd (no_entry next (sym (ap (λ r. option_and_then (λ next. next) (slice_get r event)) none) ∙ e))
 
+-- the rows of an automaton make a table
 events-table : (n : ℕ) (rows : List (List (Option ℕ))) → IsEventRows rows → IsTable (of_events n rows)
 events-table n rows it = record { in_range = range; first = omega arith }
   where
@@ -60,6 +63,7 @@ no_zero nodes it row = go (within row (length nodes))
     go (inl lt) = (All-get_or (IsNodeBelow (length nodes)) nodes row nothing lt it.in_range).1.1
     go (inr past) = ap (λ (node : Node). has_bit node.next 0) (get_or_past nodes row nothing past)
 
+-- the rows of a formula make a table
 labels-table : (nodes : List Node) → IsLabelRows nodes → IsTable (of_labels nodes)
 labels-table nodes it = record { in_range = λ row x next f. range row _ next f; first = omega arith }
   where
@@ -75,6 +79,9 @@ labels-table nodes it = record { in_range = λ row x next f. range row _ next f;
         go zero has = absurd (false≢true (sym (no_zero nodes it row) ∙ has))
         go (suc next) has = omega arith
 
+-- so do the rows of every table
 pub rows-table : (t : Table) → IsRows t → IsTable t
+-- so do the rows of every table
 rows-table (of_events n rows) it = events-table n rows it
+-- so do the rows of every table
 rows-table (of_labels nodes) it = labels-table nodes it

@@ -18,12 +18,15 @@ test_bit set member h = rw (one_shl member 32 h, and_pow set member) (go (bit_at
     go zero lt p = grind arith
     go (suc b) lt p = let z : b ≡ 0 = omega arith in grind arith
 
+-- two numbers are the same or not
 same_or_not : (a b : ℕ) → (a ≡ b) ⊎ (b ≢ a)
 same_or_not a b = grind arith
 
+-- a bit that is put in
 max_bit : (a : ℕ) → a < 2 → (max a 1 == 1) ≡ (a == 1 || true)
 max_bit a h = grind arith
 
+-- a bit that is not
 max_none : (a : ℕ) → (max a 0 == 1) ≡ (a == 1 || false)
 max_none a = grind arith
 

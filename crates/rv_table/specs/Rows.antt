@@ -10,6 +10,7 @@ use Rattle.rv_model.specs.Table.{Table, of_events, of_labels, Node, next_row, no
 
 -- ---- an automaton's
 
+-- the next row by the event, where there is one
 abbrev pub entry_in : List (Option ℕ) → ℕ → Option ℕ
 entry_in row event = option_and_then (λ next. next) (slice_get row event)
 
@@ -22,6 +23,7 @@ abbrev pub IsEntryBelow : ℕ → Option ℕ → Type 0
 IsEntryBelow n None = Unit {0}
 IsEntryBelow n (Some next) = (1 ≤ next) × (next < n)
 
+-- row 0 and at most 31 others, whose entries name rows from 1 on
 pub record IsEventRows (rows : List (List (Option ℕ))) : Type 0 where
   pub some : 1 ≤ length rows
   pub few : length rows ≤ 32
@@ -52,6 +54,7 @@ IsRowSet n set = (set < 2 ^ n) × (has_bit set 0 ≡ false)
 abbrev pub IsNodeBelow : ℕ → Node → Type 0
 IsNodeBelow n node = All IsLabel node.labels × IsRowSet n node.next
 
+-- row 0 and at most 31 others, whose sets name rows from 1 on, and whose labels can be counted
 pub record IsLabelRows (nodes : List Node) : Type 0 where
   pub some : 1 ≤ length nodes
   pub few : length nodes ≤ 32
@@ -75,12 +78,18 @@ some_next nodes set (suc row) next = some_next nodes set row next || (has_bit se
 
 -- ---- either
 
+-- what every table keeps
 abbrev pub IsRows : Table → Type 0
+-- what every table keeps
 IsRows (of_events n rows) = IsEventRows rows
+-- what every table keeps
 IsRows (of_labels nodes) = IsLabelRows nodes
 
+-- how many rows there are, with row 0
 abbrev pub row_count : Table → ℕ
+-- how many rows there are, with row 0
 row_count (of_events n rows) = length rows
+-- how many rows there are, with row 0
 row_count (of_labels nodes) = length nodes
 
 -- it is a formula's, and has the row
@@ -93,5 +102,6 @@ abbrev pub node_in : Table → ℕ → Node
 node_in (of_events n rows) row = record { labels = []; next = 0 }
 node_in (of_labels nodes) row = node_at nodes row
 
+-- a row is stored as the pair of its labels and its next rows
 abbrev pub coded_node : Coded Node
 coded_node = code_by (List Ltl × ℕ) (coded× (coded_list coded_ltl) coded_ℕ) (λ n. (n.labels, n.next)) (λ p. record { labels = p.0; next = p.1 }) (λ _. refl)
