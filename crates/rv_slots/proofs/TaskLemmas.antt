@@ -4,7 +4,7 @@ use Rattle.std.specs.List.{position, position_or_len}
 use Rattle.std.proofs.lemmas.Bool.Decides.{Decides-eqb, Decides-and}
 use Rattle.std.proofs.lemmas.List.Quantifiers.{position-Some}
 use Rattle.std.proofs.lemmas.Option.{slice_get-get_or}
-use Rattle.rv_slots.specs.declared.task.Task.{Task}
+use Rattle.rv_model.specs.declared.record.Task.{Task}
 use Rattle.rv_slots.specs.Tasks.{same_task}
 
 -- what a test chose

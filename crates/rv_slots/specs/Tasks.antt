@@ -1,7 +1,7 @@
 -- Tasks in the order of their first use.
 use Rattle.std.specs.Prelude.{◌≡◌, ◌≢◌, ℕ, Bool, ◌&&◌, ◌==◌, List, [], ◌∷◌, ◌++◌, if◌then◌else◌}
 use Rattle.std.specs.List.{list_any, position_or_len}
-use Rattle.rv_slots.specs.declared.task.Task.{Task}
+use Rattle.rv_model.specs.declared.record.Task.{Task}
 
 -- the task of a pid on a CPU: pid 0 is the idle task of each CPU
 abbrev pub task_of : ℕ → ℕ → Task

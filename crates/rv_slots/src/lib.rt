@@ -7,6 +7,6 @@ mod tasks;
 #[cfg(test)]
 mod tests;
 
+pub use rv_model::Task;
 pub use shape::{CPUS, MAX_MONITORS, MAX_SLOTS, Place, Shape};
-pub use task::Task;
 pub use tasks::{MAX_TASKS, TaskFault, Tasks};

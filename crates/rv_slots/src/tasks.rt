@@ -2,8 +2,9 @@
 ghost use Rattle.std.specs.Prelude.{◌≡◌, ◌<◌, ◌≤◌, ◌↔◌, [], length, false, position, AllPairs, IsErrOf, IsNone, IfOk, OnOk, OnErr, slice_get, Some};
 ghost use Rattle.rv_slots.specs.Tasks.{task_of, same_task, is_held, with_task, number_of, IsTask};
 
-use crate::task::{Task, task_of};
+use crate::task::task_of;
 use indexmap::IndexSet;
+use rv_model::Task;
 use std::alloc::Global;
 use std::marker::Model;
 use thiserror::Error;
@@ -30,7 +31,7 @@ pub struct Tasks {
 impl Model for Tasks {
     ghost use Rattle.std.specs.Prelude.{List, length, ◌≤◌, All};
     ghost use Rattle.rv_slots.specs.Tasks.{IsTask};
-    ghost use Rattle.rv_slots.specs.declared.task.Task.{Task};
+    ghost use Rattle.rv_model.specs.declared.record.Task.{Task};
     ghost use Rattle.rv_slots.specs.declared.tasks.TheConstants.{MAX_TASKS};
 
     ghost Value = { List Task };

@@ -1,6 +1,6 @@
 use Rattle.std.proofs.Common.{◌≡◌, ℕ, List, Ok, Err, sym, ◌∙◌, ap, true, position, Some}
 use Rattle.std.proofs.lemmas.Bool.{false≢true}
-use Rattle.rv_slots.specs.declared.task.Task.{Task}
+use Rattle.rv_model.specs.declared.record.Task.{Task}
 use Rattle.rv_slots.specs.declared.tasks.TaskFault.{TaskFault}
 use Rattle.rv_slots.specs.Tasks.{task_of, is_held, same_task, number_of}
 use Rattle.rv_slots.proofs.TaskLemmas.{held-at}
