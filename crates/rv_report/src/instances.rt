@@ -4,6 +4,7 @@ ghost use Rattle.rv_model.specs.Reports.{task_at, task_text, place_text};
 ghost use Rattle.rv_report.specs.Shown.{shown_by};
 
 use rv_model::{Name, Names, Scope, Task};
+use rv_slots::Tasks;
 use rv_text::Line;
 use std::alloc::AllocError;
 
@@ -38,12 +39,13 @@ pub(crate) fn shown(
 }
 
 /// The task of this number.
-fn task_at(tasks: &[Task], number: u32) -> Task
+fn task_at(tasks: &Tasks, number: u32) -> Task
     ensures { result ≡ task_at tasks.now number }
 {
-    match tasks.get(number as usize) {
-        Some(task) => *task,
-        None => Task { pid: 0, cpu: 0 },
+    if number < tasks.len() {
+        tasks.task(number)
+    } else {
+        Task { pid: 0, cpu: 0 }
     }
 }
 
@@ -62,7 +64,7 @@ fn task(out: &mut Line, task: Task) -> Result<(), AllocError>
 /// Appends which instance of its monitor it is.
 pub(crate) fn place(
     out: &mut Line,
-    tasks: &[Task],
+    tasks: &Tasks,
     scope: Scope,
     instance: u32,
 ) -> Result<(), AllocError>

@@ -6,7 +6,8 @@ ghost use Rattle.rv_report.specs.Shown.{reported_of};
 use crate::reactions::reaction;
 use crate::summary::summary;
 use rv_bind::Bindings;
-use rv_model::{Record, Task};
+use rv_model::Record;
+use rv_slots::Tasks;
 use rv_text::Line;
 use std::alloc::{AllocError, Global};
 
@@ -14,7 +15,7 @@ use std::alloc::{AllocError, Global};
 pub fn report(
     alloc: Global,
     bindings: &Bindings,
-    tasks: &[Task],
+    tasks: &Tasks,
     records: &[Record],
 ) -> Result<Vec<u8>, AllocError>
     ensures { IfOk result (λ text. text.items ≡ report_text (reported_of bindings.now) tasks.now records.now) }

@@ -6,7 +6,8 @@ ghost use Rattle.rv_report.specs.Shown.{failed_set, reported, reported_of};
 
 use crate::instances::{name_at, place, shown};
 use rv_bind::{Bindings, Monitor};
-use rv_model::{Answer, Automaton, Delivered, Names, Reactor, Record, Spec, Task, What};
+use rv_model::{Answer, Automaton, Delivered, Names, Reactor, Record, Spec, What};
+use rv_slots::Tasks;
 use rv_text::Line;
 use std::alloc::AllocError;
 
@@ -64,7 +65,7 @@ fn said(
     out: &mut Line,
     containers: &Names,
     monitor: &Monitor,
-    tasks: &[Task],
+    tasks: &Tasks,
     record: &Record,
     set: u32,
 ) -> Result<(), AllocError>
@@ -84,7 +85,7 @@ fn react(
     out: &mut Line,
     containers: &Names,
     monitor: &Monitor,
-    tasks: &[Task],
+    tasks: &Tasks,
     record: &Record,
     set: u32,
 ) -> Result<(), AllocError>
@@ -112,7 +113,7 @@ fn failed_set(record: &Record) -> Option<u32>
 pub(crate) fn reaction(
     out: &mut Line,
     bindings: &Bindings,
-    tasks: &[Task],
+    tasks: &Tasks,
     record: &Record,
 ) -> Result<(), AllocError>
     ensures { OnOk result (out.new ≡ out.old ++ record_text (slice_get (reported_of bindings.now) record.now.monitor) tasks.now record.now) }

@@ -6,7 +6,8 @@ ghost use Rattle.rv_report.specs.Shown.{reported, shown_by};
 
 use crate::instances::shown;
 use rv_bind::Monitor;
-use rv_model::{Answer, Delivered, Names, Record, Scope, Task};
+use rv_model::{Answer, Delivered, Names, Record, Scope};
+use rv_slots::Tasks;
 use rv_text::Line;
 use std::alloc::{AllocError, Global};
 
@@ -43,13 +44,13 @@ fn tally_of(records: &[Record], place: usize) -> Tally
 }
 
 /// How many instances a monitor of this scope has.
-fn instances_in(tasks: &[Task], scope: Scope) -> usize
+fn instances_in(tasks: &Tasks, scope: Scope) -> usize
     ensures { result ≡ instances_in tasks.now scope }
 {
     match scope {
         Scope::Global => 1,
         Scope::Cpu => 64,
-        Scope::Task => tasks.len(),
+        Scope::Task => tasks.len() as usize,
     }
 }
 
@@ -107,7 +108,7 @@ pub(crate) fn summary(
     containers: &Names,
     monitor: &Monitor,
     place: usize,
-    tasks: &[Task],
+    tasks: &Tasks,
     records: &[Record],
 ) -> Result<(), AllocError>
     ensures { OnOk result (out.new ≡ out.old ++ summary_text tasks.now records.now place (reported containers.now monitor.now)) }

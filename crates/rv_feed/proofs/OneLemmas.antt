@@ -1,0 +1,120 @@
+-- A run of a fresh machine is legal, in order and without changes.
+use Rattle.std.proofs.Common.{◌≡◌, ◌≢◌, ℕ, ◌+◌, ◌<◌, Bool, true, false, ◌||◌, ◌==◌, List, [], ◌∷◌, ◌++◌, ◌⊎◌, length, inr, reverse, arith, refl, sym, ap, ◌∙◌, subst, get_or, All}
+use Rattle.std.specs.Prelude.{Any, flat_map, nat_le, if◌then◌else◌}
+use Rattle.std.specs.List.{list_any}
+use Rattle.std.proofs.lemmas.List.{get_or-map, length-map}
+use Rattle.std.proofs.lemmas.List.Elements.{All-get_or, All-head, All-tail}
+use Rattle.rv_model.specs.declared.entry.Act.{Act}
+use Rattle.rv_model.specs.declared.entry.Act.TheVariants.{Deliver, Stop, Look, Raise, Lower, Clear}
+use Rattle.rv_model.specs.declared.entry.Entry.{Entry}
+use Rattle.rv_model.specs.declared.record.Record.{Record}
+use Rattle.rv_model.specs.Cuts.{AtEach}
+use Rattle.rv_model.specs.Judging.{Judge}
+use Rattle.rv_model.specs.declared.formula.Spec.{Spec}
+use Rattle.rv_model.specs.Setups.{Setup}
+use Rattle.rv_model.specs.Scripts.{played, Plays}
+use Rattle.rv_model.specs.Histories.{Input, AreJudges, IsEarnedBy, IsNoStop, Replays, IsInOrder, acts_of}
+use Rattle.rv_model.specs.Records.{records_of, sort_records, insert_record, script_records, status_of, is_failure, is_stopped}
+use Rattle.rv_model.specs.Works.{Work}
+use Rattle.rv_model.proofs.CutLemmas.{at_each-weaker}
+use Rattle.rv_core.specs.Core.{CoreValue}
+use Rattle.rv_core.specs.Setup.{judges_of}
+use Rattle.rv_feed.specs.Lane.{LaneValue, works_of}
+use Rattle.rv_feed.specs.One.{input_of, lane_records, IsOneOf}
+use Rattle.rv_feed.specs.Order.{Whole, Ran}
+
+-- nothing is asked of what is no stop
+earned-free : (before : List Entry) (seat : ℕ) (act : Act) → IsNoStop act → IsEarnedBy act seat before
+earned-free before seat (Deliver _ _) free = tt
+earned-free before seat (Stop _) free = absurd free
+earned-free before seat Look free = tt
+earned-free before seat (Raise _) free = tt
+earned-free before seat (Lower _) free = tt
+earned-free before seat (Clear _) free = tt
+
+-- a seat without entries has no acts
+acts-none : (seat : ℕ) (h : List Entry) → AtEach (λ before e. e.seat ≢ seat) h → acts_of seat h ≡ []
+acts-none seat [] none = refl
+acts-none seat (e ∷ h) none =
+    let not_mine : e.seat ≢ seat = none [] e h refl in
+    let no : (e.seat == seat) ≡ false = grind arith in
+    rw no (acts-none seat h (λ before f after eq. none (e ∷ before) f after (ap (λ (z : List Entry). e ∷ z) eq)))
+
+-- ---- records
+
+-- a record that is put into its place
+sorted-any : (p : Record → Bool) (r : Record) (rs : List Record) → list_any p (insert_record r rs) ≡ (p r || list_any p rs)
+sorted-any p r [] = refl
+sorted-any p r (x ∷ rs) = go (nat_le r.order x.order) (sorted-any p r rs)
+  where
+    swap : (a b c : Bool) → (b || (a || c)) ≡ (a || (b || c))
+    swap true true c = refl
+    swap true false c = refl
+    swap false true c = refl
+    swap false false c = refl
+
+    go : (b : Bool) → list_any p (insert_record r rs) ≡ (p r || list_any p rs) → list_any p (if b then r ∷ x ∷ rs else x ∷ insert_record r rs) ≡ (p r || (p x || list_any p rs))
+    go true rest = refl
+    go false rest = ap (λ (b : Bool). p x || b) rest ∙ swap (p r) (p x) (list_any p rs)
+
+-- a sort keeps what some record is
+sort-any : (p : Record → Bool) (rs : List Record) → list_any p (sort_records rs) ≡ list_any p rs
+sort-any p [] = refl
+sort-any p (r ∷ rs) = sorted-any p r (sort_records rs) ∙ ap (λ (b : Bool). p r || b) (sort-any p rs)
+
+-- and so the status
+pub status-sorted : (rs : List Record) → status_of (sort_records rs) ≡ status_of rs
+status-sorted rs = rw (sort-any is_failure rs, sort-any is_stopped rs) refl
+
+-- the scripts' records are the lanes'
+lane-records : (s : Setup) (panics : ℕ → Bool) (h : List Entry) (lanes : List LaneValue) → All (Whole s panics [] h) lanes
+    → flat_map (λ w. script_records w.deliveries w.turns (played s (judges_of s) (2 + w.cpu) (reverse h))) (works_of lanes) ≡ lane_records lanes
+lane-records s panics h [] whole = refl
+lane-records s panics h (l ∷ lanes) whole =
+    let w = All-head (Whole s panics [] h) l lanes whole in
+    let mine : script_records l.work.deliveries l.work.turns (played s (judges_of s) (2 + l.work.cpu) (reverse h)) ≡ l.records = ap (script_records l.work.deliveries l.work.turns) w.played_is ∙ w.records in
+    ap (λ (z : List Record). z ++ flat_map (λ w. script_records w.deliveries w.turns (played s (judges_of s) (2 + w.cpu) (reverse h))) (works_of lanes)) mine
+    ∙ ap (λ (z : List Record). l.records ++ z) (lane-records s panics h lanes (All-tail (Whole s panics [] h) l lanes whole))
+
+-- a run of a fresh machine
+pub one-of-run : (s : Setup) (panics : ℕ → Bool) (h : List Entry) (lanes lanes' : List LaneValue) (specs : List Spec) → AreJudges specs s.tables (judges_of s) → Replays s (judges_of s) h
+    → Ran panics (record { setup = s; history = [] }) (record { setup = s; history = h }) lanes lanes' → IsOneOf (input_of s specs panics lanes) (lane_records lanes') h
+one-of-run s panics h lanes lanes' specs are replays ran =
+    let js : List Judge = judges_of s in
+    let input : Input = input_of s specs panics lanes in
+    let is : h ≡ ran.more = ap (λ (v : CoreValue). v.history) ran.grows in
+    let nobody : AtEach (λ before e. Any (λ w. e.seat ≡ 2 + w.cpu) (works_of lanes)) h = subst (AtEach (λ before e. Any (λ w. e.seat ≡ 2 + w.cpu) (works_of lanes))) (sym is) ran.nobody_else in
+    let recs : records_of input js h ≡ sort_records (lane_records lanes') =
+    ap sort_records (ap (flat_map (λ w. script_records w.deliveries w.turns (played s js (2 + w.cpu) (reverse h)))) (sym ran.same_works) ∙ lane-records s panics h lanes' ran.whole) in
+    record {
+      judges = js;
+      are_judges = are;
+      one = record {
+        legal = record {
+          sound = record {
+            replays = replays;
+            earned = at_each-weaker (λ before e. IsNoStop e.act) (λ before e. IsEarnedBy e.act e.seat before) (λ before e free. earned-free before e.seat e.act free) h (subst (AtEach (λ before e. IsNoStop e.act)) (sym is) ran.no_stop);
+            held = subst (AtEach _) (sym is) ran.held;
+          };
+          cpus = subst (All (λ w. Plays s panics w (played s js (2 + w.cpu) (reverse h)))) ran.same_works (plays lanes' ran.whole);
+          control = acts-none 1 h (at_each-weaker (λ before e. Any (λ w. e.seat ≡ 2 + w.cpu) (works_of lanes)) (λ before e. e.seat ≢ 1) (λ before e a. not_one e a) h nobody);
+          nobody_else = at_each-weaker (λ before e. Any (λ w. e.seat ≡ 2 + w.cpu) (works_of lanes)) (λ before e. (e.seat ≡ 1) ⊎ Any (λ w. e.seat ≡ 2 + w.cpu) (works_of lanes)) (λ before e a. inr a) h nobody;
+        };
+        in_order = subst (IsInOrder (works_of lanes)) (sym is) ran.in_order;
+        no_changes = refl;
+      };
+      records_are = recs;
+      status_is = ap status_of recs ∙ status-sorted (lane_records lanes');
+    }
+  where
+    not_one : (e : Entry) → Any (λ w. e.seat ≡ 2 + w.cpu) (works_of lanes) → e.seat ≢ 1
+    not_one e (k, w, lt, at, is) = λ one. absurd (omega arith)
+
+    plays : (ls : List LaneValue) → All (Whole s panics [] h) ls → All (λ w. Plays s panics w (played s (judges_of s) (2 + w.cpu) (reverse h))) (works_of ls)
+    plays ls whole i d lt =
+        let e : LaneValue = record { work = d; records = []; room = 0 } in
+        let many = length-map ls (λ (l : LaneValue). l.work) in
+        let in_lanes : i < length ls = omega arith in
+        let w = All-get_or (Whole s panics [] h) ls i e in_lanes whole in
+        let at : get_or (works_of ls) i d ≡ (get_or ls i e).work = get_or-map (λ (l : LaneValue). l.work) ls i e d in_lanes in
+        subst (λ (x : Work). Plays s panics x (played s (judges_of s) (2 + x.cpu) (reverse h))) (sym at) (subst (Plays s panics (get_or ls i e).work) (sym w.played_is) w.plays)

@@ -1,0 +1,28 @@
+-- The run of a fresh machine.
+use Rattle.std.proofs.Common.{◌≡◌, List, [], sym, ap, ◌∙◌, subst}
+use Rattle.rv_model.specs.declared.entry.Entry.{Entry}
+use Rattle.rv_model.specs.Histories.{Replays}
+use Rattle.rv_model.specs.Setups.{Setup}
+use Rattle.rv_core.specs.Core.{CoreValue}
+use Rattle.rv_core.specs.Judged.{JudgesBySpecs}
+use Rattle.rv_core.specs.Setup.{judges_of}
+use Rattle.rv_feed.specs.Lane.{panics_of}
+use Rattle.rv_feed.specs.Order.{Ran}
+use Rattle.rv_feed.proofs.OneLemmas.{one-of-run}
+use Rattle.rv_feed.proofs.one.replay.Goals as goal
+
+pub returns : goal.returns
+returns c = λ specs mean.
+    let s : Setup = c.args.setup in
+    let first : CoreValue = c.in_ok-core.core in
+    let last : CoreValue = c.run_in_order.new.core in
+    let h : List Entry = c.close.result in
+    let opens : first ≡ record { setup = s; history = [] } = c.in_ok-core.ensures in
+    let setup_is : last.setup ≡ s = ap (λ (v : CoreValue). v.setup) c.run_in_order.ensures.grows ∙ ap (λ (v : CoreValue). v.setup) opens in
+    let history_is : last.history ≡ h = sym c.close.ensures in
+    let end : CoreValue = record { setup = s; history = h } in
+    let last_is : last ≡ end = λ i. record { setup = setup_is i; history = history_is i } in
+    let panics = panics_of c.args.reactors.now in
+    let ran = subst (λ (v : CoreValue). Ran panics v end c.args.lanes.now c.run_in_order.new.lanes) opens (subst (λ (v : CoreValue). Ran panics first v c.args.lanes.now c.run_in_order.new.lanes) last_is c.run_in_order.ensures) in
+    one-of-run s panics h c.args.lanes.now c.run_in_order.new.lanes specs (subst JudgesBySpecs setup_is c.known.ensures.judges specs mean)
+    (subst (λ (v : CoreValue). Replays v.setup (judges_of v.setup) v.history) last_is c.known.ensures.replays) ran

@@ -1,0 +1,61 @@
+-- What one CPU has to do and did, and what a run in order begins with.
+use Rattle.std.specs.Prelude.{◌≡◌, ◌≢◌, ℕ, ◌<◌, ◌≤◌, Bool, true, false, List, [], ◌++◌, map, length, All, AllPairs, Option, Some, slice_get, slice_index}
+use Rattle.rv_model.specs.declared.reactor.Reactor.{Reactor}
+use Rattle.rv_model.specs.declared.reactor.Reactor.TheVariants.{Panic}
+use Rattle.rv_model.specs.declared.record.Record.{Record}
+use Rattle.rv_model.specs.declared.work.Delivery.{Delivery}
+use Rattle.rv_model.specs.Histories.{LinesApart}
+use Rattle.rv_model.specs.Setups.{Setup, slot_of}
+use Rattle.rv_model.specs.Works.{Work}
+use Rattle.rv_core.specs.Advance.{FitsTable}
+use Rattle.rv_core.specs.Setup.{table_at}
+
+-- a work, the records so far, and for how many the memory is there
+pub record LaneValue : Type 0 where
+  pub work : Work
+  pub records : List Record
+  pub room : ℕ
+
+-- a lane has these records more, and the same work
+pub record AddsRecords (lane lane' : LaneValue) (rs : List Record) : Type 0 where
+  pub work_is : lane'.work ≡ lane.work
+  pub records_are : lane'.records ≡ lane.records ++ rs
+  pub room : lane.room ≤ lane'.room
+
+-- no record, and room for one of each delivery
+pub record IsNewLane (work : Work) (lane : LaneValue) : Type 0 where
+  pub work_is : lane.work ≡ work
+  pub no_records : lane.records ≡ []
+  pub room : length work.deliveries ≤ lane.room
+
+-- the reactor is panic
+abbrev pub is_panic_reactor : Option Reactor → Bool
+is_panic_reactor (Some Panic) = true
+is_panic_reactor _ = false
+
+-- which monitors' reactor is panic
+abbrev pub panics_of : List Reactor → ℕ → Bool
+panics_of reactors monitor = is_panic_reactor (slice_get reactors monitor)
+
+-- the monitor and the instance are the setup's, and the hit fits the monitor's table
+pub record FitsDelivery (s : Setup) (d : Delivery) : Type 0 where
+  pub monitor : d.monitor < length s.shape
+  pub instance_fits : d.instance < slice_index s.shape d.monitor
+  pub hit : FitsTable (table_at s (slot_of s.shape d.monitor d.instance)) d.hit
+
+-- the lane is new, its CPU is below 64, its lines ascend, and its deliveries fit
+pub record FitsLane (s : Setup) (lane : LaneValue) : Type 0 where
+  pub new_lane : IsNewLane lane.work lane
+  pub cpu : lane.work.cpu < 64
+  pub lines : AllPairs (λ t u. t.line < u.line) lane.work.turns
+  pub fit : All (FitsDelivery s) lane.work.deliveries
+
+-- what the lanes have to do
+abbrev pub works_of : List LaneValue → List Work
+works_of lanes = map (λ l. l.work) lanes
+
+-- new lanes of different CPUs, and no line in two of them
+pub record FitLanes (s : Setup) (lanes : List LaneValue) : Type 0 where
+  pub fit : All (FitsLane s) lanes
+  pub cpus : AllPairs (λ l m. l.work.cpu ≢ m.work.cpu) lanes
+  pub apart : LinesApart (works_of lanes)

@@ -1,0 +1,5 @@
+pub mod Lane
+pub mod One
+pub mod Order
+pub mod SoFar
+pub mod Turns

@@ -1,0 +1,12 @@
+//! The scripts of several CPUs on one thread, in the order of the trace.
+#![tactic(auto)]
+
+mod lane;
+mod one;
+mod order;
+mod turn;
+
+pub use lane::Lane;
+pub use one::replay;
+pub use order::run_in_order;
+pub use rv_model::{Delivered, Record};

@@ -1,0 +1,92 @@
+//! All scripts on one thread. The lane whose next turn has the least line goes on.
+ghost use Rattle.rv_model.specs.declared.work.Turn.{Turn};
+ghost use Rattle.std.specs.Prelude.{◌≡◌, ◌^◌, ◌<◌, ◌≤◌, length, All, slice_index_or};
+ghost use Rattle.rv_feed.specs.Lane.{FitLanes, FitsDelivery, panics_of};
+ghost use Rattle.rv_feed.specs.Order.{Ran};
+ghost use Rattle.rv_feed.specs.SoFar.{IsPending, next_line, IsLeast, PlaysNext};
+
+use crate::lane::{Lane, known, seat_of, turn_at, turn_count};
+use crate::turn::play_turn;
+use rv_core::Core;
+use rv_model::Reactor;
+
+/// The line of no turn.
+const NO_LINE: u64 = 1 << 32;
+
+/// A lane, and the line of its next turn.
+#[derive(Clone, Copy, Drop)]
+pub(crate) struct Next {
+    pub lane: usize,
+    pub line: u64,
+}
+
+/// The line of the lane's next turn, and no line where it has none.
+fn line_of(lane: &Lane, places: &[usize; 64]) -> u64
+    requires { lane.now.work.cpu < 64 }
+    ensures line { IsPending places.now lane.now → result ≡ next_line places.now lane.now }
+    ensures range { IsPending places.now lane.now → result < 2 ^ 32 }
+    ensures none { result ≤ 2 ^ 32 }
+    ensures pending { result < 2 ^ 32 → IsPending places.now lane.now }
+{
+    let place = places[seat_of(lane) as usize - 2];
+    if place < turn_count(lane) {
+        turn_at(lane, place).line as u64
+    } else {
+        NO_LINE
+    }
+}
+
+/// The lane whose next turn has the least line.
+fn least(lanes: &[Lane], places: &[usize; 64]) -> Next
+    requires { All (λ l. l.work.cpu < 64) lanes.now }
+    ensures { IsLeast places.now lanes.now result }
+{
+    let mut best = Next {
+        lane: 0,
+        line: NO_LINE,
+    };
+    for lane in 0..lanes.len() {
+        let line = line_of(&lanes[lane], places);
+        if line < best.line {
+            best = Next { lane, line };
+        }
+    }
+    best
+}
+
+/// The lane's turn at this place, and then its next place.
+fn play_next(core: &mut Core, reactors: &[Reactor], lane: &mut Lane, place: usize) -> usize
+    requires place { place < length lane.old.work.turns }
+    requires fit { All (FitsDelivery core.old.setup) lane.old.work.deliveries }
+    requires kept { (t : Turn) → length lane.old.records ≤ (slice_index_or lane.old.work.turns place t).from }
+    requires room { length lane.old.work.deliveries ≤ lane.old.room }
+    ensures { PlaysNext (panics_of reactors.now) core.old core.new lane.old lane.new place result }
+{
+    known(lane);
+    let count = turn_count(lane);
+    let turn = turn_at(lane, place);
+    if play_turn(core, reactors, lane, &turn) {
+        count
+    } else {
+        place + 1
+    }
+}
+
+/// All scripts, their turns in the order of their lines.
+pub fn run_in_order(core: &mut Core, reactors: &[Reactor], lanes: &mut [Lane])
+    requires { FitLanes core.old.setup lanes.old }
+    ensures { Ran (panics_of reactors.now) core.old core.new lanes.old lanes.new }
+{
+    let mut places: [usize; 64] = [0; 64];
+    let mut from: u64 = 0;
+    loop {
+        let next = least(lanes, &places);
+        if next.line == NO_LINE {
+            return;
+        }
+        let lane = &mut lanes[next.lane];
+        let cpu = seat_of(lane) as usize - 2;
+        places[cpu] = play_next(core, reactors, lane, places[cpu]);
+        from = next.line + 1;
+    }
+}

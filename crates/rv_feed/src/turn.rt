@@ -1,0 +1,107 @@
+//! One turn of a script.
+ghost use Rattle.std.specs.Prelude.{◌≡◌, ◌+◌, ◌<◌, ◌≤◌, ◌&&◌, ◌++◌, ◌∷◌, [], length, All};
+ghost use Rattle.rv_model.specs.Numbers.{has_bit};
+ghost use Rattle.rv_model.specs.Scripts.{is_shown, fails};
+ghost use Rattle.rv_feed.specs.Lane.{panics_of, FitsDelivery};
+ghost use Rattle.rv_feed.specs.Turns.{LooksAt, Delivers, PlaysTurn};
+
+use crate::lane::{Lane, delivery_at, is_panic, keep, seat_of};
+use rv_core::Core;
+use rv_model::{Act, Answer, Delivered, Delivery, Reactor, Record, Turn};
+
+/// Whether the word has this bit.
+fn has_switch(word: u64, bit: u8) -> bool
+    ensures { result ≡ has_bit word bit }
+{
+    bit < 64 && (word >> bit) & 1 == 1
+}
+
+/// Whether a look shows the delivery on.
+fn is_shown(word: u64, delivery: &Delivery) -> bool
+    ensures { result ≡ is_shown word delivery.now }
+{
+    has_switch(word, 32) && has_switch(word, delivery.monitor)
+}
+
+/// Whether the letter was not allowed.
+fn fails(answer: Answer) -> bool
+    ensures { result ≡ fails answer }
+{
+    matches!(answer, Answer::Failed(_))
+}
+
+/// Whether a delivery with this answer ends its script.
+fn halts(reactors: &[Reactor], word: u64, monitor: u8, answer: Answer) -> bool
+    ensures { result ≡ (fails answer && (panics_of reactors.now monitor && has_bit word 33)) }
+{
+    fails(answer) && (is_panic(reactors, monitor) && has_switch(word, 33))
+}
+
+/// Reads the switches.
+fn look(core: &mut Core, seat: u32) -> u64
+    ensures { LooksAt core.old core.new seat result }
+{
+    match core.step(seat, &Act::Look) {
+        Answer::Looked(word) => word,
+        _ => unreachable!(),
+    }
+}
+
+/// A delivery that a look shows on, and its record. True where the script ends here.
+fn deliver(
+    core: &mut Core,
+    seat: u32,
+    reactors: &[Reactor],
+    word: u64,
+    line: u32,
+    delivery: &Delivery,
+    lane: &mut Lane,
+) -> bool
+    requires fits { FitsDelivery core.old.setup delivery.now }
+    requires room { length lane.old.records < lane.old.room }
+    ensures { Delivers core.old core.new (panics_of reactors.now) seat word line delivery.now lane.old lane.new result }
+{
+    let slot = core.shape().slot(delivery.monitor, delivery.instance);
+    let hit = delivery.hit;
+    let answer = core.step(seat, &Act::Deliver { slot, hit });
+    let record = Record {
+        order: delivery.order,
+        line,
+        monitor: delivery.monitor,
+        instance: delivery.instance,
+        hit,
+        outcome: Delivered::Done(answer),
+        reacting: has_switch(word, 33),
+    };
+    keep(lane, record);
+    let ends = halts(reactors, word, delivery.monitor, answer);
+    if ends {
+        let _answer = core.step(seat, &Act::Raise { bits: 1 << 34 });
+    }
+    ends
+}
+
+/// One turn: a look, and the deliveries that it shows on. True where the script ends here.
+pub(crate) fn play_turn(core: &mut Core, reactors: &[Reactor], lane: &mut Lane, turn: &Turn) -> bool
+    requires fit { All (FitsDelivery core.old.setup) lane.old.work.deliveries }
+    requires order { turn.now.from ≤ turn.now.to }
+    requires in_list { turn.now.to ≤ length lane.old.work.deliveries }
+    requires kept { length lane.old.records ≤ turn.now.from }
+    requires room { length lane.old.work.deliveries ≤ lane.old.room }
+    ensures { PlaysTurn core.old core.new (panics_of reactors.now) turn.now lane.old lane.new result }
+{
+    let seat = seat_of(lane);
+    let word = look(core, seat);
+    if has_switch(word, 34) {
+        return true;
+    }
+    for place in turn.from..turn.to {
+        let delivery = delivery_at(lane, place);
+        if is_shown(word, &delivery) {
+            if deliver(core, seat, reactors, word, turn.line, &delivery, lane) {
+                return true;
+            }
+        }
+    }
+    false
+}
