@@ -1,2 +1,5 @@
+pub mod BoundLemmas
 pub mod FormLemmas
+pub mod OutcomeLemmas
 pub mod TestLemmas
+pub mod WellFormedLemmas

@@ -64,7 +64,7 @@ tests_fault whole tests next words number another so_far e = ap with_next so_far
 -- no test is left
 pub tests_end : (whole : Read (List Test)) (tests : List Test) (next : List ℕ) (words : Words)
     → bytes_eq next (codes "if") ≡ false → whole ≡ with_tests tests (tests_at (next ∷ words)) → with_next whole ≡ Ok ((tests, next), words)
-tests_end whole tests next words none so_far = ap with_next (so_far ∙ ap (with_tests tests) (no_test words) ) ∙ ap (λ (ts : List Test). Ok ((ts, next), words)) (append-nil tests)
+tests_end whole tests next words none so_far = ap with_next (so_far ∙ ap (with_tests tests) (no_test words)) ∙ ap (λ (ts : List Test). Ok ((ts, next), words)) (append-nil tests)
   where
     no_test : (words : Words) → tests_at (next ∷ words) ≡ Ok ([], next ∷ words)
     no_test [] = rw none refl

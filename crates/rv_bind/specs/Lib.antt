@@ -1,4 +1,9 @@
+pub mod Bound
+pub mod BoundViews
 pub mod Forms
 pub mod FormViews
 pub mod LineReads
+pub mod Outcomes
 pub mod RuleValues
+pub mod Values
+pub mod WellFormed

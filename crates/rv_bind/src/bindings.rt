@@ -1,6 +1,7 @@
 //! What a bindings file says, as plain data.
 
 use rv_model::{Hit, Name, Names, Reactor, Scope, Spec};
+use rv_table::Table;
 use std::marker::Model;
 
 /// A condition on a field of a trace line.
@@ -64,4 +65,11 @@ pub struct Bindings {
     pub rules: Vec<On>,
     /// In order of their lines.
     pub items: Vec<Item>,
+}
+
+/// Accepted bindings, and a table for each monitor, which means the monitor's specification.
+#[derive(Drop)]
+pub struct Bound {
+    pub bindings: Bindings,
+    pub tables: Vec<Table>,
 }

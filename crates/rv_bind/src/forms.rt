@@ -7,7 +7,9 @@ ghost use Rattle.rv_bind.specs.FormViews.{form_value};
 
 use crate::bindings::Test;
 use crate::fault::LineFault;
-use crate::words::{SYNTAX, allowed, end, is, is_field, is_name, mode, reactor, scope, test, text, word};
+use crate::words::{
+    SYNTAX, allowed, end, is, is_field, is_name, mode, reactor, scope, test, text, word,
+};
 use rv_model::{Mode, Reactor, Scope};
 use rv_text::Words;
 use std::alloc::Global;
@@ -16,9 +18,16 @@ use std::alloc::Global;
 pub(crate) enum Form<'a> {
     /// Nothing is said.
     Skipped,
-    Monitor { name: &'a [u8], scope: Scope, file: &'a str },
+    Monitor {
+        name: &'a [u8],
+        scope: Scope,
+        file: &'a str,
+    },
     On(OnForm<'a>),
-    React { monitor: &'a [u8], reactor: Reactor },
+    React {
+        monitor: &'a [u8],
+        reactor: Reactor,
+    },
 }
 
 /// Which lines hit which instance, and how.
@@ -121,7 +130,11 @@ fn one_test<'a>(alloc: Global, words: &mut Words<'a>) -> Result<(Test, &'a [u8])
 
 /// The tests from the word `next` on, and the word behind them.
 #[tactic(auto, using(crate::proofs::TestLemmas::tests_fault, crate::proofs::TestLemmas::tests_end))]
-fn tests<'a>(alloc: Global, words: &mut Words<'a>, next: &'a [u8]) -> Result<(Vec<Test>, &'a [u8]), LineFault>
+fn tests<'a>(
+    alloc: Global,
+    words: &mut Words<'a>,
+    next: &'a [u8],
+) -> Result<(Vec<Test>, &'a [u8]), LineFault>
     ensures { Takes (λ tests. (tests.0.items, tests.1.now)) result words.new (with_next (tests_at (next.now ∷ words.old))) }
 {
     let mut tests = Vec::new(alloc);

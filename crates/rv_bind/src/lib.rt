@@ -2,9 +2,15 @@
 #![tactic(auto)]
 
 mod bindings;
+mod bound;
 mod fault;
+mod files;
 mod forms;
+mod limits;
+mod reader;
 mod words;
 
-pub use bindings::{Bindings, Item, Monitor, On, Test};
+pub use bindings::{Bindings, Bound, Item, Monitor, On, Test};
 pub use fault::BindFault;
+pub use limits::{MAX_MONITORS, MAX_RULES, TEXT_LIMIT};
+pub use reader::read_bindings;

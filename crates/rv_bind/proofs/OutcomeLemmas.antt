@@ -1,0 +1,74 @@
+-- What a reader's parts answer, joined to what the whole comes to.
+use Rattle.std.proofs.Common.{◌≡◌, ℕ, ◌<◌, ◌≤◌, List, refl, sym, ap, ◌∙◌, ◌⊎◌, inl, inr, arith, subst}
+use Rattle.std.specs.Prelude.{Option, Some, None, Result, Ok, Err, OnOk, IsOk, IsErrAnd}
+use Rattle.rv_text.specs.declared.refusals.Refusal.{Refusal}
+use Rattle.rv_io.specs.Files.{Files, Rose, front_read}
+use Rattle.rv_bind.specs.declared.fault.LineFault.{LineFault}
+use Rattle.rv_bind.specs.declared.fault.LineFault.TheVariants as lines
+use Rattle.rv_bind.specs.declared.fault.BindFault.{BindFault}
+use Rattle.rv_bind.specs.declared.fault.BindFault.TheVariants as faults
+use Rattle.rv_bind.specs.LineReads.{Faults, Reads}
+use Rattle.rv_bind.specs.Values.{BoundValue}
+use Rattle.rv_bind.specs.Outcomes.{Outcome, accepted, refused, missing, reading, of_line, of_text, of_name, Comes, IsFaultOf, InLine}
+
+module _ (file : List ℕ) (line : ℕ) (new : BoundValue) (told : Option Files) (before now : ℕ) (result : Result Unit BindFault) where
+  -- a line's fault is the whole's, whatever comes behind it
+  pub line_fault : {X : Type 0} (read : Result X ℕ) (next : Files → X → Outcome BoundValue) (fault : LineFault) → InLine file line (Err fault) result → Faults fault read
+      → Comes (λ (_ : Unit). new) told before now result (λ files. reading (of_line file line read) (next files))
+  line_fault read next lines.Memory is fault = rw is tt
+  line_fault {X} read next (lines.Number number) is fault = go result is
+    where
+      go : (r : Result Unit BindFault) → IsErrAnd r (λ fault. IsFaultOf fault file (record { number = number; line = line })) → Comes (λ (_ : Unit). new) told before now r (λ files. reading (of_line file line read) (next files))
+      go (Ok done) h = absurd h
+      go (Err faults.Memory) h = tt
+      go (Err (faults.Unread named)) h = absurd h
+      go (Err (faults.Refused named given)) h = λ files is. rw (fault, h.0, h.1) refl
+
+  -- what came of a line alone
+  pub line_comes : (done : Result Unit LineFault) (read : Result BoundValue ℕ) → InLine file line done result → Reads (λ (_ : Unit). new) done read
+      → Comes (λ (_ : Unit). new) told before now result (λ files. of_line file line read)
+  line_comes (Ok done) read is reads = rw (is, reads) (λ files told. refl)
+  line_comes (Err lines.Memory) read is reads = rw is tt
+  line_comes (Err (lines.Number number)) read is fault = go result is
+    where
+      go : (r : Result Unit BindFault) → IsErrAnd r (λ fault. IsFaultOf fault file (record { number = number; line = line })) → Comes (λ (_ : Unit). new) told before now r (λ files. of_line file line read)
+      go (Ok done) h = absurd h
+      go (Err faults.Memory) h = tt
+      go (Err (faults.Unread named)) h = absurd h
+      go (Err (faults.Refused named given)) h = λ files is. rw (fault, h.0, h.1) refl
+
+  -- where a line was read, the whole is what comes behind it
+  pub line_goes_on : {X : Type 0} (read : Result X ℕ) (x : X) (next : Files → X → Outcome BoundValue) → read ≡ Ok x → Comes (λ (_ : Unit). new) told before now result (λ files. next files x)
+      → Comes (λ (_ : Unit). new) told before now result (λ files. reading (of_line file line read) (next files))
+  line_goes_on read x next is comes = rw is comes
+
+-- a line that is done was read
+pub line_done : (file : List ℕ) (line : ℕ) (P : Type 0) (done : Result Unit LineFault) (result : Result Unit BindFault) → InLine file line done result → OnOk done P → OnOk result P
+line_done file line P (Ok done) result is h = rw is h
+line_done file line P (Err lines.Memory) result is h = rw is tt
+line_done file line P (Err (lines.Number number)) result is h = go result is
+  where
+    go : (r : Result Unit BindFault) → IsErrAnd r (λ fault. IsFaultOf fault file (record { number = number; line = line })) → OnOk r P
+    go (Ok done) h = absurd h
+    go (Err fault) h = tt
+
+-- a count that rose later rose
+Rose-wider : (before mid now : ℕ) → before ≤ mid → Rose mid now → Rose before now
+Rose-wider before mid now le (inl lt) = inl (omega arith)
+Rose-wider before mid now le (inr end) = inr end
+
+-- a step's fault is the whole's
+pub step_fault : {X Y Z W : Type 0} (told : Option Files) (before mid now : ℕ) (fault : BindFault) (view : X → Y) (whole_view : Z → W) (step : Files → Outcome Y) (next : Files → Y → Outcome W) (whole : Files → Outcome W)
+    → before ≤ mid → ((files : Files) → told ≡ Some files → whole files ≡ reading (step files) (next files)) → Comes view told mid now (Err fault) step → Comes whole_view told before now (Err fault) whole
+step_fault told before mid now faults.Memory view whole_view step next whole le is comes = tt
+step_fault told before mid now (faults.Refused file refusal) view whole_view step next whole le is comes = λ files known. is files known ∙ ap (λ o. reading o (next files)) (comes files known)
+step_fault told before mid now (faults.Unread file) view whole_view step next whole le is (inl lacks) = inl (lacks.0, lacks.1, is lacks.0 lacks.1 ∙ ap (λ o. reading o (next lacks.0)) lacks.2)
+step_fault told before mid now (faults.Unread file) view whole_view step next whole le is (inr rose) = inr (Rose-wider before mid now le rose)
+
+-- what is read of a file is read of its text
+pub of_name-reading : {X : Type 0} (files : Files) (file : List ℕ) (read : List ℕ → Outcome X) → of_name files file read ≡ reading (of_name files file accepted) read
+of_name-reading files file read = go (files file)
+  where
+    go : (text : Option (List ℕ)) → of_text file (Rattle.std.specs.Prelude.option_map front_read text) read ≡ reading (of_text file (Rattle.std.specs.Prelude.option_map front_read text) accepted) read
+    go None = refl
+    go (Some text) = refl

@@ -1,0 +1,13 @@
+-- The program's bindings as plain values.
+use Rattle.rv_bind.specs.declared.bindings.Bindings.{Bindings}
+use Rattle.rv_bind.specs.declared.bindings.Bound.{Bound}
+use Rattle.rv_bind.specs.Values.{BoundValue}
+
+abbrev pub bound_value : Bound → BoundValue
+bound_value b = record {
+  containers = b.bindings.containers;
+  monitors = b.bindings.monitors.items;
+  rules = b.bindings.rules.items;
+  items = b.bindings.items.items;
+  tables = b.tables.items;
+}

@@ -1,0 +1,59 @@
+-- What reading files comes to, in the stated order of the reading: a value, a refusal with its file, or a missing file.
+use Rattle.std.specs.Prelude.{◌≡◌, ◌⊎◌, ℕ, List, Option, Some, None, Result, Ok, Err, IsErrAnd, option_map}
+use Rattle.rv_text.specs.declared.refusals.Refusal.{Refusal}
+use Rattle.rv_io.specs.Files.{Files, Rose, front_read}
+use Rattle.rv_bind.specs.declared.fault.LineFault.{LineFault}
+use Rattle.rv_bind.specs.declared.fault.LineFault.TheVariants as lines
+use Rattle.rv_bind.specs.declared.fault.BindFault.{BindFault}
+use Rattle.rv_bind.specs.declared.fault.BindFault.TheVariants as faults
+
+pub data Outcome (Y : Type 0) : Type 0 where
+  accepted : Y → Outcome Y
+  -- the file and the refusal
+  refused : List ℕ → Refusal → Outcome Y
+  -- the file
+  missing : List ℕ → Outcome Y
+
+-- reads on from the value; the first refusal or missing file is the whole's
+abbrev pub reading : {X Y : Type 0} → Outcome X → (X → Outcome Y) → Outcome Y
+reading (accepted x) next = next x
+reading (refused file refusal) next = refused file refusal
+reading (missing file) next = missing file
+
+-- a refusal of this file's text
+abbrev pub of_file : {X : Type 0} → List ℕ → Result X Refusal → Outcome X
+of_file file (Ok x) = accepted x
+of_file file (Err refusal) = refused file refusal
+
+-- a refusal of this line of the file
+abbrev pub of_line : {X : Type 0} → List ℕ → ℕ → Result X ℕ → Outcome X
+of_line file line (Ok x) = accepted x
+of_line file line (Err number) = refused file (record { number = number; line = line })
+
+-- what is read of a text, which is missing where there is none
+abbrev pub of_text : {X : Type 0} → List ℕ → Option (List ℕ) → (List ℕ → Outcome X) → Outcome X
+of_text file None read = missing file
+of_text file (Some text) read = read text
+
+-- what is read of a file
+abbrev pub of_name : {X : Type 0} → Files → List ℕ → (List ℕ → Outcome X) → Outcome X
+of_name files file read = of_text file (option_map front_read (files file)) read
+
+-- what a reader answered is the outcome on what the store tells. Where its count of faults rose it may say that a file is unread
+abbrev pub Comes : {X Y : Type 0} → (X → Y) → Option Files → ℕ → ℕ → Result X BindFault → (Files → Outcome Y) → Type 0
+Comes view told before now (Ok x) outcome = (files : Files) → told ≡ Some files → outcome files ≡ accepted (view x)
+Comes view told before now (Err faults.Memory) outcome = Unit {0}
+Comes view told before now (Err (faults.Refused file refusal)) outcome = (files : Files) → told ≡ Some files → outcome files ≡ refused file refusal
+Comes view told before now (Err (faults.Unread file)) outcome = ((files : Files) × (told ≡ Some files) × (outcome files ≡ missing file)) ⊎ Rose before now
+
+-- a fault in the place of a refusal, unless memory ran out
+abbrev pub IsFaultOf : BindFault → List ℕ → Refusal → Type 0
+IsFaultOf faults.Memory file refusal = Unit {0}
+IsFaultOf (faults.Refused named given) file refusal = (named ≡ file) × (given ≡ refusal)
+IsFaultOf (faults.Unread named) file refusal = ⊥
+
+-- what came of a line, with the file and the line in its fault
+abbrev pub InLine : List ℕ → ℕ → Result Unit LineFault → Result Unit BindFault → Type 0
+InLine file line (Ok done) result = result ≡ Ok tt
+InLine file line (Err lines.Memory) result = result ≡ Err faults.Memory
+InLine file line (Err (lines.Number number)) result = IsErrAnd result (λ fault. IsFaultOf fault file (record { number = number; line = line }))

@@ -1,0 +1,126 @@
+//! From a bindings file, and the files that it names, to bindings.
+ghost use Rattle.std.specs.Prelude.{◌≡◌, ◌≤◌, IfOk, OnOk};
+ghost use Rattle.rv_text.specs.TextLines.{line_text};
+ghost use Rattle.rv_bind.specs.LineReads.{Reads};
+ghost use Rattle.rv_bind.specs.Outcomes.{Comes};
+ghost use Rattle.rv_bind.specs.Bound.{bound_of, line_bound, form_in, form_bound, monitor_bound};
+ghost use Rattle.rv_bind.specs.BoundViews.{bound_value};
+ghost use Rattle.rv_bind.specs.FormViews.{form_value};
+ghost use Rattle.rv_bind.specs.WellFormed.{IsWellFormed};
+
+use crate::bindings::Bound;
+use crate::fault::{BindFault, LineFault};
+use crate::files::{in_line, read_automaton, read_file};
+use crate::forms::{Form, read_form};
+use crate::limits::TEXT_LIMIT;
+use crate::words::SYNTAX;
+use rv_io::Store;
+use rv_model::Scope;
+use rv_text::{Cursor, TextLine};
+use std::alloc::{AllocError, Global};
+
+/// Reads the bindings, and each specification as its line is reached.
+pub fn read_bindings<S: Store>(alloc: Global, store: &mut S, name: &str) -> Result<Bound, BindFault>
+    ensures kept { S.files store.new ≡ S.files store.old }
+    ensures later { S.faults store.old ≤ S.faults store.new }
+    ensures formed { IfOk result (λ bound. IsWellFormed (bound_value bound)) }
+    ensures bound { Comes bound_value (S.files store.old) (S.faults store.old) (S.faults store.new) result (λ files. bound_of files name.now) }
+{
+    let text = read_file(alloc, store, name)?;
+    let mut bound = Bound::new(alloc);
+    let mut lines = Cursor::new(text.as_slice());
+    while let Some(line) = lines.next_line() {
+        bind_line(alloc, store, name, &line, &mut bound)?;
+    }
+    Ok(bound)
+}
+
+/// The form of a line that ends in time.
+fn form_in<'a>(alloc: Global, line: &TextLine<'a>) -> Result<Form<'a>, LineFault>
+    ensures { Reads form_value result (form_in (line_text line.now)) }
+{
+    if line.end > TEXT_LIMIT {
+        return Err(SYNTAX);
+    }
+    read_form(alloc, line.bytes)
+}
+
+/// Adds what the line says.
+#[tactic(auto, using(crate::proofs::OutcomeLemmas::line_fault, crate::proofs::OutcomeLemmas::line_goes_on))]
+fn bind_line<S: Store>(
+    alloc: Global,
+    store: &mut S,
+    here: &str,
+    line: &TextLine<'_>,
+    bound: &mut Bound,
+) -> Result<(), BindFault>
+    requires { IsWellFormed (bound_value bound.old) }
+    ensures formed { OnOk result (IsWellFormed (bound_value bound.new)) }
+    ensures kept { S.files store.new ≡ S.files store.old }
+    ensures later { S.faults store.old ≤ S.faults store.new }
+    ensures bound { Comes (λ done. bound_value bound.new) (S.files store.old) (S.faults store.old) (S.faults store.new) result (λ files. line_bound files here.now (bound_value bound.old) (line_text line.now)) }
+{
+    match form_in(alloc, line) {
+        Ok(form) => bind_form(alloc, store, here, line.number, bound, form),
+        Err(fault) => in_line(alloc, here, line.number, Err(fault)),
+    }
+}
+
+/// Adds what a form says.
+#[tactic(auto, using(crate::proofs::OutcomeLemmas::line_comes, crate::proofs::OutcomeLemmas::line_done))]
+fn bind_form<S: Store>(
+    alloc: Global,
+    store: &mut S,
+    here: &str,
+    line: u32,
+    bound: &mut Bound,
+    form: Form<'_>,
+) -> Result<(), BindFault>
+    requires { IsWellFormed (bound_value bound.old) }
+    ensures formed { OnOk result (IsWellFormed (bound_value bound.new)) }
+    ensures kept { S.files store.new ≡ S.files store.old }
+    ensures later { S.faults store.old ≤ S.faults store.new }
+    ensures bound { Comes (λ done. bound_value bound.new) (S.files store.old) (S.faults store.old) (S.faults store.new) result (λ files. form_bound files here.now line (bound_value bound.old) (form_value form.entry)) }
+{
+    match form {
+        Form::Skipped => Ok(()),
+        Form::Monitor { name, scope, file } => bind_monitor(
+            alloc, store, here, line, bound, name, scope, file,
+        ),
+        Form::On(on) => in_line(alloc, here, line, bound.add_rule(alloc, on)),
+        Form::React { monitor, reactor } => in_line(
+            alloc,
+            here,
+            line,
+            bound.choose(monitor, reactor),
+        ),
+    }
+}
+
+/// Adds a monitor, whose specification is read where there is room for it.
+#[tactic(auto, using(crate::proofs::OutcomeLemmas::line_fault))]
+fn bind_monitor<S: Store>(
+    alloc: Global,
+    store: &mut S,
+    here: &str,
+    line: u32,
+    bound: &mut Bound,
+    name: &[u8],
+    scope: Scope,
+    file: &str,
+) -> Result<(), BindFault>
+    requires { IsWellFormed (bound_value bound.old) }
+    ensures formed { OnOk result (IsWellFormed (bound_value bound.new)) }
+    ensures kept { S.files store.new ≡ S.files store.old }
+    ensures later { S.faults store.old ≤ S.faults store.new }
+    ensures bound { Comes (λ done. bound_value bound.new) (S.files store.old) (S.faults store.old) (S.faults store.new) result (λ files. monitor_bound files here.now line (bound_value bound.old) name.now scope file.now) }
+{
+    if let Err(fault) = bound.room_for(name) {
+        return in_line(alloc, here, line, Err(fault));
+    }
+    let automaton = read_automaton(alloc, store, file)?;
+    match bound.add_monitor(alloc, name, scope, file, automaton) {
+        Ok(()) => Ok(()),
+        Err(AllocError) => Err(BindFault::Memory),
+    }
+}
