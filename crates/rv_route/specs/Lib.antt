@@ -1,0 +1,5 @@
+pub mod Asking
+pub mod Lanes
+pub mod Lines
+pub mod Routed
+pub mod Routing

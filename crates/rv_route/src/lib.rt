@@ -1,0 +1,10 @@
+//! From trace lines to what each CPU has to do.
+#![tactic(auto)]
+
+mod asking;
+mod firing;
+mod lanes;
+mod router;
+
+pub use firing::{Routed, route};
+pub use router::MAX_DELIVERIES;
