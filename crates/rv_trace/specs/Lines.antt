@@ -1,4 +1,5 @@
--- What a trace line says: a head, a timestamp as the first or second word after it, an event, and the fields.
+-- What a trace line says: a head, a timestamp as the first or second word after it, an event, and the fields
+-- (the text of Linux, Documentation/trace/ftrace.rst; which lines are accepted is this project's choice: docs/FORMATS.md, "Trace text").
 use Rattle.std.specs.Prelude.{◌≤◌, ℕ, ◌+◌, ◌-◌, Bool, ◌&&◌, ◌||◌, ◌==◌, nat_lt, nat_le, nat_eq, List, length, Option, Some, None, option_map, option_and_then, Result, Ok, Err, slice_index, if◌then◌else◌, codes}
 use Rattle.std.specs.List.{starts_with, ends_with}
 use Rattle.std.specs.Option.{ok_or}
