@@ -40,3 +40,8 @@ pub line-pieces : (front instance monitor denied event on state line : List ℕ)
     → front ++ (monitor ++ (instance ++ (denied ++ (event ++ (on ++ (state ++ (line ++ []))))))) ≡ (((front ++ monitor') ++ instance) ++ (((denied' ++ event') ++ on') ++ state')) ++ line'
 line-pieces front instance monitor denied event on state line monitor' denied' event' on' state' line' a b c d e f =
     rw (a, b, c, d, e, f) (simp (append_assoc, append-nil) refl)
+
+-- a line in its two parts
+pub line-parts : (front monitor instance fault line digits close end : List ℕ)
+    → (((((front ++ monitor) ++ instance) ++ fault) ++ line) ++ (digits ++ (close ++ end))) ≡ front ++ ((((((monitor ++ instance) ++ fault) ++ line) ++ digits) ++ close) ++ end)
+line-parts front monitor instance fault line digits close end = simp append_assoc refl

@@ -1,7 +1,8 @@
 //! The line of a reaction.
 ghost use Rattle.std.specs.Prelude.{List, ℕ, ◌++◌, codes};
+ghost use Rattle.rv_model.specs.Reports.{said_text, reaction_text};
 ghost use Rattle.rv_react.specs.Appending.{Appends};
-ghost use Rattle.rv_react.specs.Reactions.{fault_text, begun_text, ended_text, said_text, reaction_text};
+ghost use Rattle.rv_react.specs.Reactions.{shown_fault, begun_text, ended_text};
 
 use crate::pieces::append;
 use rv_model::{Name, Reactor};
@@ -19,7 +20,7 @@ pub enum Fault {
 
 /// Appends the line up to its number, after a front that shows the reactor.
 fn begun(out: &mut Line, front: &[u8], instance: &[u8], fault: &Fault) -> Result<(), AllocError>
-    ensures { Appends out.old out.new (begun_text front.now instance.now (fault_text fault.now)) result }
+    ensures { Appends out.old out.new (begun_text front.now instance.now (shown_fault fault.now)) result }
 {
     let monitor = b"monitor ".as_slice();
     let line = b" (line ".as_slice();
@@ -65,7 +66,7 @@ fn said(
     fault: &Fault,
     line: u32,
 ) -> Result<(), AllocError>
-    ensures { Appends out.old out.new (said_text front.now instance.now (fault_text fault.now) line) result }
+    ensures { Appends out.old out.new (front.now ++ said_text instance.now (shown_fault fault.now) line) result }
 {
     begun(out, front, instance, fault)?;
     ended(out, line)
@@ -80,7 +81,7 @@ pub fn reaction(
     fault: &Fault,
     line: u32,
 ) -> Result<(), AllocError>
-    ensures { Appends out.old out.new (reaction_text reactor instance.now (fault_text fault.now) line) result }
+    ensures { Appends out.old out.new (reaction_text reactor instance.now (shown_fault fault.now) line) result }
 {
     match reactor {
         Reactor::Nop => Ok(()),
