@@ -28,3 +28,5 @@ pub mod AutomatonLaws
 pub mod InitialLaws
 pub mod WholeLaws
 pub mod CanonicalLaws
+pub mod Layouts
+pub mod RoundTrip
