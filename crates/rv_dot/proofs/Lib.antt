@@ -30,3 +30,8 @@ pub mod WholeLaws
 pub mod CanonicalLaws
 pub mod Layouts
 pub mod RoundTrip
+pub mod PlainLaws
+pub mod MachineLaws
+pub mod TextSize
+pub mod DrawnAgain
+pub mod ReadAgain

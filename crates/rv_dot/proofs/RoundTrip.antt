@@ -31,7 +31,7 @@ abbrev pub IsPlain : List ℕ → Type 0
 IsPlain name = AllByRecursion (λ b. is_word_byte b ≡ true) name
 
 -- a byte of a word is none of another kind
-other_byte : (b c : ℕ) → is_word_byte b ≡ true → is_word_byte c ≡ false → (b == c) ≡ false
+pub other_byte : (b c : ℕ) → is_word_byte b ≡ true → is_word_byte c ≡ false → (b == c) ≡ false
 other_byte b c h k = go (b == c) refl
   where
     go : (t : Bool) → (b == c) ≡ t → t ≡ false
