@@ -12,7 +12,6 @@ pub mod StatementsTake
 pub mod RunLaws
 pub mod FrontLaws
 pub mod TextLaws
-pub mod RoundTrip
 pub mod Gathering
 pub mod LabelLaws
 pub mod SetOrder
@@ -28,3 +27,11 @@ pub mod ConflictLaws
 pub mod AutomatonLaws
 pub mod InitialLaws
 pub mod WholeLaws
+pub mod CanonicalLaws
+pub mod Layouts
+pub mod RoundTrip
+pub mod PlainLaws
+pub mod MachineLaws
+pub mod TextSize
+pub mod DrawnAgain
+pub mod ReadAgain

@@ -2,6 +2,7 @@
 #![tactic(auto)]
 
 mod attribute;
+mod canonical;
 mod drawing;
 mod fact;
 mod fault;
@@ -21,4 +22,5 @@ mod statement;
 mod tests;
 mod token;
 
+pub use canonical::write_dot;
 pub use reading::read_dot;
