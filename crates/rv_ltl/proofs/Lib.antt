@@ -24,3 +24,5 @@ pub mod BuiltFormulas
 pub mod Naming
 pub mod RuleKept
 pub mod ReadingSteps
+pub mod Endless
+pub mod AtomLaws

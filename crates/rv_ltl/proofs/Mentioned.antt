@@ -18,7 +18,7 @@ use Rattle.rv_ltl.proofs.Inserting.{same_list}
 use Rattle.rv_ltl.proofs.Collecting.{names_rise, names_made, names_only, atoms_rise, atoms_made, atoms_only}
 
 -- what a name of a formula stands for stands in what the formula stands for
-replaced_has : (val : ℕ → Option Expr) (e f : Expr) (x : ℕ) (h : Expr) (y : ℕ) → replaced val e ≡ Some f → Mentions e x → val x ≡ Some h → Mentions h y → Mentions f y
+pub replaced_has : (val : ℕ → Option Expr) (e f : Expr) (x : ℕ) (h : Expr) (y : ℕ) → replaced val e ≡ Some f → Mentions e x → val x ≡ Some h → Mentions h y → Mentions f y
 replaced_has val Expr.True f x h y r m v k = absurd m
 replaced_has val Expr.False f x h y r m v k = absurd m
 replaced_has val (Expr.Name z) f x h y r m v k =
@@ -46,11 +46,11 @@ replaced_has val (Two op a b) f x h y r (inr m) v k =
     subst P same (inr (replaced_has val b q.0 x h y q.1 m v k))
 
 -- a name of the formula, and what it stands for, in which another name stands
-abbrev From : (ℕ → Option Expr) → Expr → ℕ → Type 0
+abbrev pub From : (ℕ → Option Expr) → Expr → ℕ → Type 0
 From val e y = (z : ℕ) × (h : Expr) × Mentions e z × (val z ≡ Some h) × Mentions h y
 
 -- and nothing else stands there
-replaced_from : (val : ℕ → Option Expr) (e f : Expr) (y : ℕ) → replaced val e ≡ Some f → Mentions f y → From val e y
+pub replaced_from : (val : ℕ → Option Expr) (e f : Expr) (y : ℕ) → replaced val e ≡ Some f → Mentions f y → From val e y
 replaced_from val Expr.True f y r k = let same : f ≡ Expr.True = cc in let P : Expr → Type 0 = λ g. Mentions g y in absurd (subst P same k)
 replaced_from val Expr.False f y r k = let same : f ≡ Expr.False = cc in let P : Expr → Type 0 = λ g. Mentions g y in absurd (subst P same k)
 replaced_from val (Expr.Name z) f y r k = (z, f, refl, r, k)

@@ -15,6 +15,8 @@ mod reached;
 mod reading;
 mod replacing;
 mod settle;
+#[cfg(test)]
+mod tests;
 mod token;
 mod unread;
 mod uses;
@@ -22,5 +24,5 @@ mod weighing;
 mod weight;
 mod words;
 
-pub use laws::the_grammar;
+pub use laws::{atoms_are_reached, cycles, the_grammar};
 pub use reading::read_ltl;
