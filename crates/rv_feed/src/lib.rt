@@ -4,9 +4,11 @@
 mod lane;
 mod one;
 mod order;
+mod records;
 mod turn;
 
 pub use lane::Lane;
 pub use one::replay;
 pub use order::run_in_order;
+pub use records::records_of;
 pub use rv_model::{Delivered, Record};

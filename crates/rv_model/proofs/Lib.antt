@@ -9,6 +9,7 @@ pub mod ScriptLemmas
 pub mod ScriptPartLemmas
 pub mod SeatLemmas
 pub mod SlotLemmas
+pub mod SortLemmas
 pub mod TableJudgeLemmas
 pub mod TruthLemmas
 pub mod UniqueLemmas
