@@ -1,3 +1,6 @@
+pub mod FittingLemmas
 pub mod LaneLemmas
 pub mod RoutedLemmas
 pub mod RoutingLemmas
+pub mod TurnLemmas
+pub mod WorksLemmas

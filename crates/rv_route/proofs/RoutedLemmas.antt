@@ -1,6 +1,6 @@
 -- What routing keeps: each lane's turns name its deliveries in order, each once.
-use Rattle.std.proofs.Common.{◌≡◌, ℕ, zero, suc, ◌+◌, ◌<◌, ◌≤◌, ◌==◌, ◌&&◌, Bool, true, false, not, List, [], ◌∷◌, ◌++◌, length, get_or, set, refl, sym, ap, ◌∙◌, subst, arith, length-append}
-use Rattle.std.specs.Prelude.{All, Result, Ok, Err, nat_lt, replicate, if◌then◌else◌}
+use Rattle.std.proofs.Common.{◌≡◌, ℕ, zero, suc, ◌+◌, ◌==◌, ◌&&◌, Bool, true, false, not, List, [], ◌∷◌, ◌++◌, length, get_or, refl, sym, subst, arith, length-append}
+use Rattle.std.specs.Prelude.{All, Result, Ok, Err, nat_lt, if◌then◌else◌}
 use Rattle.std.proofs.lemmas.List.Elements.{All-set, All-replicate, All-head, All-tail}
 use Rattle.rv_text.specs.declared.refusals.Refusal.{Refusal}
 use Rattle.rv_text.specs.Readings.{and_then}
@@ -16,7 +16,7 @@ use Rattle.rv_route.specs.declared.router.TheConstants.{MAX_DELIVERIES}
 use Rattle.rv_route.specs.declared.asking.Ask.{Ask}
 use Rattle.rv_route.specs.declared.asking.Ask.TheVariants as asks
 use Rattle.rv_route.specs.Asking.{ask_of}
-use Rattle.rv_route.specs.Lanes.{LaneValue, ends_with, longer, with_turn, with_delivery, IsLane}
+use Rattle.rv_route.specs.Lanes.{LaneValue, ends_with, longer, with_delivery, IsLane}
 use Rattle.rv_route.specs.Routing.{Routes, no_lane, delivered, deliver, answer, line_routes, routes_of, nothing}
 
 -- one more delivery goes to the last turn

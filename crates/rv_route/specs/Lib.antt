@@ -1,4 +1,5 @@
 pub mod Asking
+pub mod Fitting
 pub mod Lanes
 pub mod Lines
 pub mod Routed

@@ -5,6 +5,8 @@ ghost use Rattle.rv_route.specs.Lines.{IsRoutable};
 ghost use Rattle.rv_route.specs.Lanes.{IsLane};
 ghost use Rattle.rv_route.specs.Routing.{route_of, works_of, work_in};
 ghost use Rattle.rv_route.specs.Routed.{routed_value};
+ghost use Rattle.rv_route.specs.Fitting.{WorksFit, NumbersAscend};
+ghost use Rattle.rv_bind.specs.WellFormed.{FitsKind, kinds_of};
 
 use crate::lanes::Lane;
 use crate::router::Router;
@@ -29,8 +31,11 @@ pub fn route(
     text: &[u8],
     lines: &[TraceLine],
 ) -> Result<Routed, Refused>
-    requires { All (IsRoutable text.now) lines.now }
-    ensures { Gives routed_value result (route_of bindings.now.monitors.items bindings.now.rules.items text.now lines.now) }
+    requires lines { All (IsRoutable text.now) lines.now }
+    requires ascend { NumbersAscend lines.now }
+    requires rules { All (FitsKind (kinds_of bindings.now.monitors.items)) bindings.now.rules.items }
+    ensures value { Gives routed_value result (route_of bindings.now.monitors.items bindings.now.rules.items text.now lines.now) }
+    ensures fit { IfOk result (λ routed. WorksFit (kinds_of bindings.now.monitors.items) (length routed.tasks) routed.works.items) }
 {
     route_lines(
         alloc,
@@ -49,8 +54,11 @@ fn route_lines(
     text: &[u8],
     lines: &[TraceLine],
 ) -> Result<Routed, Refused>
-    requires { All (IsRoutable text.now) lines.now }
-    ensures { Gives routed_value result (route_of monitors.now rules.now text.now lines.now) }
+    requires lines { All (IsRoutable text.now) lines.now }
+    requires ascend { NumbersAscend lines.now }
+    requires rules { All (FitsKind (kinds_of monitors.now)) rules.now }
+    ensures value { Gives routed_value result (route_of monitors.now rules.now text.now lines.now) }
+    ensures fit { IfOk result (λ routed. WorksFit (kinds_of monitors.now) (length routed.tasks) routed.works.items) }
 {
     let mut router = Router::new(alloc)?;
     router.lines(monitors, rules, text, lines)?;

@@ -1,4 +1,4 @@
-use Rattle.std.proofs.Common.{◌≡◌, ◌∷◌, ap, arith, rules}
+use Rattle.std.proofs.Common.{◌≡◌, ◌∷◌, rules}
 use Rattle.std.specs.Vec.Iter.{into_iter_items}
 use Rattle.rv_route.proofs.RoutingLemmas.{works_more, lanes_left, lanes_counted}
 use Rattle.rv_route.proofs.firing.works.Goals as goal

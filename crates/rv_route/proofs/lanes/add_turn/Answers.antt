@@ -1,5 +1,4 @@
-use Rattle.std.proofs.Common.{◌≡◌, ◌-◌, length, false, rules, sym, ◌∙◌, arith}
-use Rattle.rv_route.specs.Lanes.{ends_with}
+use Rattle.std.proofs.Common.{◌≡◌, ◌-◌, length, rules, arith}
 use Rattle.rv_route.proofs.LaneLemmas.{same_turn, turn_goes_on, turn_begins, no_turns, other_turn}
 use Rattle.rv_route.proofs.lanes.add_turn.Goals.{else-count-gt0-via-then-count-gt0+else-index-line, else-count-gt0-via-else-count-gt0}
 use Rattle.rv_route.proofs.lanes.add_turn.Goals as goal

@@ -1,4 +1,4 @@
-use Rattle.std.proofs.Common.{◌≡◌, ◌≤◌, ◌<◌, ◌+◌, length, get_or, subst, sym, ◌∙◌, arith, length-set}
+use Rattle.std.proofs.Common.{◌≤◌, ◌<◌, ◌+◌, length, subst, sym, ◌∙◌, arith, length-set}
 use Rattle.rv_route.specs.Lanes.{LaneValue}
 use Rattle.rv_route.proofs.LaneLemmas.{lanes_few}
 use Rattle.rv_route.proofs.router.Router.deliver.Goals as goal

@@ -1,4 +1,4 @@
-use Rattle.std.proofs.Common.{◌≡◌, [], replicate}
+use Rattle.std.proofs.Common.{◌≡◌, replicate}
 use Rattle.rv_route.specs.Routing.{no_lane}
 use Rattle.rv_route.proofs.router.Router.new.Given as goal
 

@@ -1,0 +1,239 @@
+-- Routed lanes fit their lines and their monitors.
+use Rattle.std.proofs.Common.{◌≡◌, ◌≢◌, ℕ, zero, suc, ◌<◌, ◌≤◌, ◌==◌, ◌&&◌, ◌⊎◌, inl, inr, Bool, true, false, not, List, [], ◌∷◌, ◌++◌, length, get_or, set, refl, sym, ap, ◌∙◌, subst, arith, length-append, length-set}
+use Rattle.std.specs.Prelude.{All, Contains, Option, Some, None, Result, Ok, Err, nat_lt, slice_get, if◌then◌else◌}
+use Rattle.std.specs.List.{list_any, position_or_len}
+use Rattle.std.proofs.lemmas.List.{get_or-set_same, get_or-set_other}
+use Rattle.std.proofs.lemmas.List.Elements.{All-head, All-tail, All-push, All-weaker}
+use Rattle.rv_text.specs.Decimal.{decimal_of}
+use Rattle.rv_text.specs.declared.refusals.Refusal.{Refusal}
+use Rattle.rv_text.specs.Readings.{and_then}
+use Rattle.rv_trace.specs.declared.line.TraceLine.{TraceLine}
+use Rattle.rv_model.specs.declared.record.Task.{Task}
+use Rattle.rv_model.specs.declared.work.Scope.{Scope}
+use Rattle.rv_model.specs.declared.work.Scope.TheVariants as scopes
+use Rattle.rv_model.specs.declared.work.Delivery.{Delivery}
+use Rattle.rv_slots.specs.Shapes.{count_of}
+use Rattle.rv_slots.specs.Tasks.{task_of, same_task, is_held, with_task, number_of}
+use Rattle.rv_slots.specs.declared.tasks.TheConstants.{MAX_TASKS}
+use Rattle.rv_bind.specs.declared.bindings.Monitor.{Monitor}
+use Rattle.rv_bind.specs.RuleValues.{OnValue}
+use Rattle.rv_bind.specs.WellFormed.{Kind, kind_of, kinds_of, FitsKind}
+use Rattle.rv_route.specs.declared.router.TheConstants.{MAX_DELIVERIES}
+use Rattle.rv_route.specs.declared.asking.Ask.{Ask}
+use Rattle.rv_route.specs.declared.asking.Ask.TheVariants as asks
+use Rattle.rv_route.specs.Asking.{text_at, value_of, fires, pid_from, pid_at, pid_of, by_scope, asked_of, ask_of}
+use Rattle.rv_route.specs.Lanes.{LaneValue, with_delivery}
+use Rattle.rv_route.specs.Routing.{Routes, no_lane, delivered, deliver, answer, line_routes}
+use Rattle.rv_route.specs.Fitting.{IsOf, FitsKindOf}
+use Rattle.rv_route.proofs.TurnLemmas.{AscendsTo, ascends-wider, ascends-more, of-more}
+
+-- ---- what a rule asks for
+
+no_instance : (fields : List ℕ) (line : TraceLine) (by : Option (List ℕ)) (i : ℕ) → pid_of fields line by ≡ asks.Instance i → ⊥
+no_instance fields line None i e = cc
+no_instance fields line (Some name) i e = value (value_of fields name) e
+  where
+    small : (b : Bool) (n : ℕ) → (if b then asks.NoPid else asks.Pid n) ≡ asks.Instance i → ⊥
+    small true n e = cc
+    small false n e = cc
+
+    number : (n : Option ℕ) → pid_from n ≡ asks.Instance i → ⊥
+    number None e = cc
+    number (Some n) e = small (nat_lt 4294967295 n) n e
+
+    value : (v : Option (List ℕ)) → pid_at v ≡ asks.Instance i → ⊥
+    value None e = cc
+    value (Some text) e = number (decimal_of text) e
+
+instance-fits : (fields : List ℕ) (line : TraceLine) (by : Option (List ℕ)) (scope : Scope) (i tasks : ℕ) → line.cpu < 64 → by_scope fields line by scope ≡ asks.Instance i → i < count_of tasks scope
+instance-fits fields line by scopes.Global i tasks cpu e = let same : 0 ≡ i = cc in omega arith
+instance-fits fields line by scopes.Cpu i tasks cpu e = let same : line.cpu ≡ i = cc in omega arith
+instance-fits fields line by scopes.Task i tasks cpu e = absurd (no_instance fields line by i e)
+
+pid-scope : (fields : List ℕ) (line : TraceLine) (by : Option (List ℕ)) (scope : Scope) (pid n tasks : ℕ) → by_scope fields line by scope ≡ asks.Pid pid → n < tasks → n < count_of tasks scope
+pid-scope fields line by scopes.Global pid n tasks e lt = cc
+pid-scope fields line by scopes.Cpu pid n tasks e lt = cc
+pid-scope fields line by scopes.Task pid n tasks e lt = lt
+
+-- the monitor of a kind
+record HasKind (monitors : List Monitor) (place : ℕ) (kind : Kind) : Type 0 where
+  monitor : Monitor
+  there : slice_get monitors place ≡ Some monitor
+  is : kind_of monitor ≡ kind
+
+has_kind : (monitors : List Monitor) (place : ℕ) (kind : Kind) → slice_get (kinds_of monitors) place ≡ Some kind → HasKind monitors place kind
+has_kind [] place kind e = cc
+has_kind (m ∷ monitors) zero kind e = record { monitor = m; there = refl; is = cc }
+has_kind (m ∷ monitors) (suc place) kind e = let h = has_kind monitors place kind e in record { monitor = h.monitor; there = h.there; is = h.is }
+
+module _ (text : List ℕ) (line : TraceLine) (monitors : List Monitor) (rule : OnValue) (m : Monitor) (there : slice_get monitors rule.monitor ≡ Some m) where
+  asked-instance : (i : ℕ) → ask_of text line monitors rule ≡ asks.Instance i → by_scope (text_at text line.fields) line rule.by m.scope ≡ asks.Instance i
+  unfolding ask_of
+  asked-instance i e = go (fires (text_at text line.name) (text_at text line.fields) rule) e
+    where
+      go : (b : Bool) → (if b then asked_of (text_at text line.fields) line rule.by (slice_get monitors rule.monitor) else asks.Quiet) ≡ asks.Instance i → by_scope (text_at text line.fields) line rule.by m.scope ≡ asks.Instance i
+      go true e = sym (ap (asked_of (text_at text line.fields) line rule.by) there) ∙ e
+      go false e = cc
+
+  asked-pid : (pid : ℕ) → ask_of text line monitors rule ≡ asks.Pid pid → by_scope (text_at text line.fields) line rule.by m.scope ≡ asks.Pid pid
+  unfolding ask_of
+  asked-pid pid e = go (fires (text_at text line.name) (text_at text line.fields) rule) e
+    where
+      go : (b : Bool) → (if b then asked_of (text_at text line.fields) line rule.by (slice_get monitors rule.monitor) else asks.Quiet) ≡ asks.Pid pid → by_scope (text_at text line.fields) line rule.by m.scope ≡ asks.Pid pid
+      go true e = sym (ap (asked_of (text_at text line.fields) line rule.by) there) ∙ e
+      go false e = cc
+
+-- ---- tasks
+
+any-below : {X : Type 0} (p : X → Bool) (xs : List X) → list_any p xs ≡ true → position_or_len p xs < length xs
+any-below p [] e = cc
+any-below p (x ∷ xs) e = go (p x) refl (any-below p xs)
+  where
+    go : (b : Bool) → p x ≡ b → (list_any p xs ≡ true → position_or_len p xs < length xs) → position_or_len p (x ∷ xs) < length (x ∷ xs)
+    go true is rest = rw is (omega arith)
+    go false is rest = let later : list_any p xs ≡ true = sym (rw is refl) ∙ e in let lt = rest later in rw is (omega arith)
+
+most : {X : Type 0} (p : X → Bool) (xs : List X) → position_or_len p xs ≤ length xs
+most p [] = omega arith
+most p (x ∷ xs) = go (p x) refl (most p xs)
+  where
+    go : (b : Bool) → p x ≡ b → position_or_len p xs ≤ length xs → position_or_len p (x ∷ xs) ≤ length (x ∷ xs)
+    go true is le = rw is (omega arith)
+    go false is le = rw is (omega arith)
+
+number-below : (tasks : List Task) (task : Task) → number_of tasks task < length (with_task tasks task)
+number-below tasks task = go (is_held tasks task) refl
+  where
+    go : (b : Bool) → is_held tasks task ≡ b → number_of tasks task < length (if b then tasks else tasks ++ task ∷ [])
+    go true is = any-below (same_task task) tasks is
+    go false is = let le = most (same_task task) tasks in rw length-append (omega arith)
+
+tasks-more : (tasks : List Task) (task : Task) → length tasks ≤ length (with_task tasks task)
+tasks-more tasks task = go (is_held tasks task)
+  where
+    go : (b : Bool) → length tasks ≤ length (if b then tasks else tasks ++ task ∷ [])
+    go true = omega arith
+    go false = rw length-append (omega arith)
+
+-- ---- lanes
+
+pub record LaneFits (lines : List TraceLine) (kinds : List Kind) (tasks n cpu : ℕ) (lane : LaneValue) : Type 0 where
+  pub ascends : AscendsTo n lane.turns
+  pub of : All (IsOf lines cpu) lane.turns
+  pub fit : All (FitsKindOf kinds tasks) lane.deliveries
+
+-- all lanes fit lines up to this number
+pub record RoutesFit (lines : List TraceLine) (kinds : List Kind) (n : ℕ) (routes : Routes) : Type 0 where
+  pub many : length routes.lanes ≡ 64
+  pub lanes : (cpu : ℕ) → LaneFits lines kinds (length routes.tasks) n cpu (get_or routes.lanes cpu no_lane)
+
+count-wider : (n m : ℕ) (scope : Scope) → n ≤ m → count_of n scope ≤ count_of m scope
+count-wider n m scopes.Global le = omega arith
+count-wider n m scopes.Cpu le = omega arith
+count-wider n m scopes.Task le = le
+
+module _ (text : List ℕ) (lines : List TraceLine) (monitors : List Monitor) where
+  fits-wider : (n m : ℕ) → n ≤ m → (d : Delivery) → FitsKindOf (kinds_of monitors) n d → FitsKindOf (kinds_of monitors) m d
+  fits-wider n m le d f = record { kind = f.kind; there = f.there; hit = f.hit; instance_fits = let w = count-wider n m f.kind.scope le in let i = f.instance_fits in omega arith }
+
+  lane-wider : (n m k l cpu : ℕ) (lane : LaneValue) → n ≤ m → k ≤ l → LaneFits lines (kinds_of monitors) k n cpu lane → LaneFits lines (kinds_of monitors) l m cpu lane
+  lane-wider n m k l cpu lane le more f = record {
+    ascends = ascends-wider n m lane.turns le f.ascends;
+    of = f.of;
+    fit = All-weaker (FitsKindOf (kinds_of monitors) k) (FitsKindOf (kinds_of monitors) l) (fits-wider k l more) lane.deliveries f.fit;
+  }
+
+  pub routes-wider : (n m : ℕ) (routes : Routes) → n ≤ m → RoutesFit lines (kinds_of monitors) n routes → RoutesFit lines (kinds_of monitors) m routes
+  routes-wider n m routes le f = record {
+    many = f.many;
+    lanes = λ cpu. lane-wider n m (length routes.tasks) (length routes.tasks) cpu (get_or routes.lanes cpu no_lane) le (omega arith) (f.lanes cpu);
+  }
+
+  module _ (line : TraceLine) (there : Contains lines line) (cpu_fits : line.cpu < 64) where
+    -- a delivery that fits goes to its lane
+    delivered_fits : (routes : Routes) (rule : OnValue) (place : ℕ) → FitsKindOf (kinds_of monitors) (length routes.tasks) (record { order = routes.count; monitor = rule.monitor; instance = place; hit = rule.hit })
+        → RoutesFit lines (kinds_of monitors) line.number routes → RoutesFit lines (kinds_of monitors) line.number (delivered routes line rule place)
+    delivered_fits routes rule place fits f = record { many = length-set routes.lanes line.cpu _ ∙ f.many; lanes = λ cpu. go cpu (same_or_not cpu line.cpu) }
+      where
+        same_or_not : (a b : ℕ) → (a ≡ b) ⊎ (a ≢ b)
+        same_or_not a b = grind arith
+
+        d : Delivery
+        d = record { order = routes.count; monitor = rule.monitor; instance = place; hit = rule.hit }
+
+        grown : LaneValue
+        grown = with_delivery (get_or routes.lanes line.cpu no_lane) line.number d
+
+        here : LaneFits lines (kinds_of monitors) (length routes.tasks) line.number line.cpu grown
+        here =
+            let was = f.lanes line.cpu in
+            let lane = get_or routes.lanes line.cpu no_lane in
+            record {
+              ascends = ascends-more line.number (length lane.deliveries) lane.turns was.ascends;
+              of = of-more lines line.cpu line (length lane.deliveries) lane.turns there refl was.of;
+              fit = All-push (FitsKindOf (kinds_of monitors) (length routes.tasks)) lane.deliveries d was.fit fits;
+            }
+
+        go : (cpu : ℕ) → (cpu ≡ line.cpu) ⊎ (cpu ≢ line.cpu) → LaneFits lines (kinds_of monitors) (length routes.tasks) line.number cpu (get_or (set routes.lanes line.cpu grown) cpu no_lane)
+        go cpu (inl same) =
+            subst (λ (n : ℕ). LaneFits lines (kinds_of monitors) (length routes.tasks) line.number n (get_or (set routes.lanes line.cpu grown) n no_lane)) (sym same)
+            (subst (λ (l : LaneValue). LaneFits lines (kinds_of monitors) (length routes.tasks) line.number line.cpu l) (sym (get_or-set_same routes.lanes line.cpu grown no_lane (let m = f.many in omega arith))) here)
+        go cpu (inr other) =
+            subst (λ (l : LaneValue). LaneFits lines (kinds_of monitors) (length routes.tasks) line.number cpu l) (sym (get_or-set_other routes.lanes line.cpu cpu grown no_lane other)) (f.lanes cpu)
+
+    tasks_fit : (routes : Routes) (task : Task) → RoutesFit lines (kinds_of monitors) line.number routes → RoutesFit lines (kinds_of monitors) line.number (record routes { tasks = with_task routes.tasks task })
+    tasks_fit routes task f = record {
+      many = f.many;
+      lanes = λ cpu. lane-wider line.number line.number (length routes.tasks) (length (with_task routes.tasks task)) cpu (get_or routes.lanes cpu no_lane) (omega arith) (tasks-more routes.tasks task) (f.lanes cpu);
+    }
+
+    deliver_fits : (routes after : Routes) (rule : OnValue) (place : ℕ) → FitsKindOf (kinds_of monitors) (length routes.tasks) (record { order = routes.count; monitor = rule.monitor; instance = place; hit = rule.hit })
+        → RoutesFit lines (kinds_of monitors) line.number routes → deliver routes line rule place ≡ Ok after → RoutesFit lines (kinds_of monitors) line.number after
+    deliver_fits routes after rule place fits f is = go (nat_lt routes.count MAX_DELIVERIES) is
+      where
+        go : (b : Bool) → (if b then Ok (delivered routes line rule place) else Rattle.rv_text.specs.Readings.refused_at Rattle.rv_text.specs.declared.numbers.TheConstants.TOO_MANY_DELIVERIES line.number) ≡ Ok after → RoutesFit lines (kinds_of monitors) line.number after
+        go true is = let same : delivered routes line rule place ≡ after = cc in subst (RoutesFit lines (kinds_of monitors) line.number) same (delivered_fits routes rule place fits f)
+        go false is = cc
+
+    answer_fits : (routes after : Routes) (rule : OnValue) (ask : Ask) → FitsKind (kinds_of monitors) rule → ask_of text line monitors rule ≡ ask
+        → RoutesFit lines (kinds_of monitors) line.number routes → answer routes line rule ask ≡ Ok after → RoutesFit lines (kinds_of monitors) line.number after
+    answer_fits routes after rule asks.Quiet k e f is = let same : routes ≡ after = cc in subst (RoutesFit lines (kinds_of monitors) line.number) same f
+    answer_fits routes after rule asks.NoPid k e f is = cc
+    answer_fits routes after rule (asks.Instance i) k e f is =
+        let h = has_kind monitors rule.monitor k.kind k.there in
+        let by = asked-instance text line monitors rule h.monitor h.there i e in
+        let fits = instance-fits (text_at text line.fields) line rule.by h.monitor.scope i (length routes.tasks) cpu_fits by in
+        deliver_fits routes after rule i (record { kind = k.kind; there = k.there; hit = k.hit; instance_fits = subst (λ (kind : Kind). i < count_of (length routes.tasks) kind.scope) h.is fits }) f is
+    answer_fits routes after rule (asks.Pid pid) k e f is = go (not (is_held routes.tasks (task_of pid line.cpu)) && length routes.tasks == MAX_TASKS) is
+      where
+        task : Task
+        task = task_of pid line.cpu
+
+        next : Routes
+        next = record routes { tasks = with_task routes.tasks (task_of pid line.cpu) }
+
+        fits : FitsKindOf (kinds_of monitors) (length (with_task routes.tasks (task_of pid line.cpu))) (record { order = routes.count; monitor = rule.monitor; instance = number_of routes.tasks (task_of pid line.cpu); hit = rule.hit })
+        fits =
+            let h = has_kind monitors rule.monitor k.kind k.there in
+            let by = asked-pid text line monitors rule h.monitor h.there pid e in
+            let below = pid-scope (text_at text line.fields) line rule.by h.monitor.scope pid (number_of routes.tasks (task_of pid line.cpu)) (length (with_task routes.tasks (task_of pid line.cpu))) by (number-below routes.tasks (task_of pid line.cpu)) in
+            record { kind = k.kind; there = k.there; hit = k.hit; instance_fits = subst (λ (kind : Kind). number_of routes.tasks (task_of pid line.cpu) < count_of (length (with_task routes.tasks (task_of pid line.cpu))) kind.scope) h.is below }
+
+        go : (b : Bool)
+            → (if b then Rattle.rv_text.specs.Readings.refused_at Rattle.rv_text.specs.declared.numbers.TheConstants.TOO_MANY_TASKS line.number
+            else deliver (record routes { tasks = with_task routes.tasks (task_of pid line.cpu) }) line rule (number_of routes.tasks (task_of pid line.cpu))) ≡ Ok after → RoutesFit lines (kinds_of monitors) line.number after
+        go true is = cc
+        go false is = deliver_fits (record routes { tasks = with_task routes.tasks (task_of pid line.cpu) }) after rule (number_of routes.tasks (task_of pid line.cpu)) fits (tasks_fit routes (task_of pid line.cpu) f) is
+
+    pub line_fits : (rules : List OnValue) (routes after : Routes) → All (FitsKind (kinds_of monitors)) rules → RoutesFit lines (kinds_of monitors) line.number routes
+        → line_routes text line monitors rules routes ≡ Ok after → RoutesFit lines (kinds_of monitors) line.number after
+    unfolding line_routes
+    line_fits [] routes after all f is = let same : routes ≡ after = cc in subst (RoutesFit lines (kinds_of monitors) line.number) same f
+    line_fits (rule ∷ rules) routes after all f is =
+        go (answer routes line rule (ask_of text line monitors rule)) refl (λ next g. line_fits rules next after (All-tail (FitsKind (kinds_of monitors)) rule rules all) g) is
+      where
+        go : (r : Result Routes Refusal) → answer routes line rule (ask_of text line monitors rule) ≡ r
+            → ((next : Routes) → RoutesFit lines (kinds_of monitors) line.number next → line_routes text line monitors rules next ≡ Ok after → RoutesFit lines (kinds_of monitors) line.number after)
+            → and_then r (line_routes text line monitors rules) ≡ Ok after → RoutesFit lines (kinds_of monitors) line.number after
+        go (Ok next) first later is = later next (answer_fits routes next rule (ask_of text line monitors rule) (All-head (FitsKind (kinds_of monitors)) rule rules all) refl f first) is
+        go (Err refusal) first later is = cc
