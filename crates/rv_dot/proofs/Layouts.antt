@@ -157,7 +157,7 @@ abbrev pub drawn : Drawing → File
 drawn d = record {
   title = codes "state_automaton";
   statements = (assigns (codes "center") (word (codes "true")), true) ∷ (assigns (codes "size") (text (codes "7,11")), true) ∷ (marker_statement d.initial, true)
-    ∷ (flat_map (λ s. end (state_statement s)) d.states ++ ((initial_statement d.initial, true) ∷ (flat_map (λ n. end (node_statement n)) (map (λ s. s.name) d.states) ++ flat_map (λ a. end (arc_statement a)) d.arcs)));
+      ∷ (flat_map (λ s. end (state_statement s)) d.states ++ ((initial_statement d.initial, true) ∷ (flat_map (λ n. end (node_statement n)) (map (λ s. s.name) d.states) ++ flat_map (λ a. end (arc_statement a)) d.arcs)));
 }
 
 -- what the file says

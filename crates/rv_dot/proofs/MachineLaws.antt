@@ -27,9 +27,10 @@ use Rattle.rv_dot.proofs.StandsLaws.{name_same, name_test, place_of-at}
 -- pairs by places are pairs by recursion
 pub later_from : {A : Type 0} (R : A → A → Type 0) (xs : List A) → AllPairs R xs → AllLater R xs
 later_from R [] h = tt
-later_from R (x ∷ xs) h =
-    (all_from_members (λ y. R x y) xs (λ y m. let at = place_of_member y xs m in subst (R x) at.2 (h 0 (suc at.0) y (omega arith) (omega (arith, at.1)))),
-    later_from R xs (λ i j d lt within. h (suc i) (suc j) d (omega (arith, lt)) (omega (arith, within))))
+later_from R (x ∷ xs) h = (
+  all_from_members (λ y. R x y) xs (λ y m. let at = place_of_member y xs m in subst (R x) at.2 (h 0 (suc at.0) y (omega arith) (omega (arith, at.1)))),
+  later_from R xs (λ i j d lt within. h (suc i) (suc j) d (omega (arith, lt)) (omega (arith, within))),
+)
 
 -- names in order at all pairs ascend
 pub ascends_from : (names : List (List ℕ)) → AllPairs IsBefore names → Ascends (slice_cmp nat_cmp) names

@@ -84,9 +84,9 @@ module _ (a : Machine) (h : IsAutomaton a) where
   is_named = record {
     states = all_states IsStateName a.marked a.states states_named;
     arcs = all_from_members (λ x. IsStateName x.from × IsNameOf is_event_byte x.event × IsStateName x.to) (drawing_of a).arcs (λ x m.
-    let e = arc_edge x m in
-    let r = in_range e.0 e.1 in
-    subst (λ (y : Arc). IsStateName y.from × IsNameOf is_event_byte y.event × IsStateName y.to) e.2 (h.states_named e.0.from [] r.0, h.events_named e.0.event [] r.1, h.states_named e.0.to [] r.2));
+        let e = arc_edge x m in
+        let r = in_range e.0 e.1 in
+        subst (λ (y : Arc). IsStateName y.from × IsNameOf is_event_byte y.event × IsStateName y.to) e.2 (h.states_named e.0.from [] r.0, h.events_named e.0.event [] r.1, h.states_named e.0.to [] r.2));
   }
 
   is_drawing : IsDrawing (drawing_of a)
@@ -94,16 +94,17 @@ module _ (a : Machine) (h : IsAutomaton a) where
     initial = state_plain (get_or a.states 0 []) (h.states_named 0 [] (omega (arith, h.some_state)));
     states = all_states IsPlain a.marked a.states (all_from_members IsPlain a.states (λ s m. state_plain s (all_member IsStateName a.states s h.states_named m)));
     arcs = all_from_members (λ x. IsPlain x.from × IsPlain x.event × IsPlain x.to) (drawing_of a).arcs (λ x m.
-    let e = arc_edge x m in
-    let r = in_range e.0 e.1 in
-    subst (λ (y : Arc). IsPlain y.from × IsPlain y.event × IsPlain y.to) e.2 (state_plain (get_or a.states e.0.from []) (h.states_named e.0.from [] r.0), event_plain (get_or a.events e.0.event []) (h.events_named e.0.event [] r.1), state_plain (get_or a.states e.0.to []) (h.states_named e.0.to [] r.2)));
+        let e = arc_edge x m in
+        let r = in_range e.0 e.1 in
+        subst (λ (y : Arc). IsPlain y.from × IsPlain y.event × IsPlain y.to) e.2 (state_plain (get_or a.states e.0.from []) (h.states_named e.0.from [] r.0), event_plain (get_or a.events e.0.event []) (h.events_named e.0.event [] r.1), state_plain (get_or a.states e.0.to []) (h.states_named e.0.to [] r.2)));
   }
 
   names_apart : NamesApart a.states
   names_apart =
-      subst NamesApart (sym (split_first a.states h.some_state))
-      (all_from_members (λ x. (bytes_eq (get_or a.states 0 []) x ≡ false) × (bytes_eq x (get_or a.states 0 []) ≡ false)) (drop 1 a.states) (λ x m. apart_test (get_or a.states 0 []) x (λ e. all_member (λ s. s ≢ get_or a.states 0 []) (drop 1 a.states) x h.initial_once m (sym e))),
-      apart_below (drop 1 a.states) (ascends_from (drop 1 a.states) h.states_ascend))
+      subst NamesApart (sym (split_first a.states h.some_state)) (
+        all_from_members (λ x. (bytes_eq (get_or a.states 0 []) x ≡ false) × (bytes_eq x (get_or a.states 0 []) ≡ false)) (drop 1 a.states) (λ x m. apart_test (get_or a.states 0 []) x (λ e. all_member (λ s. s ≢ get_or a.states 0 []) (drop 1 a.states) x h.initial_once m (sym e))),
+        apart_below (drop 1 a.states) (ascends_from (drop 1 a.states) h.states_ascend),
+      )
 
   claims : List Claim
   claims = claims_drawn (drawing_of a)

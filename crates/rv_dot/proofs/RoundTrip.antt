@@ -137,10 +137,19 @@ lines_are statement one [] more h = h
 lines_are statement one (x ∷ xs) more h = (one x, lines_are statement one xs more h)
 
 statements_are : (d : Drawing) → AllByRecursion (λ (s : Statement × Bool). IsStatement s.0) (drawn d).statements
-statements_are d =
-    (tt, (tt, (((tt, (tt, (tt, tt))), (tt, tt), omega arith),
-    lines_are state_statement (λ s. ((tt, tt), (tt, tt), omega arith)) d.states _ ((tt, tt, tt),
-    lines_are node_statement (λ n. (tt, (tt, tt))) (map (λ (s : State). s.name) d.states) _ (no_more d.arcs)))))
+statements_are d = (
+  tt,
+  (
+    tt,
+    (
+      ((tt, (tt, (tt, tt))), (tt, tt), omega arith),
+      lines_are state_statement (λ s. ((tt, tt), (tt, tt), omega arith)) d.states _ (
+        (tt, tt, tt),
+        lines_are node_statement (λ n. (tt, (tt, tt))) (map (λ (s : State). s.name) d.states) _ (no_more d.arcs),
+      ),
+    ),
+  ),
+)
   where
     no_more : (as' : List Arc) → AllByRecursion (λ (s : Statement × Bool). IsStatement s.0) (flat_map (λ a. end (arc_statement a)) as')
     no_more [] = tt

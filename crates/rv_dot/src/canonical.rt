@@ -2,6 +2,9 @@
 ghost use Rattle.std.specs.Prelude.{◌≡◌, ◌<◌, ◌++◌, All, OnOk, IfOk, length, map};
 ghost use Rattle.std.specs.List.{flat_map};
 ghost use Rattle.rv_model.specs.declared.automaton.Edge.{Edge as EdgeValue};
+ghost use Rattle.rv_model.specs.Machine.{Machine};
+ghost use Rattle.rv_model.specs.WellFormed.{IsAutomaton};
+ghost use Rattle.rv_dot.specs.Dot.{dot_of};
 ghost use Rattle.rv_dot.specs.Canonical.{quoted, marker, shape_of, marker_line, state_line, initial_line, node_line, arc_line, states_marked, arc_named, dot_text};
 
 use rv_model::{Automaton, Edge, Names};
@@ -155,9 +158,10 @@ fn put_edges(
     Ok(())
 }
 
-/// The canonical text of the automaton.
+/// The canonical text of the automaton, which is read as the automaton again.
 pub fn write_dot(alloc: Global, automaton: &Automaton) -> Result<Vec<u8>, AllocError>
-    ensures { IfOk result (λ v. v.items ≡ dot_text automaton.now) }
+    ensures text { IfOk result (λ v. v.items ≡ dot_text automaton.now) }
+    ensures again { IfOk result (λ v. dot_of v.items ≡ Ok automaton.now) }
 {
     let mut out = Vec::new(alloc);
     let initial = automaton.states.get(0).bytes();
@@ -178,3 +182,8 @@ pub fn write_dot(alloc: Global, automaton: &Automaton) -> Result<Vec<u8>, AllocE
     put(&mut out, b"}\n")?;
     Ok(out)
 }
+
+/// What is read of an automaton's canonical text is the automaton.
+pub fn canonical_texts_are_read()
+    ensures { (a : Machine) → IsAutomaton a → dot_of (dot_text a) ≡ Ok a }
+{}

@@ -22,5 +22,5 @@ mod statement;
 mod tests;
 mod token;
 
-pub use canonical::write_dot;
+pub use canonical::{canonical_texts_are_read, write_dot};
 pub use reading::read_dot;

@@ -54,7 +54,11 @@ fn number(alloc: Global, text: &[u8]) -> u8 {
 /// A name of its own for each number.
 fn put_name(out: &mut Vec<u8>, number: u8) -> Result<(), AllocError> {
     out.extend_from_slice(b" n")?;
-    out.extend_from_slice(&[b'0' + number / 100, b'0' + number / 10 % 10, b'0' + number % 10])
+    out.extend_from_slice(&[
+        b'0' + number / 100,
+        b'0' + number / 10 % 10,
+        b'0' + number % 10,
+    ])
 }
 
 /// An automaton with so many states and no event.
@@ -82,7 +86,13 @@ fn events(alloc: Global, count: u8) -> Result<Vec<u8>, AllocError> {
 }
 
 /// A text, so many times the byte, and a text.
-fn filled(alloc: Global, front: &[u8], byte: u8, count: usize, back: &[u8]) -> Result<Vec<u8>, AllocError> {
+fn filled(
+    alloc: Global,
+    front: &[u8],
+    byte: u8,
+    count: usize,
+    back: &[u8],
+) -> Result<Vec<u8>, AllocError> {
     let mut out = Vec::new(alloc);
     out.extend_from_slice(front)?;
     for _ in 0..count {
@@ -101,29 +111,71 @@ fn texts_have_the_first_refusal_that_applies(rt: HostRuntime) -> Result<(), Fail
         (b"digraph g { };", 2),
         (b"digraph g { }", 3),
         (b"digraph node { node = x { node = x a } edge = edge }", 3),
-        (b"digraph g { {node [shape=circle] a b} __init_a -> a; __init_b -> b }", 4),
-        (b"digraph g { {node [shape=circle] a b} __init_a -> a; __init_b -> a }", 0),
+        (
+            b"digraph g { {node [shape=circle] a b} __init_a -> a; __init_b -> b }",
+            4,
+        ),
+        (
+            b"digraph g { {node [shape=circle] a b} __init_a -> a; __init_b -> a }",
+            0,
+        ),
         (b"digraph g { __init_a -> a }", 5),
-        (b"digraph g { {node [] a} __init_a -> a; a -> b [label=e] }", 5),
-        (b"digraph g { {node [] a __init_a} __init_a -> a; a -> __init_a [label=e] }", 5),
-        (b"digraph g { {node [] a b} __init_ -> a; a -> b [label=x] a -> a [label=x] }", 6),
-        (b"digraph g { {node [] a b} __init_ -> a; a -> b [label=x] a -> b [label=x] }", 0),
-        (b"digraph g { {node [] a b} __init_ -> a; a -> b [label=x] b -> b [label=\" y \\n\\tx\"] }", 2),
-        (b"digraph g { {node [] a b} __init_ -> a; a -> b [label=x] b -> b [label=\" y \\n\tx\"] }", 0),
-        (b"digraph g { {node [] a} __init_ -> a; a -> a [label=\"x\\n\\ny\"] }", 2),
-        (b"digraph g { {node [] a} __init_ -> a; a -> a [label=\"x,y\"] }", 2),
-        (b"digraph g { {node [] a} __init_ -> a; a -> a [label=x.y] }", 2),
+        (
+            b"digraph g { {node [] a} __init_a -> a; a -> b [label=e] }",
+            5,
+        ),
+        (
+            b"digraph g { {node [] a __init_a} __init_a -> a; a -> __init_a [label=e] }",
+            5,
+        ),
+        (
+            b"digraph g { {node [] a b} __init_ -> a; a -> b [label=x] a -> a [label=x] }",
+            6,
+        ),
+        (
+            b"digraph g { {node [] a b} __init_ -> a; a -> b [label=x] a -> b [label=x] }",
+            0,
+        ),
+        (
+            b"digraph g { {node [] a b} __init_ -> a; a -> b [label=x] b -> b [label=\" y \\n\\tx\"] }",
+            2,
+        ),
+        (
+            b"digraph g { {node [] a b} __init_ -> a; a -> b [label=x] b -> b [label=\" y \\n\tx\"] }",
+            0,
+        ),
+        (
+            b"digraph g { {node [] a} __init_ -> a; a -> a [label=\"x\\n\\ny\"] }",
+            2,
+        ),
+        (
+            b"digraph g { {node [] a} __init_ -> a; a -> a [label=\"x,y\"] }",
+            2,
+        ),
+        (
+            b"digraph g { {node [] a} __init_ -> a; a -> a [label=x.y] }",
+            2,
+        ),
         (b"digraph g { {node [] a} __init_ -> a; a -> a }", 2),
-        (b"digraph g { {node [] a} __init_ -> a; a -> a [label=x label=y, label=x;] a -> a [label=y] }", 0),
+        (
+            b"digraph g { {node [] a} __init_ -> a; a -> a [label=x label=y, label=x;] a -> a [label=y] }",
+            0,
+        ),
         (b"digraph g { {node [] a} __init_ -> a [label=\"\"] }", 0),
         (b"digraph g { {node [] a} __init_ -> a [label=\" \"] }", 2),
-        (b"digraph g { {node [] \"__init,x\" \"a,b\"} \"__init,x\" -> a_b }", 0),
+        (
+            b"digraph g { {node [] \"__init,x\" \"a,b\"} \"__init,x\" -> a_b }",
+            0,
+        ),
         (b"digraph g { {node [] \"a-b\"} __init_ -> a }", 2),
         (b"digraph g { {node [] \"\"} __init_ -> a }", 2),
         (b"digraph g { {node []} __init_ -> a }", 2),
         (b"digraph g { {node [] a}; __init_ -> a;; }", 2),
         (b"digraph g { {node [] node} }", 2),
-        (b"digraph g { {node [] a} // }\n __init_ -> a /* } */ }\n# end", 0),
+        (
+            b"digraph g { {node [] a} // }\n __init_ -> a /* } */ }\n# end",
+            0,
+        ),
         (b"digraph g { {node [] a} __init_ -> a } # end", 2),
         (b"digraph g { {node [\n# shape = x\n] a} __init_ -> a }", 0),
         (b"digraph g { {node [] a} __init_ -> a /*/ }", 2),
@@ -157,11 +209,38 @@ fn the_limits_of_states_events_and_bytes_are_exact(rt: HostRuntime) -> Result<()
     assert_eq!(rt; number(alloc, &events(alloc, 64)?), 0);
     assert_eq!(rt; number(alloc, &events(alloc, 65)?), 8);
     let front = b"digraph g { {node [] a} __init_ -> a ";
-    assert_eq!(rt; number(alloc, &filled(alloc, front, b' ', 1_048_576 - front.len() - 1, b"}")?), 0);
-    assert_eq!(rt; number(alloc, &filled(alloc, front, b' ', 1_048_576 - front.len(), b"}")?), 2);
-    assert_eq!(rt; number(alloc, &filled(alloc, front, b'{', 100_000, b"}")?), 2);
-    assert_eq!(rt; number(alloc, &filled(alloc, b"digraph g { {node [] ", b'n', 65, b"} }")?), 2);
-    assert_eq!(rt; number(alloc, &filled(alloc, b"digraph g { {node [] ", b'n', 64, b"} }")?), 3);
+    assert_eq!(rt;
+        number(
+            alloc,
+            &filled(alloc, front, b' ', 1_048_576 - front.len() - 1, b"}")?
+        ),
+        0
+    );
+    assert_eq!(rt;
+        number(
+            alloc,
+            &filled(alloc, front, b' ', 1_048_576 - front.len(), b"}")?
+        ),
+        2
+    );
+    assert_eq!(rt;
+        number(alloc, &filled(alloc, front, b'{', 100_000, b"}")?),
+        2
+    );
+    assert_eq!(rt;
+        number(
+            alloc,
+            &filled(alloc, b"digraph g { {node [] ", b'n', 65, b"} }")?
+        ),
+        2
+    );
+    assert_eq!(rt;
+        number(
+            alloc,
+            &filled(alloc, b"digraph g { {node [] ", b'n', 64, b"} }")?
+        ),
+        3
+    );
     Ok(())
 }
 
