@@ -7,14 +7,6 @@ use Rattle.rv_model.specs.Reports.{line_end, count_text}
 pub after : {m n : List ℕ} (o x y : List ℕ) → m ≡ o ++ x → n ≡ m ++ y → n ≡ o ++ (x ++ y)
 after o x y first then_more = then_more ∙ ap (λ (z : List ℕ). z ++ y) first ∙ append_assoc o x y
 
--- two names, each after a text
-pub denied-is : {one named two end : List ℕ} (o event state : List ℕ) → one ≡ o ++ codes " does not allow event " → named ≡ one ++ event → two ≡ named ++ codes " on state " → end ≡ two ++ state
-    → end ≡ o ++ (codes " does not allow event " ++ event ++ codes " on state " ++ state)
-denied-is o event state a b c d =
-    let x : List ℕ = codes " does not allow event " in
-    let y : List ℕ = codes " on state " in
-    after o (x ++ event ++ y) state (after o (x ++ event) y (after o x event a b) c) d
-
 -- four numbers, each after a text
 pub count-is : {s t1 n1 t2 n2 t3 n3 t4 n4 end : List ℕ} (o shown : List ℕ) (i d f x : ℕ) → s ≡ o ++ shown
     → t1 ≡ s ++ codes ": instances " → n1 ≡ t1 ++ decimal i → t2 ≡ n1 ++ codes ", deliveries " → n2 ≡ t2 ++ decimal d

@@ -9,7 +9,7 @@ use rv_text::Line;
 use std::alloc::AllocError;
 
 /// Appends the name at this place, where there is one.
-pub(crate) fn name_at(out: &mut Line, names: &Names, place: usize) -> Result<(), AllocError>
+fn name_at(out: &mut Line, names: &Names, place: usize) -> Result<(), AllocError>
     ensures { OnOk result (out.new ≡ out.old ++ slice_index_or names.now place []) }
 {
     if place < names.len() {

@@ -3,7 +3,7 @@ ghost use Rattle.std.specs.Prelude.{◌≡◌, IfOk};
 ghost use Rattle.rv_model.specs.Reports.{report_text};
 ghost use Rattle.rv_report.specs.Shown.{reported_of};
 
-use crate::reactions::reaction;
+use crate::reactions::react_to;
 use crate::summary::summary;
 use rv_bind::Bindings;
 use rv_model::Record;
@@ -22,7 +22,7 @@ pub fn report(
 {
     let mut out = Line::new(alloc);
     for record in records {
-        reaction(&mut out, bindings, tasks, record)?;
+        react_to(alloc, &mut out, bindings, tasks, record)?;
     }
     for place in 0..bindings.monitors.len() {
         let monitor = &bindings.monitors[place];

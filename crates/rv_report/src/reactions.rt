@@ -1,15 +1,17 @@
 //! The lines of reactions.
-ghost use Rattle.std.specs.Prelude.{◌≡◌, ◌++◌, OnOk, slice_get};
-ghost use Rattle.rv_model.specs.Reports.{state_text, event_text, denied_text, fault_text, said_text, reaction_text, instance_text, record_text};
+ghost use Rattle.std.specs.Prelude.{◌≡◌, ◌++◌, [], OnOk, IfOk, slice_get, slice_index_or};
 ghost use Rattle.rv_model.specs.Numbers.{has_bit};
+ghost use Rattle.rv_model.specs.Reports.{event_text, state_text, fault_text, instance_text, reaction_text, record_text};
+ghost use Rattle.rv_react.specs.Reactions.{shown_fault};
 ghost use Rattle.rv_report.specs.Shown.{failed_set, reported, reported_of};
 
-use crate::instances::{name_at, place, shown};
+use crate::instances::{place, shown};
 use rv_bind::{Bindings, Monitor};
-use rv_model::{Answer, Automaton, Delivered, Names, Reactor, Record, Spec, What};
+use rv_model::{Answer, Delivered, Name, Names, Record, Spec, What};
+use rv_react::{Fault, reaction};
 use rv_slots::Tasks;
 use rv_text::Line;
-use std::alloc::AllocError;
+use std::alloc::{AllocError, Global};
 
 /// Whether the set has this row.
 fn has_row(set: u32, row: usize) -> bool
@@ -18,70 +20,47 @@ fn has_row(set: u32, row: usize) -> bool
     row < 32 && (set >> row) & 1 == 1
 }
 
-/// Appends the name of the state whose row is in the set.
-fn state(out: &mut Line, states: &Names, set: u32) -> Result<(), AllocError>
-    ensures { OnOk result (out.new ≡ out.old ++ state_text 1 states.now set) }
+/// The name of the state whose row is in the set.
+fn state(alloc: Global, states: &Names, set: u32) -> Result<Name, AllocError>
+    ensures { IfOk result (λ name. name ≡ state_text 1 states.now set) }
 {
     for place in 0..states.len() {
         if has_row(set, place + 1) {
-            return out.text(states.get(place).bytes());
+            return Name::new(alloc, states.get(place).bytes());
         }
     }
-    Ok(())
+    Name::new(alloc, b"")
 }
 
-/// Appends the name of the event that a hit brings.
-fn event(out: &mut Line, events: &Names, what: What) -> Result<(), AllocError>
-    ensures { OnOk result (out.new ≡ out.old ++ event_text events.now what) }
+/// The name of the event that a hit brings.
+fn event(alloc: Global, events: &Names, what: What) -> Result<Name, AllocError>
+    ensures { IfOk result (λ name. name ≡ event_text events.now what) }
 {
     match what {
-        What::Da { event } => name_at(out, events, event as usize),
-        What::Ltl { .. } => Ok(()),
+        What::Da { event } if (event as usize) < events.len() => {
+            Name::new(alloc, events.get(event as usize).bytes())
+        }
+        _ => Name::new(alloc, b""),
     }
 }
 
-/// Appends what an automaton does not allow.
-fn denied(out: &mut Line, automaton: &Automaton, what: What, set: u32) -> Result<(), AllocError>
-    ensures { OnOk result (out.new ≡ out.old ++ denied_text automaton.now what set) }
-{
-    out.text(b" does not allow event ")?;
-    event(out, &automaton.events, what)?;
-    out.text(b" on state ")?;
-    state(out, &automaton.states, set)
-}
-
-/// Appends what is wrong.
-fn fault(out: &mut Line, spec: &Spec, what: What, set: u32) -> Result<(), AllocError>
-    ensures { OnOk result (out.new ≡ out.old ++ fault_text spec.now what set) }
+/// What is wrong.
+fn fault(alloc: Global, spec: &Spec, what: What, set: u32) -> Result<Fault, AllocError>
+    ensures { IfOk result (λ fault. shown_fault fault ≡ fault_text spec.now what set) }
 {
     match spec {
-        Spec::Da(automaton) => denied(out, automaton, what, set),
-        Spec::Ltl(_) => out.text(b": violation detected"),
+        Spec::Da(automaton) => {
+            let event = event(alloc, &automaton.events, what)?;
+            let state = state(alloc, &automaton.states, set)?;
+            Ok(Fault::Da { event, state })
+        }
+        Spec::Ltl(_) => Ok(Fault::Ltl),
     }
-}
-
-/// Appends what every reactor that prints says.
-fn said(
-    out: &mut Line,
-    containers: &Names,
-    monitor: &Monitor,
-    tasks: &Tasks,
-    record: &Record,
-    set: u32,
-) -> Result<(), AllocError>
-    ensures { OnOk result (out.new ≡ out.old ++ said_text (instance_text tasks.now (reported containers.now monitor.now) record.now.instance) (fault_text monitor.now.spec record.now.hit.what set) record.now.line) }
-{
-    out.text(b"monitor ")?;
-    shown(out, containers, monitor.container, &monitor.name)?;
-    place(out, tasks, monitor.scope, record.instance)?;
-    fault(out, &monitor.spec, record.hit.what, set)?;
-    out.text(b" (line ")?;
-    out.number(record.line as u64)?;
-    out.text(b")\n")
 }
 
 /// Appends what the monitor's reactor prints.
 fn react(
+    alloc: Global,
     out: &mut Line,
     containers: &Names,
     monitor: &Monitor,
@@ -91,12 +70,11 @@ fn react(
 ) -> Result<(), AllocError>
     ensures { OnOk result (out.new ≡ out.old ++ reaction_text monitor.now.reactor (instance_text tasks.now (reported containers.now monitor.now) record.now.instance) (fault_text monitor.now.spec record.now.hit.what set) record.now.line) }
 {
-    match monitor.reactor {
-        Reactor::Nop => return Ok(()),
-        Reactor::Printk => out.text(b"rv: ")?,
-        Reactor::Panic => out.text(b"rv: panic: ")?,
-    }
-    said(out, containers, monitor, tasks, record, set)
+    let mut instance = Line::new(alloc);
+    shown(&mut instance, containers, monitor.container, &monitor.name)?;
+    place(&mut instance, tasks, monitor.scope, record.instance)?;
+    let fault = fault(alloc, &monitor.spec, record.hit.what, set)?;
+    reaction(out, monitor.reactor, instance.bytes(), &fault, record.line)
 }
 
 /// The set of a record that has a reaction where its monitor's reactor prints.
@@ -110,7 +88,8 @@ fn failed_set(record: &Record) -> Option<u32>
 }
 
 /// Appends the reaction to a record, where there is one.
-pub(crate) fn reaction(
+pub(crate) fn react_to(
+    alloc: Global,
     out: &mut Line,
     bindings: &Bindings,
     tasks: &Tasks,
@@ -122,9 +101,15 @@ pub(crate) fn reaction(
         failed_set(record),
         bindings.monitors.get(record.monitor as usize),
     ) {
-        (Some(set), Some(monitor)) => {
-            react(out, &bindings.containers, monitor, tasks, record, set)
-        }
+        (Some(set), Some(monitor)) => react(
+            alloc,
+            out,
+            &bindings.containers,
+            monitor,
+            tasks,
+            record,
+            set,
+        ),
         _ => Ok(()),
     }
 }

@@ -1,6 +1,6 @@
 -- The first state whose row is in the set.
-use Rattle.std.proofs.Common.{◌≡◌, ℕ, ◌+◌, ◌<◌, List, [], ◌++◌, true, length, arith, sym, ap, ◌∙◌, append-nil}
-use Rattle.std.proofs.lemmas.Result.{on_ok_weaker}
+use Rattle.std.proofs.Common.{◌≡◌, ℕ, ◌+◌, ◌<◌, List, [], true, length, arith, sym, ap, ◌∙◌}
+use Rattle.std.proofs.lemmas.Result.{IfOk-weaker}
 use Rattle.std.proofs.lemmas.Option.{get_or_from_slice_get}
 use Rattle.rv_model.specs.Numbers.{has_bit}
 use Rattle.rv_model.specs.Reports.{state_text}
@@ -15,11 +15,11 @@ returns-then-has_row c =
     let below : place < length states = let a = c.loop-place-test.true in let b = c.len-place-end.ensures in omega arith in
     let row : 1 + place ≡ place + 1 = omega arith in
     let has : has_bit c.args.set (1 + place) ≡ true = ap (has_bit c.args.set) row ∙ sym c.has_row.ensures ∙ c.if-has_row.true in
-    let is : state_text 1 states c.args.set ≡ name = state-at 1 states c.args.set place name below c.loop-place.invariant.none has ∙ get_or_from_slice_get states place name name c.get.ensures in
-    on_ok_weaker c.text.result (λ new. new ∙ ap (λ (z : List ℕ). z ++ c.bytes.result.now) c.loop-place.invariant.same ∙ ap (λ (z : List ℕ). c.args.out.now ++ z) (c.bytes.ensures ∙ sym is)) c.text.ensures.ok
+    let is : state_text 1 states c.args.set ≡ name = state-at 1 states c.args.set place name below c.loop-place.invariant has ∙ get_or_from_slice_get states place name name c.get.ensures in
+    IfOk-weaker c.new.result (λ made. made ≡ c.bytes.result.now) (λ made. made ≡ state_text 1 states c.args.set) (λ made e. e ∙ c.bytes.ensures ∙ sym is) c.new.ensures
 
 pub returns : goal.returns
 returns c =
     let states : List (List ℕ) = c.args.states.now in
-    let none : state_text 1 states c.args.set ≡ [] = state-none 1 states c.args.set (λ j lt. c.loop-place.invariant.none j (let a = c.loop-place-test.false in let b = c.len-place-end.ensures in omega arith)) in
-    c.loop-place.invariant.same ∙ sym (append-nil c.args.out.now) ∙ ap (λ (z : List ℕ). c.args.out.now ++ z) (sym none)
+    let none : state_text 1 states c.args.set ≡ [] = state-none 1 states c.args.set (λ j lt. c.loop-place.invariant j (let a = c.loop-place-test.false in let b = c.len-place-end.ensures in omega arith)) in
+    IfOk-weaker c.new-2.result (λ made. made ≡ []) (λ made. made ≡ state_text 1 states c.args.set) (λ made e. e ∙ sym none) c.new-2.ensures

@@ -4,7 +4,4 @@ use Rattle.rv_model.specs.Numbers.{has_bit}
 use Rattle.rv_report.proofs.reactions.state.Given as goal
 
 abbrev pub invariant-loop-place : goal.invariant-loop-place
-invariant-loop-place l = record {
-  same : l.out ≡ l.fn.out;
-  none : (j : ℕ) → j < l.place → has_bit l.set (1 + j) ≡ false;
-}
+invariant-loop-place l = (j : ℕ) → j < l.place → has_bit l.set (1 + j) ≡ false
