@@ -7,3 +7,4 @@ pub mod PlanLemmas
 pub mod RowLemmas
 pub mod TestLemmas
 pub mod WellFormedLemmas
+pub mod WorkedTables
