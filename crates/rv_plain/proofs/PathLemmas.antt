@@ -31,7 +31,7 @@ and_parts false b e = cc
 same_number : (a b : ℕ) → (a == b) ≡ true → a ≡ b
 same_number a b e = grind arith
 
-itself : (a : ℕ) → (a == a) ≡ true
+pub itself : (a : ℕ) → (a == a) ≡ true
 itself a = grind arith
 
 -- an edge and a path from its end make a path
