@@ -1,5 +1,5 @@
 -- A judge by a specification: a test of the paths of an automaton, or of a rule's formula, and the steps of the table.
-use Rattle.std.proofs.Common.{◌≡◌, ℕ, ◌<◌, ◌&&◌, Bool, true, false, IsTrue, ◌↔◌, List, [], ◌∷◌, length, map, get_or, refl, sym, ap, ◌∙◌}
+use Rattle.std.proofs.Common.{◌≡◌, ℕ, ◌&&◌, Bool, true, false, IsTrue, ◌↔◌, List, [], ◌∷◌, map, refl, ◌∙◌}
 use Rattle.std.specs.List.{list_any}
 use Rattle.std.proofs.lemmas.List.{get_or_default}
 use Rattle.std.proofs.lemmas.List.Folds.{Any-from_list_any, list_any-from_Any}
@@ -12,10 +12,8 @@ use Rattle.rv_model.specs.Machine.{Machine}
 use Rattle.rv_model.specs.Letters.{atoms_in}
 use Rattle.rv_model.specs.Meaning.{meaning}
 use Rattle.rv_model.specs.Truth.{Weak}
-use Rattle.rv_model.specs.Language.{Accepts}
-use Rattle.rv_model.specs.Judging.{Judge, IsGood, JudgesBySpec}
-use Rattle.rv_model.specs.Stepping.{IsTable, table_judge}
-use Rattle.rv_model.specs.Table.{Table}
+use Rattle.rv_model.specs.Judging.{Judge, IsGood}
+use Rattle.rv_model.specs.Stepping.{table_judge}
 use Rattle.rv_model.proofs.TruthLemmas.{tells}
 use Rattle.rv_model.proofs.TableJudgeLemmas.{every_table_is_judged}
 use Rattle.rv_plain.specs.Edges.{is_edge_by}

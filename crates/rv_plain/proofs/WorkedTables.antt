@@ -1,6 +1,6 @@
 -- What computes of the worked specifications: the tables of the automata, and what rules say of short letters.
-use Rattle.std.proofs.Common.{◌≡◌, Bool, true, false, List, [], ◌∷◌, Some, None, refl}
-use Rattle.rv_model.specs.Ltl.{Ltl, False, Atom, Next, Until, Eventually}
+use Rattle.std.proofs.Common.{◌≡◌, true, false, [], ◌∷◌, Some, None, refl}
+use Rattle.rv_model.specs.Ltl.{False, Atom, Next, Until, Eventually}
 use Rattle.rv_model.specs.Meaning.{meaning}
 use Rattle.rv_model.specs.Numbers.{list_of}
 use Rattle.rv_model.specs.Table.{of_events, table_of}
