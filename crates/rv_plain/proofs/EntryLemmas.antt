@@ -1,5 +1,5 @@
 -- The entries of an automaton's table, and which edge gives each.
-use Rattle.std.proofs.Common.{◌≡◌, ℕ, zero, suc, ◌+◌, ◌-◌, ◌<◌, ◌≤◌, ◌==◌, ◌&&◌, Bool, true, false, cond, ◌⊎◌, inl, inr, List, [], ◌∷◌, length, get_or, Option, Some, None, arith, refl, sym, ap, ◌∙◌, subst, add-one, sub-one}
+use Rattle.std.proofs.Common.{◌≡◌, ℕ, zero, suc, ◌+◌, ◌-◌, ◌<◌, ◌≤◌, ◌==◌, ◌&&◌, Bool, true, false, ◌⊎◌, inl, inr, List, [], ◌∷◌, length, get_or, Option, Some, None, arith, refl, sym, ap, ◌∙◌, sub-one}
 use Rattle.std.proofs.lemmas.Option.{slice_get-get_or, slice_get_past}
 use Rattle.std.proofs.lemmas.List.{get_or_past}
 use Rattle.std.specs.Prelude.{find, option_map, option_and_then, slice_get, slice_index_or}
@@ -10,7 +10,7 @@ use Rattle.rv_model.specs.Machine.{Machine}
 use Rattle.rv_model.specs.Numbers.{list_of}
 use Rattle.rv_model.specs.Table.{next_row, table_of, entry}
 use Rattle.rv_model.specs.WellFormed.{IsAutomaton}
-use Rattle.rv_model.proofs.MeansLemmas.{length-list_of, get_or-list_of, Found, find-found, is_next-true}
+use Rattle.rv_model.proofs.MeansLemmas.{length-list_of, get_or-list_of, find-found, is_next-true}
 use Rattle.rv_plain.specs.Monitors.{BelowCount}
 
 -- the first element that passes, where none before it does

@@ -5,5 +5,7 @@ pub mod PathLemmas
 pub mod PhaseLemmas
 pub mod PlanLemmas
 pub mod RowLemmas
+pub mod SpecJudgeLemmas
 pub mod TestLemmas
 pub mod WellFormedLemmas
+pub mod WorkedTables

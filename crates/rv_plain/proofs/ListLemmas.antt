@@ -1,5 +1,5 @@
 -- Lists with a first element, and with a last one.
-use Rattle.std.proofs.Common.{◌≡◌, ℕ, zero, suc, ◌-◌, ◌<◌, ◌≤◌, List, [], ◌∷◌, ◌++◌, reverse, length, take, drop, get_or, arith, refl, sym, ap, ◌∙◌, sub-one}
+use Rattle.std.proofs.Common.{◌≡◌, ◌-◌, ◌<◌, ◌≤◌, List, [], ◌∷◌, ◌++◌, reverse, length, take, drop, get_or, arith, refl, sym, ap, ◌∙◌, sub-one}
 use Rattle.std.proofs.lemmas.List.{take_all, reverse-append}
 
 -- a list that is not empty has a first element and others

@@ -1,5 +1,5 @@
 -- A path goes on by one of the edges, and which edges were tried.
-use Rattle.std.proofs.Common.{◌≡◌, ℕ, ◌+◌, ◌<◌, ◌≤◌, ◌==◌, ◌&&◌, Bool, true, false, ◌⊎◌, inl, inr, List, [], ◌∷◌, length, take, drop, get_or, arith, refl, sym, ap, ◌∙◌, subst}
+use Rattle.std.proofs.Common.{◌≡◌, ℕ, ◌+◌, ◌<◌, ◌==◌, ◌&&◌, Bool, true, false, inl, inr, List, [], ◌∷◌, length, get_or, arith, refl, ap, ◌∙◌}
 use Rattle.std.proofs.lemmas.List.{get_or_default}
 use Rattle.rv_model.specs.declared.automaton.Edge.{Edge}
 use Rattle.rv_model.specs.declared.hit.Letter.{Letter}
@@ -31,7 +31,7 @@ and_parts false b e = cc
 same_number : (a b : ℕ) → (a == b) ≡ true → a ≡ b
 same_number a b e = grind arith
 
-itself : (a : ℕ) → (a == a) ≡ true
+pub itself : (a : ℕ) → (a == a) ≡ true
 itself a = grind arith
 
 -- an edge and a path from its end make a path

@@ -1,5 +1,5 @@
 -- Sets of rows, turns and phases, by any judge of the monitor.
-use Rattle.std.proofs.Common.{◌≡◌, ℕ, ◌+◌, ◌*◌, ◌<◌, ◌^◌, Bool, true, false, IsTrue, ◌↔◌, List, [], ◌∷◌, ◌++◌, ◌-◌, ◌≤◌, length, take, get_or, reverse, ap, arith, add-one, refl, sym, ◌∙◌, if◌then◌else◌}
+use Rattle.std.proofs.Common.{◌≡◌, ℕ, ◌+◌, ◌*◌, ◌<◌, ◌^◌, Bool, true, false, IsTrue, ◌↔◌, List, ◌∷◌, ◌-◌, ◌≤◌, length, take, get_or, reverse, ap, arith, add-one, refl, sym, ◌∙◌, if◌then◌else◌}
 use Rattle.std.specs.Prelude.{Result, Ok, Err, IfOk}
 use Rattle.std.specs.declared.alloc.AllocError.{AllocError}
 use Rattle.rv_model.specs.declared.entry.Entry.{Entry}
@@ -7,13 +7,12 @@ use Rattle.rv_model.specs.declared.hit.Letter.{Letter}
 use Rattle.rv_model.specs.Phases as model
 use Rattle.rv_model.specs.Numbers.{number_of}
 use Rattle.rv_model.specs.Table.{Reaches}
-use Rattle.rv_model.specs.Judging.{Judge, JudgesBySpec}
 use Rattle.rv_plain.specs.declared.monitor.Monitor.{Monitor}
 use Rattle.rv_plain.specs.Monitors.{table_by}
 use Rattle.rv_plain.specs.declared.phase.Phase.{Phase}
 use Rattle.rv_plain.specs.PlainPhases.{ByJudge, IsPhaseOf, IsPhaseAfter}
 use Rattle.rv_plain.proofs.ListLemmas.{reverse_last}
-use Rattle.rv_plain.proofs.NumberLemmas.{number-none, number-below, number-step}
+use Rattle.rv_plain.proofs.NumberLemmas.{number-none, number-step}
 
 -- the rows below the number that the letters reach; and the set is below the power
 abbrev pub RowsBelow : Monitor → List Letter → ℕ → ℕ → Type 0

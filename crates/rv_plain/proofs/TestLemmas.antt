@@ -1,5 +1,5 @@
 -- Tests that are true exactly where a fact holds.
-use Rattle.std.proofs.Common.{◌≡◌, ℕ, ◌==◌, arith, Bool, true, false, IsTrue, refl}
+use Rattle.std.proofs.Common.{◌≡◌, ℕ, ◌==◌, arith, true, false, IsTrue, refl}
 
 pub iff_yes : {P : Type 0} → P → (IsTrue true → P) × (P → IsTrue true)
 iff_yes p = (λ _. p, λ _. refl)

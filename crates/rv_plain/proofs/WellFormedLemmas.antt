@@ -1,6 +1,6 @@
 -- The worked automata and rules are well formed.
-use Rattle.std.proofs.Common.{◌≡◌, ◌≢◌, ℕ, zero, suc, ◌<◌, ◌≤◌, Bool, true, false, IsTrue, List, [], ◌∷◌, length, get_or, Some, None, inl, inr, lit<, nat_eq, add-one, ◌++◌, ◌+◌, arith, refl, sym, ap, ◌∙◌}
-use Rattle.std.specs.Prelude.{All, AllPairs, Any, drop, slice_index_or, codes, ◌⊎◌, ◌^◌}
+use Rattle.std.proofs.Common.{◌≡◌, ◌≢◌, ℕ, zero, suc, ◌<◌, ◌≤◌, Bool, true, false, List, [], ◌∷◌, length, inl, inr, lit<, nat_eq, add-one, ◌++◌, ◌+◌, arith, refl, sym, ap, ◌∙◌}
+use Rattle.std.specs.Prelude.{All, AllPairs, Any, codes}
 use Rattle.std.specs.List.{list_all, starts_with}
 use Rattle.std.proofs.lemmas.Bool.{false≢true}
 use Rattle.std.specs.Ordering.{ordering_then}

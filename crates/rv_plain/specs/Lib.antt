@@ -1,4 +1,5 @@
 pub mod Edges
+pub mod JudgedSpecs
 pub mod Monitors
 pub mod PlainPhases
 pub mod PlainRecords

@@ -1,7 +1,7 @@
 -- A plan as the definitions' setup, and its slots.
 use Rattle.std.specs.Prelude.{ℕ, ◌<◌, List, length, map, All}
 use Rattle.rv_model.specs.declared.entry.Act.{Act}
-use Rattle.rv_model.specs.declared.entry.Act.TheVariants.{Deliver, Stop, Clear, Look, Raise, Lower}
+use Rattle.rv_model.specs.declared.entry.Act.TheVariants.{Deliver, Stop, Clear}
 use Rattle.rv_model.specs.declared.entry.Entry.{Entry}
 use Rattle.rv_model.specs.declared.formula.Spec.{Spec}
 use Rattle.rv_model.specs.Judging.{Judge}

@@ -3,7 +3,7 @@
 use Rattle.std.specs.Prelude.{ℕ, ◌+◌, List, [], ◌∷◌, codes}
 use Rattle.rv_model.specs.declared.automaton.Edge.{Edge}
 use Rattle.rv_model.specs.Machine.{Machine}
-use Rattle.rv_model.specs.Ltl.{Ltl, Atom, Not, Always, And, Or, Imply, Until}
+use Rattle.rv_model.specs.Ltl.{Ltl, Atom, Not, Always, Imply}
 use Rattle.rv_model.specs.Numbers.{list_of}
 
 abbrev pub edge : ℕ → ℕ → ℕ → Edge

@@ -3,6 +3,7 @@
 
 mod acceptance;
 mod bits;
+mod laws;
 mod levels;
 mod monitor;
 mod phase;
@@ -17,11 +18,11 @@ pub mod worked;
 pub mod works;
 
 pub use acceptance::accepts;
+pub use laws::specifications_are_judged;
 pub use levels::{letter_at, level, levels_of};
 pub use monitor::{Monitor, Node};
 pub use phase::Phase;
 pub use plan::Plan;
 pub use records::status_of;
 pub use satisfaction::{View, satisfies};
-pub use script::look_place;
 pub use switches::{switch, switches_of};

@@ -15,53 +15,41 @@ pub const ROW_2: u64 = 1 << 34;
 
 pub const ROW_3: u64 = 1 << 35;
 
-/// An act by a seat, the word that it leaves behind, and its answer.
+/// An act, with no more than a test wants to say.
 #[derive(Clone, Copy, Drop)]
-pub struct Step {
-    pub seat: u32,
-    pub act: Act,
-    pub after: u64,
-    pub answer: Answer,
+pub enum Does {
+    /// An automaton's event, on a slot.
+    Event(u32, u8),
+    Start(u32, u8),
+    StartRun(u32, u8),
+    /// An event of a rule: levels on, levels off, pulses.
+    Atoms(u32, u32, u32),
+    /// The same, which begins a run.
+    RunAtoms(u32, u32, u32),
+    Stop(u32),
+    Clear(u32),
+    Look,
+    Raise(u64),
+    Lower(u64),
 }
 
-pub fn does(act: Act, after: u64, answer: Answer) -> Step {
-    Step {
-        seat: 2,
-        act,
-        after,
-        answer,
+/// A seat, what it does, the word that it leaves behind, and its answer.
+pub type Step = (u32, Does, u64, Answer);
+
+/// The act in full.
+pub fn act_of(does: Does) -> Act {
+    match does {
+        Does::Event(slot, event) => deliver(slot, Mode::Event, What::Da { event }),
+        Does::Start(slot, event) => deliver(slot, Mode::Start, What::Da { event }),
+        Does::StartRun(slot, event) => deliver(slot, Mode::StartRun, What::Da { event }),
+        Does::Atoms(on, off, pulse) => deliver(0, Mode::Event, What::Ltl { on, off, pulse }),
+        Does::RunAtoms(on, off, pulse) => deliver(0, Mode::StartRun, What::Ltl { on, off, pulse }),
+        Does::Stop(slot) => Act::Stop { slot },
+        Does::Clear(slot) => Act::Clear { slot },
+        Does::Look => Act::Look,
+        Does::Raise(bits) => Act::Raise { bits },
+        Does::Lower(bits) => Act::Lower { bits },
     }
-}
-
-pub fn by(seat: u32, act: Act, after: u64, answer: Answer) -> Step {
-    Step {
-        seat,
-        act,
-        after,
-        answer,
-    }
-}
-
-pub fn event(slot: u32, event: u8) -> Act {
-    deliver(slot, Mode::Event, What::Da { event })
-}
-
-pub fn start(slot: u32, event: u8) -> Act {
-    deliver(slot, Mode::Start, What::Da { event })
-}
-
-pub fn start_run(slot: u32, event: u8) -> Act {
-    deliver(slot, Mode::StartRun, What::Da { event })
-}
-
-/// An event of a rule: levels on, levels off, pulses.
-pub fn atoms(on: u32, off: u32, pulse: u32) -> Act {
-    deliver(0, Mode::Event, What::Ltl { on, off, pulse })
-}
-
-/// The same, which begins a run.
-pub fn run_atoms(on: u32, off: u32, pulse: u32) -> Act {
-    deliver(0, Mode::StartRun, What::Ltl { on, off, pulse })
 }
 
 fn deliver(slot: u32, mode: Mode, what: What) -> Act {
@@ -72,7 +60,7 @@ fn deliver(slot: u32, mode: Mode, what: What) -> Act {
 }
 
 /// Each step of the history has its answer, and leaves its word.
-pub fn check(
+fn check(
     rt: &impl Abort,
     alloc: Global,
     plan: &Plan,
@@ -80,21 +68,35 @@ pub fn check(
     steps: &[Step],
 ) -> Result<(), AllocError> {
     let mut history: Vec<Entry> = Vec::new(alloc);
-    for step in steps {
+    for (seat, does, wanted_word, wanted) in steps {
         let place = history.len();
-        assert!(rt; plan.has_slot_of(step.act), "{name} at {place}");
-        let before = plan.word_on(alloc, history.as_slice(), step.act)?;
+        let act = act_of(*does);
+        assert!(rt; plan.has_slot_of(act), "{name} at {place}");
+        let before = plan.word_on(alloc, history.as_slice(), act)?;
         let entry = Entry {
-            seat: step.seat,
-            act: step.act,
+            seat: *seat,
+            act,
             before,
-            after: step.after,
+            after: *wanted_word,
         };
         let answer = plan.answer_at(alloc, history.as_slice(), entry)?;
-        assert_eq!(rt; answer, step.answer, "{name} at {place}");
+        assert_eq!(rt; answer, *wanted, "{name} at {place}");
         history.push(entry)?;
-        let after = plan.word_on(alloc, history.as_slice(), step.act)?;
-        assert_eq!(rt; after, step.after, "{name} at {place}");
+        let after = plan.word_on(alloc, history.as_slice(), act)?;
+        assert_eq!(rt; after, *wanted_word, "{name} at {place}");
+    }
+    Ok(())
+}
+
+/// Each history is as its steps say.
+pub fn check_all(
+    rt: &impl Abort,
+    alloc: Global,
+    plan: &Plan,
+    cases: &[(&str, &[Step])],
+) -> Result<(), AllocError> {
+    for (name, steps) in cases {
+        check(rt, alloc, plan, name, steps)?;
     }
     Ok(())
 }

@@ -1,9 +1,10 @@
 //! Records and status of small histories of two CPUs, whose works have a delivery or two a turn.
 use crate::plan::Plan;
 use crate::records::status_of;
-use crate::tests::given::{OPENING, event, start, start_run, two_automata};
+use crate::tests::given::Does::{Event, Look, Raise, Start, StartRun, Stop};
+use crate::tests::given::{Does, OPENING, act_of, two_automata};
 use crate::works::{names_each, work};
-use rv_model::{Act, Answer, CpuWork, Delivered, Delivery, Entry, Hit, Mode, Record, Turn, What};
+use rv_model::{Act, Answer, CpuWork, Delivered, Delivery, Entry, Hit, Mode, Turn, What};
 use std::alloc::{AllocError, Global};
 use std::process::Abort;
 use std::test::Fail;
@@ -14,20 +15,9 @@ const REACTING: u64 = 1 << 33;
 
 const MONITORING: u64 = 1 << 32;
 
-/// The hit of an act, where it is a delivery.
-fn hit_of(act: Act) -> Hit {
-    match act {
-        Act::Deliver { slot: _, hit } => hit,
-        _ => Hit {
-            mode: Mode::Event,
-            what: What::Da { event: 0 },
-        },
-    }
-}
-
-/// A delivery of the first monitor, or of the second where the slot is its only one.
-fn delivery(order: u32, act: Act) -> Delivery {
-    match act {
+/// The delivery of this order: of the second monitor where the slot is its only one, else of the first.
+fn delivery(order: u32, does: Does) -> Delivery {
+    match act_of(does) {
         Act::Deliver { slot: 2, hit } => Delivery {
             order,
             monitor: 1,
@@ -40,274 +30,248 @@ fn delivery(order: u32, act: Act) -> Delivery {
             instance: slot,
             hit,
         },
-        _ => Delivery {
-            order,
-            monitor: 0,
-            instance: 0,
-            hit: hit_of(act),
-        },
+        _ => {
+            let hit = Hit {
+                mode: Mode::Event,
+                what: What::Da { event: 0 },
+            };
+            Delivery {
+                order,
+                monitor: 0,
+                instance: 0,
+                hit,
+            }
+        }
     }
 }
 
-fn turn(line: u32, from: u32, to: u32) -> Turn {
-    Turn { line, from, to }
-}
+/// A CPU's turns, each a line and where its deliveries begin and end, and its deliveries with their orders.
+type Part = (u8, &'static [(u32, u32, u32)], &'static [(u32, Does)]);
 
-fn entry(seat: u32, act: Act, after: u64) -> Entry {
-    Entry {
-        seat,
-        act,
-        before: 0,
-        after,
+/// The works of these parts.
+fn works_of(rt: &impl Abort, alloc: Global, parts: &[Part]) -> Result<Vec<CpuWork>, AllocError> {
+    let mut works = Vec::new(alloc);
+    for (cpu, lines, done) in parts {
+        let mut turns = Vec::new(alloc);
+        for (line, from, to) in *lines {
+            turns.push(Turn {
+                line: *line,
+                from: *from,
+                to: *to,
+            })?;
+        }
+        let mut deliveries = Vec::new(alloc);
+        for (order, does) in *done {
+            deliveries.push(delivery(*order, *does))?;
+        }
+        assert!(rt; deliveries.len() < 100);
+        assert!(rt; names_each(0, turns.as_slice(), deliveries.len() as u32));
+        works.push(work(alloc, *cpu, turns.as_slice(), deliveries.as_slice())?)?;
     }
+    Ok(works)
 }
 
-fn look(seat: u32, switches: u64) -> Entry {
-    entry(seat, Act::Look, switches)
-}
+/// A seat, what it does, and for a look the switches that it found.
+type Line = (u32, Does, u64);
 
-fn made(seat: u32, act: Act) -> Entry {
-    entry(seat, act, 0)
-}
-
-fn work_of(
-    rt: &impl Abort,
-    alloc: Global,
-    cpu: u8,
-    turns: &[Turn],
-    deliveries: &[Delivery],
-) -> Result<CpuWork, AllocError> {
-    assert!(rt; deliveries.len() < 100);
-    assert!(rt; names_each(0, turns, deliveries.len() as u32));
-    work(alloc, cpu, turns, deliveries)
-}
-
-/// The order, line, outcome and reacting of each record.
+/// The order, line, outcome and reacting of a record.
 type Wanted = (u32, u32, Delivered, bool);
+
+/// A history, its records and its status.
+type Case<'a> = (&'a str, &'a [Line], &'a [Wanted], u8);
 
 /// The history has these records, and this status.
 fn check(
     rt: &impl Abort,
     alloc: Global,
     plan: &Plan,
-    name: &str,
     works: &[CpuWork],
-    history: &[Entry],
-    wanted: &[Wanted],
-    status: u8,
+    case: &Case,
 ) -> Result<(), AllocError> {
-    assert!(rt; plan.has_slots(history), "{name}");
-    let records = plan.records_of(alloc, works, history)?;
+    let (name, lines, wanted, status) = *case;
+    let mut history: Vec<Entry> = Vec::new(alloc);
+    for (seat, does, after) in lines {
+        history.push(Entry {
+            seat: *seat,
+            act: act_of(*does),
+            before: 0,
+            after: *after,
+        })?;
+    }
+    assert!(rt; plan.has_slots(history.as_slice()), "{name}");
+    let records = plan.records_of(alloc, works, history.as_slice())?;
     assert_eq!(rt; records.len(), wanted.len(), "{name}");
-    for (record, (order, line, outcome, reacting)) in records.iter().zip(wanted.iter()) {
-        assert_eq!(rt; record.order, *order, "{name}");
-        assert_eq!(rt; record.line, *line, "{name}");
-        assert_eq!(rt; record.outcome, *outcome, "{name}");
-        assert_eq!(rt; record.reacting, *reacting, "{name}");
+    for (made, (order, line, outcome, reacting)) in records.iter().zip(wanted.iter()) {
+        assert_eq!(rt; made.order, *order, "{name}");
+        assert_eq!(rt; made.line, *line, "{name}");
+        assert_eq!(rt; made.outcome, *outcome, "{name}");
+        assert_eq!(rt; made.reacting, *reacting, "{name}");
     }
     assert_eq!(rt; status_of(records.as_slice()), status, "{name}");
     Ok(())
 }
 
+fn check_all(
+    rt: &impl Abort,
+    alloc: Global,
+    parts: &[Part],
+    cases: &[Case],
+) -> Result<(), AllocError> {
+    let plan = two_automata(alloc)?;
+    let works = works_of(rt, alloc, parts)?;
+    for case in cases {
+        check(rt, alloc, &plan, works.as_slice(), case)?;
+    }
+    Ok(())
+}
+
 #[test]
 fn each_shown_delivery_has_its_record(rt: HostRuntime) -> Result<(), Fail> {
-    let plan = two_automata(rt.alloc())?;
-    let alloc = rt.alloc();
-    let deliveries = [
-        delivery(0, start(0, 1)),
-        delivery(1, event(0, 0)),
-        delivery(2, event(0, 2)),
-        delivery(3, start(0, 1)),
-        delivery(4, event(0, 2)),
-    ];
-    let turns = [
-        turn(1, 0, 1),
-        turn(2, 1, 2),
-        turn(3, 2, 3),
-        turn(4, 3, 4),
-        turn(5, 4, 5),
-    ];
-    let mut works = Vec::new(alloc);
-    works.push(work_of(&rt, alloc, 0, &turns, &deliveries)?)?;
-    let worked = [
-        look(2, OPENING),
-        made(2, start(0, 1)),
-        look(2, OPENING),
-        made(2, event(0, 0)),
-        look(2, OPENING),
-        made(2, event(0, 2)),
-        look(2, OPENING),
-        made(2, start(0, 1)),
-        look(2, OPENING),
-        made(2, event(0, 2)),
-    ];
-    check(
-        &rt,
-        alloc,
-        &plan,
-        "the worked trace",
-        works.as_slice(),
-        &worked,
-        &[
-            (0, 1, Delivered::Done(Answer::Started), true),
-            (1, 2, Delivered::Done(Answer::Kept), true),
-            (2, 3, Delivered::Done(Answer::Kept), true),
-            (3, 4, Delivered::Done(Answer::Kept), true),
-            (4, 5, Delivered::Done(Answer::Failed(2)), true),
-        ],
-        1,
-    )?;
-    let quiet = [
-        look(2, OPENING),
-        made(2, start(0, 1)),
-        look(2, 3 + REACTING),
-        look(2, 2 + MONITORING + REACTING),
-        look(2, 3 + MONITORING),
-        made(2, start(0, 1)),
-        look(2, OPENING + HALTED),
-    ];
-    check(
-        &rt,
-        alloc,
-        &plan,
-        "monitoring off, a monitor off, reacting off, a halt seen",
-        works.as_slice(),
-        &quiet,
-        &[
-            (0, 1, Delivered::Done(Answer::Started), true),
-            (3, 4, Delivered::Done(Answer::Failed(2)), false),
-        ],
-        1,
-    )?;
-    check(
-        &rt,
-        alloc,
-        &plan,
-        "nothing was done",
-        works.as_slice(),
-        &[],
-        &[],
+    let parts: [Part; 1] = [(
         0,
-    )?;
+        &[(1, 0, 1), (2, 1, 2), (3, 2, 3), (4, 3, 4), (5, 4, 5)],
+        &[
+            (0, Start(0, 1)),
+            (1, Event(0, 0)),
+            (2, Event(0, 2)),
+            (3, Start(0, 1)),
+            (4, Event(0, 2)),
+        ],
+    )];
+    let cases: [Case; 3] = [
+        (
+            "the worked trace",
+            &[
+                (2, Look, OPENING),
+                (2, Start(0, 1), 0),
+                (2, Look, OPENING),
+                (2, Event(0, 0), 0),
+                (2, Look, OPENING),
+                (2, Event(0, 2), 0),
+                (2, Look, OPENING),
+                (2, Start(0, 1), 0),
+                (2, Look, OPENING),
+                (2, Event(0, 2), 0),
+            ],
+            &[
+                (0, 1, Delivered::Done(Answer::Started), true),
+                (1, 2, Delivered::Done(Answer::Kept), true),
+                (2, 3, Delivered::Done(Answer::Kept), true),
+                (3, 4, Delivered::Done(Answer::Kept), true),
+                (4, 5, Delivered::Done(Answer::Failed(2)), true),
+            ],
+            1,
+        ),
+        (
+            "monitoring off, a monitor off, reacting off, a halt seen",
+            &[
+                (2, Look, OPENING),
+                (2, Start(0, 1), 0),
+                (2, Look, 3 + REACTING),
+                (2, Look, 2 + MONITORING + REACTING),
+                (2, Look, 3 + MONITORING),
+                (2, Start(0, 1), 0),
+                (2, Look, OPENING + HALTED),
+            ],
+            &[
+                (0, 1, Delivered::Done(Answer::Started), true),
+                (3, 4, Delivered::Done(Answer::Failed(2)), false),
+            ],
+            1,
+        ),
+        ("nothing was done", &[], &[], 0),
+    ];
+    check_all(&rt, rt.alloc(), &parts, &cases)?;
     Ok(())
 }
 
 #[test]
 fn turns_may_be_cut_and_instances_stopped(rt: HostRuntime) -> Result<(), Fail> {
-    let plan = two_automata(rt.alloc())?;
-    let alloc = rt.alloc();
-    let mut works = Vec::new(alloc);
-    works.push(work_of(
-        &rt,
-        alloc,
-        0,
-        &[turn(1, 0, 2), turn(3, 2, 3)],
-        &[
-            delivery(0, start_run(0, 1)),
-            delivery(1, start(2, 1)),
-            delivery(3, event(0, 0)),
-        ],
-    )?)?;
-    works.push(work_of(&rt, alloc, 1, &[turn(2, 0, 1)], &[delivery(2, start(1, 1))])?)?;
-    let cut = [
-        look(3, OPENING),
-        look(2, OPENING),
-        made(2, start_run(0, 1)),
-        made(3, start(1, 1)),
-        made(2, Act::Raise { bits: HALTED }),
+    let parts: [Part; 2] = [
+        (
+            0,
+            &[(1, 0, 2), (3, 2, 3)],
+            &[(0, StartRun(0, 1)), (1, Start(2, 1)), (3, Event(0, 0))],
+        ),
+        (1, &[(2, 0, 1)], &[(2, Start(1, 1))]),
     ];
-    check(
-        &rt,
-        alloc,
-        &plan,
-        "a panic that cuts a turn short",
-        works.as_slice(),
-        &cut,
-        &[
-            (0, 1, Delivered::Done(Answer::Failed(2)), true),
-            (2, 2, Delivered::Done(Answer::Started), true),
-        ],
-        1,
-    )?;
-    let halted = [
-        look(2, OPENING),
-        made(2, start_run(0, 1)),
-        made(2, Act::Raise { bits: HALTED }),
-        look(3, OPENING + HALTED),
+    let cases: [Case; 5] = [
+        (
+            "a panic that cuts a turn short",
+            &[
+                (3, Look, OPENING),
+                (2, Look, OPENING),
+                (2, StartRun(0, 1), 0),
+                (3, Start(1, 1), 0),
+                (2, Raise(HALTED), 0),
+            ],
+            &[
+                (0, 1, Delivered::Done(Answer::Failed(2)), true),
+                (2, 2, Delivered::Done(Answer::Started), true),
+            ],
+            1,
+        ),
+        (
+            "a halt that another CPU sees",
+            &[
+                (2, Look, OPENING),
+                (2, StartRun(0, 1), 0),
+                (2, Raise(HALTED), 0),
+                (3, Look, OPENING + HALTED),
+            ],
+            &[(0, 1, Delivered::Done(Answer::Failed(2)), true)],
+            1,
+        ),
+        (
+            "an instance that was stopped",
+            &[
+                (2, Look, OPENING),
+                (2, Stop(0), 0),
+                (2, Start(2, 1), 0),
+                (3, Look, OPENING),
+                (3, Start(1, 1), 0),
+                (2, Look, OPENING),
+                (2, Event(0, 0), 0),
+            ],
+            &[
+                (0, 1, Delivered::Racing, true),
+                (1, 1, Delivered::Done(Answer::Started), true),
+                (2, 2, Delivered::Done(Answer::Started), true),
+                (3, 3, Delivered::Done(Answer::Passed), true),
+            ],
+            6,
+        ),
+        (
+            "a failure and a stop",
+            &[
+                (2, Look, OPENING),
+                (2, StartRun(0, 1), 0),
+                (2, Start(2, 1), 0),
+                (3, Look, OPENING),
+                (3, Stop(1), 0),
+            ],
+            &[
+                (0, 1, Delivered::Done(Answer::Failed(2)), true),
+                (1, 1, Delivered::Done(Answer::Started), true),
+                (2, 2, Delivered::Racing, true),
+            ],
+            1,
+        ),
+        (
+            "a delivery of a monitor that is off",
+            &[
+                (2, Look, 1 + MONITORING + REACTING),
+                (2, StartRun(0, 0), 0),
+                (2, Look, OPENING),
+                (2, Event(0, 2), 0),
+            ],
+            &[
+                (0, 1, Delivered::Done(Answer::Started), true),
+                (3, 3, Delivered::Done(Answer::Kept), true),
+            ],
+            0,
+        ),
     ];
-    check(
-        &rt,
-        alloc,
-        &plan,
-        "a halt that another CPU sees",
-        works.as_slice(),
-        &halted,
-        &[(0, 1, Delivered::Done(Answer::Failed(2)), true)],
-        1,
-    )?;
-    let stopped = [
-        look(2, OPENING),
-        made(2, Act::Stop { slot: 0 }),
-        made(2, start(2, 1)),
-        look(3, OPENING),
-        made(3, start(1, 1)),
-        look(2, OPENING),
-        made(2, event(0, 0)),
-    ];
-    check(
-        &rt,
-        alloc,
-        &plan,
-        "an instance that was stopped",
-        works.as_slice(),
-        &stopped,
-        &[
-            (0, 1, Delivered::Racing, true),
-            (1, 1, Delivered::Done(Answer::Started), true),
-            (2, 2, Delivered::Done(Answer::Started), true),
-            (3, 3, Delivered::Done(Answer::Passed), true),
-        ],
-        6,
-    )?;
-    let both = [
-        look(2, OPENING),
-        made(2, start_run(0, 1)),
-        made(2, start(2, 1)),
-        look(3, OPENING),
-        made(3, Act::Stop { slot: 1 }),
-    ];
-    check(
-        &rt,
-        alloc,
-        &plan,
-        "a failure and a stop",
-        works.as_slice(),
-        &both,
-        &[
-            (0, 1, Delivered::Done(Answer::Failed(2)), true),
-            (1, 1, Delivered::Done(Answer::Started), true),
-            (2, 2, Delivered::Racing, true),
-        ],
-        1,
-    )?;
-    let second_off = [
-        look(2, 1 + MONITORING + REACTING),
-        made(2, start_run(0, 0)),
-        look(2, OPENING),
-        made(2, event(0, 2)),
-    ];
-    check(
-        &rt,
-        alloc,
-        &plan,
-        "a delivery of a monitor that is off",
-        works.as_slice(),
-        &second_off,
-        &[
-            (0, 1, Delivered::Done(Answer::Started), true),
-            (3, 3, Delivered::Done(Answer::Kept), true),
-        ],
-        0,
-    )?;
+    check_all(&rt, rt.alloc(), &parts, &cases)?;
     Ok(())
 }

@@ -1,9 +1,9 @@
-use Rattle.std.proofs.Common.{◌≡◌, ◌∙◌, ap, sym, subst, length, arith}
+use Rattle.std.proofs.Common.{◌∙◌, ap, sym, subst, arith}
 use Rattle.rv_model.specs.declared.hit.Letter.TheVariants.{Event}
 use Rattle.rv_model.specs.Machine.{Machine}
 use Rattle.rv_plain.proofs.ListLemmas.{split_first}
 use Rattle.rv_plain.proofs.TestLemmas.{iff_yes, iff_no}
-use Rattle.rv_plain.proofs.PathLemmas.{AcceptsFrom, edge_at, path-here, path-none, none-next}
+use Rattle.rv_plain.proofs.PathLemmas.{AcceptsFrom, path-here, path-none, none-next}
 use Rattle.rv_plain.proofs.acceptance.+accepts_from.Goals.{else-leads-via-then-leads+else-accepts_from, else-leads-via-else-leads}
 use Rattle.rv_plain.proofs.acceptance.+accepts_from.Goals as goal
 

@@ -1,4 +1,4 @@
-use Rattle.std.proofs.Common.{reverse, ◌∷◌, ◌||◌, ℕ}
+use Rattle.std.proofs.Common.{reverse, ◌∷◌, ◌||◌}
 use Rattle.rv_model.specs.Numbers.{has_bit}
 use Rattle.rv_model.specs.Phases.{level}
 use Rattle.rv_plain.proofs.NumberLemmas.{number-none, number-below, number-step}

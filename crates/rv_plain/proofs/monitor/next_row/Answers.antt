@@ -1,4 +1,4 @@
-use Rattle.std.proofs.Common.{◌≡◌, ◌<◌, ◌≤◌, sym, ap, ◌∙◌, length, arith}
+use Rattle.std.proofs.Common.{◌≤◌, sym, ap, ◌∙◌, length, arith}
 use Rattle.rv_model.specs.Machine.{Machine}
 use Rattle.rv_model.specs.Table.{table_of, entry}
 use Rattle.rv_plain.proofs.EntryLemmas.{entry-past, entry-no_event, entry-in}

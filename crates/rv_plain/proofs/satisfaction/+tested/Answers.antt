@@ -1,5 +1,4 @@
-use Rattle.std.proofs.Common.{map, ap, ◌∙◌, sym}
-use Rattle.rv_model.specs.Letters.{atoms_in}
+use Rattle.std.proofs.Common.{◌∙◌, sym}
 use Rattle.rv_model.specs.Formulas.{ltl}
 use Rattle.rv_model.proofs.TruthLemmas.{proper}
 use Rattle.rv_plain.specs.Views.{view_of}

@@ -1,5 +1,4 @@
-use Rattle.std.proofs.Common.{◌∙◌, ap, ◌++◌, ◌∷◌, [], List, ℕ}
-use Rattle.rv_plain.specs.Worked.{letter_name}
+use Rattle.std.proofs.Common.{◌∙◌}
 use Rattle.rv_plain.proofs.WellFormedLemmas.{names-none, names-more}
 use Rattle.rv_plain.proofs.worked.letter_names.Goals as goal
 

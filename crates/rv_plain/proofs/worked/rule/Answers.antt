@@ -1,4 +1,4 @@
-use Rattle.std.proofs.Common.{◌≡◌, sym, subst, List, ℕ}
+use Rattle.std.proofs.Common.{sym, subst, List, ℕ}
 use Rattle.rv_model.specs.Formulas.{ltl, IsRule}
 use Rattle.rv_plain.proofs.WellFormedLemmas.{letters_well_formed}
 use Rattle.rv_plain.proofs.worked.rule.Goals as goal

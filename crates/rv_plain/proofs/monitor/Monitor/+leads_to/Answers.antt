@@ -1,4 +1,4 @@
-use Rattle.std.proofs.Common.{◌≡◌, ◌<◌, sym, ◌∙◌, subst, arith, [], true}
+use Rattle.std.proofs.Common.{sym, ◌∙◌, subst, arith}
 use Rattle.rv_model.specs.declared.hit.Letter.TheVariants.{Event}
 use Rattle.rv_plain.specs.Monitors.{table_by}
 use Rattle.rv_plain.proofs.ListLemmas.{split_first, is_empty}

@@ -1,4 +1,4 @@
-use Rattle.std.proofs.Common.{length, get_or, ◌<◌, ◌≡◌, ℕ, true}
+use Rattle.std.proofs.Common.{length, get_or}
 use Rattle.rv_model.specs.declared.hit.Letter.TheVariants.{Event}
 use Rattle.rv_plain.specs.Monitors.{table_by}
 use Rattle.rv_plain.proofs.RowLemmas.{NoRowBefore}
