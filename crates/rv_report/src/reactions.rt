@@ -65,24 +65,24 @@ fn react(
     containers: &Names,
     monitor: &Monitor,
     tasks: &Tasks,
-    record: &Record,
+    made: &Record,
     set: u32,
 ) -> Result<(), AllocError>
-    ensures { OnOk result (out.new ≡ out.old ++ reaction_text monitor.now.reactor (instance_text tasks.now (reported containers.now monitor.now) record.now.instance) (fault_text monitor.now.spec record.now.hit.what set) record.now.line) }
+    ensures { OnOk result (out.new ≡ out.old ++ reaction_text monitor.now.reactor (instance_text tasks.now (reported containers.now monitor.now) made.now.instance) (fault_text monitor.now.spec made.now.hit.what set) made.now.line) }
 {
     let mut instance = Line::new(alloc);
     shown(&mut instance, containers, monitor.container, &monitor.name)?;
-    place(&mut instance, tasks, monitor.scope, record.instance)?;
-    let fault = fault(alloc, &monitor.spec, record.hit.what, set)?;
-    reaction(out, monitor.reactor, instance.bytes(), &fault, record.line)
+    place(&mut instance, tasks, monitor.scope, made.instance)?;
+    let fault = fault(alloc, &monitor.spec, made.hit.what, set)?;
+    reaction(out, monitor.reactor, instance.bytes(), &fault, made.line)
 }
 
 /// The set of a record that has a reaction where its monitor's reactor prints.
-fn failed_set(record: &Record) -> Option<u32>
-    ensures { result ≡ failed_set record.now }
+fn failed_set(made: &Record) -> Option<u32>
+    ensures { result ≡ failed_set made.now }
 {
-    match record.outcome {
-        Delivered::Done(Answer::Failed(set)) if record.reacting => Some(set),
+    match made.outcome {
+        Delivered::Done(Answer::Failed(set)) if made.reacting => Some(set),
         _ => None,
     }
 }
@@ -93,13 +93,13 @@ pub(crate) fn react_to(
     out: &mut Line,
     bindings: &Bindings,
     tasks: &Tasks,
-    record: &Record,
+    made: &Record,
 ) -> Result<(), AllocError>
-    ensures { OnOk result (out.new ≡ out.old ++ record_text (slice_get (reported_of bindings.now) record.now.monitor) tasks.now record.now) }
+    ensures { OnOk result (out.new ≡ out.old ++ record_text (slice_get (reported_of bindings.now) made.now.monitor) tasks.now made.now) }
 {
     match (
-        failed_set(record),
-        bindings.monitors.get(record.monitor as usize),
+        failed_set(made),
+        bindings.monitors.get(made.monitor as usize),
     ) {
         (Some(set), Some(monitor)) => react(
             alloc,
@@ -107,7 +107,7 @@ pub(crate) fn react_to(
             &bindings.containers,
             monitor,
             tasks,
-            record,
+            made,
             set,
         ),
         _ => Ok(()),
