@@ -35,3 +35,5 @@ pub mod MachineLaws
 pub mod TextSize
 pub mod DrawnAgain
 pub mod ReadAgain
+pub mod DrawnSound
+pub mod DrawnComplete

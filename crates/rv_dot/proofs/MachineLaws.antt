@@ -65,7 +65,8 @@ edge_less e f h = elim h [
     same : (x : ℕ) → nat_cmp x x ≡ Equal
     same x = let apart : nat_lt x x ≡ false = grind (arith, nat_tests) in let test : (x == x) ≡ true = grind (arith, nat_tests) in rw (apart, test) refl
 
-moves_in_order : (edges : List Edge) → AllLater EdgeIsBefore edges → Ascends move_cmp (map move_of edges)
+-- edges in order are moves in order
+pub moves_in_order : (edges : List Edge) → AllLater EdgeIsBefore edges → Ascends move_cmp (map move_of edges)
 moves_in_order [] h = tt
 moves_in_order (e ∷ edges) h = (go edges h.0, moves_in_order edges h.1)
   where

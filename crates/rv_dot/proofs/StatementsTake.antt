@@ -10,7 +10,7 @@ use Rattle.std.proofs.lemmas.Option.{same_Some}
 use Rattle.std.specs.Cmp.Lexicographic.{bytes_decides}
 use Rattle.std.proofs.lemmas.Bool.Decides.{nat_tests}
 use Rattle.rv_dot.specs.declared.token.Mark.TheVariants.{OpenBrace, CloseBrace, OpenBracket, CloseBracket, Equals, Semicolon, Arrow}
-use Rattle.rv_dot.specs.Tokens.{Lexeme, sign, word, Gives}
+use Rattle.rv_dot.specs.Tokens.{Lexeme, sign, word, GivesSome}
 use Rattle.rv_dot.specs.Marks.{begins, expects, without, is_assignment}
 use Rattle.rv_dot.specs.Names.{name_of}
 use Rattle.rv_dot.specs.Statements.{Claim, claims, declares, leads, held, word_at, value_at, name_at, bracket_at, optional_bracket_at, names_at, declared_at, ranked_at, group_at, assignment_at, edge_at, named_at, statement_at, statements_within, statements_at, claims_of}
@@ -210,6 +210,6 @@ file_takes tokens said h =
       | inr p ↦ absurd (cc)
     ]
 
-pub is_found : (tokens : List Lexeme) (r : Result (Vec Fact Global) ReadError) → Gives (λ v. claims v.items) r (claims_of tokens) → IfOk r (λ v. (f : File) × IsFile f × (tokens ≡ file f) × (file_says f ≡ claims v.items))
+pub is_found : (tokens : List Lexeme) (r : Result (Vec Fact Global) ReadError) → GivesSome (λ v. claims v.items) r (claims_of tokens) → IfOk r (λ v. (f : File) × IsFile f × (tokens ≡ file f) × (file_says f ≡ claims v.items))
 is_found tokens (Ok v) h = file_takes tokens (claims v.items) h
 is_found tokens (Err e) h = tt

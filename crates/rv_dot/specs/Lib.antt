@@ -16,3 +16,4 @@ pub mod Text
 pub mod Canonical
 pub mod Dot
 pub mod Numberings
+pub mod Drawn

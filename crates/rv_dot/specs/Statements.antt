@@ -18,10 +18,12 @@ pub data Claim : Type 0 where
 abbrev pub held : Option Lexeme → Option (List ℕ)
 held value = option_map content_of value
 
+-- what a fact says
 abbrev pub claim : Fact → Claim
 claim (Declares name shape) = declares (name_of (lexeme name)) (held (option_map lexeme shape))
 claim (Leads from to label) = leads (name_of (lexeme from)) (name_of (lexeme to)) (held (option_map lexeme label))
 
+-- what facts say
 abbrev pub claims : List Fact → List Claim
 claims facts = map claim facts
 
@@ -29,23 +31,27 @@ claims facts = map claim facts
 abbrev pub is_keyword : List ℕ → Bool
 is_keyword w = bytes_eq w (codes "digraph") || bytes_eq w (codes "node") || bytes_eq w (codes "edge") || bytes_eq w (codes "graph") || bytes_eq w (codes "subgraph") || bytes_eq w (codes "strict")
 
+-- a word at the front, and the tokens behind it
 unfoldable pub word_at : List Lexeme → Option (List ℕ × List Lexeme)
 word_at [] = None
 word_at (word w ∷ rest) = Some (w, rest)
 word_at (other ∷ rest) = None
 
+-- a value at the front
 unfoldable pub value_at : List Lexeme → Option (Lexeme × List Lexeme)
 value_at [] = None
 value_at (sign mark ∷ rest) = None
 value_at (word w ∷ rest) = Some (word w, rest)
 value_at (text t ∷ rest) = Some (text t, rest)
 
+-- a name at the front: a string, or a word that is no keyword
 unfoldable pub name_at : List Lexeme → Option (Lexeme × List Lexeme)
 name_at [] = None
 name_at (sign mark ∷ rest) = None
 name_at (word w ∷ rest) = if is_keyword w then None else Some (word w, rest)
 name_at (text t ∷ rest) = Some (text t, rest)
 
+-- an attribute of a node or an edge
 pub record Attribute : Type 0 where
   pub key : List ℕ
   pub value : Lexeme
@@ -54,6 +60,7 @@ pub record Attribute : Type 0 where
 unfoldable pub separated : List Lexeme → List Lexeme
 separated tokens = if begins Comma tokens then without Comma tokens else without Semicolon tokens
 
+-- a word, `=`, a value
 unfoldable pub attribute_at : List Lexeme → Option (Attribute × List Lexeme)
 attribute_at tokens = do
   key ← word_at tokens
@@ -73,9 +80,11 @@ unfoldable pub last_of : List ℕ → List Attribute → Option Lexeme
 last_of key [] = None
 last_of key (a ∷ as') = option_or (last_of key as') (if bytes_eq a.key key then Some a.value else None)
 
+-- the same, in as many tokens as there are
 unfoldable pub attributes_at : List Lexeme → Option (List Attribute × List Lexeme)
 attributes_at tokens = attributes_within (length tokens) tokens
 
+-- behind an opening bracket: the value that counts for the key
 unfoldable pub bracket_at : List ℕ → List Lexeme → Option (Option Lexeme × List Lexeme)
 bracket_at key tokens = do
   attributes ← attributes_at tokens
@@ -88,6 +97,7 @@ names_within (suc n) tokens =
     if begins CloseBrace tokens then Some ([], without CloseBrace tokens)
     else (name_at tokens >>= (λ first. names_within n (without Semicolon first.1) >>= (λ others. Some (first.0 ∷ others.0, others.1))))
 
+-- the same, in as many tokens as there are
 unfoldable pub names_at : List Lexeme → Option (List Lexeme × List Lexeme)
 names_at tokens = names_within (length tokens) tokens
 
@@ -154,6 +164,7 @@ statements_within (suc n) tokens =
     if begins CloseBrace tokens then Some ([], without CloseBrace tokens)
     else (statement_at tokens >>= (λ first. statements_within n (without Semicolon first.1) >>= (λ others. Some (first.0 ++ others.0, others.1))))
 
+-- the same, in as many tokens as there are
 unfoldable pub statements_at : List Lexeme → Option (List Claim × List Lexeme)
 statements_at tokens = statements_within (length tokens) tokens
 

@@ -1,7 +1,7 @@
 //! Attributes in a bracket, and names in a group.
 ghost use Rattle.std.specs.Prelude.{◌≡◌, ◌<◌, ◌≤◌, length, IfSome, IfOk};
 ghost use Rattle.std.specs.Option.{option_map};
-ghost use Rattle.rv_dot.specs.Tokens.{Gives, lexeme, lexemes};
+ghost use Rattle.rv_dot.specs.Tokens.{GivesSome, lexeme, lexemes};
 ghost use Rattle.rv_dot.specs.Statements.{separated, attribute_at, attributes_at, last_of, bracket_at, names_at};
 ghost use Rattle.rv_dot.specs.Settings.{setting, settings};
 
@@ -40,7 +40,7 @@ fn attributes<'t, 'a>(
     alloc: Global,
     tokens: &'t [Token<'a>],
 ) -> Result<(Vec<Attribute<'a>>, &'t [Token<'a>]), ReadError>
-    ensures value { Gives (λ x. (settings x.0.items, lexemes x.1.now)) result (attributes_at (lexemes tokens.now)) }
+    ensures value { GivesSome (λ x. (settings x.0.items, lexemes x.1.now)) result (attributes_at (lexemes tokens.now)) }
     ensures within { IfOk result (λ x. length x.1.now ≤ length tokens.now) }
 {
     let mut found = Vec::new(alloc);
@@ -76,7 +76,7 @@ pub fn bracket<'t, 'a>(
     tokens: &'t [Token<'a>],
     key: &[u8],
 ) -> Result<(Option<Token<'a>>, &'t [Token<'a>]), ReadError>
-    ensures value { Gives (λ x. (option_map lexeme x.0, lexemes x.1.now)) result (bracket_at key.now (lexemes tokens.now)) }
+    ensures value { GivesSome (λ x. (option_map lexeme x.0, lexemes x.1.now)) result (bracket_at key.now (lexemes tokens.now)) }
     ensures within { IfOk result (λ x. length x.1.now ≤ length tokens.now) }
 {
     let (attributes, rest) = attributes(alloc, tokens)?;
@@ -88,7 +88,7 @@ pub fn names<'t, 'a>(
     alloc: Global,
     tokens: &'t [Token<'a>],
 ) -> Result<(Vec<Token<'a>>, &'t [Token<'a>]), ReadError>
-    ensures value { Gives (λ x. (lexemes x.0.items, lexemes x.1.now)) result (names_at (lexemes tokens.now)) }
+    ensures value { GivesSome (λ x. (lexemes x.0.items, lexemes x.1.now)) result (names_at (lexemes tokens.now)) }
     ensures within { IfOk result (λ x. length x.1.now ≤ length tokens.now) }
 {
     let mut found = Vec::new(alloc);
