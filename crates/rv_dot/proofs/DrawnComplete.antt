@@ -1,6 +1,6 @@
 -- The automaton that the statements draw is the one that the definition gives.
-use Rattle.std.proofs.Common.{◌≡◌, ℕ, ◌<◌, Bool, true, false, List, [], ◌∷◌, length, get_or, Some, refl, sym, ap, ◌∙◌, subst, ◌⊎◌, inl, inr, arith}
-use Rattle.std.specs.Prelude.{map, ◌↔◌, Result, Ok}
+use Rattle.std.proofs.Common.{◌≡◌, ℕ, ◌<◌, true, false, List, [], ◌∷◌, length, get_or, Some, refl, sym, ap, ◌∙◌, subst, inl, inr, arith}
+use Rattle.std.specs.Prelude.{map, ◌↔◌, Ok}
 use Rattle.std.specs.List.{list_all}
 use Rattle.std.specs.Str.{bytes_eq}
 use Rattle.rv_model.specs.declared.automaton.Edge.{Edge}
@@ -28,6 +28,7 @@ use Rattle.rv_dot.proofs.WholeLaws.{from_initial, short_read}
 set_same : (xs ys : List (List ℕ)) → ((x : List ℕ) → IsMember x xs ↔ IsMember x ys) → set_of xs ≡ set_of ys
 set_same xs ys same = set_is_only ys (set_of xs) (set_ascends xs) (λ x. ((λ m. (same x).0 ((set_members xs x).0 m)), (λ m. (set_members xs x).1 ((same x).1 m))))
 
+-- one target is the initial state
 initial_is : (targets : List (List ℕ)) (first : List ℕ) → IsMember first targets → ((t : List ℕ) → IsMember t targets → t ≡ first) → initial_of targets ≡ Ok first
 initial_is [] first m one = absurd m
 initial_is (t ∷ targets) first m one =
@@ -36,6 +37,7 @@ initial_is (t ∷ targets) first m one =
     rw all (ap Ok head)
 
 module _ (claims : List Claim) (a : Machine) (h : IsAutomaton a) (d : IsDrawnBy claims a) where
+  -- they are the states
   are_states : a.states ≡ states_from (get_or a.states 0 []) (states_in claims)
   unfolding states_from
   are_states = sym (states_again a h) ∙ again (set_same a.states (states_in claims) d.states)
@@ -43,10 +45,12 @@ module _ (claims : List Claim) (a : Machine) (h : IsAutomaton a) (d : IsDrawnBy 
       again : set_of a.states ≡ set_of (states_in claims) → states_from (get_or a.states 0 []) a.states ≡ states_from (get_or a.states 0 []) (states_in claims)
       again e = rw e refl
 
+  -- they are the events
   are_events : a.events ≡ events_from (arcs_in claims)
   unfolding events_from
   are_events = set_is_only (map (λ (x : Arc). x.event) (arcs_in claims)) a.events (events_up a h) d.events
 
+  -- the initial state is declared
   stands : stands_in (states_in claims) (get_or a.states 0 []) ≡ true
   stands = member_stands (states_in claims) (get_or a.states 0 []) ((d.states (get_or a.states 0 [])).0 (member_at a.states 0 [] (omega (arith, h.some_state))))
 
@@ -54,6 +58,7 @@ module _ (claims : List Claim) (a : Machine) (h : IsAutomaton a) (d : IsDrawnBy 
   edge_of_arc : (x : Arc) → IsMember x (arcs_in claims) → (e : Edge) × IsMember e a.edges × (arc_named a.states a.events e ≡ x)
   edge_of_arc x m = member_map (arc_named a.states a.events) x a.edges ((d.edges x).1 m)
 
+  -- the ends are states
   ends_stand : list_all (ends_declared a.states) (arcs_in claims) ≡ true
   ends_stand = list_all_from (ends_declared a.states) (arcs_in claims) (λ x m.
       let e = edge_of_arc x m in
@@ -63,6 +68,7 @@ module _ (claims : List Claim) (a : Machine) (h : IsAutomaton a) (d : IsDrawnBy 
       let both : ends_declared a.states (arc_named a.states a.events e.0) ≡ true = rw (from, to) refl in
       ap (ends_declared a.states) (sym e.2) ∙ both)
 
+  -- they are the moves
   are_moves : map move_of a.edges ≡ moves_of (map (numbered a.states a.events) (arcs_in claims))
   are_moves =
       let all = map (numbered a.states a.events) (arcs_in claims) in
@@ -78,6 +84,7 @@ module _ (claims : List Claim) (a : Machine) (h : IsAutomaton a) (d : IsDrawnBy 
       let number : move_of e.0 ≡ m = sym (arc_number a h e.0 e.1) ∙ ap (numbered a.states a.events) e.2 ∙ x.2 in
       subst (λ (n : Move). IsMember n (map move_of a.edges)) number (map_member move_of e.0 a.edges e.1))
 
+  -- without conflict
   calm : has_clash (moves_of (map (numbered a.states a.events) (arcs_in claims))) ≡ false
   calm = ap has_clash (sym are_moves) ∙ calm_edges a.edges (edges_later a h)
 

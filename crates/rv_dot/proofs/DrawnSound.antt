@@ -1,6 +1,6 @@
 -- What the definition gives is the automaton that the statements draw.
-use Rattle.std.proofs.Common.{◌≡◌, ℕ, ◌≤◌, Bool, true, false, List, [], ◌∷◌, length, get_or, Option, Some, None, cond, refl, sym, ap, ◌∙◌, subst, ◌⊎◌, inl, inr, arith}
-use Rattle.std.specs.Prelude.{map, not, ◌&&◌, ◌↔◌, nat_lt, Result, Ok, Err}
+use Rattle.std.proofs.Common.{◌≡◌, ℕ, ◌≤◌, Bool, true, false, List, [], ◌∷◌, length, get_or, Option, Some, None, cond, refl, sym, ap, ◌∙◌, subst, inl, inr, arith}
+use Rattle.std.specs.Prelude.{map, not, ◌&&◌, nat_lt, Result, Ok, Err}
 use Rattle.std.specs.List.{list_all}
 use Rattle.std.specs.Str.{bytes_eq}
 use Rattle.std.proofs.lemmas.Bool.Decides.{nat_tests}
@@ -44,6 +44,7 @@ record Passed (claims : List Claim) (first : List ℕ) (a : Machine) : Type 0 wh
   pub events : nat_lt 64 (length (events_from (arcs_in claims))) ≡ false
   pub same : machine_from claims first ≡ a
 
+-- an automaton is given where all tests pass
 passed : (claims : List Claim) (first : List ℕ) (a : Machine) → with_initial claims first ≡ Ok a → Passed claims first a
 unfolding with_initial
 passed claims first a h =
@@ -70,6 +71,7 @@ arc_back states events x n =
     ap (λ (f : List ℕ). made f (get_or events (number_in events x.event) []) (get_or states (number_in states x.to) [])) from
     ∙ ap (λ (e : List ℕ). made x.from e (get_or states (number_in states x.to) [])) event ∙ ap (made x.from x.event) to
 
+-- the first state
 first_of : (first : List ℕ) (declared : List (List ℕ)) → get_or (states_from first declared) 0 [] ≡ first
 unfolding states_from
 first_of first declared = refl
@@ -103,9 +105,11 @@ drawn_from claims first drawn some one =
       marked = refl;
     }
 
+-- no more than the most
 within : (most n : ℕ) → nat_lt most n ≡ false → n ≤ most
 within most n h = grind (arith, nat_tests)
 
+-- what statements give is what they draw
 claims_sound : (claims : List Claim) (a : Machine) → machine_of claims ≡ Ok a → IsAutomaton a × IsDrawnBy claims a
 unfolding machine_of
 claims_sound claims a h = go (all_fit claims) (initial_of (targets_in claims)) refl refl h

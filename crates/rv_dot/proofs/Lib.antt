@@ -9,8 +9,10 @@ pub mod ListsAgain
 pub mod StatementsAgain
 pub mod ListsTake
 pub mod StatementsTake
+pub mod FilesTake
 pub mod RunLaws
 pub mod FrontLaws
+pub mod FrontTakes
 pub mod TextLaws
 pub mod Gathering
 pub mod LabelLaws
@@ -24,11 +26,13 @@ pub mod Places
 pub mod MemberLaws
 pub mod StandsLaws
 pub mod ConflictLaws
+pub mod NameParts
 pub mod AutomatonLaws
 pub mod InitialLaws
 pub mod WholeLaws
 pub mod CanonicalLaws
 pub mod Layouts
+pub mod PlainBytes
 pub mod RoundTrip
 pub mod PlainLaws
 pub mod MachineLaws

@@ -3,7 +3,8 @@ use Rattle.std.specs.Prelude.{ℕ, ◌<◌, Bool, true, false, codes, List, [], 
 use Rattle.std.specs.List.{flat_map, AllByRecursion}
 use Rattle.rv_dot.specs.declared.token.Mark.TheVariants.{OpenBrace, CloseBrace, OpenBracket, CloseBracket, Equals, Semicolon, Comma, Arrow}
 use Rattle.rv_dot.specs.Tokens.{Lexeme, sign, word, text}
-use Rattle.rv_dot.specs.Statements.{Attribute, Claim, declares, leads, held, is_keyword, last_of}
+use Rattle.rv_dot.specs.Lists.{Attribute, is_keyword, last_of}
+use Rattle.rv_dot.specs.Statements.{Claim, declares, leads, held}
 use Rattle.rv_dot.specs.Names.{name_of}
 
 -- a semicolon, or none

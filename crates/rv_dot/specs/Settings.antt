@@ -2,7 +2,7 @@
 use Rattle.std.specs.Prelude.{List, map}
 use Rattle.rv_dot.specs.declared.attribute.Attribute.{Attribute}
 use Rattle.rv_dot.specs.Tokens.{lexeme}
-use Rattle.rv_dot.specs.Statements.{Attribute as Setting}
+use Rattle.rv_dot.specs.Lists.{Attribute as Setting}
 
 -- its key and its value
 abbrev pub setting : Attribute → Setting

@@ -2,7 +2,7 @@ use Rattle.std.proofs.Common.{subst, ap, ◌∙◌}
 use Rattle.rv_dot.specs.Tokens.{GivesSome, lexemes}
 use Rattle.rv_dot.specs.Statements.{claims, claims_of}
 use Rattle.rv_dot.proofs.StatementsAgain.{file_again}
-use Rattle.rv_dot.proofs.StatementsTake.{is_found}
+use Rattle.rv_dot.proofs.FilesTake.{is_found}
 use Rattle.rv_dot.proofs.statement.facts.Goals as goal
 
 pub returns-clause-found : goal.returns-clause-found
