@@ -1,73 +1,31 @@
 -- What is drawn from statements that pass each test is an automaton.
-use Rattle.std.proofs.Common.{◌≡◌, ℕ, zero, suc, ◌+◌, ◌^◌, ◌<◌, ◌≤◌, Bool, true, false, List, [], ◌∷◌, length, get_or, drop, cond, eqb, refl, sym, ap, ◌∙◌, subst, ◌⊎◌, inl, inr, arith}
+use Rattle.std.proofs.Common.{◌≡◌, ℕ, zero, suc, ◌^◌, ◌<◌, ◌≤◌, Bool, true, false, List, [], ◌∷◌, length, get_or, drop, cond, refl, sym, ap, ◌∙◌, subst, arith}
 use Rattle.std.proofs.lemmas.List.{length-map}
-use Rattle.std.specs.Prelude.{map, not, ◌&&◌, ◌||◌, ◌==◌, ◌≢◌, nat_le, All, AllPairs, Any, IsTrue}
-use Rattle.std.specs.List.{AllByRecursion, filter, list_all, flat_map}
-use Rattle.std.specs.declared.option.Option.{Option}
-use Rattle.std.specs.declared.option.Option.TheVariants.{None, Some}
+use Rattle.std.specs.Prelude.{map, not, ◌==◌, ◌≢◌, Any}
+use Rattle.std.specs.List.{AllByRecursion, list_all}
 use Rattle.std.specs.Cmp.Lexicographic.{slice_cmp}
 use Rattle.std.specs.Ordering.{nat_cmp}
-use Rattle.std.specs.declared.cmp.Ordering.TheVariants.{Less}
 use Rattle.std.specs.Str.{bytes_eq}
 use Rattle.std.proofs.Math.Nat.{pow-succ'}
 use Rattle.std.proofs.lemmas.Bool.Decides.{nat_tests}
 use Rattle.rv_model.specs.declared.automaton.Edge.{Edge}
-use Rattle.rv_model.specs.Machine.{Machine}
-use Rattle.rv_model.specs.WellFormed.{IsBefore, IsNameOf, IsStateName, EdgeIsBefore, IsAutomaton, is_event_byte, is_state_byte}
+use Rattle.rv_model.specs.WellFormed.{IsBefore, IsNameOf, IsStateName, EdgeIsBefore, IsAutomaton, is_event_byte}
 use Rattle.rv_dot.specs.declared.moves.Move.{Move}
-use Rattle.rv_dot.specs.Runs.{is_word_byte}
-use Rattle.rv_dot.specs.Statements.{Claim, declares, leads}
-use Rattle.rv_dot.specs.Names.{is_marker, is_name, is_state_name, is_event_name}
+use Rattle.rv_dot.specs.Statements.{Claim}
+use Rattle.rv_dot.specs.Names.{is_event_name}
 use Rattle.rv_dot.specs.Gathered.{Arc, state_in, states_in, arcs_in, fits, events_fit, all_fit, is_marked}
 use Rattle.rv_dot.specs.Members.{IsMember, Ascends}
-use Rattle.rv_dot.specs.Sets.{set_of, stands_in, number_in, place_of}
+use Rattle.rv_dot.specs.Sets.{set_of, stands_in, number_in}
 use Rattle.rv_dot.specs.Moves.{has_clash, moves_of, numbered, edge_of}
 use Rattle.rv_dot.specs.Dot.{bits_of, marked_or_initial, ends_declared, has_conflict, states_from, events_from, machine_from}
 use Rattle.rv_dot.proofs.BitLaws.{bits_below}
 use Rattle.rv_dot.proofs.ConflictLaws.{IsNumbered, arc_of_move, move_of_arc, clash_is_conflict}
-use Rattle.rv_dot.proofs.MemberLaws.{and_true, or_true, member_map, map_member, member_filter, member_filter_map, list_all_member, member_at, all_members, place_of_member, AllLater, pairs_from, ascends_later, ascends_filter}
+use Rattle.rv_dot.proofs.MemberLaws.{and_true, member_map, map_member, member_filter, member_filter_map, list_all_member, member_at, all_members, place_of_member, AllLater, pairs_from, ascends_later, ascends_filter}
 use Rattle.rv_dot.proofs.MoveLaws.{KeyBelow, KeysAscend, keys_ascend}
 use Rattle.rv_dot.proofs.MoveSets.{moves_ascend}
+use Rattle.rv_dot.proofs.NameParts.{event_named, claim_named}
 use Rattle.rv_dot.proofs.NameSets.{set_ascends, set_members}
 use Rattle.rv_dot.proofs.StandsLaws.{name_test, stands_member, member_stands, member_states, stands_in_states, number_at, place_of-at}
-
--- a name by the test is a name by its parts
-name_parts : (of_kind : ℕ → Bool) (name : List ℕ) → is_name of_kind name ≡ true → IsNameOf of_kind name
-name_parts of_kind name h =
-    let parts = and_true (not (length name == 0) && nat_le (length name) 64) (list_all of_kind name) h in
-    let long = and_true (not (length name == 0)) (nat_le (length name) 64) parts.0 in
-    (some (length name) long.0, few (length name) long.1, all_members (λ b. IsTrue (of_kind b)) name (λ b m. list_all_member of_kind b name parts.1 m))
-  where
-    some : (n : ℕ) → not (n == 0) ≡ true → 1 ≤ n
-    some n h = grind (arith, nat_tests)
-
-    few : (n : ℕ) → nat_le n 64 ≡ true → n ≤ 64
-    few n h = grind (arith, nat_tests)
-
--- a byte of a word that is no point is a byte of an event
-event_byte : (e p : Bool) → ((e || p) && not p) ≡ true → e ≡ true
-event_byte true p h = refl
-event_byte false true h = absurd (cc)
-event_byte false false h = absurd (cc)
-
--- a name of a wider kind
-wider : (p q : ℕ → Bool) → ((b : ℕ) → p b ≡ true → q b ≡ true) → (name : List ℕ) → IsNameOf p name → IsNameOf q name
-wider p q f name h = (h.0, h.1, λ k d lt. f (get_or name k d) (h.2 k d lt))
-
-event_named : (name : List ℕ) → is_event_name name ≡ true → IsNameOf is_event_byte name
-event_named name h = wider (λ b. is_word_byte b && not (b == 46)) is_event_byte (λ b k. event_byte (is_event_byte b) (b == 46) k) name (name_parts (λ b. is_word_byte b && not (b == 46)) name h)
-
-no_marker : (name : List ℕ) → is_marker name ≡ false → ¬ IsTrue (is_marker name)
-no_marker name h = λ k. let apart : true ≡ false = sym k ∙ h in absurd (cc)
-
--- a declared state has a state's name
-claim_named : (claim : Claim) (name : List ℕ) → fits claim ≡ true → state_in claim ≡ Some name → IsStateName name
-claim_named (leads from to label) name h e = absurd (cc)
-claim_named (declares n shape) name h e = go (is_marker n) refl h e
-  where
-    go : (t : Bool) → is_marker n ≡ t → (t || is_state_name n) ≡ true → cond t None (Some n) ≡ Some name → IsStateName name
-    go true m h e = absurd (cc)
-    go false m h e = let same : n ≡ name = cc in subst IsStateName same (name_parts is_state_byte n h, no_marker n m)
 
 -- statements that fit, whose arcs go between declared states without conflict
 pub record IsDrawn (claims : List Claim) (initial : List ℕ) : Type 0 where
@@ -89,9 +47,11 @@ module _ (claims : List Claim) (initial : List ℕ) (h : IsDrawn claims initial)
         to = stands_in_states initial (states_in claims) h.initial_declared a.to ∙ both.1;
       }
 
+  -- statements fit, and events
   fit_parts : (list_all fits claims ≡ true) × (events_fit (arcs_in claims) ≡ true)
   fit_parts = and_true (list_all fits claims) (events_fit (arcs_in claims)) h.fit
 
+  -- a state has a state's name
   state_named : (s : List ℕ) → IsMember s (states_from initial (states_in claims)) → IsStateName s
   state_named s m =
       let declared = member_states initial (states_in claims) s (stands_member (states_in claims) initial h.initial_declared) m in
@@ -103,15 +63,18 @@ module _ (claims : List Claim) (initial : List ℕ) (h : IsDrawn claims initial)
   unfolding events_from
   event_arc e m = let names = map (λ (b : Arc). b.event) (arcs_in claims) in member_map (λ (b : Arc). b.event) e (arcs_in claims) ((set_members names e).0 m)
 
+  -- the events ascend
   events_ascend : Ascends (slice_cmp nat_cmp) (events_from (arcs_in claims))
   unfolding events_from
   events_ascend = set_ascends (map (λ (b : Arc). b.event) (arcs_in claims))
 
+  -- an event has an event's name
   event_is_named : (e : List ℕ) → IsMember e (events_from (arcs_in claims)) → IsNameOf is_event_byte e
   event_is_named e m =
       let a = event_arc e m in
       subst (IsNameOf is_event_byte) a.2 (event_named a.0.event (list_all_member (λ (b : Arc). is_event_name b.event) a.0 (arcs_in claims) fit_parts.1 a.1))
 
+  -- an edge has numbers in range
   edge_in_range : (e : Edge) → IsMember e (map edge_of (moves_of (map (numbered (states_from initial (states_in claims)) (events_from (arcs_in claims))) (arcs_in claims))))
       → (e.from < length (states_from initial (states_in claims))) × (e.event < length (events_from (arcs_in claims))) × (e.to < length (states_from initial (states_in claims)))
   edge_in_range e m =
@@ -124,6 +87,7 @@ module _ (claims : List Claim) (initial : List ℕ) (h : IsDrawn claims initial)
       subst (λ (x : Edge). (x.from < length states) × (x.event < length events) × (x.to < length states)) same
       ((number_at states a.0.from [] n.from).0, (number_at events a.0.event [] n.event).0, (number_at states a.0.to [] n.to).0)
 
+  -- each event stands on an edge
   event_used : (event : ℕ) → event < length (events_from (arcs_in claims)) → Any (λ (e : Edge). e.event ≡ event) (map edge_of (moves_of (map (numbered (states_from initial (states_in claims)) (events_from (arcs_in claims))) (arcs_in claims))))
   event_used event lt =
       let states = states_from initial (states_in claims) in
@@ -135,6 +99,7 @@ module _ (claims : List Claim) (initial : List ℕ) (h : IsDrawn claims initial)
       let place = place_of_member (edge_of (numbered states events a.0)) (map edge_of (moves_of (map (numbered states events) (arcs_in claims)))) member in
       (place.0, edge_of (numbered states events a.0), place.1, place.2, has)
 
+-- moves in order are edges in order
 keys_later : (moves : List Move) → KeysAscend moves → AllLater EdgeIsBefore (map edge_of moves)
 keys_later [] h = tt
 keys_later (m ∷ moves) h = (below moves h.0, keys_later moves h.1)
@@ -143,6 +108,7 @@ keys_later (m ∷ moves) h = (below moves h.0, keys_later moves h.1)
     below [] k = tt
     below (x ∷ ms) k = (k.0, below ms k.1)
 
+-- the initial state is none of the others
 others_apart : (initial : List ℕ) (declared : List (List ℕ)) (s : List ℕ) → IsMember s (drop 1 (states_from initial declared)) → s ≢ get_or (states_from initial declared) 0 []
 unfolding states_from
 others_apart initial declared s m e =
@@ -150,14 +116,17 @@ others_apart initial declared s m e =
     let apart : not true ≡ true = ap not (sym (name_test s initial e)) ∙ kept in
     cc
 
+-- the others ascend
 others_ascend : (initial : List ℕ) (declared : List (List ℕ)) → Ascends (slice_cmp nat_cmp) (drop 1 (states_from initial declared))
 unfolding states_from
 others_ascend initial declared = ascends_filter (slice_cmp nat_cmp) (λ s. not (bytes_eq s initial)) (set_of declared) (set_ascends declared)
 
+-- there is a state
 pub some_states : (initial : List ℕ) (declared : List (List ℕ)) → 1 ≤ length (states_from initial declared)
 unfolding states_from
 some_states initial declared = omega arith
 
+-- some state is marked
 marked_some : (bits : ℕ) → 0 < marked_or_initial bits
 marked_some bits = go (bits == 0) refl
   where
@@ -165,6 +134,7 @@ marked_some bits = go (bits == 0) refl
     go true h = omega arith
     go false h = grind (arith, nat_tests)
 
+-- the marks are in range
 marked_below : (bits n : ℕ) → 1 ≤ n → bits < 2 ^ n → marked_or_initial bits < 2 ^ n
 marked_below bits zero some below = absurd (omega arith)
 marked_below bits (suc n) some below = go (bits == 0)

@@ -4,7 +4,7 @@ use Rattle.std.specs.Prelude.{map, codes, slice_get, ◌==◌}
 use Rattle.std.specs.List.{flat_map}
 use Rattle.std.proofs.lemmas.Option.{get_or_from_slice_get}
 use Rattle.rv_model.specs.Machine.{Machine}
-use Rattle.rv_dot.specs.Canonical.{State, quoted, shape_of, head_lines, marker_line, state_line, initial_line, node_line, arc_line, last_line, states_marked, arc_named, dot_text}
+use Rattle.rv_dot.specs.Canonical.{State, quoted, head_lines, marker_line, state_line, initial_line, node_line, arc_line, last_line, states_marked, arc_named, dot_text}
 
 -- the name at a place, and those behind it
 cut_at : (names : List (List ℕ)) (place : ℕ) (name : List ℕ) → place < length names → slice_get names place ≡ Some name → drop place names ≡ name ∷ drop (place + 1) names
@@ -34,6 +34,7 @@ pub names_marked : (bits : ℕ) (names : List (List ℕ)) → map (λ (s : State
 names_marked bits [] = refl
 names_marked bits (name ∷ names) = ap (λ (ns : List (List ℕ)). name ∷ ns) (names_marked (bits / 2) names)
 
+-- five parts behind a front
 five : (o a b c d e : List ℕ) → o ++ a ++ b ++ c ++ d ++ e ≡ o ++ (a ++ b ++ c ++ d ++ e)
 five o a b c d e = simp append_assoc
 

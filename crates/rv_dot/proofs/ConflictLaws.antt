@@ -1,8 +1,8 @@
 -- Arcs are in conflict exactly where two neighbours among their numbered moves clash.
-use Rattle.std.proofs.Common.{◌≡◌, ℕ, Bool, true, false, List, [], ◌∷◌, refl, sym, ap, ◌∙◌, subst}
+use Rattle.std.proofs.Common.{◌≡◌, ℕ, Bool, true, false, List, refl, sym, ap, ◌∙◌}
 use Rattle.std.specs.Prelude.{map, not, ◌&&◌, ◌≢◌}
 use Rattle.std.specs.Cmp.{both_ways}
-use Rattle.std.specs.List.{list_any, list_all}
+use Rattle.std.specs.List.{list_any}
 use Rattle.std.specs.Str.{bytes_eq}
 use Rattle.rv_dot.specs.declared.moves.Move.{Move}
 use Rattle.rv_dot.specs.Gathered.{Arc}
@@ -15,10 +15,12 @@ use Rattle.rv_dot.proofs.MoveSets.{moves_ascend, moves_members}
 use Rattle.rv_dot.proofs.MoveLaws.{Clashes, clash_found, clash_is}
 use Rattle.rv_dot.proofs.StandsLaws.{name_same, name_test, number_once}
 
+-- a test that fails
 not_true : (b : Bool) → not b ≡ true → b ≡ false
 not_true true h = absurd (cc)
 not_true false h = refl
 
+-- apart names fail the test
 test_apart : (x y : List ℕ) → x ≢ y → not (bytes_eq x y) ≡ true
 test_apart x y h = go (bytes_eq x y) refl
   where
@@ -26,6 +28,7 @@ test_apart x y h = go (bytes_eq x y) refl
     go true e = absurd (h (name_same x y e))
     go false e = refl
 
+-- names that fail the test are apart
 apart_test : (x y : List ℕ) → not (bytes_eq x y) ≡ true → x ≢ y
 apart_test x y h e = let both : true ≡ false = sym (name_test x y e) ∙ not_true (bytes_eq x y) h in cc
 
@@ -44,6 +47,7 @@ module _ (states events : List (List ℕ)) (arcs : List Arc) (all : (a : Arc) �
   pub move_of_arc : (a : Arc) → IsMember a arcs → IsMember (numbered states events a) (moves_of (map (numbered states events) arcs))
   move_of_arc a m = (moves_members (map (numbered states events) arcs) (numbered states events a)).1 (map_member (numbered states events) a arcs m)
 
+  -- a clash comes of a conflict
   conflict_of_clash : Clashes (moves_of (map (numbered states events) arcs)) → has_conflict arcs ≡ true
   unfolding has_conflict
   conflict_of_clash c =
@@ -57,6 +61,7 @@ module _ (states events : List (List ℕ)) (arcs : List Arc) (all : (a : Arc) �
       let apart : are_apart a.0 b.0 ≡ true = rw (name_test a.0.from b.0.from from, name_test a.0.event b.0.event event, test_apart a.0.to b.0.to to) refl in
       list_any_from (λ x. list_any (are_apart x) arcs) a.0 arcs a.1 (list_any_from (are_apart a.0) b.0 arcs b.1 apart)
 
+  -- a conflict makes a clash
   clash_of_conflict : has_conflict arcs ≡ true → Clashes (moves_of (map (numbered states events) arcs))
   unfolding has_conflict
   clash_of_conflict h =

@@ -1,27 +1,19 @@
 -- What the canonical text of an automaton says gives the automaton again.
-use Rattle.std.proofs.Common.{◌≡◌, ℕ, zero, suc, ◌+◌, ◌*◌, ◌/◌, ◌%◌, ◌^◌, ◌<◌, ◌≤◌, Bool, true, false, List, [], ◌∷◌, ◌++◌, length, get_or, drop, Option, Some, None, cond, refl, sym, ap, ◌∙◌, subst, ◌⊎◌, inl, inr, arith}
-use Rattle.std.specs.Prelude.{map, not, codes, ◌&&◌, ◌||◌, ◌==◌, ◌≢◌, nat_lt, Result, Ok}
-use Rattle.std.specs.List.{AllByRecursion, filter_map, flat_map, list_all, list_any}
+use Rattle.std.proofs.Common.{◌≡◌, ℕ, suc, ◌+◌, ◌*◌, ◌/◌, ◌%◌, ◌^◌, ◌<◌, Bool, true, false, List, [], ◌∷◌, ◌++◌, length, Some, None, cond, refl, ap, ◌∙◌, arith}
+use Rattle.std.specs.Prelude.{map, codes, ◌&&◌, ◌||◌, ◌==◌}
+use Rattle.std.specs.List.{AllByRecursion, list_all, list_any}
 use Rattle.std.specs.Str.{bytes_eq}
 use Rattle.std.proofs.Math.Nat.{pow-succ'}
 use Rattle.std.proofs.lemmas.Bool.Decides.{nat_tests}
-use Rattle.std.proofs.lemmas.List.Concat.{flat_map-append}
-use Rattle.std.proofs.lemmas.List.Elements.{filter_map-append}
-use Rattle.rv_text.specs.declared.refusals.Refusal.{Refusal}
-use Rattle.rv_model.specs.declared.automaton.Edge.{Edge}
-use Rattle.rv_model.specs.Machine.{Machine}
-use Rattle.rv_model.specs.WellFormed.{IsNameOf, IsStateName, IsAutomaton, is_event_byte}
+use Rattle.rv_model.specs.WellFormed.{IsNameOf, IsStateName, is_event_byte}
 use Rattle.rv_dot.specs.Statements.{Claim, declares, leads}
-use Rattle.rv_dot.specs.Names.{is_marker, is_state_name, is_event_name, marks}
-use Rattle.rv_dot.specs.Labels.{events_of}
-use Rattle.rv_dot.specs.Gathered.{Arc, state_in, target_in, states_in, targets_in, arcs_of, arcs_in, arcs_with, fits, events_fit, all_fit, marks_state, is_marked}
-use Rattle.rv_dot.specs.Members.{IsMember}
-use Rattle.rv_dot.specs.Canonical.{State, Drawing, marker, shape_of, states_marked, arc_named, drawing_of}
-use Rattle.rv_dot.specs.Dot.{bits_of, marked_or_initial}
-use Rattle.rv_dot.proofs.CanonicalLaws.{names_marked}
+use Rattle.rv_dot.specs.Names.{is_marker, marks}
+use Rattle.rv_dot.specs.Gathered.{Arc, states_in, targets_in, arcs_of, arcs_in, fits, events_fit, all_fit, marks_state, is_marked}
+use Rattle.rv_dot.specs.Canonical.{State, Drawing, marker, shape_of, states_marked}
+use Rattle.rv_dot.specs.Dot.{bits_of}
 use Rattle.rv_dot.proofs.Layouts.{state_claim, arc_claim, claims_drawn}
-use Rattle.rv_dot.proofs.PlainLaws.{state_name_test, no_marker_test, event_name_test, state_plain, event_plain, one_event}
-use Rattle.rv_dot.proofs.StandsLaws.{name_same, name_test}
+use Rattle.rv_dot.proofs.PlainLaws.{state_name_test, no_marker_test, event_name_test, event_plain, one_event}
+use Rattle.rv_dot.proofs.StandsLaws.{name_test}
 
 -- the states and arcs of a drawing have the names of states and events
 pub record IsNamed (d : Drawing) : Type 0 where
@@ -32,13 +24,16 @@ pub record IsNamed (d : Drawing) : Type 0 where
 marker_test : (initial : List ℕ) → is_marker (marker initial) ≡ true
 marker_test initial = refl
 
+-- the arc of an arc's edge
 arc_arcs : (a : Arc) → IsStateName a.from → IsNameOf is_event_byte a.event → arcs_of (arc_claim a) ≡ a ∷ []
 arc_arcs a from event = rw (no_marker_test a.from from, one_event a.event (event_plain a.event event)) refl
 
+-- declarations have no arcs
 state_arcs : (ss : List State) (more : List Claim) → arcs_in (map state_claim ss ++ more) ≡ arcs_in more
 state_arcs [] more = refl
 state_arcs (s ∷ ss) more = state_arcs ss more
 
+-- the arcs of all edges
 arcs_arcs : (as' : List Arc) → AllByRecursion (λ a. IsStateName a.from × IsNameOf is_event_byte a.event × IsStateName a.to) as' → arcs_in (map arc_claim as') ≡ as'
 arcs_arcs [] h = refl
 arcs_arcs (a ∷ as') h = ap (λ (xs : List Arc). xs ++ arcs_in (map arc_claim as')) (arc_arcs a h.0.0 h.0.1) ∙ ap (λ (xs : List Arc). a ∷ xs) (arcs_arcs as' h.1)
@@ -47,14 +42,17 @@ arcs_arcs (a ∷ as') h = ap (λ (xs : List Arc). xs ++ arcs_in (map arc_claim a
 pub arcs_read : (d : Drawing) → IsNamed d → arcs_in (claims_drawn d) ≡ d.arcs
 arcs_read d h = state_arcs d.states (leads (marker d.initial) d.initial None ∷ map arc_claim d.arcs) ∙ arcs_arcs d.arcs h.arcs
 
+-- the states of declarations
 state_states : (ss : List State) (more : List Claim) → AllByRecursion (λ s. IsStateName s.name) ss → states_in (map state_claim ss ++ more) ≡ map (λ s. s.name) ss ++ states_in more
 state_states [] more h = refl
 state_states (s ∷ ss) more h = rw (no_marker_test s.name h.0) (ap (λ (ns : List (List ℕ)). s.name ∷ ns) (state_states ss more h.1))
 
+-- edges declare no state
 arc_states : (as' : List Arc) → states_in (map arc_claim as') ≡ []
 arc_states [] = refl
 arc_states (a ∷ as') = arc_states as'
 
+-- nothing more
 append_none : {A : Type 0} (xs : List A) → xs ++ [] ≡ xs
 append_none [] = refl
 append_none (x ∷ xs) = ap (λ ys. x ∷ ys) (append_none xs)
@@ -65,10 +63,12 @@ states_read d h =
     state_states d.states (leads (marker d.initial) d.initial None ∷ map arc_claim d.arcs) h.states ∙ ap (λ (ns : List (List ℕ)). map (λ (s : State). s.name) d.states ++ ns) (arc_states d.arcs)
     ∙ append_none (map (λ (s : State). s.name) d.states)
 
+-- declarations have no target
 state_targets : (ss : List State) (more : List Claim) → targets_in (map state_claim ss ++ more) ≡ targets_in more
 state_targets [] more = refl
 state_targets (s ∷ ss) more = state_targets ss more
 
+-- edges between states have no target
 arc_targets : (as' : List Arc) → AllByRecursion (λ a. IsStateName a.from × IsNameOf is_event_byte a.event × IsStateName a.to) as' → targets_in (map arc_claim as') ≡ []
 arc_targets [] h = refl
 arc_targets (a ∷ as') h = rw (no_marker_test a.from h.0.0) (arc_targets as' h.1)
@@ -77,14 +77,17 @@ arc_targets (a ∷ as') h = rw (no_marker_test a.from h.0.0) (arc_targets as' h.
 pub targets_read : (d : Drawing) → IsNamed d → targets_in (claims_drawn d) ≡ d.initial ∷ []
 targets_read d h = state_targets d.states (leads (marker d.initial) d.initial None ∷ map arc_claim d.arcs) ∙ ap (λ (ns : List (List ℕ)). d.initial ∷ ns) (arc_targets d.arcs h.arcs)
 
+-- declarations fit
 states_fit : (ss : List State) (more : List Claim) → AllByRecursion (λ s. IsStateName s.name) ss → list_all fits more ≡ true → list_all fits (map state_claim ss ++ more) ≡ true
 states_fit [] more h k = k
 states_fit (s ∷ ss) more h k = rw (no_marker_test s.name h.0, state_name_test s.name h.0) (states_fit ss more h.1 k)
 
+-- edges fit
 arcs_fit : (as' : List Arc) → AllByRecursion (λ a. IsStateName a.from × IsNameOf is_event_byte a.event × IsStateName a.to) as' → list_all fits (map arc_claim as') ≡ true
 arcs_fit [] h = refl
 arcs_fit (a ∷ as') h = rw (no_marker_test a.from h.0.0) (arcs_fit as' h.1)
 
+-- their events have names
 named_events : (as' : List Arc) → AllByRecursion (λ a. IsStateName a.from × IsNameOf is_event_byte a.event × IsStateName a.to) as' → events_fit as' ≡ true
 named_events [] h = refl
 named_events (a ∷ as') h = rw (event_name_test a.event h.0.1) (named_events as' h.1)
@@ -101,6 +104,7 @@ abbrev pub IsApart : List State → Type 0
 IsApart [] = Unit {0}
 IsApart (s ∷ ss) = AllByRecursion (λ t. (bytes_eq s.name t.name ≡ false) × (bytes_eq t.name s.name ≡ false)) ss × IsApart ss
 
+-- a declaration marks by its shape
 marks_claim : (state : List ℕ) (s : State) → marks_state state (state_claim s) ≡ (bytes_eq s.name state && s.is_marked)
 marks_claim state s = go s.is_marked
   where
@@ -108,14 +112,17 @@ marks_claim state s = go s.is_marked
     go true = refl
     go false = refl
 
+-- one test that fails
 and_false : (b : Bool) → (b && false) ≡ false
 and_false true = refl
 and_false false = refl
 
+-- edges mark nothing
 arcs_mark : (state : List ℕ) (as' : List Arc) → list_any (marks_state state) (map arc_claim as') ≡ false
 arcs_mark state [] = refl
 arcs_mark state (a ∷ as') = arcs_mark state as'
 
+-- declarations mark their states
 states_mark : (state : List ℕ) (ss : List State) (more : List Claim) → list_any (marks_state state) more ≡ false → list_any (marks_state state) (map state_claim ss ++ more) ≡ list_any (λ s. bytes_eq s.name state && s.is_marked) ss
 states_mark state [] more h = h
 states_mark state (s ∷ ss) more h = rw (marks_claim state s, states_mark state ss more h) refl
@@ -127,10 +134,12 @@ marked_read d state =
     ap (λ (t : Bool). t || list_any (marks_state state) (map state_claim d.states ++ (leads (marker d.initial) d.initial None ∷ map arc_claim d.arcs))) none
     ∙ states_mark state d.states (leads (marker d.initial) d.initial None ∷ map arc_claim d.arcs) (arcs_mark state d.arcs)
 
+-- states of other names mark nothing
 none_marked : (s : State) (ss : List State) → AllByRecursion (λ t. (bytes_eq s.name t.name ≡ false) × (bytes_eq t.name s.name ≡ false)) ss → list_any (λ t. bytes_eq t.name s.name && t.is_marked) ss ≡ false
 none_marked s [] h = refl
 none_marked s (t ∷ ss) h = rw (h.0.1) (none_marked s ss h.1)
 
+-- one test that passes or not
 or_false : (b : Bool) → (b || false) ≡ b
 or_false true = refl
 or_false false = refl

@@ -1,5 +1,5 @@
 -- What is gathered from one saying more.
-use Rattle.std.proofs.Common.{◌≡◌, ℕ, ◌+◌, ◌<◌, Bool, List, [], ◌∷◌, ◌++◌, length, take, get_or, Option, Some, None, refl, sym, ap, ◌∙◌, Bor}
+use Rattle.std.proofs.Common.{◌≡◌, ℕ, ◌+◌, ◌<◌, List, [], ◌∷◌, ◌++◌, length, take, get_or, Option, Some, None, refl, sym, ap, ◌∙◌, Bor}
 use Rattle.std.specs.Prelude.{map}
 use Rattle.std.specs.List.{filter_map, flat_map, cons_option}
 use Rattle.std.specs.Option.{option_map, option_to_list}
@@ -13,10 +13,12 @@ use Rattle.rv_dot.specs.Gathered.{Arc, arcs_of}
 use Rattle.rv_dot.specs.Sayings.{said, all_said, arc}
 use Rattle.rv_dot.specs.Sets.{bytes_of}
 
+-- at most one in front
 option_front : {A : Type 0} (o : Option A) → cons_option o [] ≡ option_to_list o
 option_front None = refl
 option_front (Some x) = refl
 
+-- a map of at most one
 map-option : {A B : Type 0} (f : A → B) (o : Option A) → map f (option_to_list o) ≡ option_to_list (option_map f o)
 map-option f None = refl
 map-option f (Some x) = refl

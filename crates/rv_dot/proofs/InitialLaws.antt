@@ -1,6 +1,6 @@
 -- The later refusals in their order, as a reader with a numbering of the names finds them.
-use Rattle.std.proofs.Common.{◌≡◌, ℕ, ◌<◌, ◌≤◌, Bool, true, false, List, [], ◌∷◌, length, Option, None, Some, refl, sym, ap, ◌∙◌, subst, arith, Bor}
-use Rattle.std.specs.Prelude.{map, not, nat_lt, Result, Ok, All}
+use Rattle.std.proofs.Common.{◌≡◌, ℕ, ◌<◌, ◌≤◌, Bool, true, false, List, ◌∷◌, length, Option, refl, sym, ap, ◌∙◌, subst, arith, Bor}
+use Rattle.std.specs.Prelude.{map, not, nat_lt, Ok, All}
 use Rattle.std.specs.Cmp.Lexicographic.{slice_cmp}
 use Rattle.std.specs.Ordering.{nat_cmp}
 use Rattle.std.proofs.lemmas.List.{length-map}
@@ -26,9 +26,11 @@ use Rattle.rv_dot.proofs.MemberLaws.{list_all_same, ascends_filter, all_members,
 use Rattle.rv_dot.proofs.NameSets.{set_ascends}
 use Rattle.rv_dot.proofs.StandsLaws.{stands_in_set, stands_in_states}
 
+-- more than the most
 above : (most n : ℕ) → most < n → nat_lt most n ≡ true
 above most n h = grind (arith, nat_tests)
 
+-- no more than the most
 within : (most n : ℕ) → n ≤ most → nat_lt most n ≡ false
 within most n h = grind (arith, nat_tests)
 
@@ -51,6 +53,7 @@ states_are claims first others e = ap (λ (os : List (List ℕ)). first ∷ os) 
 module _ (claims : List Claim) (first : List ℕ) (states events : List (List ℕ)) (arcs : List Arc)
     (are_states : states ≡ states_from first (states_in claims)) (are_events : events ≡ events_from (arcs_in claims)) (are_arcs : arcs ≡ arcs_in claims)
     (stands : stands_in (states_in claims) first ≡ true) where
+  -- ends among states are declared
   ends_are : list_all (ends_declared states) arcs ≡ list_all (ends_declared (states_in claims)) (arcs_in claims)
   ends_are = rw (are_states, are_arcs) (list_all_same (ends_declared (states_from first (states_in claims))) (ends_declared (states_in claims)) (arcs_in claims) same)
     where
@@ -66,6 +69,7 @@ module _ (claims : List Claim) (first : List ℕ) (states events : List (List �
   pub is_drawn : all_fit claims ≡ true → list_all (ends_declared states) arcs ≡ true → IsDrawn claims first
   is_drawn fit h = record { fit = fit; initial_declared = stands; ends = sym ends_are ∙ h }
 
+  -- a clash is a conflict
   clash_is : IsDrawn claims first → has_clash (moves_of (map (numbered states events) arcs)) ≡ has_conflict (arcs_in claims)
   clash_is drawn = rw (are_states, are_events, are_arcs) (clash_is_conflict (states_from first (states_in claims)) (events_from (arcs_in claims)) (arcs_in claims) (arcs_numbered claims first drawn))
 
@@ -124,6 +128,7 @@ no_place place names name e h = sym (ap is_some e) ∙ h
 pub none_test : (place : Option ℕ) (answer : Bool) → is_some place ≡ not answer → answer ≡ true → is_some place ≡ false
 none_test place answer e h = e ∙ ap not h
 
+-- a place that is there
 pub some_test : (place : Option ℕ) (answer : Bool) → is_some place ≡ not answer → answer ≡ false → is_some place ≡ true
 some_test place answer e h = e ∙ ap not h
 
@@ -140,6 +145,7 @@ others_up names first others e = subst (Ascends (slice_cmp nat_cmp)) (sym e) (as
 pub many_states : (first : List ℕ) (others : List (Bor (List ℕ))) → 31 ≤ length others → 31 < length (first ∷ map bytes_of others)
 many_states first others h = omega (arith, length-map others bytes_of)
 
+-- fewer are few
 pub few_states_of : (first : List ℕ) (others : List (Bor (List ℕ))) → length others < 31 → length (first ∷ map bytes_of others) ≤ 31
 few_states_of first others h = omega (arith, length-map others bytes_of)
 

@@ -1,10 +1,11 @@
 -- Labels: their pieces one after the other, and how much of a text is kept.
-use Rattle.std.proofs.Common.{◌≡◌, ℕ, zero, suc, ◌+◌, ◌<◌, ◌≤◌, Bool, true, false, eqb, List, [], ◌∷◌, ◌++◌, length, take, get_or, Option, Some, None, cond, refl, sym, ap, ◌∙◌, arith, append_assoc}
+use Rattle.std.proofs.Common.{◌≡◌, ℕ, zero, suc, ◌+◌, ◌<◌, ◌≤◌, Bool, true, false, eqb, List, [], ◌∷◌, ◌++◌, length, take, get_or, Some, None, cond, refl, sym, ap, ◌∙◌, arith, append_assoc}
 use Rattle.std.specs.Prelude.{◌&&◌, ◌==◌}
 use Rattle.std.proofs.lemmas.Bool.Decides.{nat_tests}
 use Rattle.std.proofs.lemmas.List.{take_more, length-take-le}
 use Rattle.rv_dot.specs.Labels.{is_blank, kept_len, trimmed, piece_of, pieces_within}
 
+-- no more is kept than there is
 kept_few : (bytes : List ℕ) → kept_len bytes ≤ length bytes
 unfolding kept_len
 kept_few [] = omega arith
@@ -36,6 +37,7 @@ kept_more bytes i d lt = ap kept_len (take_more bytes i d lt) ∙ kept_len-push 
     long : (bytes : List ℕ) (i : ℕ) → i < length bytes → length (take i bytes) ≡ i
     long bytes i lt = length-take-le i bytes (omega arith)
 
+-- of nothing, nothing is kept
 pub kept_none : kept_len [] ≡ 0
 unfolding kept_len
 kept_none = refl

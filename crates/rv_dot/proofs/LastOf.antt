@@ -6,8 +6,9 @@ use Rattle.std.proofs.lemmas.List.{take_more, map_push}
 use Rattle.rv_dot.specs.declared.attribute.Attribute.{Attribute as Held}
 use Rattle.rv_dot.specs.Settings.{setting, settings}
 use Rattle.rv_dot.specs.Tokens.{Lexeme, lexeme}
-use Rattle.rv_dot.specs.Statements.{Attribute, last_of}
+use Rattle.rv_dot.specs.Lists.{Attribute, last_of}
 
+-- the first that is there
 option_or_assoc : {A : Type 0} (a b c : Option A) → option_or (option_or a b) c ≡ option_or a (option_or b c)
 option_or_assoc None b c = refl
 option_or_assoc (Some x) b c = refl
@@ -22,6 +23,7 @@ last_of-push key (b ∷ front) a = ap (λ (o : Option Lexeme). option_or o (cond
     chosen true = refl
     chosen false = refl
 
+-- of no attributes there is none
 pub last_of-nil : (key : List ℕ) → last_of key [] ≡ None
 unfolding last_of
 last_of-nil key = refl
@@ -36,12 +38,15 @@ last_of_step key held count d some within =
     ap (λ (front : List Held). last_of key (settings front)) cut ∙ ap (last_of key) (map_push setting (take (count - 1) held) last) ∙ last_of-push key (settings (take (count - 1) held)) (setting last)
 
 module _ (key : List ℕ) (held : List Held) (count : ℕ) (d : Held) (total : Option Lexeme) (some : 0 < count) (within : count ≤ length held) (so_far : last_of key (settings (take count held)) ≡ total) where
+  -- the last attribute with the key counts
   pub last_found : bytes_eq (get_or held (count - 1) d).key.now key ≡ true → Some (lexeme (get_or held (count - 1) d).value) ≡ total
   last_found has = sym (last_of_step key held count d some within ∙ rw has refl) ∙ so_far
 
+  -- one with another key is passed over
   pub last_kept : bytes_eq (get_or held (count - 1) d).key.now key ≡ false → last_of key (settings (take (count - 1) held)) ≡ total
   last_kept has = sym (last_of_step key held count d some within ∙ rw has refl) ∙ so_far
 
+-- with none left there is none
 pub last_none : (key : List ℕ) (held : List Held) (count : ℕ) (total : Option Lexeme) → count ≤ 0 → last_of key (settings (take count held)) ≡ total → None ≡ total
 unfolding last_of
 last_none key held count total none so_far =

@@ -1,5 +1,5 @@
 -- The canonical text as pieces, and the file that they spell.
-use Rattle.std.proofs.Common.{◌≡◌, ℕ, Bool, true, false, List, [], ◌∷◌, ◌++◌, Option, Some, None, refl, sym, ap, ◌∙◌, append_assoc}
+use Rattle.std.proofs.Common.{◌≡◌, ℕ, Bool, true, false, List, [], ◌∷◌, ◌++◌, Some, None, refl, ap, ◌∙◌, append_assoc}
 use Rattle.std.specs.Prelude.{codes, map}
 use Rattle.std.specs.List.{flat_map}
 use Rattle.std.proofs.lemmas.List.Concat.{flat_map-append}
@@ -16,18 +16,23 @@ use Rattle.rv_dot.specs.Canonical.{State, Drawing, quoted, marker, shape_of, hea
 abbrev pub space : Piece
 space = blank 32
 
+-- a tab
 abbrev pub tab : Piece
 tab = blank 9
 
+-- a line end
 abbrev pub line_end : Piece
 line_end = blank 10
 
+-- a mark
 abbrev pub mark : Mark → Piece
 mark m = unit (sign m)
 
+-- a word
 abbrev pub named : List ℕ → Piece
 named w = unit (word w)
 
+-- a string
 abbrev pub string : List ℕ → Piece
 string t = unit (text t)
 
@@ -38,28 +43,34 @@ head_pieces =
     ∷ tab ∷ named (codes "center") ∷ space ∷ mark Equals ∷ space ∷ named (codes "true") ∷ mark Semicolon ∷ line_end
     ∷ tab ∷ named (codes "size") ∷ space ∷ mark Equals ∷ space ∷ string (codes "7,11") ∷ mark Semicolon ∷ line_end ∷ []
 
+-- the marker's declaration
 abbrev pub marker_pieces : List ℕ → List Piece
 marker_pieces initial =
     tab ∷ mark OpenBrace ∷ named (codes "node") ∷ space ∷ mark OpenBracket ∷ named (codes "shape") ∷ space ∷ mark Equals ∷ space ∷ named (codes "plaintext") ∷ mark Comma ∷ space
     ∷ named (codes "style") ∷ mark Equals ∷ named (codes "invis") ∷ mark Comma ∷ space ∷ named (codes "label") ∷ mark Equals ∷ string [] ∷ mark CloseBracket ∷ space
     ∷ string (marker initial) ∷ mark CloseBrace ∷ mark Semicolon ∷ line_end ∷ []
 
+-- a state's declaration
 abbrev pub state_pieces : State → List Piece
 state_pieces s =
     tab ∷ mark OpenBrace ∷ named (codes "node") ∷ space ∷ mark OpenBracket ∷ named (codes "shape") ∷ space ∷ mark Equals ∷ space ∷ named (shape_of s.is_marked) ∷ mark CloseBracket ∷ space
     ∷ string s.name ∷ mark CloseBrace ∷ mark Semicolon ∷ line_end ∷ []
 
+-- the edge from the marker
 abbrev pub initial_pieces : List ℕ → List Piece
 initial_pieces initial = tab ∷ string (marker initial) ∷ space ∷ mark Arrow ∷ space ∷ string initial ∷ mark Semicolon ∷ line_end ∷ []
 
+-- a state's label
 abbrev pub node_pieces : List ℕ → List Piece
 node_pieces name = tab ∷ string name ∷ space ∷ mark OpenBracket ∷ named (codes "label") ∷ space ∷ mark Equals ∷ space ∷ string name ∷ mark CloseBracket ∷ mark Semicolon ∷ line_end ∷ []
 
+-- an edge
 abbrev pub arc_pieces : Arc → List Piece
 arc_pieces a =
     tab ∷ string a.from ∷ space ∷ mark Arrow ∷ space ∷ string a.to ∷ space ∷ mark OpenBracket ∷ space ∷ named (codes "label") ∷ space ∷ mark Equals ∷ space ∷ string a.event
     ∷ space ∷ mark CloseBracket ∷ mark Semicolon ∷ line_end ∷ []
 
+-- the last line
 abbrev pub last_pieces : List Piece
 last_pieces = mark CloseBrace ∷ line_end ∷ []
 
@@ -69,13 +80,16 @@ layout d =
     head_pieces ++ (marker_pieces d.initial ++ (flat_map state_pieces d.states ++ (initial_pieces d.initial
     ++ (flat_map node_pieces (map (λ s. s.name) d.states) ++ (flat_map arc_pieces d.arcs ++ last_pieces)))))
 
+-- six parts and the last
 six : (a b c d e f g : List ℕ) → a ++ (b ++ (c ++ (d ++ (e ++ (f ++ g))))) ≡ a ++ b ++ c ++ d ++ e ++ f ++ g
 six a b c d e f g = simp append_assoc
 
+-- a declaration's bytes
 state_text : (name : List ℕ) (t : Bool) → flat_map piece (state_pieces (record { name = name; is_marked = t })) ≡ state_line (record { name = name; is_marked = t })
 state_text name true = refl
 state_text name false = refl
 
+-- the marker's bytes
 marker_text : (initial : List ℕ) → flat_map piece (marker_pieces initial) ≡ marker_line initial
 marker_text initial = refl
 
@@ -90,12 +104,15 @@ with_two a b c x y = regroup a (quoted x) b (quoted y) c
 with_three : (a b c d x y z : List ℕ) → a ++ (quoted x ++ (b ++ (quoted y ++ (c ++ (quoted z ++ d))))) ≡ a ++ quoted x ++ b ++ quoted y ++ c ++ quoted z ++ d
 with_three a b c d x y z = six a (quoted x) b (quoted y) c (quoted z) d
 
+-- its edge's bytes
 initial_text : (initial : List ℕ) → flat_map piece (initial_pieces initial) ≡ initial_line initial
 initial_text initial = with_two (codes "\t") (codes " -> ") (codes ";\n") (marker initial) initial
 
+-- a label's bytes
 node_text : (name : List ℕ) → flat_map piece (node_pieces name) ≡ node_line name
 node_text name = with_two (codes "\t") (codes " [label = ") (codes "];\n") name name
 
+-- an edge's bytes
 arc_text : (a : Arc) → flat_map piece (arc_pieces a) ≡ arc_line a
 arc_text a = with_three (codes "\t") (codes " -> ") (codes " [ label = ") (codes " ];\n") a.from a.to a.event
 
@@ -136,15 +153,19 @@ marker_statement initial =
     declaration ((record { key = codes "shape"; value = word (codes "plaintext") }, comma) ∷ (record { key = codes "style"; value = word (codes "invis") }, comma) ∷ (record { key = codes "label"; value = text [] }, nothing) ∷ [])
     ((text (marker initial), false) ∷ [])
 
+-- a state's declaration
 abbrev pub state_statement : State → Statement
 state_statement s = declaration ((record { key = codes "shape"; value = word (shape_of s.is_marked) }, nothing) ∷ []) ((text s.name, false) ∷ [])
 
+-- the edge from the marker
 abbrev pub initial_statement : List ℕ → Statement
 initial_statement initial = edge (text (marker initial)) (text initial) None
 
+-- a state's label
 abbrev pub node_statement : List ℕ → Statement
 node_statement name = node (text name) (Some ((record { key = codes "label"; value = text name }, nothing) ∷ []))
 
+-- an edge
 abbrev pub arc_statement : Arc → Statement
 arc_statement a = edge (text a.from) (text a.to) (Some ((record { key = codes "label"; value = text a.event }, nothing) ∷ []))
 
@@ -164,8 +185,10 @@ drawn d = record {
 abbrev pub state_claim : State → Claim
 state_claim s = declares s.name (Some (shape_of s.is_marked))
 
+-- an edge's claim
 abbrev pub arc_claim : Arc → Claim
 arc_claim a = leads a.from a.to (Some a.event)
 
+-- what the whole file says
 abbrev pub claims_drawn : Drawing → List Claim
 claims_drawn d = declares (marker d.initial) (Some (codes "plaintext")) ∷ (map state_claim d.states ++ (leads (marker d.initial) d.initial None ∷ map arc_claim d.arcs))

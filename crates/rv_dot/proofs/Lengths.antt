@@ -4,5 +4,6 @@ use Rattle.std.proofs.lemmas.List.{length-map}
 use Rattle.rv_dot.specs.declared.token.Token.{Token}
 use Rattle.rv_dot.specs.Tokens.{lexeme, lexemes}
 
+-- there are as many lexemes as tokens
 pub length_lexemes : (tokens : List Token) → length (lexemes tokens) ≡ length tokens
 length_lexemes tokens = length-map tokens lexeme

@@ -6,10 +6,12 @@ use Rattle.std.proofs.lemmas.Option.{same_Some}
 use Rattle.rv_dot.specs.declared.token.Mark.TheVariants.{CloseBrace, OpenBracket, CloseBracket, Equals, Semicolon, Comma}
 use Rattle.rv_dot.specs.Tokens.{Lexeme, sign, word, text}
 use Rattle.rv_dot.specs.Marks.{begins, expects, without}
-use Rattle.rv_dot.specs.Statements.{Attribute, word_at, value_at, name_at, is_keyword, separated, attribute_at, attributes_within, attributes_at, last_of, bracket_at, optional_bracket_at, names_within, names_at}
+use Rattle.rv_dot.specs.Lists.{Attribute, word_at, value_at, name_at, is_keyword, separated, attribute_at, attributes_within, attributes_at, last_of, bracket_at, names_within, names_at}
+use Rattle.rv_dot.specs.Statements.{optional_bracket_at}
 use Rattle.rv_dot.specs.Grammar.{semicolon, Separator, nothing, comma, semi, separator, Bracket, inside, optional_bracket, Group, named, group, IsValue, IsName, IsBracket, IsOptionalBracket, IsGroup, value_in, value_in_optional}
 use Rattle.rv_dot.proofs.MarkLaws.{bind_some, chosen, expects_takes, begins_takes, without_none, semicolon_takes}
 
+-- what is read so is spelled so: word
 pub word_takes : (tokens : List Lexeme) (x : List ℕ × List Lexeme) → word_at tokens ≡ Some x → tokens ≡ word x.0 ∷ x.1
 unfolding word_at
 word_takes [] x h = absurd (cc)
@@ -17,6 +19,7 @@ word_takes (sign m ∷ tokens) x h = absurd (cc)
 word_takes (word w ∷ tokens) x h = ap (λ (y : List ℕ × List Lexeme). word y.0 ∷ y.1) (same_Some (w, tokens) x h)
 word_takes (text t ∷ tokens) x h = absurd (cc)
 
+-- what is read so is spelled so: value
 pub value_takes : (tokens : List Lexeme) (x : Lexeme × List Lexeme) → value_at tokens ≡ Some x → (tokens ≡ x.0 ∷ x.1) × IsValue x.0
 unfolding value_at
 value_takes [] x h = absurd (cc)
@@ -28,6 +31,7 @@ value_takes (text t ∷ tokens) x h =
     let e = same_Some (text t, tokens) x h in
     (ap (λ (y : Lexeme × List Lexeme). y.0 ∷ y.1) e, subst (λ (y : Lexeme × List Lexeme). IsValue y.0) e tt)
 
+-- what is read so is spelled so: name
 pub name_takes : (tokens : List Lexeme) (x : Lexeme × List Lexeme) → name_at tokens ≡ Some x → (tokens ≡ x.0 ∷ x.1) × IsName x.0
 unfolding name_at
 name_takes [] x h = absurd (cc)
@@ -43,6 +47,7 @@ name_takes (text t ∷ tokens) x h =
     let e = same_Some (text t, tokens) x h in
     (ap (λ (y : Lexeme × List Lexeme). y.0 ∷ y.1) e, subst (λ (y : Lexeme × List Lexeme). IsName y.0) e tt)
 
+-- what is read so is spelled so: separated
 separated_takes : (tokens : List Lexeme) → (s : Separator) × (tokens ≡ separator s ++ separated tokens)
 unfolding separated
 separated_takes tokens = go (begins Comma tokens) refl
@@ -55,6 +60,7 @@ separated_takes tokens = go (begins Comma tokens) refl
     go true h = (comma, rw h (begins_takes Comma tokens h))
     go false h = none (begins Semicolon tokens) h refl
 
+-- what is read so is spelled so: attribute
 attribute_takes : (tokens : List Lexeme) (x : Attribute × List Lexeme) → attribute_at tokens ≡ Some x → (tokens ≡ word x.0.key ∷ sign Equals ∷ x.0.value ∷ x.1) × IsValue x.0.value
 unfolding attribute_at
 attribute_takes tokens x h =
@@ -67,6 +73,7 @@ attribute_takes tokens x h =
     word_takes tokens key.0 key.1 ∙ ap (λ (ts : List Lexeme). word key.0.0 ∷ ts) (expects_takes Equals key.0.1 behind.0 behind.1) ∙ ap (λ (ts : List Lexeme). word key.0.0 ∷ sign Equals ∷ ts) v.0 in
     (spelled ∙ ap (λ (y : Attribute × List Lexeme). word y.0.key ∷ sign Equals ∷ y.0.value ∷ y.1) e, subst (λ (y : Attribute × List Lexeme). IsValue y.0.value) e v.1)
 
+-- what is read so is spelled so: attributes
 pub attributes_take : (n : ℕ) (tokens : List Lexeme) (x : List Attribute × List Lexeme) → attributes_within n tokens ≡ Some x → (b : Bracket) × IsBracket b × (tokens ≡ inside b ++ sign CloseBracket ∷ x.1) × (map (λ a. a.0) b ≡ x.0)
 unfolding attributes_within
 attributes_take zero tokens x h = absurd (cc)
@@ -90,6 +97,7 @@ attributes_take (suc n) tokens x h =
           )
     ]
 
+-- what is read so is spelled so: bracket
 pub bracket_takes : (key : List ℕ) (tokens : List Lexeme) (x : Option Lexeme × List Lexeme) → bracket_at key tokens ≡ Some x → (b : Bracket) × IsBracket b × (tokens ≡ inside b ++ sign CloseBracket ∷ x.1) × (value_in key b ≡ x.0)
 unfolding bracket_at attributes_at
 bracket_takes key tokens x h =
@@ -98,6 +106,7 @@ bracket_takes key tokens x h =
     let b = attributes_take (length tokens) tokens k.0 k.1 in
     (b.0, b.1, b.2 ∙ ap (λ (y : Option Lexeme × List Lexeme). inside b.0 ++ sign CloseBracket ∷ y.1) e, ap (last_of key) b.3 ∙ ap (λ (y : Option Lexeme × List Lexeme). y.0) e)
 
+-- what is read so is spelled so: optional bracket
 pub optional_bracket_takes : (key : List ℕ) (tokens : List Lexeme) (x : Option Lexeme × List Lexeme) → optional_bracket_at key tokens ≡ Some x → (b : Option Bracket) × IsOptionalBracket b × (tokens ≡ optional_bracket b ++ x.1) × (value_in_optional key b ≡ x.0)
 unfolding optional_bracket_at
 optional_bracket_takes key tokens x h =
@@ -110,6 +119,7 @@ optional_bracket_takes key tokens x h =
           (None, tt, ap (λ (y : Option Lexeme × List Lexeme). y.1) e, ap (λ (y : Option Lexeme × List Lexeme). y.0) e)
     ]
 
+-- what is read so is spelled so: names
 pub names_take : (n : ℕ) (tokens : List Lexeme) (x : List Lexeme × List Lexeme) → names_within n tokens ≡ Some x → (g : Group) × IsGroup g × (tokens ≡ flat_map named g ++ sign CloseBrace ∷ x.1) × (map (λ n. n.0) g ≡ x.0)
 unfolding names_within
 names_take zero tokens x h = absurd (cc)
@@ -132,6 +142,7 @@ names_take (suc n) tokens x h =
           )
     ]
 
+-- what is read so is spelled so: group
 pub group_takes : (tokens : List Lexeme) (x : List Lexeme × List Lexeme) → names_at tokens ≡ Some x → (g : Group) × IsGroup g × (tokens ≡ group g ++ x.1) × (map (λ n. n.0) g ≡ x.0)
 unfolding names_at
 group_takes tokens x h =

@@ -1,10 +1,9 @@
 -- What an automaton keeps, on its lists.
-use Rattle.std.proofs.Common.{◌≡◌, ℕ, zero, suc, ◌+◌, ◌-◌, ◌*◌, ◌<◌, ◌≤◌, Bool, true, false, List, [], ◌∷◌, length, get_or, drop, Option, Some, refl, sym, ap, ◌∙◌, subst, ◌⊎◌, inl, inr, arith}
-use Rattle.std.specs.Prelude.{map, not, ◌≢◌, ◌↔◌, All, AllPairs, Any, nat_lt, ◌==◌}
+use Rattle.std.proofs.Common.{◌≡◌, ℕ, zero, suc, ◌<◌, ◌≤◌, Bool, true, false, List, [], ◌∷◌, length, get_or, drop, Some, refl, sym, ap, ◌∙◌, subst, ◌⊎◌, inl, inr, arith}
+use Rattle.std.specs.Prelude.{map, not, ◌≢◌, AllPairs, nat_lt, ◌==◌}
 use Rattle.std.specs.List.{AllByRecursion, filter}
 use Rattle.std.specs.Cmp.Lexicographic.{slice_cmp, nat_list_cmp_total}
-use Rattle.std.specs.Ordering.{nat_cmp, ordering_then}
-use Rattle.std.specs.declared.cmp.Ordering.{Ordering}
+use Rattle.std.specs.Ordering.{nat_cmp}
 use Rattle.std.specs.declared.cmp.Ordering.TheVariants.{Less, Equal}
 use Rattle.std.specs.Str.{bytes_eq}
 use Rattle.std.proofs.lemmas.Bool.Decides.{nat_tests}
@@ -49,13 +48,16 @@ split_first (n ∷ names) h = refl
 abbrev pub move_of : Edge → Move
 move_of e = record { from = e.from; event = e.event; to = e.to }
 
+-- moves as edges are the edges
 pub edges_back : (edges : List Edge) → map edge_of (map move_of edges) ≡ edges
 edges_back [] = refl
 edges_back (e ∷ edges) = ap (λ (es : List Edge). e ∷ es) (edges_back edges)
 
+-- a lesser number compares so
 less_from : (x y : ℕ) → x < y → nat_cmp x y ≡ Less
 less_from x y h = let test : nat_lt x y ≡ true = grind (arith, nat_tests) in rw test refl
 
+-- an earlier edge compares so
 edge_less : (e f : Edge) → EdgeIsBefore e f → move_cmp (move_of e) (move_of f) ≡ Less
 edge_less e f h = elim h [
   | inl from ↦ rw (less_from e.from f.from from) refl
@@ -65,7 +67,8 @@ edge_less e f h = elim h [
     same : (x : ℕ) → nat_cmp x x ≡ Equal
     same x = let apart : nat_lt x x ≡ false = grind (arith, nat_tests) in let test : (x == x) ≡ true = grind (arith, nat_tests) in rw (apart, test) refl
 
-moves_in_order : (edges : List Edge) → AllLater EdgeIsBefore edges → Ascends move_cmp (map move_of edges)
+-- edges in order are moves in order
+pub moves_in_order : (edges : List Edge) → AllLater EdgeIsBefore edges → Ascends move_cmp (map move_of edges)
 moves_in_order [] h = tt
 moves_in_order (e ∷ edges) h = (go edges h.0, moves_in_order edges h.1)
   where
@@ -89,15 +92,19 @@ calm_edges (e ∷ f ∷ edges) h = rw (apart (move_of e) (move_of f) h.0.0, calm
     apart a b k = grind (arith, nat_tests)
 
 module _ (a : Machine) (h : IsAutomaton a) where
+  -- the others ascend
   others_up : Ascends (slice_cmp nat_cmp) (drop 1 a.states)
   others_up = ascends_from (drop 1 a.states) h.states_ascend
 
+  -- the events ascend
   pub events_up : Ascends (slice_cmp nat_cmp) a.events
   events_up = ascends_from a.events h.events_ascend
 
+  -- the edges ascend at all pairs
   pub edges_later : AllLater EdgeIsBefore a.edges
   edges_later = later_from EdgeIsBefore a.edges h.edges_ascend
 
+  -- the initial state is none of the others
   initial_apart : (s : List ℕ) → IsMember s (drop 1 a.states) → bytes_eq (get_or a.states 0 []) s ≡ false
   initial_apart s m = go (bytes_eq (get_or a.states 0 []) s) refl
     where
@@ -105,6 +112,7 @@ module _ (a : Machine) (h : IsAutomaton a) where
       go true e = absurd (all_member (λ x. x ≢ get_or a.states 0 []) (drop 1 a.states) s h.initial_once m (sym (name_same (get_or a.states 0 []) s e)))
       go false e = refl
 
+  -- each state has its place
   place_behind : (k : ℕ) → k < length (get_or a.states 0 [] ∷ drop 1 a.states) → place_of (get_or (get_or a.states 0 [] ∷ drop 1 a.states) k []) (get_or a.states 0 [] ∷ drop 1 a.states) ≡ Some k
   unfolding place_of
   place_behind zero lt = rw (name_test (get_or a.states 0 []) (get_or a.states 0 []) refl) refl
@@ -119,6 +127,7 @@ module _ (a : Machine) (h : IsAutomaton a) where
       let at = place_behind k (subst (λ (ns : List (List ℕ)). k < length ns) split lt) in
       rw (subst (λ (ns : List (List ℕ)). place_of (get_or ns k []) ns ≡ Some k) (sym split) at) refl
 
+  -- an event has its place as its number
   pub event_number : (k : ℕ) → k < length a.events → number_in a.events (get_or a.events k []) ≡ k
   event_number k lt = rw (place_of-at a.events k [] events_up lt) refl
 

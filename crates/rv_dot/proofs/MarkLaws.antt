@@ -6,6 +6,7 @@ use Rattle.rv_dot.specs.Tokens.{Lexeme, sign, word, text, ◌>>=◌}
 use Rattle.rv_dot.specs.Marks.{mark_eq, begins, expects, without}
 use Rattle.rv_dot.specs.Grammar.{semicolon}
 
+-- what was read on comes of what was read
 pub bind_some : {A B : Type 0} (o : Option A) (f : A → Option B) (y : B) → (o >>= f) ≡ Some y → (x : A) × (o ≡ Some x) × (f x ≡ Some y)
 bind_some None f y h = absurd (cc)
 bind_some (Some x) f y h = (x, refl, h)
@@ -15,6 +16,7 @@ pub chosen : {A : Type 0} (b : Bool) (x y z : A) → cond b x y ≡ z → ((b �
 chosen true x y z h = inl (refl, h)
 chosen false x y z h = inr (refl, h)
 
+-- a mark is itself
 pub mark_eq-same : (m : Mark) → mark_eq m m ≡ true
 mark_eq-same OpenBrace = refl
 mark_eq-same CloseBrace = refl
@@ -25,6 +27,7 @@ mark_eq-same Semicolon = refl
 mark_eq-same Comma = refl
 mark_eq-same Arrow = refl
 
+-- equal marks are one
 pub mark_eq_is : (m n : Mark) → mark_eq m n ≡ true → m ≡ n
 mark_eq_is OpenBrace OpenBrace h = refl
 mark_eq_is CloseBrace CloseBrace h = refl
@@ -36,10 +39,12 @@ mark_eq_is Comma Comma h = refl
 mark_eq_is Arrow Arrow h = refl
 mark_eq_is _ _ h = absurd (cc)
 
+-- what is spelled so is read so: expects
 pub expects_again : (m : Mark) (rest : List Lexeme) → expects m (sign m ∷ rest) ≡ Some rest
 unfolding expects
 expects_again m rest = rw mark_eq-same refl
 
+-- what is read so is spelled so: expects
 pub expects_takes : (m : Mark) (tokens rest : List Lexeme) → expects m tokens ≡ Some rest → tokens ≡ sign m ∷ rest
 unfolding expects
 expects_takes m [] rest h = absurd (cc)
@@ -51,10 +56,12 @@ expects_takes m (sign n ∷ tokens) rest h =
 expects_takes m (word w ∷ tokens) rest h = absurd (cc)
 expects_takes m (text t ∷ tokens) rest h = absurd (cc)
 
+-- what is spelled so is read so: begins
 pub begins_again : (m : Mark) (rest : List Lexeme) → begins m (sign m ∷ rest) ≡ true
 unfolding begins
 begins_again m rest = mark_eq-same m
 
+-- the mark is passed over
 pub without_again : (m : Mark) (rest : List Lexeme) → without m (sign m ∷ rest) ≡ rest
 unfolding without
 without_again m rest = rw mark_eq-same refl
@@ -67,6 +74,7 @@ without_none m (sign n ∷ tokens) h = rw h refl
 without_none m (word w ∷ tokens) h = refl
 without_none m (text t ∷ tokens) h = refl
 
+-- what is read so is spelled so: begins
 pub begins_takes : (m : Mark) (tokens : List Lexeme) → begins m tokens ≡ true → tokens ≡ sign m ∷ without m tokens
 unfolding without begins
 begins_takes m [] h = absurd (cc)
@@ -74,10 +82,12 @@ begins_takes m (sign n ∷ tokens) h = let same = mark_eq_is m n h in rw h (ap (
 begins_takes m (word w ∷ tokens) h = absurd (cc)
 begins_takes m (text t ∷ tokens) h = absurd (cc)
 
+-- a semicolon or none is passed over
 pub semicolon_again : (b : Bool) (rest : List Lexeme) → begins Semicolon rest ≡ false → without Semicolon (semicolon b ++ rest) ≡ rest
 semicolon_again true rest h = without_again Semicolon rest
 semicolon_again false rest h = without_none Semicolon rest h
 
+-- what is passed over is a semicolon or none
 pub semicolon_takes : (tokens : List Lexeme) → (b : Bool) × (tokens ≡ semicolon b ++ without Semicolon tokens)
 semicolon_takes tokens = go (begins Semicolon tokens) refl
   where

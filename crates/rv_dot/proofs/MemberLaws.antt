@@ -1,7 +1,7 @@
 -- Members of lists: of what is made of a list, and at their places.
-use Rattle.std.proofs.Common.{◌≡◌, ℕ, zero, suc, ◌<◌, ◌≤◌, Bool, true, false, List, [], ◌∷◌, length, get_or, cond, refl, sym, ap, ◌∙◌, subst, ◌⊎◌, inl, inr, arith}
+use Rattle.std.proofs.Common.{◌≡◌, ℕ, zero, suc, ◌<◌, Bool, true, false, List, [], ◌∷◌, length, get_or, cond, refl, sym, ap, ◌∙◌, subst, ◌⊎◌, inl, inr, arith}
 use Rattle.std.specs.Prelude.{map, ◌&&◌, ◌||◌, All, AllPairs}
-use Rattle.std.specs.List.{AllByRecursion, filter, filter_map, flat_map, list_all, list_any, cons_option}
+use Rattle.std.specs.List.{AllByRecursion, filter, filter_map, list_all, list_any, cons_option}
 use Rattle.std.specs.declared.option.Option.{Option}
 use Rattle.std.specs.declared.option.Option.TheVariants.{None, Some}
 use Rattle.std.specs.declared.cmp.Ordering.{Ordering}
@@ -9,6 +9,7 @@ use Rattle.std.specs.declared.cmp.Ordering.TheVariants.{Less}
 use Rattle.rv_dot.specs.Members.{IsMember, Ascends}
 use Rattle.rv_dot.proofs.SetOrder.{all_from_members, member_of_all}
 
+-- both tests pass
 both : (a b : Bool) → (a && b) ≡ true → (a ≡ true) × (b ≡ true)
 both true b h = (refl, h)
 both false b h = absurd (cc)
@@ -108,6 +109,7 @@ abbrev pub AllLater : {A : Type 0} → (A → A → Type 0) → List A → Type 
 AllLater R [] = Unit {0}
 AllLater R (x ∷ xs) = AllByRecursion (λ y. R x y) xs × AllLater R xs
 
+-- so they hold at all pairs
 pub pairs_from : {A : Type 0} (R : A → A → Type 0) (xs : List A) → AllLater R xs → AllPairs R xs
 pairs_from R [] h i j d lt within = absurd (omega arith)
 pairs_from R (x ∷ xs) h zero zero d lt within = absurd (omega arith)

@@ -26,6 +26,7 @@ pub record Clashes (moves : List Move) : Type 0 where
   pub same_event : one.event ≡ other.event
   pub apart : one.to ≢ other.to
 
+-- moves in order by their numbers
 is_below : (a b : Move) → move_cmp a b ≡ Less → IsBelow a b
 is_below a b h = go (nat_cmp a.from b.from) (nat_cmp a.event b.event) (nat_cmp a.to b.to) refl refl refl h
   where
@@ -42,24 +43,30 @@ is_below a b h = go (nat_cmp a.from b.from) (nat_cmp a.event b.event) (nat_cmp a
 abbrev pub KeyBelow : Move → Move → Type 0
 KeyBelow a b = (a.from < b.from) ⊎ ((a.from ≡ b.from) × (a.event < b.event))
 
+-- each is below those behind it
 abbrev pub KeysAscend : List Move → Type 0
 KeysAscend [] = Unit {0}
 KeysAscend (a ∷ moves) = AllByRecursion (λ b. KeyBelow a b) moves × KeysAscend moves
 
+-- without a common key
 key_below : (a b : Move) → IsBelow a b → same_key a b ≡ false → KeyBelow a b
 key_below a b h k = grind (arith, nat_tests)
 
+-- the order goes on
 key_trans : (a b c : Move) → KeyBelow a b → KeyBelow b c → KeyBelow a c
 key_trans a b c p q = grind arith
 
+-- below all behind
 all_below : (a b : Move) (moves : List Move) → KeyBelow a b → AllByRecursion (λ c. KeyBelow b c) moves → AllByRecursion (λ c. KeyBelow a c) moves
 all_below a b [] p h = tt
 all_below a b (c ∷ moves) p h = (key_trans a b c p h.0, all_below a b moves p h.1)
 
+-- neither test passes
 neither : (a b : Bool) → (a || b) ≡ false → (a ≡ false) × (b ≡ false)
 neither true b h = absurd (cc)
 neither false b h = (refl, h)
 
+-- moves without a clash ascend by their keys
 pub keys_ascend : (moves : List Move) → Ascends move_cmp moves → has_clash moves ≡ false → KeysAscend moves
 keys_ascend [] h k = tt
 keys_ascend (a ∷ []) h k = (tt, tt)
@@ -69,6 +76,7 @@ keys_ascend (a ∷ b ∷ moves) h k =
     let first = key_below a b (is_below a b h.0.0) n.0 in
     ((first, all_below a b moves first later.0), later)
 
+-- a move is below those behind it
 member_below : (a x : Move) (moves : List Move) → AllByRecursion (λ b. KeyBelow a b) moves → IsMember x moves → a.from ≡ x.from → a.event ≡ x.event → ⊥
 member_below a x [] h m p q = absurd m
 member_below a x (b ∷ moves) h m p q =
@@ -77,6 +85,7 @@ member_below a x (b ∷ moves) h m p q =
       | inr n ↦ member_below a x moves h.1 n p q
     ]
 
+-- no two moves have one key
 no_two : (moves : List Move) → KeysAscend moves → (x y : Move) → IsMember x moves → IsMember y moves → x.from ≡ y.from → x.event ≡ y.event → x ≡ y
 no_two [] h x y m n p q = absurd m
 no_two (a ∷ moves) h x y m n p q =
@@ -85,12 +94,15 @@ no_two (a ∷ moves) h x y m n p q =
       | inr k ↦ elim n [ inl f ↦ absurd (member_below a x moves h.0 k (ap (λ (z : Move). z.from) f ∙ sym p) (ap (λ (z : Move). z.event) f ∙ sym q)) | inr l ↦ no_two moves h.1 x y k l p q ]
     ]
 
+-- the parts of a key
 same_parts : (a b : Move) → same_key a b ≡ true → (a.from ≡ b.from) × (a.event ≡ b.event)
 same_parts a b h = (grind (arith, nat_tests), grind (arith, nat_tests))
 
+-- moves in order with one key are apart
 apart_by_order : (a b : Move) → IsBelow a b → same_key a b ≡ true → a.to ≡ b.to → ⊥
 apart_by_order a b h k e = let parts = same_parts a b k in grind arith
 
+-- neighbours that clash are two moves that do
 pub clash_found : (moves : List Move) → Ascends move_cmp moves → has_clash moves ≡ true → Clashes moves
 clash_found [] h k = absurd (cc)
 clash_found (a ∷ []) h k = absurd (cc)
@@ -102,6 +114,7 @@ clash_found (a ∷ b ∷ moves) h k = go (same_key a b) refl k (clash_found (b �
     go false e k later = let c = later k in
         record { one = c.one; other = c.other; has_one = inr c.has_one; has_other = inr c.has_other; same_from = c.same_from; same_event = c.same_event; apart = c.apart }
 
+-- a clash is a conflict
 pub clash_is : (moves : List Move) → Ascends move_cmp moves → Clashes moves → has_clash moves ≡ true
 clash_is moves h c = go (has_clash moves) refl
   where

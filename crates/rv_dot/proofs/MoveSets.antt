@@ -18,6 +18,7 @@ use Rattle.rv_dot.specs.Members.{IsMember, Ascends}
 use Rattle.rv_dot.specs.Moves.{move_cmp, moves_of, numbered}
 use Rattle.rv_dot.proofs.SetOrder.{fold_ascends, fold_members, members_fold}
 
+-- one move more
 moves_of-push : (moves : List Move) (m : Move) → moves_of (moves ++ m ∷ []) ≡ insert_key move_cmp (moves_of moves) m
 unfolding moves_of
 moves_of-push moves m = fold_push (insert_key move_cmp) [] moves m
@@ -38,9 +39,11 @@ moves_more states events arcs i d m keys keys' lt so_far is inserted =
 pub moves_total : IsTotalOrder move_cmp
 moves_total = total-law
 
+-- the lesser number
 pub nat_less : (x y : ℕ) → nat_cmp x y ≡ Less → x < y
 nat_less x y h = grind (arith, nat_tests)
 
+-- the same number
 pub nat_same : (x y : ℕ) → nat_cmp x y ≡ Equal → x ≡ y
 nat_same x y h = grind (arith, nat_tests)
 

@@ -22,14 +22,17 @@ same_name (x ∷ xs) (y ∷ ys) h = go (nat_cmp x y) refl h (same_name xs ys)
     go Equal e h later = let same : x ≡ y = grind (arith, nat_tests) in let tails = later h in cc
     go Greater e h later = absurd (cc)
 
+-- the part that can be
 either : {A B : Type 0} → A ⊎ B → (B → ⊥) → A
 either (inl a) none = a
 either (inr b) none = absurd (none b)
 
+-- a set ascends
 pub set_ascends : (names : List (List ℕ)) → Ascends (slice_cmp nat_cmp) (set_of names)
 unfolding set_of
 set_ascends names = fold_ascends (slice_cmp nat_cmp) nat_list_cmp_total same_name names [] tt
 
+-- its members are the names
 pub set_members : (names : List (List ℕ)) (name : List ℕ) → IsMember name (set_of names) ↔ IsMember name names
 unfolding set_of
 set_members names name = (
@@ -37,6 +40,7 @@ set_members names name = (
   (λ m. members_fold (slice_cmp nat_cmp) nat_list_cmp_total same_name names [] name (inl m)),
 )
 
+-- no other list is so
 pub set_is_only : (names found : List (List ℕ)) → Ascends (slice_cmp nat_cmp) found → ((name : List ℕ) → IsMember name found ↔ IsMember name names) → found ≡ set_of names
 set_is_only names found up members =
     one_list (slice_cmp nat_cmp) nat_list_cmp_total same_name found (set_of names) up (set_ascends names)

@@ -1,17 +1,15 @@
 -- Places of names in lists of names that ascend.
-use Rattle.std.proofs.Common.{◌≡◌, ℕ, zero, suc, ◌+◌, ◌<◌, ◌≤◌, Bool, true, false, List, [], ◌∷◌, length, get_or, Option, Some, None, cond, refl, sym, ap, ◌∙◌, subst, arith, Bor}
+use Rattle.std.proofs.Common.{◌≡◌, ℕ, zero, suc, ◌<◌, ◌≤◌, Bool, true, false, List, [], ◌∷◌, length, get_or, Option, Some, None, cond, refl, sym, ap, ◌∙◌, subst, arith, Bor}
 use Rattle.std.specs.Prelude.{map, nat_lt}
 use Rattle.std.proofs.lemmas.Bool.Decides.{nat_tests}
 use Rattle.std.specs.List.{AllByRecursion}
 use Rattle.std.specs.List.Sorted.{IsNonDecreasingBy, IsPartitionPoint}
-use Rattle.std.specs.Option.{option_map}
 use Rattle.std.specs.Str.{bytes_eq}
 use Rattle.std.specs.Cmp.Lexicographic.{slice_cmp, nat_list_cmp_total}
 use Rattle.std.specs.Ordering.{nat_cmp, ordering_index, is_eq}
 use Rattle.std.specs.declared.cmp.Ordering.{Ordering}
 use Rattle.std.specs.declared.cmp.Ordering.TheVariants.{Less, Equal, Greater}
 use Rattle.std.proofs.lemmas.Map.Text.{is_eq-slice_cmp}
-use Rattle.std.proofs.lemmas.Cmp.{tied_itself}
 use Rattle.rv_dot.specs.Members.{Ascends}
 use Rattle.rv_dot.specs.Sets.{bytes_of, place_of}
 use Rattle.rv_dot.proofs.NameSets.{same_name}
@@ -34,6 +32,7 @@ ascends_at (x ∷ names) zero (suc j) d up lt within = all_at (λ y. by_bytes x.
 ascends_at (x ∷ names) (suc i) zero d up lt within = absurd (omega arith)
 ascends_at (x ∷ names) (suc i) (suc j) d up lt within = ascends_at names i j d up.1 (omega arith) (omega arith)
 
+-- equal names pass the test
 same_test : (x y : List ℕ) → by_bytes x y ≡ Equal → bytes_eq x y ≡ true
 same_test x y e = sym (is_eq-slice_cmp x y) ∙ ap is_eq e
 
@@ -67,6 +66,7 @@ place_of-none (x ∷ names) name none =
     go Equal e test = absurd (none 0 x (omega arith) e)
     go Greater e test = rw (sym test ∙ ap is_eq e) refl
 
+-- there are three answers
 few : (o : Ordering) → ordering_index o ≤ 2
 few Less = omega arith
 few Equal = omega arith

@@ -1,16 +1,15 @@
 -- Names of states and events are read as they are.
-use Rattle.std.proofs.Common.{◌≡◌, ℕ, zero, suc, ◌+◌, ◌≤◌, Bool, true, false, List, [], ◌∷◌, length, take, Option, Some, None, cond, refl, sym, ap, ◌∙◌, arith, get_or}
-use Rattle.std.specs.Prelude.{not, ◌&&◌, ◌||◌, ◌==◌, nat_le, All, IsTrue}
-use Rattle.std.specs.List.{AllByRecursion, list_all}
-use Rattle.std.specs.Option.{option_map}
+use Rattle.std.proofs.Common.{◌≡◌, ℕ, zero, suc, ◌≤◌, Bool, true, false, List, [], ◌∷◌, length, None, refl, sym, ap, ◌∙◌, arith, get_or}
+use Rattle.std.specs.Prelude.{not, ◌&&◌, ◌==◌, nat_le, IsTrue}
+use Rattle.std.specs.List.{list_all}
 use Rattle.std.proofs.Math.Seq.{take-length}
 use Rattle.std.proofs.lemmas.Bool.Decides.{nat_tests}
 use Rattle.rv_model.specs.WellFormed.{IsNameOf, IsStateName, is_event_byte, is_state_byte}
-use Rattle.rv_dot.specs.Runs.{is_word_byte, begins_with}
+use Rattle.rv_dot.specs.Runs.{is_word_byte}
 use Rattle.rv_dot.specs.Names.{is_marker, is_name, is_state_name, is_event_name}
 use Rattle.rv_dot.specs.Labels.{is_blank, piece_len, without_blanks, kept_len, trimmed, piece_of, pieces_within, events_of}
 use Rattle.rv_dot.proofs.MemberLaws.{list_all_from, all_member}
-use Rattle.rv_dot.proofs.RoundTrip.{IsPlain, other_byte}
+use Rattle.rv_dot.proofs.PlainBytes.{IsPlain, other_byte}
 use Rattle.rv_dot.proofs.SetOrder.{all_from_members}
 
 -- a name by its parts is a name by the test
@@ -31,6 +30,7 @@ name_test_of of_kind name h =
 pub state_name_test : (name : List ℕ) → IsStateName name → is_state_name name ≡ true
 state_name_test name h = name_test_of is_word_byte name h.0
 
+-- and is no marker
 pub no_marker_test : (name : List ℕ) → IsStateName name → is_marker name ≡ false
 no_marker_test name h = go (is_marker name) refl
   where
@@ -38,9 +38,11 @@ no_marker_test name h = go (is_marker name) refl
     go true e = absurd (h.1 e)
     go false e = refl
 
+-- a byte of an event is one of a word
 event_is_word : (b : ℕ) → is_event_byte b ≡ true → is_word_byte b ≡ true
 event_is_word b h = rw h refl
 
+-- and no point
 event_bytes : (b : ℕ) → is_event_byte b ≡ true → (is_word_byte b && not (b == 46)) ≡ true
 event_bytes b h = go (b == 46) refl
   where
@@ -56,30 +58,37 @@ event_name_test name h = name_test_of (λ b. is_word_byte b && not (b == 46)) na
 pub state_plain : (name : List ℕ) → IsStateName name → IsPlain name
 state_plain name h = all_from_members (λ b. is_word_byte b ≡ true) name (λ b m. all_member (λ c. IsTrue (is_state_byte c)) name b h.0.2 m)
 
+-- an event's too
 pub event_plain : (name : List ℕ) → IsNameOf is_event_byte name → IsPlain name
 event_plain name h = all_from_members (λ b. is_word_byte b ≡ true) name (λ b m. event_is_word b (all_member (λ c. IsTrue (is_event_byte c)) name b h.2 m))
 
+-- no byte of a word is a blank
 no_blank : (b : ℕ) → is_word_byte b ≡ true → is_blank b ≡ false
 no_blank b h = rw (other_byte b 32 h refl, other_byte b 9 h refl) refl
 
+-- such a name has no cut
 uncut : (name : List ℕ) → IsPlain name → piece_len name ≡ None
 unfolding piece_len
 uncut [] h = refl
 uncut (b ∷ name) h = rw (other_byte b 92 h.0 refl, uncut name h.1) refl
 
+-- and no blanks in front
 unblanked : (name : List ℕ) → IsPlain name → without_blanks name ≡ name
 unfolding without_blanks
 unblanked [] h = refl
 unblanked (b ∷ name) h = rw (no_blank b h.0) refl
 
+-- nor behind
 kept : (name : List ℕ) → IsPlain name → kept_len name ≡ length name
 unfolding kept_len
 kept [] h = refl
 kept (b ∷ name) h = rw (no_blank b h.0, kept name h.1) (omega arith)
 
+-- so it is trimmed as it is
 trimmed_plain : (name : List ℕ) → IsPlain name → trimmed name ≡ name
 trimmed_plain name h = rw (unblanked name h, kept name h) (take-length name)
 
+-- and is one piece
 one_piece : (n : ℕ) (name : List ℕ) → IsPlain name → pieces_within n name ≡ name ∷ []
 unfolding pieces_within piece_of
 one_piece zero name h = ap (λ (t : List ℕ). t ∷ []) (trimmed_plain name h)

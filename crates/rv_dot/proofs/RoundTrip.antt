@@ -1,20 +1,20 @@
 -- The canonical text is in the grammar, and says what it draws.
 use Rattle.std.proofs.Common.{rules, ◌≡◌, ℕ, Bool, true, false, List, [], ◌∷◌, ◌++◌, Some, None, refl, sym, ap, ◌∙◌, append_assoc, subst, arith}
-use Rattle.std.specs.Prelude.{codes, map, ◌==◌}
+use Rattle.std.specs.Prelude.{codes, map}
 use Rattle.std.specs.List.{flat_map, AllByRecursion}
-use Rattle.std.proofs.lemmas.Bool.Decides.{nat_tests}
 use Rattle.std.proofs.lemmas.List.Concat.{flat_map-append}
 use Rattle.rv_dot.specs.declared.token.Mark.TheVariants.{OpenBrace, CloseBrace, Equals, Semicolon}
-use Rattle.rv_dot.specs.Runs.{is_word_byte}
 use Rattle.rv_dot.specs.Tokens.{Lexeme, sign, word, text}
-use Rattle.rv_dot.specs.Names.{name_byte, name_of}
+use Rattle.rv_dot.specs.Names.{name_of}
 use Rattle.rv_dot.specs.Pieces.{Piece, piece, IsString, IsPieceAt, ends_line, Reads, tokens_in}
-use Rattle.rv_dot.specs.Statements.{Claim, declares, leads, last_of}
+use Rattle.rv_dot.specs.Lists.{last_of}
+use Rattle.rv_dot.specs.Statements.{Claim, declares, leads}
 use Rattle.rv_dot.specs.Grammar.{Statement, ended, file, IsStatement, says, file_says}
 use Rattle.rv_dot.specs.Text.{IsTextOf, said_by}
 use Rattle.rv_dot.specs.Gathered.{Arc}
 use Rattle.rv_dot.specs.Canonical.{State, Drawing, marker, shape_of, drawing_text}
 use Rattle.rv_dot.proofs.Layouts.{head_pieces, marker_pieces, state_pieces, initial_pieces, node_pieces, arc_pieces, last_pieces, layout, layout_text, state_statement, marker_statement, initial_statement, node_statement, arc_statement, end, drawn, state_claim, arc_claim, claims_drawn}
+use Rattle.rv_dot.proofs.PlainBytes.{IsPlain, plain_string, plain_name}
 use Rattle.rv_dot.proofs.TextLaws.{text_again}
 
 -- each piece may stand where it stands
@@ -22,32 +22,10 @@ abbrev pub Made : Bool → List Piece → Type 0
 Made starts [] = Unit {0}
 Made starts (p ∷ ps) = IsPieceAt starts p (flat_map piece ps) × Made (ends_line p) ps
 
+-- pieces that may stand so are read
 reads_made : (starts : Bool) (ps : List Piece) → Made starts ps → Reads starts (flat_map piece ps) ps
 reads_made starts [] h = refl
 reads_made starts (p ∷ ps) h = (flat_map piece ps, refl, h.0, reads_made (ends_line p) ps h.1)
-
--- bytes of words alone
-abbrev pub IsPlain : List ℕ → Type 0
-IsPlain name = AllByRecursion (λ b. is_word_byte b ≡ true) name
-
--- a byte of a word is none of another kind
-pub other_byte : (b c : ℕ) → is_word_byte b ≡ true → is_word_byte c ≡ false → (b == c) ≡ false
-other_byte b c h k = go (b == c) refl
-  where
-    go : (t : Bool) → (b == c) ≡ t → t ≡ false
-    go true e = let same : b ≡ c = grind (arith, nat_tests) in let both : true ≡ false = sym h ∙ ap is_word_byte same ∙ k in absurd (cc)
-    go false e = refl
-
--- such a name is a string as it is
-plain_string : (before : ℕ) (name : List ℕ) → (before == 92) ≡ false → IsPlain name → IsString before name
-plain_string before [] h k = h
-plain_string before (b ∷ name) h k =
-    (other_byte b 10 k.0 refl, (λ quote. absurd (let both : true ≡ false = sym quote ∙ other_byte b 34 k.0 refl in cc)), plain_string b name (other_byte b 92 k.0 refl) k.1)
-
--- and a name as it is
-plain_name : (name : List ℕ) → IsPlain name → map name_byte name ≡ name
-plain_name [] k = refl
-plain_name (b ∷ name) k = rw (other_byte b 44 k.0 refl) (ap (λ (bs : List ℕ). b ∷ bs) (plain_name name k.1))
 
 -- the names of a drawing are plain
 pub record IsDrawing (d : Drawing) : Type 0 where
@@ -55,22 +33,28 @@ pub record IsDrawing (d : Drawing) : Type 0 where
   pub states : AllByRecursion (λ s. IsPlain s.name) d.states
   pub arcs : AllByRecursion (λ a. IsPlain a.from × IsPlain a.event × IsPlain a.to) d.arcs
 
+-- a declaration may stand so
 state_made : (name : List ℕ) (t : Bool) (ps : List Piece) → IsString 34 name → Made true ps → Made true (state_pieces (record { name = name; is_marked = t }) ++ ps)
 state_made name true ps h more = search (rules, h, more)
 state_made name false ps h more = search (rules, h, more)
 
+-- the marker's declaration too
 marker_made : (initial : List ℕ) (ps : List Piece) → IsString 95 initial → Made true ps → Made true (marker_pieces initial ++ ps)
 marker_made initial ps h more = search (rules, h, more)
 
+-- the edge from the marker too
 initial_made : (initial : List ℕ) (ps : List Piece) → IsString 34 initial → IsString 95 initial → Made true ps → Made true (initial_pieces initial ++ ps)
 initial_made initial ps h k more = search (rules, h, k, more)
 
+-- a label too
 node_made : (name : List ℕ) (ps : List Piece) → IsString 34 name → Made true ps → Made true (node_pieces name ++ ps)
 node_made name ps h more = search (rules, h, more)
 
+-- an edge too
 arc_made : (a : Arc) (ps : List Piece) → IsString 34 a.from → IsString 34 a.event → IsString 34 a.to → Made true ps → Made true (arc_pieces a ++ ps)
 arc_made a ps from event to more = search (rules, from, event, to, more)
 
+-- the first lines too
 head_made : (ps : List Piece) → Made true ps → Made true (head_pieces ++ ps)
 head_made ps more = search (rules, more)
 
@@ -79,10 +63,12 @@ lines_made : {A : Type 0} (pieces : A → List Piece) (P : A → Type 0) → ((x
 lines_made pieces P one [] ps h more = more
 lines_made pieces P one (x ∷ xs) ps h more = subst (Made true) (sym (append_assoc (pieces x) (flat_map pieces xs) ps)) (one x (flat_map pieces xs ++ ps) h.0 (lines_made pieces P one xs ps h.1 more))
 
+-- the names of plain states are plain
 names_plain : (ss : List State) → AllByRecursion (λ s. IsPlain s.name) ss → AllByRecursion IsPlain (map (λ s. s.name) ss)
 names_plain [] h = tt
 names_plain (s ∷ ss) h = (h.0, names_plain ss h.1)
 
+-- the whole text too
 layout_made : (d : Drawing) → IsDrawing d → Made true (layout d)
 layout_made d h =
     let i = plain_string 34 d.initial refl h.initial in
@@ -136,6 +122,7 @@ lines_are : {A : Type 0} (statement : A → Statement) → ((x : A) → IsStatem
 lines_are statement one [] more h = h
 lines_are statement one (x ∷ xs) more h = (one x, lines_are statement one xs more h)
 
+-- the statements are of the grammar
 statements_are : (d : Drawing) → AllByRecursion (λ (s : Statement × Bool). IsStatement s.0) (drawn d).statements
 statements_are d = (
   tt,
@@ -166,18 +153,22 @@ lines_say statement P claim one [] h = refl
 lines_say statement P claim one (x ∷ xs) h =
     ap (λ (cs : List Claim). cs ++ flat_map (λ (s : Statement × Bool). says s.0) (flat_map (λ y. end (statement y)) xs)) (one x h.0) ∙ ap (λ (cs : List Claim). claim x ∷ cs) (lines_say statement P claim one xs h.1)
 
+-- labels say nothing
 nothing_said : (names : List (List ℕ)) → flat_map (λ (s : Statement × Bool). says s.0) (flat_map (λ n. end (node_statement n)) names) ≡ []
 nothing_said [] = refl
 nothing_said (n ∷ names) = nothing_said names
 
+-- what a declaration says
 state_says : (s : State) → IsPlain s.name → says (state_statement s) ≡ state_claim s ∷ []
 unfolding last_of
 state_says s h = ap (λ (n : List ℕ). declares n (Some (shape_of s.is_marked)) ∷ []) (plain_name s.name h)
 
+-- what an edge says
 arc_says : (a : Arc) → IsPlain a.from × IsPlain a.event × IsPlain a.to → says (arc_statement a) ≡ arc_claim a ∷ []
 unfolding last_of
 arc_says a h = ap (λ (n : List ℕ). leads n (name_of (text a.to)) (Some a.event) ∷ []) (plain_name a.from h.0) ∙ ap (λ (n : List ℕ). leads a.from n (Some a.event) ∷ []) (plain_name a.to h.2)
 
+-- the marker's name
 marker_named : (initial : List ℕ) → IsPlain initial → name_of (text (marker initial)) ≡ marker initial
 marker_named initial h = ap marker (plain_name initial h)
 

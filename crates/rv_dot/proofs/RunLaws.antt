@@ -17,6 +17,7 @@ abbrev pub Stops : (ℕ → Bool) → List ℕ → Type 0
 Stops p [] = Unit {0}
 Stops p (b ∷ rest) = p b ≡ true
 
+-- no more than the most
 within : (p : ℕ → Bool) (bytes : List ℕ) → position_or_len p bytes ≤ length bytes
 within p [] = omega arith
 within p (b ∷ bytes) = go (p b) (within p bytes)
@@ -25,6 +26,7 @@ within p (b ∷ bytes) = go (p b) (within p bytes)
     go true k = omega arith
     go false k = omega arith
 
+-- the place of the first that passes
 pub stop-is : (p : ℕ → Bool) (bytes : List ℕ) → stop p bytes ≡ position_or_len p bytes
 stop-is p bytes = go (ltb (position_or_len p bytes) (length bytes)) refl
   where
@@ -32,6 +34,7 @@ stop-is p bytes = go (ltb (position_or_len p bytes) (length bytes)) refl
     go true h = refl
     go false h = let least = within p bytes in grind (arith, nat_tests)
 
+-- what is spelled so is read so: stop
 pub stop_again : (p : ℕ → Bool) (c rest : List ℕ) → AllByRecursion (λ b. p b ≡ false) c → Stops p rest → stop p (c ++ rest) ≡ length c
 stop_again p c rest none stops = stop-is p (c ++ rest) ∙ go c none
   where
@@ -50,6 +53,7 @@ pub record Cut (p : ℕ → Bool) (bytes : List ℕ) (c rest : List ℕ) : Type 
   pub none : AllByRecursion (λ b. p b ≡ false) c
   pub stops : Stops p rest
 
+-- what is read so is spelled so: stop
 pub stop_takes : (p : ℕ → Bool) (bytes : List ℕ) → (c : List ℕ) × (rest : List ℕ) × Cut p bytes c rest
 stop_takes p [] = ([], [], record { whole = refl; long = refl; none = tt; stops = tt })
 stop_takes p (b ∷ bytes) = go (p b) refl (stop_takes p bytes)
@@ -59,6 +63,7 @@ stop_takes p (b ∷ bytes) = go (p b) refl (stop_takes p bytes)
     go false h k =
         (b ∷ k.0, k.1, record { whole = ap (λ (bs : List ℕ). b ∷ bs) k.2.whole; long = rw h (omega (arith, k.2.long)); none = (h, k.2.none); stops = k.2.stops })
 
+-- bytes that pass the test are one
 pub same_byte : (b c : ℕ) → eqb b c ≡ true → b ≡ c
 same_byte b c h = grind (arith, nat_tests)
 
@@ -67,18 +72,22 @@ pub begins_with_takes : (c : ℕ) (bytes : List ℕ) → begins_with c bytes ≡
 begins_with_takes c [] h = absurd (cc)
 begins_with_takes c (b ∷ bytes) h = ap (λ (d : ℕ). d ∷ bytes) (same_byte b c h)
 
+-- what a map gives comes of some value
 pub map_some : {A B : Type 0} (f : A → B) (o : Option A) (y : B) → option_map f o ≡ Some y → (x : A) × (o ≡ Some x) × (f x ≡ y)
 map_some f None y h = absurd (cc)
 map_some f (Some x) y h = (x, refl, same_Some (f x) y h)
 
+-- no slash follows the star
 no_slash : (c tail : List ℕ) → begins_with 47 c ≡ false → begins_with 47 (c ++ 42 ∷ tail) ≡ false
 no_slash [] tail k = refl
 no_slash (d ∷ c) tail k = k
 
+-- nor in front of the end
 no_slash_front : (c tail : List ℕ) → begins_with 47 (c ++ 42 ∷ tail) ≡ false → begins_with 47 c ≡ false
 no_slash_front [] tail k = refl
 no_slash_front (d ∷ c) tail k = k
 
+-- what is spelled so is read so: block
 pub block_again : (c rest : List ℕ) → HasNoEnd c → block_len (c ++ 42 ∷ 47 ∷ rest) ≡ Some (length c)
 unfolding block_len
 block_again [] rest h = refl
@@ -94,6 +103,7 @@ pub record Closes (bytes c rest : List ℕ) (n : ℕ) : Type 0 where
   pub long : length c ≡ n
   pub inside : HasNoEnd c
 
+-- what is read so is spelled so: block
 pub block_takes : (bytes : List ℕ) (n : ℕ) → block_len bytes ≡ Some n → (c : List ℕ) × (rest : List ℕ) × Closes bytes c rest n
 unfolding block_len
 block_takes [] n h = absurd (cc)
@@ -111,6 +121,7 @@ block_takes (b ∷ bytes) n h = go (eqb b 42) (begins_with 47 bytes) refl refl h
     go true false p q k more = later (λ star. q) k more
     go false u p q k more = later (λ star. absurd (cc)) k more
 
+-- what is spelled so is read so: string
 pub string_again : (before : ℕ) (t rest : List ℕ) → IsString before t → string_len before (t ++ 34 ∷ rest) ≡ Some (length t)
 unfolding string_len
 string_again before [] rest h = rw h refl
@@ -126,6 +137,7 @@ pub record Quotes (before : ℕ) (bytes t rest : List ℕ) (n : ℕ) : Type 0 wh
   pub long : length t ≡ n
   pub inside : IsString before t
 
+-- what is read so is spelled so: string
 pub string_takes : (before : ℕ) (bytes : List ℕ) (n : ℕ) → string_len before bytes ≡ Some n → (t : List ℕ) × (rest : List ℕ) × Quotes before bytes t rest n
 unfolding string_len
 string_takes before [] n h = absurd (cc)

@@ -10,6 +10,7 @@ use Rattle.std.proofs.lemmas.List.Sums.{fold_push}
 use Rattle.std.proofs.lemmas.List.{map_more}
 use Rattle.rv_dot.specs.Sets.{set_of, bytes_of}
 
+-- by bytes
 abbrev pub name_cmp : Bor (List ℕ) → Bor (List ℕ) → Ordering
 name_cmp x y = slice_cmp nat_cmp x.now y.now
 
@@ -24,6 +25,7 @@ map-insert_key (x ∷ keys) k = go (slice_cmp nat_cmp k.now x.now) (map-insert_k
     go Equal h = refl
     go Greater h = ap (λ (ks : List (List ℕ)). x.now ∷ ks) h
 
+-- one name more
 pub set_of-push : (names : List (List ℕ)) (name : List ℕ) → set_of (names ++ name ∷ []) ≡ insert_key (slice_cmp nat_cmp) (set_of names) name
 unfolding set_of
 set_of-push names name = fold_push (insert_key (slice_cmp nat_cmp)) [] names name

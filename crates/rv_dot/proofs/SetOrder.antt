@@ -8,10 +8,12 @@ use Rattle.std.specs.declared.cmp.Ordering.{Ordering}
 use Rattle.std.specs.declared.cmp.Ordering.TheVariants.{Less, Equal, Greater}
 use Rattle.rv_dot.specs.Members.{IsMember, Ascends}
 
+-- what holds of members holds of all
 pub all_from_members : {K : Type 0} (P : K → Type 0) (xs : List K) → ((x : K) → IsMember x xs → P x) → AllByRecursion P xs
 all_from_members P [] h = tt
 all_from_members P (x ∷ xs) h = (h x (inl refl), all_from_members P xs (λ y m. h y (inr m)))
 
+-- what holds of all holds of a member
 pub member_of_all : {K : Type 0} (P : K → Type 0) (x : K) (xs : List K) → AllByRecursion P xs → IsMember x xs → P x
 member_of_all P x [] all m = absurd m
 member_of_all P x (y ∷ ys) all m = elim m [ inl e ↦ subst P e all.0 | inr n ↦ member_of_all P x ys all.1 n ]
@@ -49,10 +51,12 @@ module _ {K : Type 0} (cmp : K → K → Ordering) (o : IsTotalOrder cmp) (same 
           let below : cmp y k ≡ Less = o.antisymm y k ∙ ap ordering_reverse e in
           (all_from_members (λ z. cmp y z ≡ Less) (insert_key cmp ys k) (λ z m. elim (insert_members k z ys m) [ inl f ↦ subst (λ w. cmp y w ≡ Less) f below | inr n ↦ member_of_all (λ z. cmp y z ≡ Less) z ys h.0 n ]), later)
 
+  -- a set ascends
   pub fold_ascends : (names ks : List K) → Ascends cmp ks → Ascends cmp (fold (insert_key cmp) ks names)
   fold_ascends [] ks h = h
   fold_ascends (n ∷ names) ks h = fold_ascends names (insert_key cmp ks n) (insert_ascends n ks h)
 
+  -- its members were given
   pub fold_members : (names ks : List K) (x : K) → IsMember x (fold (insert_key cmp) ks names) → IsMember x names ⊎ IsMember x ks
   fold_members [] ks x m = inr m
   fold_members (n ∷ names) ks x m =
@@ -61,15 +65,18 @@ module _ {K : Type 0} (cmp : K → K → Ordering) (o : IsTotalOrder cmp) (same 
         | inr q ↦ elim (insert_members n x ks q) [ inl e ↦ inl (inl e) | inr r ↦ inr r ]
       ]
 
+  -- what was given is a member
   pub members_fold : (names ks : List K) (x : K) → IsMember x names ⊎ IsMember x ks → IsMember x (fold (insert_key cmp) ks names)
   members_fold [] ks x m = elim m [ inl p ↦ absurd p | inr q ↦ q ]
   members_fold (n ∷ names) ks x m =
       members_fold names (insert_key cmp ks n) x
       (elim m [ inl p ↦ elim p [ inl e ↦ inr (members_insert n x ks (inl e)) | inr q ↦ inl q ] | inr q ↦ inr (members_insert n x ks (inr q)) ])
 
+  -- nothing is below itself
   irreflexive : (x : K) → cmp x x ≡ Less → ⊥
   irreflexive x h = let back : cmp x x ≡ Greater = o.antisymm x x ∙ ap ordering_reverse h in cc
 
+  -- members behind the heads
   rest : (a b : K) (as' bs : List K) → b ≡ a → AllByRecursion (λ y. cmp a y ≡ Less) as' → ((z : K) → IsMember z (a ∷ as') → IsMember z (b ∷ bs)) → (z : K) → IsMember z as' → IsMember z bs
   rest a b as' bs e above f z m =
       elim (f z (inr m)) [
@@ -77,6 +84,7 @@ module _ {K : Type 0} (cmp : K → K → Ordering) (o : IsTotalOrder cmp) (same 
         | inr n ↦ n
       ]
 
+  -- ascending lists with the same members have one head
   same_heads : (x y : K) (xs ys : List K) → Ascends cmp (x ∷ xs) → Ascends cmp (y ∷ ys) → IsMember x (y ∷ ys) → IsMember y (x ∷ xs) → y ≡ x
   same_heads x y xs ys p q f g =
       elim f [

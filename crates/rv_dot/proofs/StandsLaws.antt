@@ -1,10 +1,10 @@
 -- Names that stand in a list, and their numbers.
-use Rattle.std.proofs.Common.{◌≡◌, ℕ, zero, suc, ◌+◌, ◌<◌, Bool, true, false, List, [], ◌∷◌, length, get_or, Option, Some, None, cond, refl, sym, ap, ◌∙◌, subst, ◌⊎◌, inl, inr, arith}
+use Rattle.std.proofs.Common.{◌≡◌, ℕ, zero, suc, ◌+◌, ◌<◌, Bool, true, false, List, [], ◌∷◌, length, get_or, Option, Some, None, cond, refl, sym, ap, ◌∙◌, subst, inl, inr, arith}
 use Rattle.std.specs.Prelude.{not}
 use Rattle.std.specs.Cmp.{both_ways}
 use Rattle.std.specs.Cmp.Lexicographic.{slice_cmp}
 use Rattle.std.specs.List.{filter}
-use Rattle.std.specs.Option.{option_map, is_some, unwrap_or}
+use Rattle.std.specs.Option.{option_map, is_some}
 use Rattle.std.specs.Ordering.{nat_cmp}
 use Rattle.std.specs.declared.cmp.Ordering.TheVariants.{Less}
 use Rattle.std.specs.Str.{bytes_eq}
@@ -22,9 +22,11 @@ use Rattle.rv_dot.proofs.SetOrder.{member_of_all}
 pub name_same : (x y : List ℕ) → bytes_eq x y ≡ true → x ≡ y
 name_same x y h = (bytes_eq-Decides x y).0 h
 
+-- equal names pass the test
 pub name_test : (x y : List ℕ) → x ≡ y → bytes_eq x y ≡ true
 name_test x y e = (bytes_eq-Decides x y).1 e
 
+-- a place further back
 some_more : (o : Option ℕ) → is_some (option_map (λ n. n + 1) o) ≡ is_some o
 some_more None = refl
 some_more (Some n) = refl
@@ -96,6 +98,7 @@ place_at (n ∷ names) x i d h = go (bytes_eq n x) (place_of x names) refl refl 
         let step : suc j ≡ i = omega arith in
         subst (λ k. (k < length (n ∷ names)) × (get_or (n ∷ names) k d ≡ x)) step (omega (arith, later.0), later.1)
 
+-- the place that is there
 some_of : (o : Option ℕ) → is_some o ≡ true → (i : ℕ) × (o ≡ Some i)
 some_of None h = absurd (cc)
 some_of (Some i) h = (i, refl)

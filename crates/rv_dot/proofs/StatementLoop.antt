@@ -9,10 +9,12 @@ use Rattle.rv_dot.specs.Marks.{begins, without}
 use Rattle.rv_dot.specs.Statements.{Claim, statement_at, statements_within}
 use Rattle.rv_dot.proofs.ListLoops.{items_on}
 
+-- the front grows
 regroup : (front first : List Claim) (read : Option (List Claim × List Lexeme)) → items_on front (read >>= (λ others. Some (first ++ others.0, others.1))) ≡ items_on (front ++ first) read
 regroup front first None = refl
 regroup front first (Some others) = ap (λ (all : List Claim). Some (all, others.1)) (sym (append_assoc front first others.0))
 
+-- one statement more
 pub go_on : (front : List Claim) (n : ℕ) (tokens : List Lexeme) (first : List Claim) (after behind : List Lexeme) (total : Option (List Claim × List Lexeme))
     → begins CloseBrace tokens ≡ false → statement_at tokens ≡ Some (first, after) → behind ≡ without Semicolon after → length behind < length tokens → length tokens ≤ n
     → items_on front (statements_within n tokens) ≡ total
@@ -23,6 +25,7 @@ go_on front (suc m) tokens first after behind total apart read cut shorter few s
     let step : items_on front (statements_within (suc m) tokens) ≡ items_on (front ++ first) (statements_within m behind) = rw (apart, read, ← cut) (regroup front first (statements_within m behind)) in
     (m, omega arith, sym step ∙ so_far)
 
+-- a fault ends the statements
 pub end : (e : ReadError) (front : List Claim) (n : ℕ) (tokens : List Lexeme) (total : Option (List Claim × List Lexeme))
     → begins CloseBrace tokens ≡ false → Fails e (statement_at tokens) → items_on front (statements_within n tokens) ≡ total → Fails e total
 unfolding statements_within
@@ -32,6 +35,7 @@ end Syntax front (suc m) tokens total apart read so_far =
     let step : items_on front (statements_within (suc m) tokens) ≡ None = rw (apart, read) refl in
     sym so_far ∙ step
 
+-- all statements are read
 pub are_done : (front : List Claim) (n : ℕ) (tokens : List Lexeme) (total : Option (List Claim × List Lexeme))
     → begins CloseBrace tokens ≡ true → length tokens ≤ n → items_on front (statements_within n tokens) ≡ total → total ≡ Some (front, without CloseBrace tokens)
 unfolding statements_within begins

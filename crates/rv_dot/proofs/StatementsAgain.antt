@@ -8,7 +8,8 @@ use Rattle.rv_dot.specs.declared.token.Mark.TheVariants.{OpenBrace, CloseBrace, 
 use Rattle.rv_dot.specs.Tokens.{Lexeme, sign, word, text}
 use Rattle.rv_dot.specs.Marks.{begins, expects, without, is_assignment}
 use Rattle.rv_dot.specs.Names.{name_of}
-use Rattle.rv_dot.specs.Statements.{Claim, declares, held, word_at, declared_at, ranked_at, group_at, assignment_at, edge_at, named_at, statement_at, statements_within, statements_at, claims_of}
+use Rattle.rv_dot.specs.Lists.{word_at}
+use Rattle.rv_dot.specs.Statements.{Claim, declares, held, declared_at, ranked_at, group_at, assignment_at, edge_at, named_at, statement_at, statements_within, statements_at, claims_of}
 use Rattle.rv_dot.specs.Grammar.{semicolon, Bracket, inside, optional_bracket, Group, group, Statement, assigns, declaration, rank, node, edge, statement, ended, File, file, IsValue, IsName, IsGroup, IsStatement, IsFile, value_in, says, file_says}
 use Rattle.rv_dot.proofs.MarkLaws.{semicolon_again}
 use Rattle.rv_dot.proofs.ListsAgain.{value_again, name_again, name_begins, bracket_again, optional_bracket_again, names_begin, group_again}
@@ -19,6 +20,7 @@ pub record Follows (rest : List Lexeme) : Type 0 where
   pub no_arrow : begins Arrow rest ≡ false
   pub no_equals : begins Equals rest ≡ false
 
+-- an optional bracket begins with a bracket or not at all
 optional_bracket_begins : (m : Mark) (b : Option Bracket) (rest : List Lexeme) → begins m (sign OpenBracket ∷ []) ≡ false → begins m rest ≡ false → begins m (optional_bracket b ++ rest) ≡ false
 unfolding begins
 optional_bracket_begins m None rest other apart = apart
@@ -40,33 +42,40 @@ name_assigns (sign m) rest h apart = absurd h
 name_assigns (word w) rest h apart = apart
 name_assigns (text t) rest h apart = refl
 
+-- each name of a group is declared
 pub declared_each : (g : Group) (shape : Option Lexeme) → map (λ name. declares (name_of name) (held shape)) (map (λ n. n.0) g) ≡ map (λ n. declares (name_of n.0) (held shape)) g
 declared_each [] shape = refl
 declared_each (n ∷ g) shape = ap (λ (cs : List Claim). declares (name_of n.0) (held shape) ∷ cs) (declared_each g shape)
 
+-- a longer list has some length
 nonzero : (n : ℕ) → eqb (suc n) 0 ≡ false
 nonzero n = grind (arith, nat_tests)
 
+-- a group with names is read
 some_names : {A : Type 0} (g : Group) (x : Option A) → 0 < length g → cond (eqb (length (map (λ n. n.0) g)) 0) None x ≡ x
 some_names [] x h = absurd (omega arith)
 some_names {A = A} (n ∷ g) x h = rw (nonzero (length (map (λ (n : Lexeme × Bool). n.0) g))) refl
 
+-- what is spelled so is read so: declared
 declared_again : (b : Bracket) (g : Group) (rest : List Lexeme) → IsStatement (declaration b g) → declared_at (sign OpenBracket ∷ inside b ++ sign CloseBracket ∷ (group g ++ rest)) ≡ Some (says (declaration b g), rest)
 unfolding declared_at expects
 declared_again b g rest h =
     rw (bracket_again (codes "shape") b (group g ++ rest) h.0, group_again g rest h.1)
     (some_names g (Some (map (λ name. declares (name_of name) (held (value_in (codes "shape") b))) (map (λ n. n.0) g), rest)) h.2 ∙ ap (λ (cs : List Claim). Some (cs, rest)) (declared_each g (value_in (codes "shape") b)))
 
+-- no statement begins with a semicolon
 no_semicolon : (rest : List Lexeme) → begins Semicolon (sign CloseBrace ∷ rest) ≡ false
 unfolding begins
 no_semicolon rest = refl
 
+-- what is spelled so is read so: ranked
 ranked_again : (value : Lexeme) (s : Bool) (g : Group) (rest : List Lexeme) → IsValue value → IsGroup g → ranked_at (value ∷ semicolon s ++ (group g ++ rest)) ≡ Some ([], rest)
 unfolding ranked_at
 ranked_again value s g rest h k =
     let regrouped : begins Semicolon (group g ++ rest) ≡ false = ap (begins Semicolon) (append_assoc _ (sign CloseBrace ∷ []) rest) ∙ names_begin Semicolon g rest k (no_semicolon rest) in
     rw (value_again value (semicolon s ++ (group g ++ rest)) h, semicolon_again s (group g ++ rest) regrouped, group_again g rest k) refl
 
+-- what is spelled so is read so: statement
 pub statement_again : (s : Statement) (rest : List Lexeme) → IsStatement s → Follows rest → statement_at (statement s ++ rest) ≡ Some (says s, rest)
 unfolding statement_at begins without is_assignment assignment_at group_at named_at edge_at word_at expects
 statement_again (assigns key value) rest h next = rw (value_again value rest h) refl
@@ -88,11 +97,13 @@ ended_begin m [] rest h other apart = apart
 ended_begin m (s ∷ ss) rest h other apart =
     ap (begins m) (append_assoc (ended s) (flat_map ended ss) _ ∙ append_assoc (statement s.0) (semicolon s.1) _) ∙ statement_begins m s.0 _ h.0 other
 
+-- what may follow a statement
 follows : (b : Bool) (ss : List (Statement × Bool)) (rest : List Lexeme) → AllByRecursion (λ s. IsStatement s.0) ss → Follows (semicolon b ++ (flat_map ended ss ++ sign CloseBrace ∷ rest))
 unfolding begins
 follows true ss rest h = record { no_bracket = refl; no_arrow = refl; no_equals = refl }
 follows false ss rest h = record { no_bracket = ended_begin OpenBracket ss rest h refl refl; no_arrow = ended_begin Arrow ss rest h refl refl; no_equals = ended_begin Equals ss rest h refl refl }
 
+-- what is spelled so is read so: statements
 pub statements_again : (ss : List (Statement × Bool)) (n : ℕ) (rest : List Lexeme) → AllByRecursion (λ s. IsStatement s.0) ss → length ss < n
     → statements_within n (flat_map ended ss ++ sign CloseBrace ∷ rest) ≡ Some (flat_map (λ s. says s.0) ss, rest)
 unfolding statements_within begins without
@@ -105,6 +116,7 @@ statements_again (s ∷ ss) (suc n) rest h few =
     ap (statements_within (suc n)) regrouped ∙
     rw (statement_begins CloseBrace s.0 (semicolon s.1 ++ tail) h.0 refl, statement_again s.0 (semicolon s.1 ++ tail) h.0 (follows s.1 ss rest h.1), cut, statements_again ss n rest h.1 (omega arith)) refl
 
+-- a statement has tokens
 length_statement : (s : Statement) → 0 < length (statement s)
 length_statement (assigns key value) = omega arith
 length_statement (declaration b g) = omega arith
@@ -112,6 +124,7 @@ length_statement (rank key value s g) = omega arith
 length_statement (node name b) = omega arith
 length_statement (edge from to b) = omega arith
 
+-- with its semicolon too
 length_ended : (ss : List (Statement × Bool)) → length ss ≤ length (flat_map ended ss)
 length_ended [] = omega arith
 length_ended (s ∷ ss) = omega (arith, length_ended ss, length_statement s.0, length-append (statement s.0) (semicolon s.1), length-append (ended s) (flat_map ended ss))

@@ -1,20 +1,17 @@
 -- What is read is spelled so: statements and files.
-use Rattle.std.proofs.Common.{◌≡◌, ℕ, zero, suc, ◌<◌, Bool, true, false, eqb, List, [], ◌∷◌, ◌++◌, length, Option, Some, None, cond, refl, sym, ap, ◌∙◌, append_assoc, arith, inl, inr}
-use Rattle.std.specs.Prelude.{map, codes, ◌&&◌, Result, Ok, Err, IfOk}
-use Rattle.std.proofs.Common.{Vec, Global}
-use Rattle.rv_dot.specs.declared.fact.Fact.{Fact}
-use Rattle.rv_dot.specs.declared.fault.ReadError.{ReadError}
+use Rattle.std.proofs.Common.{◌≡◌, ℕ, zero, suc, ◌<◌, Bool, eqb, List, [], ◌∷◌, ◌++◌, length, Option, Some, None, cond, sym, ap, ◌∙◌, append_assoc, arith, inl, inr}
+use Rattle.std.specs.Prelude.{map, codes}
 use Rattle.std.specs.List.{flat_map, AllByRecursion}
 use Rattle.std.specs.Str.{bytes_eq}
 use Rattle.std.proofs.lemmas.Option.{same_Some}
 use Rattle.std.specs.Cmp.Lexicographic.{bytes_decides}
-use Rattle.std.proofs.lemmas.Bool.Decides.{nat_tests}
 use Rattle.rv_dot.specs.declared.token.Mark.TheVariants.{OpenBrace, CloseBrace, OpenBracket, CloseBracket, Equals, Semicolon, Arrow}
-use Rattle.rv_dot.specs.Tokens.{Lexeme, sign, word, Gives}
+use Rattle.rv_dot.specs.Tokens.{Lexeme, sign, word}
 use Rattle.rv_dot.specs.Marks.{begins, expects, without, is_assignment}
 use Rattle.rv_dot.specs.Names.{name_of}
-use Rattle.rv_dot.specs.Statements.{Claim, claims, declares, leads, held, word_at, value_at, name_at, bracket_at, optional_bracket_at, names_at, declared_at, ranked_at, group_at, assignment_at, edge_at, named_at, statement_at, statements_within, statements_at, claims_of}
-use Rattle.rv_dot.specs.Grammar.{semicolon, inside, optional_bracket, Group, group, Statement, assigns, declaration, rank, node, edge, statement, ended, File, file, IsName, IsStatement, IsFile, says, file_says}
+use Rattle.rv_dot.specs.Lists.{word_at, value_at, name_at, bracket_at, names_at}
+use Rattle.rv_dot.specs.Statements.{Claim, declares, leads, held, optional_bracket_at, declared_at, ranked_at, group_at, assignment_at, edge_at, named_at, statement_at, statements_within}
+use Rattle.rv_dot.specs.Grammar.{semicolon, inside, optional_bracket, Group, group, Statement, assigns, declaration, rank, node, edge, statement, ended, IsName, IsStatement, says}
 use Rattle.rv_dot.proofs.MarkLaws.{bind_some, chosen, expects_takes, begins_takes, semicolon_takes}
 use Rattle.rv_dot.proofs.ListsTake.{word_takes, value_takes, name_takes, bracket_takes, optional_bracket_takes, group_takes}
 use Rattle.rv_dot.proofs.StatementsAgain.{declared_each}
@@ -23,12 +20,15 @@ use Rattle.rv_dot.proofs.StatementsAgain.{declared_each}
 abbrev pub Took : List Lexeme → List Claim × List Lexeme → Type 0
 Took tokens x = (s : Statement) × IsStatement s × (tokens ≡ statement s ++ x.1) × (says s ≡ x.0)
 
+-- the tokens behind
 abbrev behind_of : List Claim × List Lexeme → List Lexeme
 behind_of y = y.1
 
+-- what was said
 abbrev claims_in : List Claim × List Lexeme → List Claim
 claims_in y = y.0
 
+-- what is read so is spelled so: assignment
 assignment_takes : (tokens : List Lexeme) (x : List Claim × List Lexeme) → assignment_at tokens ≡ Some x → Took tokens x
 unfolding assignment_at
 assignment_takes tokens x h =
@@ -43,6 +43,7 @@ assignment_takes tokens x h =
       ap claims_in e,
     )
 
+-- what is read so is spelled so: edge
 edge_takes : (from : Lexeme) (tokens : List Lexeme) (x : List Claim × List Lexeme) → IsName from → edge_at from tokens ≡ Some x → Took (from ∷ sign Arrow ∷ tokens) x
 unfolding edge_at
 edge_takes from tokens x k h =
@@ -57,6 +58,7 @@ edge_takes from tokens x k h =
       ap (λ (l : Option Lexeme). leads (name_of from) (name_of to.0.0) (held l) ∷ []) b.3 ∙ ap claims_in e,
     )
 
+-- what is read so is spelled so: named
 named_takes : (tokens : List Lexeme) (x : List Claim × List Lexeme) → named_at tokens ≡ Some x → Took tokens x
 unfolding named_at
 named_takes tokens x h =
@@ -73,10 +75,12 @@ named_takes tokens x h =
           (node from.0.0 b.0, (f.1, b.1), f.0 ∙ ap (λ (ts : List Lexeme). from.0.0 ∷ ts) (b.2 ∙ ap (λ (y : List Claim × List Lexeme). optional_bracket b.0 ++ y.1) e), ap claims_in e)
     ]
 
+-- a group that is read has a name
 some_name : {A : Type 0} (g : Group) (x y : A) → cond (eqb (length (map (λ n. n.0) g)) 0) None (Some x) ≡ Some y → 0 < length g
 some_name [] x y h = absurd (cc)
 some_name (n ∷ g) x y h = omega arith
 
+-- what is read so is spelled so: declared
 declared_takes : (tokens : List Lexeme) (x : List Claim × List Lexeme) → declared_at tokens ≡ Some x → Took (sign OpenBrace ∷ word (codes "node") ∷ tokens) x
 unfolding declared_at
 declared_takes tokens x h =
@@ -102,6 +106,7 @@ declared_takes tokens x h =
           )
     ]
 
+-- what is read so is spelled so: ranked
 ranked_takes : (key : List ℕ) (tokens : List Lexeme) (x : List Claim × List Lexeme) → ranked_at tokens ≡ Some x → Took (sign OpenBrace ∷ word key ∷ sign Equals ∷ tokens) x
 unfolding ranked_at
 ranked_takes key tokens x h =
@@ -119,6 +124,7 @@ ranked_takes key tokens x h =
       ap claims_in e,
     )
 
+-- what is read so is spelled so: group statement
 group_statement_takes : (tokens : List Lexeme) (x : List Claim × List Lexeme) → group_at tokens ≡ Some x → Took (sign OpenBrace ∷ tokens) x
 unfolding group_at
 group_statement_takes tokens x h =
@@ -138,6 +144,7 @@ group_statement_takes tokens x h =
           ]
     ]
 
+-- what is read so is spelled so: statement
 pub statement_takes : (tokens : List Lexeme) (x : List Claim × List Lexeme) → statement_at tokens ≡ Some x → Took tokens x
 unfolding statement_at
 statement_takes tokens x h =
@@ -152,6 +159,7 @@ statement_takes tokens x h =
           ]
     ]
 
+-- what is read so is spelled so: statements
 pub statements_take : (n : ℕ) (tokens : List Lexeme) (x : List Claim × List Lexeme) → statements_within n tokens ≡ Some x
     → (ss : List (Statement × Bool)) × AllByRecursion (λ s. IsStatement s.0) ss × (tokens ≡ flat_map ended ss ++ sign CloseBrace ∷ x.1) × (flat_map (λ s. says s.0) ss ≡ x.0)
 unfolding statements_within
@@ -177,39 +185,3 @@ statements_take (suc n) tokens x h =
             ap (λ (cs : List Claim). cs ++ flat_map (λ (s : Statement × Bool). says s.0) more.0) took.3 ∙ ap (λ (cs : List Claim). first.0.0 ++ cs) more.3 ∙ ap claims_in e,
           )
     ]
-
-nil_from_length : {A : Type 0} (xs : List A) → eqb (length xs) 0 ≡ true → xs ≡ []
-nil_from_length [] h = refl
-nil_from_length (x ∷ xs) h = absurd (grind (arith, nat_tests))
-
-both : (a b : Bool) → (a && b) ≡ true → (a ≡ true) × (b ≡ true)
-both true b h = (refl, h)
-both false b h = absurd (cc)
-
--- what is read is spelled so
-pub file_takes : (tokens : List Lexeme) (said : List Claim) → claims_of tokens ≡ Some said → (f : File) × IsFile f × (tokens ≡ file f) × (file_says f ≡ said)
-unfolding claims_of statements_at
-file_takes tokens said h =
-    let head = bind_some (word_at tokens) _ said h in
-    let title = bind_some (word_at head.0.1) _ said head.2 in
-    let behind = bind_some (expects OpenBrace title.0.1) _ said title.2 in
-    let ss = bind_some (statements_within (length behind.0) behind.0) _ said behind.2 in
-    elim (chosen (bytes_eq head.0.0 (codes "digraph") && eqb (length ss.0.1) 0) _ _ (Some said) ss.2) [
-      | inl p ↦
-          let tests = both _ _ p.0 in
-          let is_digraph = (bytes_decides head.0.0 (codes "digraph")).0 tests.0 in
-          let is_end = nil_from_length ss.0.1 tests.1 in
-          let took = statements_take (length behind.0) behind.0 ss.0 ss.1 in (
-            record { title = title.0.0; statements = took.0 },
-            took.1,
-            word_takes tokens head.0 head.1 ∙ ap (λ (k : List ℕ). word k ∷ head.0.1) is_digraph ∙ ap (λ (ts : List Lexeme). word (codes "digraph") ∷ ts)
-                (word_takes head.0.1 title.0 title.1 ∙ ap (λ (ts : List Lexeme). word title.0.0 ∷ ts) (expects_takes OpenBrace title.0.1 behind.0 behind.1 ∙ ap (λ (ts : List Lexeme). sign OpenBrace ∷ ts)
-                (took.2 ∙ ap (λ (ts : List Lexeme). flat_map ended took.0 ++ sign CloseBrace ∷ ts) is_end))),
-            took.3 ∙ same_Some ss.0.0 said p.1,
-          )
-      | inr p ↦ absurd (cc)
-    ]
-
-pub is_found : (tokens : List Lexeme) (r : Result (Vec Fact Global) ReadError) → Gives (λ v. claims v.items) r (claims_of tokens) → IfOk r (λ v. (f : File) × IsFile f × (tokens ≡ file f) × (file_says f ≡ claims v.items))
-is_found tokens (Ok v) h = file_takes tokens (claims v.items) h
-is_found tokens (Err e) h = tt

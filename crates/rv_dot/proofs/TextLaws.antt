@@ -4,20 +4,23 @@ use Rattle.std.specs.Prelude.{Result, Ok, Err, IfOk}
 use Rattle.rv_dot.specs.declared.token.Token.{Token}
 use Rattle.rv_dot.specs.declared.fact.Fact.{Fact}
 use Rattle.rv_dot.specs.declared.fault.ReadError.{ReadError}
-use Rattle.rv_dot.specs.Tokens.{Gives, lexemes, tokens_of}
+use Rattle.rv_dot.specs.Tokens.{GivesSome, lexemes, tokens_of}
 use Rattle.rv_dot.specs.Pieces.{Piece, Reads, tokens_in}
 use Rattle.rv_dot.specs.Statements.{claims, claims_of}
 use Rattle.rv_dot.specs.Grammar.{File, file_says}
 use Rattle.rv_dot.specs.Text.{IsTextOf, said_by}
 use Rattle.rv_dot.proofs.MarkLaws.{bind_some}
-use Rattle.rv_dot.proofs.FrontLaws.{tokens_again, tokens_take}
+use Rattle.rv_dot.proofs.FrontTakes.{tokens_take}
+use Rattle.rv_dot.proofs.FrontLaws.{tokens_again}
 use Rattle.rv_dot.proofs.StatementsAgain.{file_again}
-use Rattle.rv_dot.proofs.StatementsTake.{file_takes}
+use Rattle.rv_dot.proofs.FilesTake.{file_takes}
 
-pub tokens_are_found : (bytes : List ℕ) (r : Result (Vec Token Global) ReadError) → Gives (λ v. lexemes v.items) r (tokens_of bytes) → IfOk r (λ v. (ps : List Piece) × Reads true bytes ps × (tokens_in ps ≡ lexemes v.items))
+-- tokens that are read are those of pieces
+pub tokens_are_found : (bytes : List ℕ) (r : Result (Vec Token Global) ReadError) → GivesSome (λ v. lexemes v.items) r (tokens_of bytes) → IfOk r (λ v. (ps : List Piece) × Reads true bytes ps × (tokens_in ps ≡ lexemes v.items))
 tokens_are_found bytes (Ok v) h = tokens_take (length bytes) true bytes (lexemes v.items) h
 tokens_are_found bytes (Err e) h = tt
 
+-- the tokens of pieces are read
 pub tokens_are_read : (bytes : List ℕ) (ps : List Piece) → Reads true bytes ps → tokens_of bytes ≡ Some (tokens_in ps)
 tokens_are_read bytes ps h = tokens_again ps (length bytes) true bytes h (omega arith)
 
@@ -26,7 +29,8 @@ pub text_again : (bytes : List ℕ) (f : File) → IsTextOf bytes f → said_by 
 text_again bytes f h =
     rw (tokens_are_read bytes h.1 h.2) (ap claims_of h.3 ∙ file_again f h.0)
 
-pub text_is_found : (bytes : List ℕ) (r : Result (Vec Fact Global) ReadError) → Gives (λ v. claims v.items) r (said_by bytes) → IfOk r (λ v. (f : File) × IsTextOf bytes f × (file_says f ≡ claims v.items))
+-- a text that is read is one of the grammar
+pub text_is_found : (bytes : List ℕ) (r : Result (Vec Fact Global) ReadError) → GivesSome (λ v. claims v.items) r (said_by bytes) → IfOk r (λ v. (f : File) × IsTextOf bytes f × (file_says f ≡ claims v.items))
 text_is_found bytes (Ok v) h =
     let ts = bind_some (tokens_of bytes) claims_of (claims v.items) h in
     let ps = tokens_take (length bytes) true bytes ts.0 ts.1 in

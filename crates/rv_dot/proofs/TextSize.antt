@@ -1,17 +1,17 @@
 -- A canonical text is within the limit of size.
-use Rattle.std.proofs.Common.{◌≡◌, ℕ, zero, suc, ◌+◌, ◌-◌, ◌*◌, ◌<◌, ◌≤◌, Bool, true, false, List, [], ◌∷◌, ◌++◌, length, get_or, drop, refl, sym, ap, ◌∙◌, subst, ◌⊎◌, inl, inr, arith, length-append}
-use Rattle.std.specs.Prelude.{map, codes, All, ◌%◌, ◌/◌, ◌==◌}
+use Rattle.std.proofs.Common.{◌≡◌, ℕ, suc, ◌+◌, ◌-◌, ◌*◌, ◌<◌, ◌≤◌, Bool, true, false, List, [], ◌∷◌, ◌++◌, length, get_or, refl, ap, subst, inl, inr, arith, length-append}
+use Rattle.std.specs.Prelude.{map, codes, ◌%◌, ◌/◌, ◌==◌}
 use Rattle.std.specs.List.{AllByRecursion, flat_map}
 use Rattle.std.proofs.Math.Nat.{mul-suc}
 use Rattle.std.proofs.lemmas.List.{length-map}
 use Rattle.rv_model.specs.declared.automaton.Edge.{Edge}
 use Rattle.rv_model.specs.Machine.{Machine}
-use Rattle.rv_model.specs.WellFormed.{IsNameOf, IsStateName, EdgeIsBefore, IsAutomaton, is_event_byte}
+use Rattle.rv_model.specs.WellFormed.{IsStateName, EdgeIsBefore, IsAutomaton}
 use Rattle.rv_dot.specs.Gathered.{Arc}
 use Rattle.rv_dot.specs.Members.{IsMember}
-use Rattle.rv_dot.specs.Canonical.{State, Drawing, quoted, marker, shape_of, head_lines, marker_line, state_line, initial_line, node_line, arc_line, last_line, states_marked, arc_named, drawing_of, drawing_text}
+use Rattle.rv_dot.specs.Canonical.{State, quoted, marker, shape_of, head_lines, marker_line, state_line, initial_line, node_line, arc_line, last_line, states_marked, arc_named, drawing_of, drawing_text}
 use Rattle.rv_dot.proofs.CanonicalLaws.{names_marked}
-use Rattle.rv_dot.proofs.MemberLaws.{AllLater, member_at, member_map, all_member}
+use Rattle.rv_dot.proofs.MemberLaws.{AllLater, member_map, all_member}
 use Rattle.rv_dot.proofs.SetOrder.{all_from_members}
 use Rattle.rv_dot.proofs.MachineLaws.{edges_later}
 
@@ -19,9 +19,11 @@ use Rattle.rv_dot.proofs.MachineLaws.{edges_later}
 abbrev key : Edge → ℕ
 key e = e.from * 64 + e.event
 
+-- a later edge has a greater number
 key_less : (e f : Edge) → e.event < 64 → EdgeIsBefore e f → key e < key f
 key_less e f few h = elim h [ inl from ↦ omega (arith, from) | inr both ↦ omega (arith, both.0, both.1) ]
 
+-- numbers in order are few
 keys_few : (edges : List Edge) (low : ℕ) → AllLater EdgeIsBefore edges → AllByRecursion (λ e. (low ≤ key e) × (key e < 1984) × (e.event < 64)) edges → length edges ≤ 1984 - low
 keys_few [] low up all = omega arith
 keys_few (e ∷ edges) low up all =
@@ -49,9 +51,11 @@ lines_few line most (x ∷ xs) h =
     let step : most * length (x ∷ xs) ≡ most * length xs + most = mul-suc most (length xs) in
     omega (arith, one, rest, step, h.0)
 
+-- a quoted name is short
 quoted_few : (name : List ℕ) → length name ≤ 64 → length (quoted name) ≤ 66
 quoted_few name h = let two : length (name ++ codes "\"") ≡ length name + 1 = length-append name (codes "\"") in omega (arith, two)
 
+-- a quoted marker is short
 marker_few : (name : List ℕ) → length name ≤ 64 → length (quoted (marker name)) ≤ 73
 marker_few name h = let two : length (name ++ codes "\"") ≡ length name + 1 = length-append name (codes "\"") in omega (arith, two)
 
@@ -59,40 +63,51 @@ marker_few name h = let two : length (name ++ codes "\"") ≡ length name + 1 = 
 sum_two : (x y : List ℕ) (m n : ℕ) → length x ≤ m → length y ≤ n → length (x ++ y) ≤ m + n
 sum_two x y m n h k = omega (arith, length-append x y)
 
+-- so have three
 sum_three : (x y z : List ℕ) (k l m : ℕ) → length x ≤ k → length y ≤ l → length z ≤ m → length (x ++ y ++ z) ≤ k + l + m
 sum_three x y z k l m p q r = sum_two (x ++ y) z (k + l) m (sum_two x y k l p q) r
 
+-- so have five
 sum_five : (x y z v w : List ℕ) (k l m n o : ℕ) → length x ≤ k → length y ≤ l → length z ≤ m → length v ≤ n → length w ≤ o → length (x ++ y ++ z ++ v ++ w) ≤ k + l + m + n + o
 sum_five x y z v w k l m n o p q r s t = sum_three (x ++ y ++ z) v w (k + l + m) n o (sum_three x y z k l m p q r) s t
 
+-- so have seven
 sum_seven : (a b x y z v w : List ℕ) (i j k l m n o : ℕ) → length a ≤ i → length b ≤ j → length x ≤ k → length y ≤ l → length z ≤ m → length v ≤ n → length w ≤ o → length (a ++ b ++ x ++ y ++ z ++ v ++ w) ≤ i + j + k + l + m + n + o
 sum_seven a b x y z v w i j k l m n o e f p q r s t = sum_five (a ++ b ++ x) y z v w (i + j + k) l m n o (sum_three a b x i j k e f p) q r s t
 
+-- a shape is short
 shape_few : (t : Bool) → length (shape_of t) ≤ 12
 shape_few true = omega arith
 shape_few false = omega arith
 
+-- a declaration is short
 state_few : (s : State) → length s.name ≤ 64 → length (state_line s) ≤ 99
 state_few s h = sum_five (codes "\t{node [shape = ") (shape_of s.is_marked) (codes "] ") (quoted s.name) (codes "};\n") 16 12 2 66 3 (omega arith) (shape_few s.is_marked) (omega arith) (quoted_few s.name h) (omega arith)
 
+-- the marker's is short
 marker_line_few : (i : List ℕ) → length i ≤ 64 → length (marker_line i) ≤ 150
 marker_line_few i h = sum_three (codes "\t{node [shape = plaintext, style=invis, label=\"\"] ") (quoted (marker i)) (codes "};\n") 74 73 3 (omega arith) (marker_few i h) (omega arith)
 
+-- its edge is short
 initial_few : (i : List ℕ) → length i ≤ 64 → length (initial_line i) ≤ 146
 initial_few i h = sum_five (codes "\t") (quoted (marker i)) (codes " -> ") (quoted i) (codes ";\n") 1 73 4 66 2 (omega arith) (marker_few i h) (omega arith) (quoted_few i h) (omega arith)
 
+-- a label is short
 node_few : (n : List ℕ) → length n ≤ 64 → length (node_line n) ≤ 147
 node_few n h = sum_five (codes "\t") (quoted n) (codes " [label = ") (quoted n) (codes "];\n") 1 66 11 66 3 (omega arith) (quoted_few n h) (omega arith) (quoted_few n h) (omega arith)
 
+-- an edge is short
 arc_few : (a : Arc) → length a.from ≤ 64 → length a.event ≤ 64 → length a.to ≤ 64 → length (arc_line a) ≤ 220
 arc_few a f e t =
     sum_seven (codes "\t") (quoted a.from) (codes " -> ") (quoted a.to) (codes " [ label = ") (quoted a.event) (codes " ];\n") 1 66 4 66 13 66 4 (omega arith) (quoted_few a.from f) (omega arith) (quoted_few a.to t) (omega arith) (quoted_few a.event e)
     (omega arith)
 
+-- all declarations are short
 state_names_few : (bits : ℕ) (names : List (List ℕ)) → AllByRecursion (λ n. length n ≤ 64) names → AllByRecursion (λ (s : State). length (state_line s) ≤ 99) (states_marked bits names)
 state_names_few bits [] h = tt
 state_names_few bits (n ∷ names) h = (state_few (record { name = n; is_marked = bits % 2 == 1 }) h.0, state_names_few (bits / 2) names h.1)
 
+-- there are as many marked states as names
 length_marked : (bits : ℕ) (names : List (List ℕ)) → length (states_marked bits names) ≡ length names
 length_marked bits [] = refl
 length_marked bits (n ∷ names) = ap suc (length_marked (bits / 2) names)

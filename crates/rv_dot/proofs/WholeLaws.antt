@@ -1,13 +1,12 @@
 -- The earlier refusals in their order, and the limit of size.
-use Rattle.std.proofs.Common.{◌≡◌, ℕ, ◌<◌, ◌≤◌, Bool, true, false, List, length, Option, None, Some, refl, sym, ap, ◌∙◌, arith}
-use Rattle.std.specs.Prelude.{nat_lt, ◌&&◌, Result, Ok, Err}
+use Rattle.std.proofs.Common.{◌≡◌, ℕ, ◌<◌, ◌≤◌, Bool, true, false, List, length, Option, refl, ap, ◌∙◌, arith}
+use Rattle.std.specs.Prelude.{nat_lt, ◌&&◌, Ok}
 use Rattle.std.specs.List.{list_all}
 use Rattle.std.proofs.lemmas.Bool.Decides.{nat_tests}
-use Rattle.rv_text.specs.declared.refusals.Refusal.{Refusal}
 use Rattle.rv_text.specs.declared.refusals.Refused.{Refused}
 use Rattle.rv_text.specs.declared.refusals.Refused.TheVariants.{Memory, Because}
 use Rattle.rv_text.specs.declared.numbers.TheConstants.{DOT_SYNTAX}
-use Rattle.rv_text.specs.Readings.{Refuses, refused_with, and_then}
+use Rattle.rv_text.specs.Readings.{Refuses, refused_with}
 use Rattle.rv_dot.specs.Text.{said_by}
 use Rattle.rv_dot.specs.Statements.{Claim}
 use Rattle.rv_dot.specs.Gathered.{targets_in, arcs_in, fits, events_fit, all_fit}

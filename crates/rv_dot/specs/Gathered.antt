@@ -1,5 +1,5 @@
 -- What all statements say together: the declared states, the targets of markers, and the arcs.
-use Rattle.std.specs.Prelude.{ℕ, Bool, true, false, not, ◌&&◌, ◌||◌, ◌==◌, List, [], ◌∷◌, length, map, Option, Some, None, if◌then◌else◌}
+use Rattle.std.specs.Prelude.{ℕ, Bool, false, not, ◌&&◌, ◌||◌, ◌==◌, List, [], length, map, Option, Some, None, if◌then◌else◌}
 use Rattle.std.specs.List.{filter_map, flat_map, list_all, list_any}
 use Rattle.std.specs.Str.{bytes_eq}
 use Rattle.rv_dot.specs.Statements.{Claim, declares, leads}

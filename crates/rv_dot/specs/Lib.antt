@@ -5,6 +5,7 @@ pub mod Labels
 pub mod Members
 pub mod Sets
 pub mod Marks
+pub mod Lists
 pub mod Statements
 pub mod Settings
 pub mod Sayings
@@ -16,3 +17,4 @@ pub mod Text
 pub mod Canonical
 pub mod Dot
 pub mod Numberings
+pub mod Drawn

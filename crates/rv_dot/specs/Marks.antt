@@ -4,6 +4,7 @@ use Rattle.rv_dot.specs.declared.token.Mark.{Mark}
 use Rattle.rv_dot.specs.declared.token.Mark.TheVariants.{OpenBrace, CloseBrace, OpenBracket, CloseBracket, Equals, Semicolon, Comma, Arrow}
 use Rattle.rv_dot.specs.Tokens.{Lexeme, sign, word}
 
+-- the marks are the same
 abbrev pub mark_eq : Mark → Mark → Bool
 mark_eq OpenBrace OpenBrace = true
 mark_eq CloseBrace CloseBrace = true

@@ -7,6 +7,7 @@ use Rattle.rv_dot.specs.declared.token.Mark.TheVariants.{OpenBrace, CloseBrace, 
 use Rattle.rv_dot.specs.Tokens.{Lexeme, sign, word, text}
 use Rattle.rv_dot.specs.Runs.{is_word_byte, begins_with}
 
+-- a byte between tokens, a comment, a `#` line, or a token
 pub data Piece : Type 0 where
   blank : ℕ → Piece
   line_comment : List ℕ → Piece
@@ -25,6 +26,7 @@ mark_bytes Semicolon = 59 ∷ []
 mark_bytes Comma = 44 ∷ []
 mark_bytes Arrow = 45 ∷ 62 ∷ []
 
+-- the bytes of a token
 abbrev pub lexeme_bytes : Lexeme → List ℕ
 lexeme_bytes (sign mark) = mark_bytes mark
 lexeme_bytes (word w) = w
@@ -52,6 +54,7 @@ abbrev pub EndsWord : List ℕ → Type 0
 EndsWord [] = Unit {0}
 EndsWord (b ∷ rest) = is_word_byte b ≡ false
 
+-- no line end
 abbrev pub IsOfLine : List ℕ → Type 0
 IsOfLine c = AllByRecursion (λ b. (b == 10) ≡ false) c
 
@@ -85,9 +88,11 @@ abbrev pub Reads : Bool → List ℕ → List Piece → Type 0
 Reads starts bytes [] = bytes ≡ []
 Reads starts bytes (p ∷ ps) = (rest : List ℕ) × (bytes ≡ piece p ++ rest) × IsPieceAt starts p rest × Reads (ends_line p) rest ps
 
+-- the token of a piece, if it is one
 abbrev pub token_in : Piece → Option Lexeme
 token_in (unit t) = Some t
 token_in other = None
 
+-- the tokens of pieces
 abbrev pub tokens_in : List Piece → List Lexeme
 tokens_in ps = flat_map (λ p. option_to_list (token_in p)) ps

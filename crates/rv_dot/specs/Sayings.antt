@@ -1,6 +1,5 @@
 -- Sayings and arcs without where they lie in memory.
-use Rattle.std.specs.Prelude.{List, map, ℕ}
-use Rattle.std.specs.Borrow.{Bor}
+use Rattle.std.specs.Prelude.{List, map}
 use Rattle.std.specs.Option.{option_map}
 use Rattle.rv_dot.specs.declared.saying.Saying.{Saying}
 use Rattle.rv_dot.specs.declared.saying.Saying.TheVariants.{Declares, Leads}

@@ -1,11 +1,12 @@
 -- The statements of a DOT text (this project's subset), read from its tokens.
-use Rattle.std.specs.Prelude.{ℕ, zero, suc, Bool, ◌||◌, ◌&&◌, ◌==◌, codes, List, [], ◌∷◌, ◌++◌, length, map, Option, Some, None, if◌then◌else◌}
+use Rattle.std.specs.Prelude.{ℕ, zero, suc, ◌&&◌, ◌==◌, codes, List, [], ◌∷◌, ◌++◌, length, map, Option, Some, None, if◌then◌else◌}
 use Rattle.std.specs.Str.{bytes_eq}
-use Rattle.std.specs.Option.{option_map, option_or}
-use Rattle.rv_dot.specs.declared.token.Mark.TheVariants.{OpenBrace, CloseBrace, OpenBracket, CloseBracket, Equals, Semicolon, Comma, Arrow}
+use Rattle.std.specs.Option.{option_map}
+use Rattle.rv_dot.specs.declared.token.Mark.TheVariants.{OpenBrace, CloseBrace, OpenBracket, Equals, Semicolon, Arrow}
 use Rattle.rv_dot.specs.declared.fact.Fact.{Fact}
 use Rattle.rv_dot.specs.declared.fact.Fact.TheVariants.{Declares, Leads}
-use Rattle.rv_dot.specs.Tokens.{Lexeme, sign, word, text, lexeme, ◌>>=◌}
+use Rattle.rv_dot.specs.Tokens.{Lexeme, lexeme, ◌>>=◌}
+use Rattle.rv_dot.specs.Lists.{word_at, value_at, name_at, bracket_at, names_at}
 use Rattle.rv_dot.specs.Marks.{begins, expects, without, is_assignment}
 use Rattle.rv_dot.specs.Names.{content_of, name_of}
 
@@ -18,78 +19,14 @@ pub data Claim : Type 0 where
 abbrev pub held : Option Lexeme → Option (List ℕ)
 held value = option_map content_of value
 
+-- what a fact says
 abbrev pub claim : Fact → Claim
 claim (Declares name shape) = declares (name_of (lexeme name)) (held (option_map lexeme shape))
 claim (Leads from to label) = leads (name_of (lexeme from)) (name_of (lexeme to)) (held (option_map lexeme label))
 
+-- what facts say
 abbrev pub claims : List Fact → List Claim
 claims facts = map claim facts
-
--- the words that a name may not be
-abbrev pub is_keyword : List ℕ → Bool
-is_keyword w = bytes_eq w (codes "digraph") || bytes_eq w (codes "node") || bytes_eq w (codes "edge") || bytes_eq w (codes "graph") || bytes_eq w (codes "subgraph") || bytes_eq w (codes "strict")
-
-unfoldable pub word_at : List Lexeme → Option (List ℕ × List Lexeme)
-word_at [] = None
-word_at (word w ∷ rest) = Some (w, rest)
-word_at (other ∷ rest) = None
-
-unfoldable pub value_at : List Lexeme → Option (Lexeme × List Lexeme)
-value_at [] = None
-value_at (sign mark ∷ rest) = None
-value_at (word w ∷ rest) = Some (word w, rest)
-value_at (text t ∷ rest) = Some (text t, rest)
-
-unfoldable pub name_at : List Lexeme → Option (Lexeme × List Lexeme)
-name_at [] = None
-name_at (sign mark ∷ rest) = None
-name_at (word w ∷ rest) = if is_keyword w then None else Some (word w, rest)
-name_at (text t ∷ rest) = Some (text t, rest)
-
-pub record Attribute : Type 0 where
-  pub key : List ℕ
-  pub value : Lexeme
-
--- the tokens behind at most one comma or semicolon
-unfoldable pub separated : List Lexeme → List Lexeme
-separated tokens = if begins Comma tokens then without Comma tokens else without Semicolon tokens
-
-unfoldable pub attribute_at : List Lexeme → Option (Attribute × List Lexeme)
-attribute_at tokens = do
-  key ← word_at tokens
-  behind ← expects Equals key.1
-  value ← value_at behind
-  Some (record { key = key.0; value = value.0 }, value.1)
-
--- behind an opening bracket, up to and with the closing one, in at most so many tokens
-unfoldable pub attributes_within : ℕ → List Lexeme → Option (List Attribute × List Lexeme)
-attributes_within zero tokens = None
-attributes_within (suc n) tokens =
-    if begins CloseBracket tokens then Some ([], without CloseBracket tokens)
-    else (attribute_at tokens >>= (λ first. attributes_within n (separated first.1) >>= (λ others. Some (first.0 ∷ others.0, others.1))))
-
--- the value that counts for this key: the last one
-unfoldable pub last_of : List ℕ → List Attribute → Option Lexeme
-last_of key [] = None
-last_of key (a ∷ as') = option_or (last_of key as') (if bytes_eq a.key key then Some a.value else None)
-
-unfoldable pub attributes_at : List Lexeme → Option (List Attribute × List Lexeme)
-attributes_at tokens = attributes_within (length tokens) tokens
-
-unfoldable pub bracket_at : List ℕ → List Lexeme → Option (Option Lexeme × List Lexeme)
-bracket_at key tokens = do
-  attributes ← attributes_at tokens
-  Some (last_of key attributes.0, attributes.1)
-
--- names, each with at most one semicolon, up to and with the closing brace, in at most so many tokens
-unfoldable pub names_within : ℕ → List Lexeme → Option (List Lexeme × List Lexeme)
-names_within zero tokens = None
-names_within (suc n) tokens =
-    if begins CloseBrace tokens then Some ([], without CloseBrace tokens)
-    else (name_at tokens >>= (λ first. names_within n (without Semicolon first.1) >>= (λ others. Some (first.0 ∷ others.0, others.1))))
-
-unfoldable pub names_at : List Lexeme → Option (List Lexeme × List Lexeme)
-names_at tokens = names_within (length tokens) tokens
 
 -- a bracket, where one stands
 unfoldable pub optional_bracket_at : List ℕ → List Lexeme → Option (Option Lexeme × List Lexeme)
@@ -154,6 +91,7 @@ statements_within (suc n) tokens =
     if begins CloseBrace tokens then Some ([], without CloseBrace tokens)
     else (statement_at tokens >>= (λ first. statements_within n (without Semicolon first.1) >>= (λ others. Some (first.0 ++ others.0, others.1))))
 
+-- the same, in as many tokens as there are
 unfoldable pub statements_at : List Lexeme → Option (List Claim × List Lexeme)
 statements_at tokens = statements_within (length tokens) tokens
 

@@ -10,6 +10,7 @@ use Rattle.rv_dot.specs.declared.fault.ReadError.TheVariants.{Memory, Syntax}
 use Rattle.rv_dot.specs.Runs.{is_word_byte, line_len, word_len, block_len, string_len, begins_with}
 
 infixl 10 ◌>>=◌
+-- reads on from what was read
 abbrev pub ◌>>=◌ : {A B : Type 0} → Option A → (A → Option B) → Option B
 o >>= f = option_and_then f o
 
@@ -18,9 +19,10 @@ abbrev pub Fails : {Y : Type 0} → ReadError → Option Y → Type 0
 Fails Memory read = Unit {0}
 Fails Syntax read = read ≡ None
 
-abbrev pub Gives : {X Y : Type 0} → (X → Y) → Result X ReadError → Option Y → Type 0
-Gives view (Ok x) read = read ≡ Some (view x)
-Gives view (Err e) read = Fails e read
+-- the same of a value
+abbrev pub GivesSome : {X Y : Type 0} → (X → Y) → Result X ReadError → Option Y → Type 0
+GivesSome view (Ok x) read = read ≡ Some (view x)
+GivesSome view (Err e) read = Fails e read
 
 -- a token without where it lies in memory; a text is what stands between its quotes
 pub data Lexeme : Type 0 where
@@ -28,11 +30,13 @@ pub data Lexeme : Type 0 where
   word : List ℕ → Lexeme
   text : List ℕ → Lexeme
 
+-- what a token is
 abbrev pub lexeme : Token → Lexeme
 lexeme (Sign mark) = sign mark
 lexeme (Word bytes) = word bytes.now
 lexeme (Text bytes) = text bytes.now
 
+-- what tokens are
 abbrev pub lexemes : List Token → List Lexeme
 lexemes tokens = map lexeme tokens
 
@@ -40,9 +44,11 @@ lexemes tokens = map lexeme tokens
 abbrev pub Front : Type 0
 Front = Option Lexeme × List ℕ
 
+-- nothing, and the rest
 abbrev pub gap : List ℕ → Option Front
 gap rest = Some (None, rest)
 
+-- this token, and the rest
 abbrev pub one : Lexeme → List ℕ → Option Front
 one found rest = Some (Some found, rest)
 

@@ -23,4 +23,4 @@ mod tests;
 mod token;
 
 pub use canonical::{canonical_texts_are_read, write_dot};
-pub use reading::read_dot;
+pub use reading::{automata_are_drawn, read_dot};

@@ -1,8 +1,8 @@
 //! Attributes in a bracket, and names in a group.
 ghost use Rattle.std.specs.Prelude.{◌≡◌, ◌<◌, ◌≤◌, length, IfSome, IfOk};
 ghost use Rattle.std.specs.Option.{option_map};
-ghost use Rattle.rv_dot.specs.Tokens.{Gives, lexeme, lexemes};
-ghost use Rattle.rv_dot.specs.Statements.{separated, attribute_at, attributes_at, last_of, bracket_at, names_at};
+ghost use Rattle.rv_dot.specs.Tokens.{GivesSome, lexeme, lexemes};
+ghost use Rattle.rv_dot.specs.Lists.{separated, attribute_at, attributes_at, last_of, bracket_at, names_at};
 ghost use Rattle.rv_dot.specs.Settings.{setting, settings};
 
 use crate::attribute::Attribute;
@@ -12,7 +12,7 @@ use crate::token::{Mark, Token};
 use std::alloc::Global;
 
 /// The tokens behind at most one comma or semicolon.
-#[tactic(auto, unfolding(crate::specs::Statements::separated))]
+#[tactic(auto, unfolding(crate::specs::Lists::separated))]
 fn separated<'t, 'a>(tokens: &'t [Token<'a>]) -> &'t [Token<'a>]
     ensures value { lexemes result.now ≡ separated (lexemes tokens.now) }
     ensures within { length result.now ≤ length tokens.now }
@@ -24,7 +24,7 @@ fn separated<'t, 'a>(tokens: &'t [Token<'a>]) -> &'t [Token<'a>]
     }
 }
 
-#[tactic(auto, unfolding(crate::specs::Statements::attribute_at))]
+#[tactic(auto, unfolding(crate::specs::Lists::attribute_at))]
 fn attribute_at<'t, 'a>(tokens: &'t [Token<'a>]) -> Option<(Attribute<'a>, &'t [Token<'a>])>
     ensures value { option_map (λ x. (setting x.0, lexemes x.1.now)) result ≡ attribute_at (lexemes tokens.now) }
     ensures within { IfSome result (λ x. length x.1.now < length tokens.now) }
@@ -40,7 +40,7 @@ fn attributes<'t, 'a>(
     alloc: Global,
     tokens: &'t [Token<'a>],
 ) -> Result<(Vec<Attribute<'a>>, &'t [Token<'a>]), ReadError>
-    ensures value { Gives (λ x. (settings x.0.items, lexemes x.1.now)) result (attributes_at (lexemes tokens.now)) }
+    ensures value { GivesSome (λ x. (settings x.0.items, lexemes x.1.now)) result (attributes_at (lexemes tokens.now)) }
     ensures within { IfOk result (λ x. length x.1.now ≤ length tokens.now) }
 {
     let mut found = Vec::new(alloc);
@@ -70,13 +70,13 @@ fn last_of<'a>(attributes: &[Attribute<'a>], key: &[u8]) -> Option<Token<'a>>
 }
 
 /// Behind an opening bracket: the value that counts for the key, and the tokens behind the closing bracket.
-#[tactic(auto, unfolding(crate::specs::Statements::bracket_at))]
+#[tactic(auto, unfolding(crate::specs::Lists::bracket_at))]
 pub fn bracket<'t, 'a>(
     alloc: Global,
     tokens: &'t [Token<'a>],
     key: &[u8],
 ) -> Result<(Option<Token<'a>>, &'t [Token<'a>]), ReadError>
-    ensures value { Gives (λ x. (option_map lexeme x.0, lexemes x.1.now)) result (bracket_at key.now (lexemes tokens.now)) }
+    ensures value { GivesSome (λ x. (option_map lexeme x.0, lexemes x.1.now)) result (bracket_at key.now (lexemes tokens.now)) }
     ensures within { IfOk result (λ x. length x.1.now ≤ length tokens.now) }
 {
     let (attributes, rest) = attributes(alloc, tokens)?;
@@ -88,7 +88,7 @@ pub fn names<'t, 'a>(
     alloc: Global,
     tokens: &'t [Token<'a>],
 ) -> Result<(Vec<Token<'a>>, &'t [Token<'a>]), ReadError>
-    ensures value { Gives (λ x. (lexemes x.0.items, lexemes x.1.now)) result (names_at (lexemes tokens.now)) }
+    ensures value { GivesSome (λ x. (lexemes x.0.items, lexemes x.1.now)) result (names_at (lexemes tokens.now)) }
     ensures within { IfOk result (λ x. length x.1.now ≤ length tokens.now) }
 {
     let mut found = Vec::new(alloc);

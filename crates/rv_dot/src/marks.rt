@@ -3,7 +3,7 @@ ghost use Rattle.std.specs.Prelude.{◌≡◌, ◌<◌, ◌≤◌, length, IfSom
 ghost use Rattle.std.specs.Option.{option_map};
 ghost use Rattle.rv_dot.specs.Tokens.{lexeme, lexemes};
 ghost use Rattle.rv_dot.specs.Marks.{begins, expects, without, is_assignment, mark_eq};
-ghost use Rattle.rv_dot.specs.Statements.{is_keyword, word_at, value_at, name_at};
+ghost use Rattle.rv_dot.specs.Lists.{is_keyword, word_at, value_at, name_at};
 
 use crate::token::{Mark, Token};
 
@@ -70,7 +70,7 @@ fn is_keyword(word: &[u8]) -> bool
         || word == b"strict".as_slice()
 }
 
-#[tactic(auto, unfolding(crate::specs::Statements::word_at))]
+#[tactic(auto, unfolding(crate::specs::Lists::word_at))]
 pub fn word_at<'t, 'a>(tokens: &'t [Token<'a>]) -> Option<(&'a [u8], &'t [Token<'a>])>
     ensures value { option_map (λ x. (x.0.now, lexemes x.1.now)) result ≡ word_at (lexemes tokens.now) }
     ensures within { IfSome result (λ x. length x.1.now < length tokens.now) }
@@ -81,7 +81,7 @@ pub fn word_at<'t, 'a>(tokens: &'t [Token<'a>]) -> Option<(&'a [u8], &'t [Token<
     }
 }
 
-#[tactic(auto, unfolding(crate::specs::Statements::value_at))]
+#[tactic(auto, unfolding(crate::specs::Lists::value_at))]
 pub fn value_at<'t, 'a>(tokens: &'t [Token<'a>]) -> Option<(Token<'a>, &'t [Token<'a>])>
     ensures value { option_map (λ x. (lexeme x.0, lexemes x.1.now)) result ≡ value_at (lexemes tokens.now) }
     ensures within { IfSome result (λ x. length x.1.now < length tokens.now) }
@@ -94,7 +94,7 @@ pub fn value_at<'t, 'a>(tokens: &'t [Token<'a>]) -> Option<(Token<'a>, &'t [Toke
 }
 
 /// A name: a string, or a word that is no keyword.
-#[tactic(auto, unfolding(crate::specs::Statements::name_at))]
+#[tactic(auto, unfolding(crate::specs::Lists::name_at))]
 pub fn name_at<'t, 'a>(tokens: &'t [Token<'a>]) -> Option<(Token<'a>, &'t [Token<'a>])>
     ensures value { option_map (λ x. (lexeme x.0, lexemes x.1.now)) result ≡ name_at (lexemes tokens.now) }
     ensures within { IfSome result (λ x. length x.1.now < length tokens.now) }

@@ -1,14 +1,16 @@
 //! From a text's bytes to its automaton (Linux, Documentation/trace/rv/deterministic_automata.rst).
-ghost use Rattle.std.specs.Prelude.{◌≡◌, IfOk, map, true, not};
+ghost use Rattle.std.specs.Prelude.{◌≡◌, ◌↔◌, IfOk, List, ℕ, map, true, not};
 ghost use Rattle.std.specs.List.{list_all, filter};
 ghost use Rattle.std.specs.Str.{bytes_eq};
 ghost use Rattle.rv_text.specs.Readings.{Gives, refused_with};
-ghost use Rattle.rv_dot.specs.Tokens.{Gives as GivesSome};
+ghost use Rattle.rv_dot.specs.Tokens.{GivesSome};
 ghost use Rattle.rv_dot.specs.Text.{said_by};
 ghost use Rattle.rv_dot.specs.Sayings.{all_said, arc};
 ghost use Rattle.rv_dot.specs.Gathered.{states_in, arcs_in, all_fit};
 ghost use Rattle.rv_dot.specs.Sets.{bytes_of, set_of, stands_in};
 ghost use Rattle.rv_dot.specs.Numberings.{IsNumbering, states_by, events_by};
+ghost use Rattle.rv_model.specs.Machine.{Machine};
+ghost use Rattle.rv_dot.specs.Drawn.{IsDotOf};
 ghost use Rattle.rv_dot.specs.Dot.{initial_of, with_initial, machine_of, states_from, events_from, dot_of};
 
 use crate::drawing::built;
@@ -191,3 +193,8 @@ pub fn read_dot(alloc: Global, bytes: &[u8]) -> Result<Automaton, Refused>
         Err(ReadError::Syntax) => Err(refused(DOT_SYNTAX)),
     }
 }
+
+/// The automaton of a text is the only one with its properties.
+pub fn automata_are_drawn()
+    ensures { (bytes : List ℕ) (a : Machine) → dot_of bytes ≡ Ok a ↔ IsDotOf bytes a }
+{}

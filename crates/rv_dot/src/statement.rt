@@ -1,7 +1,7 @@
 //! From tokens to what the statements say.
 ghost use Rattle.std.specs.Prelude.{◌≡◌, ◌<◌, ◌≤◌, length, IfOk, map, Some};
 ghost use Rattle.std.specs.Option.{option_map};
-ghost use Rattle.rv_dot.specs.Tokens.{Gives, lexeme, lexemes};
+ghost use Rattle.rv_dot.specs.Tokens.{GivesSome, lexeme, lexemes};
 ghost use Rattle.rv_dot.specs.Names.{name_of};
 ghost use Rattle.rv_dot.specs.Grammar.{File, IsFile, file, file_says};
 ghost use Rattle.rv_dot.specs.Statements.{claims, declares, held, optional_bracket_at, declared_at, ranked_at, group_at, assignment_at, edge_at, named_at, statement_at, statements_at, claims_of};
@@ -21,7 +21,7 @@ fn optional_bracket<'t, 'a>(
     tokens: &'t [Token<'a>],
     key: &[u8],
 ) -> Result<(Option<Token<'a>>, &'t [Token<'a>]), ReadError>
-    ensures value { Gives (λ x. (option_map lexeme x.0, lexemes x.1.now)) result (optional_bracket_at key.now (lexemes tokens.now)) }
+    ensures value { GivesSome (λ x. (option_map lexeme x.0, lexemes x.1.now)) result (optional_bracket_at key.now (lexemes tokens.now)) }
     ensures within { IfOk result (λ x. length x.1.now ≤ length tokens.now) }
 {
     if begins(tokens, Mark::OpenBracket) {
@@ -49,7 +49,7 @@ fn declared_names<'a>(
 /// Behind `{ node`: attributes, and one name or more.
 #[tactic(auto, unfolding(crate::specs::Statements::declared_at))]
 fn declared<'t, 'a>(alloc: Global, tokens: &'t [Token<'a>]) -> Said<'t, 'a>
-    ensures value { Gives (λ x. (claims x.0.items, lexemes x.1.now)) result (declared_at (lexemes tokens.now)) }
+    ensures value { GivesSome (λ x. (claims x.0.items, lexemes x.1.now)) result (declared_at (lexemes tokens.now)) }
     ensures within { IfOk result (λ x. length x.1.now ≤ length tokens.now) }
 {
     let Some(rest) = expect(tokens, Mark::OpenBracket) else {
@@ -66,7 +66,7 @@ fn declared<'t, 'a>(alloc: Global, tokens: &'t [Token<'a>]) -> Said<'t, 'a>
 /// Behind `{ word =`: a rank group, which says nothing.
 #[tactic(auto, unfolding(crate::specs::Statements::ranked_at))]
 fn ranked<'t, 'a>(alloc: Global, tokens: &'t [Token<'a>]) -> Said<'t, 'a>
-    ensures value { Gives (λ x. (claims x.0.items, lexemes x.1.now)) result (ranked_at (lexemes tokens.now)) }
+    ensures value { GivesSome (λ x. (claims x.0.items, lexemes x.1.now)) result (ranked_at (lexemes tokens.now)) }
     ensures within { IfOk result (λ x. length x.1.now ≤ length tokens.now) }
 {
     let Some((_, rest)) = value_at(tokens) else {
@@ -79,7 +79,7 @@ fn ranked<'t, 'a>(alloc: Global, tokens: &'t [Token<'a>]) -> Said<'t, 'a>
 /// Behind `{`.
 #[tactic(auto, unfolding(crate::specs::Statements::group_at))]
 fn group<'t, 'a>(alloc: Global, tokens: &'t [Token<'a>]) -> Said<'t, 'a>
-    ensures value { Gives (λ x. (claims x.0.items, lexemes x.1.now)) result (group_at (lexemes tokens.now)) }
+    ensures value { GivesSome (λ x. (claims x.0.items, lexemes x.1.now)) result (group_at (lexemes tokens.now)) }
     ensures within { IfOk result (λ x. length x.1.now < length tokens.now) }
 {
     let Some((head, rest)) = word_at(tokens) else {
@@ -97,7 +97,7 @@ fn group<'t, 'a>(alloc: Global, tokens: &'t [Token<'a>]) -> Said<'t, 'a>
 /// `word = value`, which says nothing.
 #[tactic(auto, unfolding(crate::specs::Statements::assignment_at))]
 fn assignment<'t, 'a>(alloc: Global, tokens: &'t [Token<'a>]) -> Said<'t, 'a>
-    ensures value { Gives (λ x. (claims x.0.items, lexemes x.1.now)) result (assignment_at (lexemes tokens.now)) }
+    ensures value { GivesSome (λ x. (claims x.0.items, lexemes x.1.now)) result (assignment_at (lexemes tokens.now)) }
     ensures within { IfOk result (λ x. length x.1.now < length tokens.now) }
 {
     let Some((_, rest)) = word_at(tokens) else {
@@ -115,7 +115,7 @@ fn assignment<'t, 'a>(alloc: Global, tokens: &'t [Token<'a>]) -> Said<'t, 'a>
 /// Behind `name ->`.
 #[tactic(auto, unfolding(crate::specs::Statements::edge_at))]
 fn edge<'t, 'a>(alloc: Global, from: Token<'a>, tokens: &'t [Token<'a>]) -> Said<'t, 'a>
-    ensures value { Gives (λ x. (claims x.0.items, lexemes x.1.now)) result (edge_at (lexeme from.entry) (lexemes tokens.now)) }
+    ensures value { GivesSome (λ x. (claims x.0.items, lexemes x.1.now)) result (edge_at (lexeme from.entry) (lexemes tokens.now)) }
     ensures within { IfOk result (λ x. length x.1.now < length tokens.now) }
 {
     let Some((to, rest)) = name_at(tokens) else {
@@ -130,7 +130,7 @@ fn edge<'t, 'a>(alloc: Global, from: Token<'a>, tokens: &'t [Token<'a>]) -> Said
 /// A node, of which nothing is said, or an edge.
 #[tactic(auto, unfolding(crate::specs::Statements::named_at))]
 fn named<'t, 'a>(alloc: Global, tokens: &'t [Token<'a>]) -> Said<'t, 'a>
-    ensures value { Gives (λ x. (claims x.0.items, lexemes x.1.now)) result (named_at (lexemes tokens.now)) }
+    ensures value { GivesSome (λ x. (claims x.0.items, lexemes x.1.now)) result (named_at (lexemes tokens.now)) }
     ensures within { IfOk result (λ x. length x.1.now < length tokens.now) }
 {
     let Some((from, rest)) = name_at(tokens) else {
@@ -147,7 +147,7 @@ fn named<'t, 'a>(alloc: Global, tokens: &'t [Token<'a>]) -> Said<'t, 'a>
 /// A statement, without its semicolon.
 #[tactic(auto, unfolding(crate::specs::Statements::statement_at))]
 fn statement<'t, 'a>(alloc: Global, tokens: &'t [Token<'a>]) -> Said<'t, 'a>
-    ensures value { Gives (λ x. (claims x.0.items, lexemes x.1.now)) result (statement_at (lexemes tokens.now)) }
+    ensures value { GivesSome (λ x. (claims x.0.items, lexemes x.1.now)) result (statement_at (lexemes tokens.now)) }
     ensures within { IfOk result (λ x. length x.1.now < length tokens.now) }
 {
     if begins(tokens, Mark::OpenBrace) {
@@ -161,7 +161,7 @@ fn statement<'t, 'a>(alloc: Global, tokens: &'t [Token<'a>]) -> Said<'t, 'a>
 
 /// Statements up to the closing brace, and the tokens behind it.
 fn statements<'t, 'a>(alloc: Global, tokens: &'t [Token<'a>]) -> Said<'t, 'a>
-    ensures { Gives (λ x. (claims x.0.items, lexemes x.1.now)) result (statements_at (lexemes tokens.now)) }
+    ensures { GivesSome (λ x. (claims x.0.items, lexemes x.1.now)) result (statements_at (lexemes tokens.now)) }
 {
     let mut found = Vec::new(alloc);
     let mut rest = tokens;
@@ -176,7 +176,7 @@ fn statements<'t, 'a>(alloc: Global, tokens: &'t [Token<'a>]) -> Said<'t, 'a>
 /// What all the tokens say.
 #[tactic(auto, unfolding(crate::specs::Statements::claims_of))]
 fn all<'a>(alloc: Global, tokens: &[Token<'a>]) -> Result<Vec<Fact<'a>>, ReadError>
-    ensures { Gives (λ v. claims v.items) result (claims_of (lexemes tokens.now)) }
+    ensures { GivesSome (λ v. claims v.items) result (claims_of (lexemes tokens.now)) }
 {
     let Some((head, rest)) = word_at(tokens) else {
         return Err(ReadError::Syntax);
@@ -200,8 +200,8 @@ pub fn facts<'a>(alloc: Global, tokens: &[Token<'a>]) -> Result<Vec<Fact<'a>>, R
     // What is read is spelled so.
     ensures found { IfOk result (λ v. (f : File) × IsFile f × (lexemes tokens.now ≡ file f) × (file_says f ≡ claims v.items)) }
     // What is spelled so is read, unless memory runs out.
-    ensures only { (f : File) → IsFile f → lexemes tokens.now ≡ file f → Gives (λ v. claims v.items) result (Some (file_says f)) }
-    ensures exact { Gives (λ v. claims v.items) result (claims_of (lexemes tokens.now)) }
+    ensures only { (f : File) → IsFile f → lexemes tokens.now ≡ file f → GivesSome (λ v. claims v.items) result (Some (file_says f)) }
+    ensures exact { GivesSome (λ v. claims v.items) result (claims_of (lexemes tokens.now)) }
 {
     all(alloc, tokens)
 }

@@ -1,7 +1,7 @@
 //! From a text's bytes to its tokens.
 ghost use Rattle.std.specs.Prelude.{◌≡◌, List, Some, IfOk, true};
 ghost use Rattle.rv_dot.specs.Pieces.{Piece, Reads, tokens_in};
-ghost use Rattle.rv_dot.specs.Tokens.{Gives, lexemes, tokens_of};
+ghost use Rattle.rv_dot.specs.Tokens.{GivesSome, lexemes, tokens_of};
 
 use crate::fault::ReadError;
 use crate::front::front;
@@ -30,7 +30,7 @@ pub enum Token<'a> {
 }
 
 fn all(alloc: Global, bytes: &[u8]) -> Result<Vec<Token<'_>>, ReadError>
-    ensures { Gives (λ v. lexemes v.items) result (tokens_of bytes.now) }
+    ensures { GivesSome (λ v. lexemes v.items) result (tokens_of bytes.now) }
 {
     let mut found = Vec::new(alloc);
     let mut starts_line = true;
@@ -53,8 +53,8 @@ pub fn tokens(alloc: Global, bytes: &[u8]) -> Result<Vec<Token<'_>>, ReadError>
     // The text is made of pieces, of which these are the tokens.
     ensures found { IfOk result (λ v. (ps : List Piece) × Reads true bytes.now ps × (tokens_in ps ≡ lexemes v.items)) }
     // A text that is made of pieces is read, unless memory runs out.
-    ensures only { (ps : List Piece) → Reads true bytes.now ps → Gives (λ v. lexemes v.items) result (Some (tokens_in ps)) }
-    ensures exact { Gives (λ v. lexemes v.items) result (tokens_of bytes.now) }
+    ensures only { (ps : List Piece) → Reads true bytes.now ps → GivesSome (λ v. lexemes v.items) result (Some (tokens_in ps)) }
+    ensures exact { GivesSome (λ v. lexemes v.items) result (tokens_of bytes.now) }
 {
     all(alloc, bytes)
 }

@@ -1,4 +1,4 @@
-use Rattle.std.proofs.Common.{◌≡◌, ◌-◌, ◌++◌, drop, length, map}
+use Rattle.std.proofs.Common.{◌≡◌, ◌++◌, drop, map}
 use Rattle.std.specs.List.{flat_map}
 use Rattle.rv_dot.specs.Canonical.{arc_line, arc_named}
 use Rattle.rv_dot.proofs.canonical.put_edges.Given as goal

@@ -1,5 +1,5 @@
 use Rattle.std.proofs.Common.{◌++◌, ◌%◌, ap, ◌∙◌, sym, refl}
-use Rattle.std.specs.Prelude.{Some, slice_get, ◌==◌}
+use Rattle.std.specs.Prelude.{Some, ◌==◌}
 use Rattle.std.specs.List.{flat_map}
 use Rattle.rv_dot.specs.Canonical.{state_line, states_marked}
 use Rattle.rv_dot.proofs.CanonicalLaws.{states_more}

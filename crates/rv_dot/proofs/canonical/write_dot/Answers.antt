@@ -1,7 +1,7 @@
 use Rattle.std.proofs.Common.{◌≡◌, ◌++◌, List, map, ap, ◌∙◌, sym}
 use Rattle.std.specs.List.{flat_map}
 use Rattle.rv_model.specs.declared.automaton.Edge.{Edge}
-use Rattle.std.specs.Prelude.{Some, Ok, slice_get}
+use Rattle.std.specs.Prelude.{Some, Ok}
 use Rattle.rv_model.specs.Machine.{Machine}
 use Rattle.rv_dot.specs.Canonical.{arc_line, arc_named, dot_text}
 use Rattle.rv_dot.specs.Dot.{dot_of}

@@ -1,4 +1,4 @@
-use Rattle.std.proofs.Common.{◌+◌, ◌*◌, ◌-◌, ◌∙◌, ℕ, Bool, arith, sym, ap, cond}
+use Rattle.std.proofs.Common.{◌+◌, ◌*◌, ◌∙◌, ℕ, Bool, arith, sym, ap, cond}
 use Rattle.rv_dot.specs.Gathered.{is_marked}
 use Rattle.rv_dot.specs.Sayings.{all_said}
 use Rattle.rv_dot.proofs.BitLaws.{bits_small, bits_more, bits_from}

@@ -1,4 +1,4 @@
-use Rattle.std.proofs.Common.{◌≡◌, length, map, take, drop, ◌≤◌}
+use Rattle.std.proofs.Common.{◌≡◌, length, map, drop, ◌≤◌}
 use Rattle.rv_dot.specs.Sayings.{all_said}
 use Rattle.rv_dot.specs.Gathered.{is_marked}
 use Rattle.rv_dot.specs.Dot.{bits_of}

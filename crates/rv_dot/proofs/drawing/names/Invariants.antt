@@ -1,4 +1,4 @@
-use Rattle.std.proofs.Common.{◌≡◌, length, map, take, drop, ◌≤◌}
+use Rattle.std.proofs.Common.{◌≡◌, map, take}
 use Rattle.rv_dot.specs.Sets.{bytes_of}
 use Rattle.rv_dot.proofs.drawing.names.Given as goal
 

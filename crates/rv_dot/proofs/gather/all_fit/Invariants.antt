@@ -1,4 +1,4 @@
-use Rattle.std.proofs.Common.{◌≡◌, length, map}
+use Rattle.std.proofs.Common.{◌≡◌, length}
 use Rattle.std.specs.List.{list_all}
 use Rattle.rv_dot.specs.Gathered.{fits}
 use Rattle.rv_dot.specs.Sayings.{all_said}

@@ -1,4 +1,4 @@
-use Rattle.std.proofs.Common.{◌≡◌, length, map}
+use Rattle.std.proofs.Common.{◌≡◌, length}
 use Rattle.rv_dot.specs.Gathered.{is_marked}
 use Rattle.rv_dot.specs.Sayings.{all_said}
 use Rattle.rv_dot.proofs.gather.is_marked.Given as goal

@@ -1,6 +1,6 @@
-use Rattle.std.proofs.Common.{◌≡◌, ◌∙◌, ◌++◌, ◌∷◌, [], List, ℕ, map, ap, arith, sym}
+use Rattle.std.proofs.Common.{◌≡◌, ◌∙◌, ◌++◌, ◌∷◌, [], List, ℕ, map, ap}
 use Rattle.std.proofs.lemmas.List.{map_push}
-use Rattle.rv_dot.specs.Labels.{events_of, pieces_within}
+use Rattle.rv_dot.specs.Labels.{events_of}
 use Rattle.rv_dot.specs.Sets.{bytes_of}
 use Rattle.rv_dot.proofs.LabelLaws.{pieces_more, pieces_end}
 use Rattle.rv_dot.proofs.label.events_of.Goals as goal

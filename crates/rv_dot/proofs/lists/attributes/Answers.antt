@@ -2,7 +2,7 @@ use Rattle.std.proofs.Common.{◌≡◌, ◌≤◌, ◌<◌, ◌++◌, ◌∷◌
 use Rattle.std.proofs.lemmas.List.{map_push}
 use Rattle.rv_dot.specs.Tokens.{lexemes}
 use Rattle.rv_dot.specs.Settings.{setting, settings}
-use Rattle.rv_dot.specs.Statements.{attributes_at}
+use Rattle.rv_dot.specs.Lists.{attributes_at}
 use Rattle.rv_dot.proofs.Lengths.{length_lexemes}
 use Rattle.rv_dot.proofs.ListLoops.{attributes_go_on, attributes_end, attributes_are_done, items_from_nothing}
 use Rattle.rv_dot.proofs.lists.attributes.Goals as goal

@@ -1,7 +1,7 @@
 use Rattle.std.proofs.Common.{◌≡◌, ◌≤◌, ℕ, length}
 use Rattle.rv_dot.specs.Tokens.{lexemes}
 use Rattle.rv_dot.specs.Settings.{settings}
-use Rattle.rv_dot.specs.Statements.{attributes_within, attributes_at}
+use Rattle.rv_dot.specs.Lists.{attributes_within, attributes_at}
 use Rattle.rv_dot.proofs.ListLoops.{items_on}
 use Rattle.rv_dot.proofs.lists.attributes.Given as goal
 

@@ -1,5 +1,5 @@
 use Rattle.std.proofs.Common.{arith, sym, ◌∙◌}
-use Rattle.rv_dot.specs.Statements.{last_of}
+use Rattle.rv_dot.specs.Lists.{last_of}
 use Rattle.rv_dot.specs.Settings.{settings}
 use Rattle.rv_dot.proofs.LastOf.{last_found, last_kept, last_none}
 use Rattle.rv_dot.proofs.lists.last_of.Goals as goal

@@ -1,5 +1,5 @@
 use Rattle.std.proofs.Common.{◌≡◌, ◌≤◌, length, take}
-use Rattle.rv_dot.specs.Statements.{last_of}
+use Rattle.rv_dot.specs.Lists.{last_of}
 use Rattle.rv_dot.specs.Settings.{settings}
 use Rattle.rv_dot.proofs.lists.last_of.Given as goal
 

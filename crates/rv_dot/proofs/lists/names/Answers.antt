@@ -1,7 +1,7 @@
 use Rattle.std.proofs.Common.{◌≡◌, ◌≤◌, ◌<◌, ◌++◌, ◌∷◌, [], length, arith, sym, ◌∙◌}
 use Rattle.std.proofs.lemmas.List.{map_push}
 use Rattle.rv_dot.specs.Tokens.{lexeme, lexemes}
-use Rattle.rv_dot.specs.Statements.{names_at}
+use Rattle.rv_dot.specs.Lists.{names_at}
 use Rattle.rv_dot.proofs.Lengths.{length_lexemes}
 use Rattle.rv_dot.proofs.ListLoops.{names_go_on, names_end, names_are_done, items_from_nothing}
 use Rattle.rv_dot.proofs.lists.names.Goals as goal

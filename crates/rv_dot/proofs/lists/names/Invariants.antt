@@ -1,6 +1,6 @@
 use Rattle.std.proofs.Common.{◌≡◌, ◌≤◌, ℕ, length}
 use Rattle.rv_dot.specs.Tokens.{lexemes}
-use Rattle.rv_dot.specs.Statements.{names_within, names_at}
+use Rattle.rv_dot.specs.Lists.{names_within, names_at}
 use Rattle.rv_dot.proofs.ListLoops.{items_on}
 use Rattle.rv_dot.proofs.lists.names.Given as goal
 

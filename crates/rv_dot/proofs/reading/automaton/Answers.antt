@@ -1,10 +1,10 @@
 use Rattle.std.proofs.Common.{◌≡◌, true, sym, ap, ◌∙◌, subst, map}
-use Rattle.std.specs.Prelude.{◌&&◌, Result}
+use Rattle.std.specs.Prelude.{Result}
 use Rattle.std.proofs.lemmas.Result.{err_from_is_err_and}
 use Rattle.rv_text.specs.declared.refusals.Refusal.{Refusal}
 use Rattle.rv_text.specs.Readings.{Gives, Refuses}
 use Rattle.rv_model.specs.Machine.{Machine}
-use Rattle.rv_dot.specs.Gathered.{arcs_in, targets_in, events_fit, all_fit}
+use Rattle.rv_dot.specs.Gathered.{targets_in, events_fit, all_fit}
 use Rattle.rv_dot.specs.Dot.{initial_of}
 use Rattle.rv_dot.specs.Sayings.{all_said, arc}
 use Rattle.rv_dot.specs.Sets.{bytes_of}

@@ -1,4 +1,4 @@
-use Rattle.std.proofs.Common.{◌≡◌, length, map, take, drop, ◌≤◌}
+use Rattle.std.proofs.Common.{◌≡◌, length, map}
 use Rattle.std.specs.List.{list_all}
 use Rattle.rv_dot.specs.Sayings.{arc}
 use Rattle.rv_dot.specs.Numberings.{states_by}

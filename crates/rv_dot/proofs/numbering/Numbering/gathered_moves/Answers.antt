@@ -1,4 +1,3 @@
-use Rattle.std.proofs.Common.{sym}
 use Rattle.rv_dot.specs.Moves.{moves_of}
 use Rattle.rv_dot.specs.Numberings.{states_by, events_by}
 use Rattle.rv_dot.proofs.MoveSets.{moves_more}

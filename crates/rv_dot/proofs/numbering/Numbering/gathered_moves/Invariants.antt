@@ -1,4 +1,4 @@
-use Rattle.std.proofs.Common.{◌≡◌, length, map, take, drop, ◌≤◌}
+use Rattle.std.proofs.Common.{◌≡◌, map, take}
 use Rattle.rv_dot.specs.Sayings.{arc}
 use Rattle.rv_dot.specs.Numberings.{states_by, events_by}
 use Rattle.rv_dot.specs.Moves.{moves_of, numbered}
