@@ -1,0 +1,5 @@
+pub mod ReadyLemmas
+pub mod ReplayedLemmas
+pub mod SaysLemmas
+pub mod SwitchLemmas
+pub mod TraceTextLemmas

@@ -1,0 +1,161 @@
+-- What is read makes a run ready: the setup has the bindings' tables, and the lanes fit it.
+use Rattle.std.proofs.Common.{◌≡◌, ◌≢◌, ℕ, zero, suc, ◌+◌, ◌<◌, ◌≤◌, List, [], ◌∷◌, ◌++◌, ◌^◌, map, length, get_or, refl, sym, ap, ◌∙◌, subst, arith}
+use Rattle.std.specs.Prelude.{All, AllPairs, Option, Some, slice_get, slice_index, slice_index_or}
+use Rattle.std.proofs.lemmas.List.{append_assoc, map-append}
+use Rattle.std.proofs.lemmas.List.Elements.{All-push, All-nil, All-cons, All-head, All-tail, All-weaker}
+use Rattle.rv_model.specs.declared.hit.Mode.{Mode}
+use Rattle.rv_model.specs.declared.hit.What.{What}
+use Rattle.rv_model.specs.declared.hit.What.TheVariants as whats
+use Rattle.rv_model.specs.declared.formula.Spec.{Spec}
+use Rattle.rv_model.specs.declared.formula.Spec.TheVariants as specs
+use Rattle.rv_model.specs.declared.work.Scope.{Scope}
+use Rattle.rv_model.specs.declared.work.Delivery.{Delivery}
+use Rattle.rv_model.specs.declared.work.Turn.{Turn}
+use Rattle.rv_model.specs.Machine.{Machine}
+use Rattle.rv_model.specs.Table.{Table, table_of}
+use Rattle.rv_model.specs.Works.{Work}
+use Rattle.rv_model.specs.Histories.{LinesApart}
+use Rattle.rv_model.specs.Setups.{Setup, monitor_of, slot_of}
+use Rattle.rv_slots.specs.Shapes.{count_of}
+use Rattle.rv_slots.proofs.ShapeLemmas.{monitor_of-slot_of}
+use Rattle.rv_core.specs.Advance.{FitsKind, FitsTable}
+use Rattle.rv_core.specs.Setup.{FitsShape, no_table, table_at}
+use Rattle.rv_core.specs.Judged.{AllMean}
+use Rattle.rv_feed.specs.Lane.{LaneValue, IsNewLane, FitsDelivery, FitsLane, FitLanes, works_of}
+use Rattle.rv_bind.specs.declared.bindings.Monitor.{Monitor}
+use Rattle.rv_bind.specs.WellFormed.{Kind, kind_of, kinds_of, FitsEvents, FitsSpec, HasTable, HaveTables}
+use Rattle.rv_route.specs.Fitting.{FitsKindOf, WorksFit}
+use Rattle.rv_tool.specs.Inputs.{opened}
+
+-- ---- tables
+
+pub tables_counted : (monitors : List Monitor) (tables : List Table) → HaveTables (kinds_of monitors) tables → length tables ≡ length monitors
+tables_counted [] [] h = refl
+tables_counted [] (t ∷ tables) h = absurd h
+tables_counted (m ∷ monitors) [] h = absurd h
+tables_counted (m ∷ monitors) (t ∷ tables) h = ap (λ n. suc n) (tables_counted monitors tables h.1)
+
+mapped_count : {X Y : Type 0} (f : X → Y) (xs : List X) → length (map f xs) ≡ length xs
+mapped_count f [] = refl
+mapped_count f (x ∷ xs) = ap (λ n. suc n) (mapped_count f xs)
+
+-- a setup has one table and one starting value for each monitor
+pub shape_fits : (monitors : List Monitor) (tables : List Table) (tasks : ℕ) (scopes : List Scope) (shape starts : List ℕ) (switches : ℕ) → HaveTables (kinds_of monitors) tables → scopes ≡ map (λ (m : Monitor). m.scope) monitors
+    → shape ≡ map (count_of tasks) scopes → starts ≡ map (λ (m : Monitor). m.starting) monitors → switches < 2 ^ 35 → FitsShape (record { shape = shape; tables = tables; starts = starts; switches = switches })
+shape_fits monitors tables tasks scopes shape starts switches have scopes_are shape_is starts_are known =
+    let many : length shape ≡ length monitors = ap (λ (ns : List ℕ). length ns) shape_is ∙ mapped_count (count_of tasks) scopes ∙ ap (λ (ss : List Scope). length ss) scopes_are ∙ mapped_count (λ (m : Monitor). m.scope) monitors in
+    let started : length starts ≡ length monitors = ap (λ (ns : List ℕ). length ns) starts_are ∙ mapped_count (λ (m : Monitor). m.starting) monitors in
+    record { many = tables_counted monitors tables have ∙ sym many; many_starts = started ∙ sym many; known_switches = known }
+
+means_of : (kind : Kind) (spec : Spec) (t : Table) → HasTable kind spec t → Rattle.rv_model.specs.Judging.Means t spec
+means_of kind (specs.Da a) t h = h.1
+means_of kind (specs.Ltl r) t h = absurd h
+
+pub tables_mean : (monitors : List Monitor) (tables : List Table) → HaveTables (kinds_of monitors) tables → AllMean (map (λ (m : Monitor). m.spec) monitors) tables
+tables_mean [] [] h = tt
+tables_mean [] (t ∷ tables) h = absurd h
+tables_mean (m ∷ monitors) [] h = absurd h
+tables_mean (m ∷ monitors) (t ∷ tables) h = (means_of (kind_of m) m.spec t h.0, tables_mean monitors tables h.1)
+
+-- what stands at a monitor's place
+record At (monitors : List Monitor) (tables : List Table) (tasks place : ℕ) (kind : Kind) : Type 0 where
+  below : place < length (map (count_of tasks) (map (λ (m : Monitor). m.scope) monitors))
+  count : slice_index (map (count_of tasks) (map (λ (m : Monitor). m.scope) monitors)) place ≡ count_of tasks kind.scope
+  table : HasTable kind kind.spec (slice_index_or tables place no_table)
+
+at_place : (monitors : List Monitor) (tables : List Table) (tasks place : ℕ) (kind : Kind) → slice_get (kinds_of monitors) place ≡ Some kind → HaveTables (kinds_of monitors) tables → At monitors tables tasks place kind
+at_place [] tables tasks place kind there h = cc
+at_place (m ∷ monitors) [] tasks place kind there h = absurd h
+at_place (m ∷ monitors) (t ∷ tables) tasks zero kind there h =
+    let same : kind_of m ≡ kind = cc in
+    record { below = omega arith; count = ap (λ (k : Kind). count_of tasks k.scope) same; table = subst (λ (k : Kind). HasTable k k.spec t) same h.0 }
+at_place (m ∷ monitors) (t ∷ tables) tasks (suc place) kind there h =
+    let rest = at_place monitors tables tasks place kind there h.1 in
+    record { below = let b = rest.below in omega arith; count = rest.count; table = rest.table }
+
+-- ---- deliveries
+
+hit_fits : (kind : Kind) (spec : Spec) (t : Table) (mode : Mode) (what : What) → HasTable kind spec t → FitsSpec spec (record { mode = mode; what = what }) → FitsKind t mode what
+hit_fits kind (specs.Ltl r) t mode what h fits = absurd h
+hit_fits kind (specs.Da a) t mode (whats.Da event) h fits = subst (λ (u : Table). FitsKind u mode (whats.Da event)) (sym h.0) fits
+hit_fits kind (specs.Da a) t mode (whats.Ltl on off pulse) h fits = absurd fits
+
+module _ (monitors : List Monitor) (tables : List Table) (tasks : ℕ) (have : HaveTables (kinds_of monitors) tables) where
+  delivery_fits : (d : Delivery) → FitsKindOf (kinds_of monitors) tasks d → FitsDelivery (opened monitors tables tasks) d
+  delivery_fits d f =
+      let at = at_place monitors tables tasks d.monitor f.kind f.there have in
+      let shape : List ℕ = map (count_of tasks) (map (λ (m : Monitor). m.scope) monitors) in
+      let small : d.instance < slice_index shape d.monitor = subst (λ n. d.instance < n) (sym at.count) f.instance_fits in
+      let monitor : monitor_of shape (slot_of shape d.monitor d.instance) ≡ d.monitor = monitor_of-slot_of shape d.monitor d.instance at.below small in
+      record {
+        monitor = at.below;
+        instance_fits = small;
+        hit = hit_fits f.kind f.kind.spec (table_at (opened monitors tables tasks) (slot_of shape d.monitor d.instance)) d.hit.mode d.hit.what
+            (subst (λ n. HasTable f.kind f.kind.spec (slice_index_or tables n no_table)) (sym monitor) at.table) f.hit;
+      }
+
+  -- ---- lanes
+
+  all_works : (P : Work → Type 0) (lanes : List LaneValue) → All P (works_of lanes) → All (λ (l : LaneValue). P l.work) lanes
+  all_works P [] all = All-nil (λ (l : LaneValue). P l.work)
+  all_works P (lane ∷ lanes) all = All-cons (λ (l : LaneValue). P l.work) lane lanes (All-head P lane.work (works_of lanes) all) (all_works P lanes (All-tail P lane.work (works_of lanes) all))
+
+  get_or-works : (lanes : List LaneValue) (i : ℕ) (d : LaneValue) → get_or (works_of lanes) i d.work ≡ (get_or lanes i d).work
+  get_or-works [] i d = refl
+  get_or-works (lane ∷ lanes) zero d = refl
+  get_or-works (lane ∷ lanes) (suc i) d = get_or-works lanes i d
+
+  works_counted : (lanes : List LaneValue) → length (works_of lanes) ≡ length lanes
+  works_counted [] = refl
+  works_counted (lane ∷ lanes) = ap (λ n. suc n) (works_counted lanes)
+
+  pair_works : (lanes : List LaneValue) → AllPairs (λ (w v : Work). w.cpu ≢ v.cpu) (works_of lanes) → AllPairs (λ (l m : LaneValue). l.work.cpu ≢ m.work.cpu) lanes
+  pair_works lanes pairs i j d lt within =
+      let many = works_counted lanes in
+      let apart = pairs i j d.work lt (omega arith) in
+      subst (λ (w : Work). w.cpu ≢ (get_or lanes j d).work.cpu) (get_or-works lanes i d) (subst (λ (v : Work). (get_or (works_of lanes) i d.work).cpu ≢ v.cpu) (get_or-works lanes j d) apart)
+
+  each_fits : (lanes : List LaneValue) → WorksFit (kinds_of monitors) tasks (works_of lanes) → All (λ (l : LaneValue). IsNewLane l.work l) lanes → All (FitsLane (opened monitors tables tasks)) lanes
+  each_fits lanes f new i d within = record {
+    new_lane = new i d within;
+    cpu = all_works (λ (w : Work). w.cpu < 64) lanes f.cpus_below i d within;
+    lines = all_works (λ (w : Work). AllPairs (λ (t u : Turn). t.line < u.line) w.turns) lanes f.lines i d within;
+    fit = All-weaker (FitsKindOf (kinds_of monitors) tasks) (FitsDelivery (opened monitors tables tasks)) delivery_fits (get_or lanes i d).work.deliveries
+        (all_works (λ (w : Work). All (FitsKindOf (kinds_of monitors) tasks) w.deliveries) lanes f.deliveries i d within);
+  }
+
+  -- new lanes of routed works fit the setup
+  pub lanes_fit : (works : List Work) (lanes : List LaneValue) → WorksFit (kinds_of monitors) tasks works → works_of lanes ≡ works → All (λ (l : LaneValue). IsNewLane l.work l) lanes → FitLanes (opened monitors tables tasks) lanes
+  lanes_fit works lanes fit is new =
+      let f : WorksFit (kinds_of monitors) tasks (works_of lanes) = subst (WorksFit (kinds_of monitors) tasks) (sym is) fit in
+      record { fit = each_fits lanes f new; cpus = pair_works lanes f.cpus; apart = f.apart }
+
+-- ---- lanes as they are made
+
+pub lane_added : (lanes more : List LaneValue) (lane : LaneValue) (items rest all : List Work) (work : Work) → items ≡ work ∷ rest → works_of lanes ++ items ≡ all → lane.work ≡ work → more ≡ lanes ++ lane ∷ [] → works_of more ++ rest ≡ all
+lane_added lanes more lane items rest all work split so_far is added =
+    ap (λ (ls : List LaneValue). works_of ls ++ rest) added ∙ ap (λ (ws : List Work). ws ++ rest) (map-append (λ (l : LaneValue). l.work) lanes (lane ∷ []))
+    ∙ append_assoc (works_of lanes) (lane.work ∷ []) rest ∙ ap (λ (w : Work). works_of lanes ++ w ∷ rest) is ∙ ap (λ (ws : List Work). works_of lanes ++ ws) (sym split) ∙ so_far
+
+pub lanes_new : (lanes more : List LaneValue) (lane : LaneValue) (work : Work) → All (λ (l : LaneValue). IsNewLane l.work l) lanes → IsNewLane work lane → more ≡ lanes ++ lane ∷ [] → All (λ (l : LaneValue). IsNewLane l.work l) more
+lanes_new lanes more lane work all is added =
+    subst (λ (ls : List LaneValue). All (λ (l : LaneValue). IsNewLane l.work l) ls) (sym added)
+    (All-push (λ (l : LaneValue). IsNewLane l.work l) lanes lane all (record { work_is = refl; no_records = is.no_records; room = subst (λ (w : Work). length w.deliveries ≤ lane.room) (sym is.work_is) is.room }))
+
+-- ---- all of it
+
+pub record Made (monitors : List Monitor) (setup : Setup) (tasks : ℕ) (lanes : List LaneValue) : Type 0 where
+  pub again : setup ≡ opened monitors setup.tables tasks
+  pub mean : AllMean (map (λ (m : Monitor). m.spec) monitors) setup.tables
+  pub fit : FitLanes setup lanes
+
+pub ready_made : (monitors given : List Monitor) (tables : List Table) (setup : Setup) (n tasks : ℕ) (works : List Work) (lanes : List LaneValue) → HaveTables (kinds_of monitors) tables → WorksFit (kinds_of monitors) tasks works
+    → setup ≡ opened given tables n → given ≡ monitors → n ≡ tasks → works_of lanes ≡ works → All (λ (l : LaneValue). IsNewLane l.work l) lanes → Made monitors setup tasks lanes
+ready_made monitors given tables setup n tasks works lanes have fit setup_is same many works_are new =
+    let is : setup ≡ opened monitors tables tasks = setup_is ∙ ap (λ (ms : List Monitor). opened ms tables n) same ∙ ap (opened monitors tables) many in
+    let tables_are : setup.tables ≡ tables = ap (λ (s : Setup). s.tables) is in
+    record {
+      again = is ∙ ap (λ (ts : List Table). opened monitors ts tasks) (sym tables_are);
+      mean = subst (λ (ts : List Table). AllMean (map (λ (m : Monitor). m.spec) monitors) ts) (sym tables_are) (tables_mean monitors tables have);
+      fit = subst (λ (s : Setup). FitLanes s lanes) (sym is) (lanes_fit monitors tables tasks have works lanes fit works_are new);
+    }

@@ -1,0 +1,66 @@
+-- What the files of a run come to, and the run that they determine.
+use Rattle.std.specs.Prelude.{ℕ, ◌+◌, ◌^◌, Bool, false, List, [], map, length, Option, Some, None, slice_get}
+use Rattle.rv_io.specs.Files.{Files}
+use Rattle.rv_model.specs.Numbers.{number_of}
+use Rattle.rv_model.specs.Setups.{Setup}
+use Rattle.rv_model.specs.Table.{Table}
+use Rattle.rv_model.specs.Histories.{Input}
+use Rattle.rv_slots.specs.Shapes.{count_of}
+use Rattle.rv_trace.specs.Traces.{trace_of}
+use Rattle.rv_bind.specs.declared.bindings.Monitor.{Monitor}
+use Rattle.rv_bind.specs.Values.{BoundValue}
+use Rattle.rv_bind.specs.Bound.{bound_of}
+use Rattle.rv_bind.specs.Outcomes.{Outcome, accepted, reading, of_file, of_name}
+use Rattle.rv_route.specs.Routing.{RoutedValue, route_of}
+use Rattle.rv_feed.specs.Lane.{panics_of}
+
+-- the bindings, and what each CPU has to do
+pub record InputValue : Type 0 where
+  pub bound : BoundValue
+  pub routed : RoutedValue
+
+-- what the text of the trace comes to under the bindings: the trace by lines, then the routing by lines
+abbrev pub routed_text : List ℕ → BoundValue → List ℕ → Outcome RoutedValue
+routed_text trace bound text = reading (of_file trace (trace_of text)) (λ lines. of_file trace (route_of bound.monitors bound.rules text lines))
+
+abbrev pub routed_in : Files → List ℕ → BoundValue → Outcome RoutedValue
+routed_in files trace bound = of_name files trace (routed_text trace bound)
+
+-- the bindings with each specification as its line is reached, and then the trace
+abbrev pub replay_input : Files → List ℕ → List ℕ → Outcome InputValue
+replay_input files bindings trace = reading (bound_of files bindings) (λ bound. reading (routed_in files trace bound) (λ routed. accepted (record { bound = bound; routed = routed })))
+
+-- ---- the run
+
+abbrev pub is_enabled : Option Monitor → Bool
+is_enabled None = false
+is_enabled (Some m) = m.enabled
+
+-- whether the monitor of the bit is enabled
+abbrev pub enables : List Monitor → ℕ → Bool
+enables monitors bit = is_enabled (slice_get monitors bit)
+
+-- bits 32 and 33 are on, monitoring and reacting, and so is the bit of each monitor that is not off
+abbrev pub opening_switches : List Monitor → ℕ
+opening_switches monitors = number_of (enables monitors) 32 + (2 ^ 32 + 2 ^ 33)
+
+-- the setup that a run with so many tasks opens with
+abbrev pub opened : List Monitor → List Table → ℕ → Setup
+opened monitors tables tasks = record {
+  shape = map (count_of tasks) (map (λ m. m.scope) monitors);
+  tables = tables;
+  starts = map (λ m. m.starting) monitors;
+  switches = opening_switches monitors;
+}
+
+abbrev pub setup_of : BoundValue → ℕ → Setup
+setup_of bound tasks = opened bound.monitors bound.tables tasks
+
+abbrev pub run_of : InputValue → Input
+run_of i = record {
+  setup = setup_of i.bound (length i.routed.tasks);
+  specs = map (λ m. m.spec) i.bound.monitors;
+  panics = panics_of (map (λ m. m.reactor) i.bound.monitors);
+  works = i.routed.works;
+  changes = [];
+}

@@ -1,0 +1,6 @@
+pub mod Faults
+pub mod Headline
+pub mod Inputs
+pub mod Output
+pub mod Ready
+pub mod Words

@@ -1,0 +1,26 @@
+-- The texts of refusals and missing files (this project's choice: docs/FORMATS.md), and what becomes of a text.
+use Rattle.std.specs.Prelude.{◌≡◌, ◌⊎◌, ℕ, ◌==◌, List, [], ◌++◌, codes, decimal, Option, Some, None, if◌then◌else◌}
+use Rattle.rv_text.specs.declared.refusals.Refusal.{Refusal}
+use Rattle.rv_io.specs.Files.{Rose}
+use Rattle.rv_io.specs.Taken.{Takes}
+
+-- which file it is
+abbrev pub file_text : Option (List ℕ) → List ℕ
+file_text None = []
+file_text (Some file) = codes " in " ++ file
+
+-- which line it is; line 0 is none
+abbrev pub line_text : ℕ → List ℕ
+line_text line = if line == 0 then [] else codes " line " ++ decimal line
+
+abbrev pub refusal_text : Option (List ℕ) → Refusal → List ℕ
+refusal_text file refusal = codes "rv: refused " ++ decimal refusal.number ++ file_text file ++ line_text refusal.line ++ codes "\n"
+
+abbrev pub missing_text : List ℕ → List ℕ
+missing_text file = codes "rv: cannot read " ++ file ++ codes "\n"
+
+-- the sink took the whole text; or its count of faults rose, a front of the text was taken, and the status is 4
+abbrev pub Told : Option (List ℕ) → Option (List ℕ) → ℕ → ℕ → List ℕ → ℕ → ℕ → Type 0
+Told old new before now text said status =
+    ((status ≡ said) × Takes old new text)
+    ⊎ ((status ≡ 4) × Rose before now × (front : List ℕ) × (back : List ℕ) × (text ≡ front ++ back) × Takes old new front)

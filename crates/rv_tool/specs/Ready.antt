@@ -1,0 +1,19 @@
+-- What a run begins with, as a plain value, and what it keeps.
+use Rattle.std.specs.Prelude.{◌≡◌, map, length}
+use Rattle.rv_core.specs.Judged.{AllMean}
+use Rattle.rv_feed.specs.Lane.{FitLanes, works_of}
+use Rattle.rv_tool.specs.declared.input.Ready.{Ready}
+use Rattle.rv_tool.specs.Inputs.{InputValue, setup_of}
+
+abbrev pub ready_value : Ready → InputValue
+ready_value r = record {
+  bound = record { containers = r.bindings.containers; monitors = r.bindings.monitors.items; rules = r.bindings.rules.items; items = r.bindings.items.items; tables = r.setup.tables };
+  routed = record { tasks = r.tasks; works = works_of r.lanes.items };
+}
+
+-- the setup and the reactors are the bindings', the tables mean the specifications, and the lanes fit
+pub record IsReady (r : Ready) : Type 0 where
+  pub setup : r.setup ≡ setup_of (ready_value r).bound (length r.tasks)
+  pub reactors : r.reactors.items ≡ map (λ m. m.reactor) r.bindings.monitors.items
+  pub mean : AllMean (map (λ m. m.spec) r.bindings.monitors.items) r.setup.tables
+  pub lanes : FitLanes r.setup r.lanes.items

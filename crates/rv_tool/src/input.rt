@@ -1,0 +1,169 @@
+//! From the files to what a run begins with.
+ghost use Rattle.std.specs.Prelude.{◌≡◌, ◌≤◌, ◌<◌, ◌^◌, length, map, All, IfOk};
+ghost use Rattle.rv_bind.specs.BoundViews.{bound_value};
+ghost use Rattle.rv_bind.specs.WellFormed.{HaveTables, kinds_of, IsWellFormed};
+ghost use Rattle.rv_route.specs.Routed.{routed_value};
+ghost use Rattle.rv_route.specs.Fitting.{WorksFit};
+ghost use Rattle.rv_feed.specs.Lane.{IsNewLane, works_of};
+ghost use Rattle.rv_tool.specs.Inputs.{opened, enables, opening_switches};
+ghost use Rattle.rv_tool.specs.Ready.{ready_value, IsReady};
+
+use crate::trace_text::read_routed;
+use rv_bind::{BindFault, Bindings, Bound, Monitor, read_bindings};
+use rv_core::Setup;
+use rv_feed::Lane;
+use rv_io::Store;
+use rv_model::{CpuWork, Reactor, Scope};
+use rv_route::Routed;
+use rv_slots::{Shape, Tasks};
+use rv_table::Table;
+use std::alloc::{AllocError, Global};
+
+/// What a run begins with.
+#[derive(Drop)]
+pub(crate) struct Ready {
+    pub(crate) bindings: Bindings,
+    pub(crate) tasks: Tasks,
+    pub(crate) setup: Setup,
+    pub(crate) reactors: Vec<Reactor>,
+    pub(crate) lanes: Vec<Lane>,
+}
+
+/// Monitoring and reacting.
+const SWITCHED_ON: u64 = 12_884_901_888;
+
+/// Reads the bindings and the trace.
+pub(crate) fn read_input<S: Store>(
+    alloc: Global,
+    store: &mut S,
+    bindings: &str,
+    trace: &str,
+) -> Result<Ready, BindFault>
+    ensures kept { S.files store.new ≡ S.files store.old }
+    ensures later { S.faults store.old ≤ S.faults store.new }
+    ensures ready { IfOk result IsReady }
+{
+    let bound = read_bindings(alloc, store, bindings)?;
+    let routed = read_routed(alloc, store, trace, &bound)?;
+    match prepare(alloc, bound, routed) {
+        Ok(ready) => Ok(ready),
+        Err(AllocError) => Err(BindFault::Memory),
+    }
+}
+
+/// What the bindings and the works make ready.
+#[tactic(auto, using(crate::proofs::ReadyLemmas::lanes_fit, crate::proofs::ReadyLemmas::tables_mean))]
+fn prepare(alloc: Global, bound: Bound, routed: Routed) -> Result<Ready, AllocError>
+    requires formed { IsWellFormed (bound_value bound) }
+    requires fit { WorksFit (kinds_of bound.bindings.monitors.items) (length routed.tasks) routed.works.items }
+    ensures ready { IfOk result IsReady }
+    ensures value { IfOk result (λ ready. ready_value ready ≡ record { bound = bound_value bound; routed = routed_value routed }) }
+{
+    let Bound { bindings, tables } = bound;
+    let Routed { tasks, works } = routed;
+    let setup = opening(alloc, bindings.monitors.as_slice(), tasks.len(), tables)?;
+    let reactors = reactors(alloc, bindings.monitors.as_slice())?;
+    let lanes = lanes(alloc, works)?;
+    Ok(Ready {
+        bindings,
+        tasks,
+        setup,
+        reactors,
+        lanes,
+    })
+}
+
+/// The setup of a run with so many tasks.
+fn opening(
+    alloc: Global,
+    monitors: &[Monitor],
+    tasks: u32,
+    tables: Vec<Table>,
+) -> Result<Setup, AllocError>
+    requires monitors { length monitors.now ≤ 32 }
+    requires tasks { tasks ≤ 4096 }
+    requires tables { HaveTables (kinds_of monitors.now) tables.items }
+    ensures { IfOk result (λ setup. setup ≡ opened monitors.now tables.items tasks) }
+{
+    let scopes = scopes(alloc, monitors)?;
+    let shape = Shape::new(alloc, scopes.as_slice(), tasks)?;
+    let starts = starts(alloc, monitors)?;
+    let switches = switches(monitors);
+    Ok(Setup {
+        shape,
+        tables,
+        starts,
+        switches,
+    })
+}
+
+/// The scope of each monitor.
+fn scopes(alloc: Global, monitors: &[Monitor]) -> Result<Vec<Scope>, AllocError>
+    ensures { IfOk result (λ scopes. scopes.items ≡ map (λ m. m.scope) monitors.now) }
+{
+    let mut scopes = Vec::new(alloc);
+    for monitor in monitors {
+        scopes.push(monitor.scope)?;
+    }
+    Ok(scopes)
+}
+
+/// The starting value of each monitor.
+fn starts(alloc: Global, monitors: &[Monitor]) -> Result<Vec<u32>, AllocError>
+    ensures { IfOk result (λ starts. starts.items ≡ map (λ m. m.starting) monitors.now) }
+{
+    let mut starts = Vec::new(alloc);
+    for monitor in monitors {
+        starts.push(monitor.starting)?;
+    }
+    Ok(starts)
+}
+
+/// The reactor of each monitor.
+fn reactors(alloc: Global, monitors: &[Monitor]) -> Result<Vec<Reactor>, AllocError>
+    ensures { IfOk result (λ reactors. reactors.items ≡ map (λ m. m.reactor) monitors.now) }
+{
+    let mut reactors = Vec::new(alloc);
+    for monitor in monitors {
+        reactors.push(monitor.reactor)?;
+    }
+    Ok(reactors)
+}
+
+/// Whether there is a monitor at this place, and it is enabled.
+fn is_enabled(monitors: &[Monitor], place: usize) -> bool
+    ensures { result ≡ enables monitors.now place }
+{
+    match monitors.get(place) {
+        Some(monitor) => monitor.enabled,
+        None => false,
+    }
+}
+
+/// The switches that a run opens with.
+fn switches(monitors: &[Monitor]) -> u64
+    ensures value { result ≡ opening_switches monitors.now }
+    ensures fits { result < 2 ^ 35 }
+{
+    let mut switches: u64 = 0;
+    let mut bit: u64 = 1;
+    for place in 0..32usize {
+        if is_enabled(monitors, place) {
+            switches += bit;
+        }
+        bit *= 2;
+    }
+    switches + SWITCHED_ON
+}
+
+/// A lane for each work.
+fn lanes(alloc: Global, works: Vec<CpuWork>) -> Result<Vec<Lane>, AllocError>
+    ensures { IfOk result (λ lanes. (works_of lanes.items ≡ works.items) × All (λ lane. IsNewLane lane.work lane) lanes.items) }
+{
+    let mut lanes = Vec::new(alloc);
+    for work in works {
+        let lane = Lane::new(alloc, work)?;
+        lanes.push(lane)?;
+    }
+    Ok(lanes)
+}

@@ -1,0 +1,11 @@
+//! The top call: from the command's words and the files that they name to a status, a text and a history.
+#![tactic(auto)]
+
+mod input;
+mod output;
+mod replaying;
+mod top;
+mod trace_text;
+mod words;
+
+pub use top::{Finished, rv};

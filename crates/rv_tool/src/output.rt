@@ -1,0 +1,70 @@
+//! The texts of refusals and missing files, and how a text is put out.
+ghost use Rattle.std.specs.Prelude.{◌≡◌, ◌++◌, OnOk, IfOk, option_copied};
+ghost use Rattle.rv_tool.specs.Output.{refusal_text, missing_text, file_text, line_text, Told};
+
+use rv_io::{PutFault, Sink, put_all};
+use rv_text::{Line, Refusal};
+use std::alloc::{AllocError, Global};
+
+/// A put failed.
+pub(crate) const PUT_FAILED: u8 = 4;
+
+/// The line of a refusal, which names its file and its line where it has them.
+pub(crate) fn refusal_line(
+    alloc: Global,
+    file: Option<&[u8]>,
+    refusal: Refusal,
+) -> Result<Vec<u8>, AllocError>
+    ensures { IfOk result (λ text. text.items ≡ refusal_text (option_copied file.entry) refusal) }
+{
+    let mut line = Line::new(alloc);
+    line.text(b"rv: refused ")?;
+    line.number(refusal.number as u64)?;
+    in_file(&mut line, file)?;
+    at_line(&mut line, refusal.line)?;
+    line.text(b"\n")?;
+    Ok(line.into_bytes())
+}
+
+/// Names the file, if there is one.
+fn in_file(line: &mut Line, file: Option<&[u8]>) -> Result<(), AllocError>
+    ensures { OnOk result (line.new ≡ line.old ++ file_text (option_copied file.entry)) }
+{
+    if let Some(name) = file {
+        line.text(b" in ")?;
+        line.text(name)?;
+    }
+    Ok(())
+}
+
+/// Names the line, where it is not 0.
+fn at_line(line: &mut Line, number: u32) -> Result<(), AllocError>
+    ensures { OnOk result (line.new ≡ line.old ++ line_text number) }
+{
+    if number > 0 {
+        line.text(b" line ")?;
+        line.number(number as u64)?;
+    }
+    Ok(())
+}
+
+/// The line of a file that cannot be read.
+pub(crate) fn missing_line(alloc: Global, file: &[u8]) -> Result<Vec<u8>, AllocError>
+    ensures { IfOk result (λ text. text.items ≡ missing_text file.now) }
+{
+    let mut line = Line::new(alloc);
+    line.text(b"rv: cannot read ")?;
+    line.text(file)?;
+    line.text(b"\n")?;
+    Ok(line.into_bytes())
+}
+
+/// Puts the text of a status; 4 stands in its place where a put failed.
+pub(crate) fn tell<K: Sink>(out: &mut K, text: &[u8], status: u8) -> u8
+    ensures { Told (K.taken out.old) (K.taken out.new) (K.faults out.old) (K.faults out.new) text.now status result }
+{
+    match put_all(out, text) {
+        Ok(()) => status,
+        Err(PutFault) => PUT_FAILED,
+    }
+}

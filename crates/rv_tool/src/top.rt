@@ -1,0 +1,135 @@
+//! The top call.
+ghost use Rattle.std.specs.Prelude.{◌≡◌, [], Some, None, option_copied};
+ghost use Rattle.std.specs.Result.{ForOk};
+ghost use Rattle.rv_tool.specs.Output.{refusal_text, missing_text};
+ghost use Rattle.rv_tool.specs.Headline.{Says, Replays, Ends};
+ghost use Rattle.rv_tool.specs.Ready.{ready_value, IsReady};
+
+use crate::input::{Ready, read_input};
+use crate::output::{missing_line, refusal_line, tell};
+use crate::replaying::{Done, replayed};
+use crate::words::{Command, read_words};
+use rv_bind::BindFault;
+use rv_io::{Gate, Sink, Store};
+use rv_model::Closed;
+use rv_text::{Refusal, USAGE};
+use std::alloc::{AllocError, Global};
+use std::thread::Threads;
+
+/// Refused.
+const REFUSED: u8 = 2;
+
+/// A file is missing, or a read failed.
+const UNREAD: u8 = 3;
+
+/// Want of memory.
+const NO_MEMORY: u8 = 5;
+
+/// How a run ended.
+#[derive(Drop)]
+pub struct Finished {
+    /// 0 clean, 1 a failure, 2 refused, 3 a file that cannot be read, 4 a put that failed, 5 no memory, 6 an instance was stopped.
+    pub status: u8,
+    /// The history, which contracts see.
+    pub closed: Closed,
+}
+
+/// Does what the words ask for: reads the files from the store and puts the output into the sink.
+pub fn rv<R: Threads + Sync, S: Store, K: Sink, G: Gate + Send>(
+    rt: &R,
+    alloc: Global,
+    words: &[String],
+    store: &mut S,
+    out: &mut K,
+    gate: &G,
+) -> Finished {
+    let _ = rt;
+    let _ = gate;
+    match read_words(words) {
+        Some(Command::Replay { bindings, trace }) => run(
+            alloc,
+            out,
+            read_input(alloc, store, bindings, trace),
+        ),
+        None => refused(
+            alloc,
+            out,
+            None,
+            Refusal {
+                number: USAGE,
+                line: 0,
+            },
+        ),
+    }
+}
+
+/// Runs what was read, or says why there is nothing to run.
+fn run<K: Sink>(alloc: Global, out: &mut K, read: Result<Ready, BindFault>) -> Finished
+    requires { ForOk read IsReady }
+{
+    match read {
+        Ok(ready) => end(out, replayed(alloc, ready)),
+        Err(BindFault::Refused { file, refusal }) => refused(
+            alloc,
+            out,
+            Some(file.bytes()),
+            refusal,
+        ),
+        Err(BindFault::Unread { file }) => unread(alloc, out, file.bytes()),
+        Err(BindFault::Memory) => give_up(),
+    }
+}
+
+/// Puts the report.
+fn end<K: Sink>(out: &mut K, done: Result<Done, AllocError>) -> Finished {
+    match done {
+        Ok(
+            Done {
+                status,
+                text,
+                closed,
+            },
+        ) => Finished {
+            status: tell(out, text.as_slice(), status),
+            closed,
+        },
+        Err(AllocError) => give_up(),
+    }
+}
+
+/// Puts the line of a refusal.
+fn refused<K: Sink>(alloc: Global, out: &mut K, file: Option<&[u8]>, refusal: Refusal) -> Finished
+    ensures { Says (K.taken out.old) (K.taken out.new) (K.faults out.old) (K.faults out.new) (refusal_text (option_copied file.entry) refusal) 2 result.status result.closed }
+{
+    match refusal_line(alloc, file, refusal) {
+        Ok(text) => Finished {
+            status: tell(out, text.as_slice(), REFUSED),
+            closed: Closed::new(),
+        },
+        Err(AllocError) => give_up(),
+    }
+}
+
+/// Puts the line of a file that cannot be read.
+fn unread<K: Sink>(alloc: Global, out: &mut K, file: &[u8]) -> Finished
+    ensures { Says (K.taken out.old) (K.taken out.new) (K.faults out.old) (K.faults out.new) (missing_text file.now) 3 result.status result.closed }
+{
+    match missing_line(alloc, file) {
+        Ok(text) => Finished {
+            status: tell(out, text.as_slice(), UNREAD),
+            closed: Closed::new(),
+        },
+        Err(AllocError) => give_up(),
+    }
+}
+
+/// Puts nothing.
+fn give_up() -> Finished
+    ensures status { result.status ≡ 5 }
+    ensures closed { result.closed ≡ [] }
+{
+    Finished {
+        status: NO_MEMORY,
+        closed: Closed::new(),
+    }
+}
