@@ -1,3 +1,5 @@
+pub mod AnswerLemmas
+pub mod ComesLemmas
 pub mod ReadyLemmas
 pub mod ReplayedLemmas
 pub mod SaysLemmas

@@ -1,6 +1,6 @@
 -- What is read makes a run ready: the setup has the bindings' tables, and the lanes fit it.
-use Rattle.std.proofs.Common.{◌≡◌, ◌≢◌, ℕ, zero, suc, ◌+◌, ◌<◌, ◌≤◌, List, [], ◌∷◌, ◌++◌, ◌^◌, map, length, get_or, refl, sym, ap, ◌∙◌, subst, arith}
-use Rattle.std.specs.Prelude.{All, AllPairs, Option, Some, slice_get, slice_index, slice_index_or}
+use Rattle.std.proofs.Common.{◌≡◌, ◌≢◌, ℕ, zero, suc, ◌<◌, ◌≤◌, List, [], ◌∷◌, ◌++◌, ◌^◌, map, length, get_or, refl, sym, ap, ◌∙◌, subst, arith}
+use Rattle.std.specs.Prelude.{All, AllPairs, Some, slice_get, slice_index, slice_index_or}
 use Rattle.std.proofs.lemmas.List.{append_assoc, map-append}
 use Rattle.std.proofs.lemmas.List.Elements.{All-push, All-nil, All-cons, All-head, All-tail, All-weaker}
 use Rattle.rv_model.specs.declared.hit.Mode.{Mode}
@@ -11,19 +11,17 @@ use Rattle.rv_model.specs.declared.formula.Spec.TheVariants as specs
 use Rattle.rv_model.specs.declared.work.Scope.{Scope}
 use Rattle.rv_model.specs.declared.work.Delivery.{Delivery}
 use Rattle.rv_model.specs.declared.work.Turn.{Turn}
-use Rattle.rv_model.specs.Machine.{Machine}
-use Rattle.rv_model.specs.Table.{Table, table_of}
+use Rattle.rv_model.specs.Table.{Table}
 use Rattle.rv_model.specs.Works.{Work}
-use Rattle.rv_model.specs.Histories.{LinesApart}
 use Rattle.rv_model.specs.Setups.{Setup, monitor_of, slot_of}
 use Rattle.rv_slots.specs.Shapes.{count_of}
 use Rattle.rv_slots.proofs.ShapeLemmas.{monitor_of-slot_of}
-use Rattle.rv_core.specs.Advance.{FitsKind, FitsTable}
+use Rattle.rv_core.specs.Advance.{FitsKind}
 use Rattle.rv_core.specs.Setup.{FitsShape, no_table, table_at}
 use Rattle.rv_core.specs.Judged.{AllMean}
 use Rattle.rv_feed.specs.Lane.{LaneValue, IsNewLane, FitsDelivery, FitsLane, FitLanes, works_of}
 use Rattle.rv_bind.specs.declared.bindings.Monitor.{Monitor}
-use Rattle.rv_bind.specs.WellFormed.{Kind, kind_of, kinds_of, FitsEvents, FitsSpec, HasTable, HaveTables}
+use Rattle.rv_bind.specs.WellFormed.{Kind, kind_of, kinds_of, FitsSpec, HasTable, HaveTables}
 use Rattle.rv_route.specs.Fitting.{FitsKindOf, WorksFit}
 use Rattle.rv_tool.specs.Inputs.{opened}
 

@@ -1,11 +1,10 @@
 -- What the top call promises: the bytes and the status are the report of the one history that the words and files determine.
-use Rattle.std.specs.Prelude.{◌≡◌, ◌⊎◌, ℕ, List, [], map, Option, Some, None}
+use Rattle.std.specs.Prelude.{◌≡◌, ◌⊎◌, ℕ, List, [], map, Option, Some}
 use Rattle.rv_model.specs.declared.entry.Entry.{Entry}
 use Rattle.rv_model.specs.Judging.{Judge}
 use Rattle.rv_model.specs.Histories.{AreJudges, IsOneHistory}
 use Rattle.rv_model.specs.Records.{records_of, status_of}
 use Rattle.rv_model.specs.Reports.{report_text}
-use Rattle.rv_io.specs.Files.{Rose}
 use Rattle.rv_report.specs.Shown.{reported}
 use Rattle.rv_bind.specs.Outcomes.{Outcome, accepted, refused, missing}
 use Rattle.rv_tool.specs.Inputs.{InputValue, run_of}

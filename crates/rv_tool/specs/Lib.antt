@@ -3,4 +3,5 @@ pub mod Headline
 pub mod Inputs
 pub mod Output
 pub mod Ready
+pub mod Runs
 pub mod Words

@@ -1,8 +1,7 @@
 -- What the words of the command line ask for.
 use Rattle.std.specs.Prelude.{ℕ, List, [], ◌∷◌, map, codes, bytes_eq, string_bytes, Option, Some, None, if◌then◌else◌, String}
 use Rattle.std.specs.declared.alloc.Global.{Global}
-use Rattle.rv_tool.specs.declared.words.Command.{Command}
-use Rattle.rv_tool.specs.declared.words.Command.TheVariants as commands
+use Rattle.rv_tool.specs.declared.words.Replay.{Replay}
 
 -- the words as texts
 abbrev pub texts_of : List (String Global) → List (List ℕ)
@@ -12,8 +11,8 @@ pub data CommandValue : Type 0 where
   -- the bindings and the trace
   replay : List ℕ → List ℕ → CommandValue
 
-abbrev pub command_value : Command → CommandValue
-command_value (commands.Replay bindings trace) = replay bindings.now trace.now
+abbrev pub command_value : Replay → CommandValue
+command_value named = replay named.bindings.now named.trace.now
 
 -- `replay BINDINGS TRACE`
 abbrev pub command_of : List (List ℕ) → Option CommandValue

@@ -2,13 +2,16 @@
 ghost use Rattle.std.specs.Prelude.{◌≡◌, [], Some, None, option_copied};
 ghost use Rattle.std.specs.Result.{ForOk};
 ghost use Rattle.rv_tool.specs.Output.{refusal_text, missing_text};
-ghost use Rattle.rv_tool.specs.Headline.{Says, Replays, Ends};
+ghost use Rattle.rv_io.specs.Files.{Files};
+ghost use Rattle.rv_tool.specs.Headline.{Says, IsReplayed};
+ghost use Rattle.rv_tool.specs.Runs.{Ended, Runs, Answers};
+ghost use Rattle.rv_tool.specs.Words.{command_of, texts_of};
 ghost use Rattle.rv_tool.specs.Ready.{ready_value, IsReady};
 
 use crate::input::{Ready, read_input};
 use crate::output::{missing_line, refusal_line, tell};
 use crate::replaying::{Done, replayed};
-use crate::words::{Command, read_words};
+use crate::words::{Replay, read_words};
 use rv_bind::BindFault;
 use rv_io::{Gate, Sink, Store};
 use rv_model::Closed;
@@ -42,11 +45,14 @@ pub fn rv<R: Threads + Sync, S: Store, K: Sink, G: Gate + Send>(
     store: &mut S,
     out: &mut K,
     gate: &G,
-) -> Finished {
+) -> Finished
+    ensures kept { S.files store.new ≡ S.files store.old }
+    ensures answers { (files : Files) → S.files store.old ≡ Some files → Answers (command_of (texts_of words.now)) files (S.faults store.old) (S.faults store.new) (K.taken out.old) (K.taken out.new) (K.faults out.old) (K.faults out.new) result.status result.closed }
+{
     let _ = rt;
     let _ = gate;
     match read_words(words) {
-        Some(Command::Replay { bindings, trace }) => run(
+        Some(Replay { bindings, trace }) => run(
             alloc,
             out,
             read_input(alloc, store, bindings, trace),
@@ -66,6 +72,7 @@ pub fn rv<R: Threads + Sync, S: Store, K: Sink, G: Gate + Send>(
 /// Runs what was read, or says why there is nothing to run.
 fn run<K: Sink>(alloc: Global, out: &mut K, read: Result<Ready, BindFault>) -> Finished
     requires { ForOk read IsReady }
+    ensures { Runs read (K.taken out.old) (K.taken out.new) (K.faults out.old) (K.faults out.new) result.status result.closed }
 {
     match read {
         Ok(ready) => end(out, replayed(alloc, ready)),
@@ -81,7 +88,9 @@ fn run<K: Sink>(alloc: Global, out: &mut K, read: Result<Ready, BindFault>) -> F
 }
 
 /// Puts the report.
-fn end<K: Sink>(out: &mut K, done: Result<Done, AllocError>) -> Finished {
+fn end<K: Sink>(out: &mut K, done: Result<Done, AllocError>) -> Finished
+    ensures { Ended done (K.taken out.old) (K.taken out.new) (K.faults out.old) (K.faults out.new) result.status result.closed }
+{
     match done {
         Ok(
             Done {

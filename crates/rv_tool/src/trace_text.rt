@@ -9,7 +9,7 @@ ghost use Rattle.rv_route.specs.Lines.{IsRoutable};
 ghost use Rattle.rv_route.specs.Routing.{route_of};
 ghost use Rattle.rv_route.specs.Routed.{routed_value};
 ghost use Rattle.rv_route.specs.Fitting.{WorksFit, NumbersAscend};
-ghost use Rattle.rv_tool.specs.Inputs.{routed_text};
+ghost use Rattle.rv_tool.specs.Inputs.{routed_text, routed_in};
 ghost use Rattle.rv_tool.specs.Faults.{IsFaultIn, Tells};
 
 use rv_bind::{BindFault, Bound};
@@ -79,6 +79,7 @@ pub(crate) fn read_routed<S: Store>(
     ensures kept { S.files store.new ≡ S.files store.old }
     ensures later { S.faults store.old ≤ S.faults store.new }
     ensures fit { IfOk result (λ routed. WorksFit (kinds_of bound.now.bindings.monitors.items) (length routed.tasks) routed.works.items) }
+    ensures value { Comes routed_value (S.files store.old) (S.faults store.old) (S.faults store.new) result (λ files. routed_in files trace.now (bound_value bound.now)) }
 {
     let text = read_text(alloc, store, trace)?;
     route_text(alloc, trace, bound, front(text.as_slice(), READ_LIMIT))

@@ -1,4 +1,4 @@
-use Rattle.std.proofs.Common.{◌≡◌, sym, ◌∙◌, rules}
+use Rattle.std.proofs.Common.{◌∙◌}
 use Rattle.rv_tool.proofs.ReadyLemmas.{shape_fits}
 use Rattle.rv_tool.proofs.input.opening.Goals as goal
 

@@ -1,4 +1,4 @@
-use Rattle.std.proofs.Common.{◌≡◌, length, map, ap, ◌∙◌, rules}
+use Rattle.std.proofs.Common.{length, map, ap, ◌∙◌}
 use Rattle.rv_bind.specs.declared.bindings.Monitor.{Monitor}
 use Rattle.rv_tool.proofs.ReadyLemmas.{ready_made}
 use Rattle.rv_tool.proofs.input.prepare.Goals as goal

@@ -1,4 +1,4 @@
-use Rattle.std.proofs.Common.{◌≡◌, true, false, refl, sym, ◌∙◌, arith, rules}
+use Rattle.std.proofs.Common.{true, false, refl, arith, rules}
 use Rattle.rv_model.specs.Numbers.{number_of}
 use Rattle.rv_tool.specs.Inputs.{enables}
 use Rattle.rv_tool.proofs.SwitchLemmas.{bit_more}

@@ -1,4 +1,4 @@
-use Rattle.std.proofs.Common.{◌≡◌, ap, ◌∙◌, rules}
+use Rattle.std.proofs.Common.{ap, ◌∙◌, rules}
 use Rattle.rv_feed.specs.Lane.{works_of}
 use Rattle.rv_tool.specs.Ready.{ready_value}
 use Rattle.rv_tool.proofs.ReplayedLemmas.{replayed_is}

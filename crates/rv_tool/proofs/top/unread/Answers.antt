@@ -1,4 +1,4 @@
-use Rattle.std.proofs.Common.{◌≡◌, ◌∙◌}
+use Rattle.std.proofs.Common.{◌∙◌}
 use Rattle.rv_tool.proofs.SaysLemmas.{says_told}
 use Rattle.rv_tool.proofs.top.unread.Goals as goal
 
