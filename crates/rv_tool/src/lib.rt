@@ -4,6 +4,8 @@
 mod input;
 mod output;
 mod replaying;
+#[cfg(test)]
+mod tests;
 mod top;
 mod trace_text;
 mod words;
