@@ -1,0 +1,31 @@
+//! An example: a folder with bindings, a trace, and the report that they come to.
+
+use crate::fault::Fault;
+use crate::words::joined;
+use rv_io::{Disk, MemSink, OpenGate, Store};
+use rv_text::{Words, decimal};
+use rv_tool::rv;
+use std::alloc::Global;
+use std::fs::Files;
+use std::thread::Threads;
+
+/// Whether the run of the example puts its report, and ends with its status. The line has its name and its status.
+pub(crate) fn run<R: Files + Threads + Sync>(
+    rt: &R,
+    alloc: Global,
+    line: &[u8],
+) -> Result<bool, Fault> {
+    let mut entry = Words::new(line);
+    let name = std::str::from_utf8(entry.next_word().ok_or(Fault)?)?;
+    let status = decimal(entry.next_word().ok_or(Fault)?).ok_or(Fault)?;
+    let mut words = Vec::new(alloc);
+    words.push(joined(alloc, &["replay"])?)?;
+    words.push(joined(alloc, &["examples/", name, "/", name, ".rv"])?)?;
+    words.push(joined(alloc, &["examples/", name, "/", name, ".txt"])?)?;
+    let report = joined(alloc, &["examples/", name, "/report.txt"])?;
+    let mut disk = Disk::new(rt);
+    let wanted = disk.read(alloc, report.as_str())?;
+    let mut out = MemSink::new(alloc, 4096, 1_048_576)?;
+    let finished = rv(rt, alloc, words.as_slice(), &mut disk, &mut out, &OpenGate);
+    Ok(finished.status as u64 == status && out.taken() == wanted.as_slice())
+}
