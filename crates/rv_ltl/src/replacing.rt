@@ -9,7 +9,7 @@ ghost use Rattle.rv_ltl.specs.Rules.{GivesAtoms};
 use crate::atoms::atoms;
 use crate::definitions::Definition;
 use crate::reached::reached;
-use crate::settle::settle;
+use crate::settle::{any_open, settle};
 use crate::uses::{index, uses};
 use crate::weighing::known;
 use crate::weight::Weight;
@@ -52,9 +52,10 @@ pub fn limited_atoms(
         return Err(refused(DEFINED_TWICE));
     }
     let uses = uses(alloc, definitions)?;
-    let Some(weights) = settle(alloc, definitions, &uses)? else {
+    let weights = settle(alloc, definitions, &uses)?;
+    if any_open(&weights) {
         return Err(refused(CYCLE));
-    };
+    }
     let flags = reached(alloc, &uses, place)?;
     let Some(out) = atoms(alloc, definitions, &flags)? else {
         return Err(refused(TOO_MANY_ATOMS));
