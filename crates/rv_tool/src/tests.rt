@@ -65,7 +65,8 @@ on wip sched_waking : event sched_waking
 ";
 
 /// A waking before any start.
-const WAKING: &str = "          <idle>-0       [000] d..1.   100.000003: sched_waking: comm=t pid=12 prio=120 target_cpu=000\n";
+const WAKING: &str =
+    "          <idle>-0       [000] d..1.   100.000003: sched_waking: comm=t pid=12 prio=120 target_cpu=000\n";
 
 /// A trace of two CPUs with a waking outside of a section.
 const TWO_CPUS: &str = "t-1 [000] 1.000001: preempt_enable:
@@ -107,23 +108,28 @@ fn the_first_run_and_its_variants_end_as_they_should(rt: HostRuntime) -> Result<
     let four = "wip: instances 1, deliveries 4, failures 0, stopped 0\n";
     let one = "wip: instances 1, deliveries 1, failures 0, stopped 0\n";
     let none = "wip: instances 0, deliveries 0, failures 0, stopped 0\n";
+    let line_2 = "rv: refused 24 in wip.txt line 2\n";
+    let line_5 = "rv: refused 24 in wip.txt line 5\n";
+    let missing = "rv: cannot read wip.dot\n";
+    let refused = "rv: refused 1\n";
     let run = "replay wip.rv wip.txt";
-    // The words, the automaton's file, the bindings, the trace and how many bytes of its end it lacks, the status and the text.
+    let dot = "wip.dot";
+    // The words, the automaton's file, the bindings, the trace, how many bytes of its end it lacks, the status and the text.
     let cases = [
-        (run, "wip.dot", BINDINGS, TRACE, 0, 1, REPORT),
-        (run, "wip.dot", QUIET, TRACE, 0, 1, whole),
-        (run, "wip.dot", BINDINGS, HEAD, 0, 0, none),
-        (run, "wip.dot", "", HEAD, 0, 0, ""),
-        (run, "wip.dot", BINDINGS, WAKING, 0, 0, one),
+        (run, dot, BINDINGS, TRACE, 0, 1, REPORT),
+        (run, dot, QUIET, TRACE, 0, 1, whole),
+        (run, dot, BINDINGS, HEAD, 0, 0, none),
+        (run, dot, "", HEAD, 0, 0, ""),
+        (run, dot, BINDINGS, WAKING, 0, 0, one),
         // Cut behind `sched_waking:`, behind `sched_wa` and behind `100.0000`.
-        (run, "wip.dot", BINDINGS, TRACE, 39, 1, REPORT),
-        (run, "wip.dot", BINDINGS, TRACE, 44, 2, "rv: refused 24 in wip.txt line 5\n"),
-        (run, "wip.dot", BINDINGS, TRACE, 56, 2, "rv: refused 24 in wip.txt line 5\n"),
-        (run, "w.dot", BINDINGS, TRACE, 0, 3, "rv: cannot read wip.dot\n"),
-        ("replay wip.rv", "wip.dot", BINDINGS, TRACE, 0, 2, "rv: refused 1\n"),
-        (run, "wip.dot", GLOBAL, TWO_CPUS, 0, 1, whole),
-        (run, "wip.dot", GLOBAL, TWO_CPUS, 34, 0, four),
-        (run, "wip.dot", GLOBAL, BAD_LINE, 0, 2, "rv: refused 24 in wip.txt line 2\n"),
+        (run, dot, BINDINGS, TRACE, 39, 1, REPORT),
+        (run, dot, BINDINGS, TRACE, 44, 2, line_5),
+        (run, dot, BINDINGS, TRACE, 56, 2, line_5),
+        (run, "w.dot", BINDINGS, TRACE, 0, 3, missing),
+        ("replay wip.rv", dot, BINDINGS, TRACE, 0, 2, refused),
+        (run, dot, GLOBAL, TWO_CPUS, 0, 1, whole),
+        (run, dot, GLOBAL, TWO_CPUS, 34, 0, four),
+        (run, dot, GLOBAL, BAD_LINE, 0, 2, line_2),
     ];
     for (text, automaton, bindings, trace, lacking, status, wanted) in cases {
         let mut store = MemStore::new(rt.alloc());
@@ -141,7 +147,11 @@ fn the_first_run_and_its_variants_end_as_they_should(rt: HostRuntime) -> Result<
             &OpenGate,
         );
         assert_eq!(rt; finished.status, status, "at {wanted} without {lacking}");
-        assert_eq!(rt; out.taken(), wanted.as_bytes(), "at {wanted} without {lacking}");
+        assert_eq!(rt;
+            out.taken(),
+            wanted.as_bytes(),
+            "at {wanted} without {lacking}"
+        );
     }
     Ok(())
 }
