@@ -1,7 +1,7 @@
 //! The weight of what each definition stands for, from the inside out, without writing any of it out.
 //! Which definitions use which is asked first, so that each formula is weighed once.
 
-ghost use Rattle.std.specs.Prelude.{◌≡◌, ◌<◌, ℕ, length, IfOk, IsTrue, true, false};
+ghost use Rattle.std.specs.Prelude.{◌≡◌, ◌≢◌, ◌<◌, ℕ, length, IfOk, IfSome, IfNone, true, false};
 ghost use Rattle.rv_ltl.specs.Machine.{defs, AllCoded};
 ghost use Rattle.rv_ltl.specs.Weights.{IsDistinct, IsSettled, IsSure, Learns, Passes, known_at, known_count};
 ghost use Rattle.rv_ltl.specs.Reached.{AreUses, flag_at};
@@ -99,15 +99,16 @@ pub fn settle(
     Ok(weights)
 }
 
-/// Whether a weight stays open.
-pub fn any_open(weights: &[Weight]) -> bool
-    ensures yes { IsTrue result → (i : ℕ) × (i < length weights.now) × (known_at weights.now i ≡ Open) }
-    ensures no { (i : ℕ) → i < length weights.now → known_at weights.now i ≡ Open → IsTrue result }
+/// The weight at this place, unless one stays open.
+pub fn settled_weight(weights: &[Weight], place: usize) -> Option<Weight>
+    ensures value { IfSome result (λ weight. weight ≡ known_at weights.now place) }
+    ensures some { IfSome result (λ weight. (i : ℕ) → i < length weights.now → known_at weights.now i ≢ Open) }
+    ensures none { IfNone result ((i : ℕ) × (i < length weights.now) × (known_at weights.now i ≡ Open)) }
 {
     for i in 0..weights.len() {
         if weights[i].is_open() {
-            return true;
+            return None;
         }
     }
-    false
+    Some(known(weights, place))
 }
