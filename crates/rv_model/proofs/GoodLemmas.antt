@@ -1,5 +1,5 @@
 -- What holds weakly holds weakly of each front, and what holds strongly holds strongly of each extension (Eisner and others, 2003).
-use Rattle.std.proofs.Common.{◌≡◌, ℕ, Bool, true, false, not, ◌&&◌, ◌||◌, List, [], ◌∷◌, ◌++◌, map, refl, sym, ◌∙◌, subst}
+use Rattle.std.proofs.Common.{◌≡◌, ℕ, Bool, true, false, not, ◌&&◌, ◌||◌, List, [], ◌∷◌, ◌++◌, map, refl, subst}
 use Rattle.std.proofs.lemmas.Bool.{false≢true}
 use Rattle.std.proofs.lemmas.List.{map-append}
 use Rattle.rv_model.specs.declared.hit.Letter.{Letter}
@@ -9,7 +9,7 @@ use Rattle.rv_model.specs.Letters.{atoms_in}
 use Rattle.rv_model.specs.Ltl.{Ltl, True, False, Atom, Not, Next, Always, Eventually, And, Or, Imply, Equivalent, Until}
 use Rattle.rv_model.specs.Truth.{Weak, Strong, Satisfies}
 use Rattle.rv_model.specs.Meaning.{Meaning, true_m, not_m, and_m, or_m, next_m, until_m, meaning}
-use Rattle.rv_model.specs.Language.{IsPath, HasEdge, Accepts}
+use Rattle.rv_model.specs.Language.{IsPath, HasEdge}
 use Rattle.rv_model.specs.Machine.{Machine}
 use Rattle.rv_model.specs.Judging.{IsGood}
 use Rattle.rv_model.specs.GoodLetters.{GoodLetters}

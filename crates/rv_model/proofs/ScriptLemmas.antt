@@ -1,5 +1,5 @@
 -- What a seat has played, one entry on.
-use Rattle.std.proofs.Common.{◌≡◌, ℕ, Bool, true, false, ◌==◌, List, [], ◌∷◌, ◌++◌, arith, refl}
+use Rattle.std.proofs.Common.{◌≡◌, ℕ, true, false, ◌==◌, List, [], ◌∷◌, ◌++◌, arith, refl}
 use Rattle.rv_model.specs.declared.entry.Entry.{Entry}
 use Rattle.rv_model.specs.Judging.{Judge}
 use Rattle.rv_model.specs.Setups.{Setup}

@@ -1,11 +1,10 @@
 -- Parts of a turn, and turns of a script, one after another.
-use Rattle.std.proofs.Common.{◌≡◌, ℕ, ◌^◌, Bool, true, false, ◌&&◌, List, [], ◌∷◌, ◌++◌, ◌⊎◌, map, inl, inr, refl, sym, ap, ◌∙◌, subst, append_assoc, append-nil}
+use Rattle.std.proofs.Common.{◌≡◌, ℕ, ◌^◌, Bool, true, false, ◌&&◌, List, [], ◌∷◌, ◌++◌, map, inl, inr, refl, sym, ap, ◌∙◌, subst, append_assoc, append-nil}
 use Rattle.std.specs.Prelude.{filter, zip, MatchBool, slice_range}
-use Rattle.rv_model.specs.declared.entry.Act.TheVariants.{Deliver, Stop, Look, Raise}
+use Rattle.rv_model.specs.declared.entry.Act.TheVariants.{Look, Raise}
 use Rattle.rv_model.specs.declared.entry.Answer.{Answer}
 use Rattle.rv_model.specs.declared.entry.Answer.TheVariants.{Looked}
 use Rattle.rv_model.specs.declared.entry.Entry.{Entry}
-use Rattle.rv_model.specs.declared.record.Delivered.TheVariants.{Done, Racing}
 use Rattle.rv_model.specs.declared.record.Record.{Record}
 use Rattle.rv_model.specs.declared.work.Delivery.{Delivery}
 use Rattle.rv_model.specs.declared.work.Turn.{Turn}
@@ -14,7 +13,7 @@ use Rattle.rv_model.specs.Numbers.{has_bit}
 use Rattle.rv_model.specs.Records.{record_of, is_look, is_delivery, until_look, from_look, script_records, turn_records}
 use Rattle.rv_model.specs.ScriptParts.{records_in, Part, LastPart, turn_lists, GoesOn, Ends}
 use Rattle.rv_model.specs.Scripts.{Played, is_shown, fails, Makes, Delivers, PlaysTurns}
-use Rattle.rv_model.specs.Setups.{Setup, slot_of}
+use Rattle.rv_model.specs.Setups.{Setup}
 
 -- a look is one
 is-look : (p : Played) → p.0.act ≡ Look → is_look p ≡ true

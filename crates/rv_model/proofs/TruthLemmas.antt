@@ -1,11 +1,11 @@
 -- The test says what satisfaction is.
-use Rattle.std.proofs.Common.{◌≡◌, ℕ, zero, suc, ◌+◌, ◌<◌, ◌≤◌, Bool, true, false, not, ◌&&◌, ◌||◌, List, [], ◌∷◌, length, drop, refl, sym, ap, ◌∙◌, subst, ◌⊎◌, inl, inr, IsTrue, arith}
+use Rattle.std.proofs.Common.{◌≡◌, ℕ, zero, suc, ◌<◌, ◌≤◌, Bool, true, false, List, [], ◌∷◌, length, drop, refl, sym, ◌∙◌, ◌⊎◌, inl, inr, arith}
 use Rattle.std.specs.Bool.{Decides}
 use Rattle.std.proofs.lemmas.Bool.Decides.{Decides-not, Decides-and, Decides-or, Decides-like}
 use Rattle.std.proofs.lemmas.Bool.{false≢true}
 use Rattle.rv_model.specs.Ltl.{Ltl, True, False, Atom, Not, Next, Always, Eventually, And, Or, Imply, Equivalent, Until}
-use Rattle.rv_model.specs.Truth.{View, Weak, Strong, other, Says, OnLetter, TrueSays, NotSays, AndSays, OrSays, UntilSays, says, Satisfies}
-use Rattle.rv_model.specs.Meaning.{Meaning, is_weak, on_letter, true_m, not_m, and_m, or_m, next_m, until_m, meaning}
+use Rattle.rv_model.specs.Truth.{View, Weak, Strong, other, Says, OnLetter, TrueSays, NotSays, AndSays, OrSays, UntilSays, says}
+use Rattle.rv_model.specs.Meaning.{Meaning, is_weak, on_letter, true_m, not_m, and_m, or_m, until_m, meaning}
 
 -- the test p says what P says
 abbrev pub Tells : Meaning → Says → Type 0

@@ -49,6 +49,7 @@ pub record IsRule (r : RuleValue) : Type 0 where
   pub atoms_ascend : AllPairs IsBefore r.atoms
   pub in_range : HasAtomsBelow (length r.atoms) r.formula
 
+-- a rule by the code of its parts
 abbrev pub coded_rule : Coded RuleValue
 coded_rule =
     code_by (List (List ℕ) × Ltl) (coded× (coded_list (coded_list coded_ℕ)) coded_ltl)

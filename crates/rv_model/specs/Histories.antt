@@ -19,6 +19,7 @@ pub record FitsWords (s : Setup) (js : List Judge) (before : List Entry) (e : En
   pub found : e.before ≡ word_on s js (reverse before) e.act
   pub left : e.after ≡ word_on s js (e ∷ reverse before) e.act
 
+-- every entry has the words that the history gives
 abbrev pub Replays : Setup → List Judge → List Entry → Type 0
 Replays s js = AtEach (FitsWords s js)
 
@@ -29,6 +30,7 @@ is_on i (Stop slot) = slot == i
 is_on i (Clear slot) = slot == i
 is_on i _ = false
 
+-- the entry is on the slot, and its words differ
 abbrev pub changed : ℕ → Entry → Bool
 changed i e = is_on i e.act && not (e.before == e.after)
 
@@ -45,10 +47,12 @@ pub record LostThrice (slot seat : ℕ) (before : List Entry) : Type 0 where
   pub none : NoneOf seat since
   pub three : 3 ≤ length (filter (changed slot) since)
 
+-- a Stop is earned where three entries changed the slot since the seat acted last; no other act has to be
 abbrev pub IsEarnedBy : Act → ℕ → List Entry → Type 0
 IsEarnedBy (Stop slot) seat before = LostThrice slot seat before
 IsEarnedBy _ seat before = Unit {0}
 
+-- every Stop is earned
 abbrev pub IsEarned : List Entry → Type 0
 IsEarned = AtEach (λ before e. IsEarnedBy e.act e.seat before)
 
@@ -59,9 +63,11 @@ IsHeldBy (Lower _) seat = seat ≡ 1
 IsHeldBy (Raise bits) seat = (seat ≡ 1) ⊎ (bits ≡ 0) ⊎ (bits ≡ 2 ^ 34)
 IsHeldBy _ seat = Unit {0}
 
+-- every entry is by a seat below 67 that may do its act
 abbrev pub IsHeld : List Entry → Type 0
 IsHeld = AtEach (λ before e. (e.seat < 67) × IsHeldBy e.act e.seat)
 
+-- a history replays, its stops are earned, and its acts are held
 pub record IsSound (s : Setup) (js : List Judge) (h : List Entry) : Type 0 where
   pub replays : Replays s js h
   pub earned : IsEarned h
@@ -69,6 +75,7 @@ pub record IsSound (s : Setup) (js : List Judge) (h : List Entry) : Type 0 where
 
 -- ---- a whole run
 
+-- what a run is made of: its setup, the specifications, whose reactor is panic, what each CPU has to do, and the changes of the control actor
 pub record Input : Type 0 where
   pub setup : Setup
   pub specs : List Spec
@@ -76,15 +83,18 @@ pub record Input : Type 0 where
   pub works : List Work
   pub changes : List Change
 
+-- one judge for each monitor, by its specification
 abbrev pub AreJudges : List Spec → List Table → List Judge → Type 0
 AreJudges [] [] [] = Unit {0}
 AreJudges (a ∷ specs) (t ∷ tables) (j ∷ js) = JudgesBySpec a t j × AreJudges specs tables js
 AreJudges _ _ _ = ⊥
 
+-- the acts of a seat, in order
 abbrev pub acts_of : ℕ → List Entry → List Act
 acts_of seat [] = []
 acts_of seat (e ∷ h) = if e.seat == seat then e.act ∷ acts_of seat h else acts_of seat h
 
+-- it is sound, each CPU plays its script, the control actor does its changes, and nobody else has an entry
 pub record IsLegal (input : Input) (js : List Judge) (h : List Entry) : Type 0 where
   pub sound : IsSound input.setup js h
   pub cpus : All (λ w. Plays input.setup input.panics w (played input.setup js (2 + w.cpu) (reverse h))) input.works
@@ -93,10 +103,12 @@ pub record IsLegal (input : Input) (js : List Judge) (h : List Entry) : Type 0 w
 
 -- ---- in the order of the trace
 
+-- 1 for a look, 0 for every other act
 abbrev pub look_count : Act → ℕ
 look_count Look = 1
 look_count _ = 0
 
+-- how many looks a seat has made
 abbrev pub looks_of : ℕ → List Entry → ℕ
 looks_of seat [] = 0
 looks_of seat (e ∷ h) = (if e.seat == seat then look_count e.act else 0) + looks_of seat h
@@ -106,6 +118,7 @@ abbrev pub work_of : List Work → ℕ → Work
 work_of [] seat = record { cpu = 0; turns = []; deliveries = [] }
 work_of (w ∷ works) seat = if 2 + w.cpu == seat then w else work_of works seat
 
+-- the trace line of a turn, which is counted from 1
 abbrev pub line_in : List Turn → ℕ → ℕ
 line_in turns turn = slice_index (map (λ t. t.line) turns) (turn - 1)
 
@@ -113,6 +126,7 @@ line_in turns turn = slice_index (map (λ t. t.line) turns) (turn - 1)
 abbrev pub line_at : List Work → List Entry → Entry → ℕ
 line_at works before e = line_in (work_of works e.seat).turns (looks_of e.seat before + look_count e.act)
 
+-- the trace lines of the turns never descend; it is said of histories without changes, in which every entry is a CPU's
 abbrev pub IsInOrder : List Work → List Entry → Type 0
 IsInOrder works = AtEach (λ before f. AtEach (λ earlier e. line_at works earlier e ≤ line_at works before f) before)
 
@@ -126,6 +140,7 @@ pub record IsOneHistory (input : Input) (js : List Judge) (h : List Entry) : Typ
 abbrev pub LinesApart : List Work → Type 0
 LinesApart works = (w v : Work) (t u : Turn) → Contains works w → Contains works v → Contains w.turns t → Contains v.turns u → t.line ≡ u.line → w.cpu ≡ v.cpu
 
+-- the act is no Stop
 abbrev pub IsNoStop : Act → Type 0
 IsNoStop (Stop _) = ⊥
 IsNoStop _ = Unit {0}

@@ -31,8 +31,10 @@ pub record Judges (Holds : List Letter → Type 0) (t : Table) (j : Judge) : Typ
   pub holds : (letters : List Letter) → IsTrue (j.holds letters) ↔ Holds letters
   pub reaches : (letters : List Letter) (row : ℕ) → IsTrue (j.reaches letters row) ↔ Reaches t letters row
 
+-- it judges the letters by the specification, and the rows by the table
 abbrev pub JudgesBySpec : Spec → Table → Judge → Type 0
 JudgesBySpec spec = Judges (IsGood spec)
 
+-- it judges the letters by the rows that they reach in the table
 abbrev pub JudgesByTable : Table → Judge → Type 0
 JudgesByTable t = Judges (ReachesSome t) t

@@ -16,6 +16,7 @@ pub mod Records
 pub mod Reports
 pub mod ScriptParts
 pub mod Scripts
+pub mod Seats
 pub mod Setups
 pub mod SharedWords
 pub mod Slots

@@ -38,10 +38,12 @@ made (suc (suc (suc (suc (suc (suc (suc (suc (suc zero))))))))) a f g = Imply f 
 made (suc (suc (suc (suc (suc (suc (suc (suc (suc (suc zero)))))))))) a f g = Equivalent f g
 made (suc (suc (suc (suc (suc (suc (suc (suc (suc (suc (suc n))))))))))) a f g = Until f g
 
+-- the formula on top of the stack
 abbrev top : List Ltl → Ltl
 top [] = True
 top (f ∷ fs) = f
 
+-- the stack below it
 abbrev below : List Ltl → List Ltl
 below [] = []
 below (f ∷ fs) = fs

@@ -4,39 +4,50 @@ use Rattle.rv_model.specs.Ltl.{Ltl, True, False, Atom, Not, Next, Always, Eventu
 use Rattle.rv_model.specs.Numbers.{has_bit}
 use Rattle.rv_model.specs.Truth.{View, Weak, Strong, other}
 
+-- whether letters pass in a view
 abbrev pub Meaning : Type 0
 Meaning = View → List ℕ → Bool
 
+-- the view is the weak one
 abbrev pub is_weak : View → Bool
 is_weak Weak = true
 is_weak Strong = false
 
+-- a test of the first letter and the rest; without letters the view decides
 abbrev pub on_letter : (View → ℕ → List ℕ → Bool) → Meaning
 on_letter p v [] = is_weak v
 on_letter p v (x ∷ t) = p v x t
 
+-- what always passes
 abbrev pub true_m : Meaning
 true_m = on_letter (λ v x t. true)
 
+-- what does not pass in the other view
 abbrev pub not_m : Meaning → Meaning
 not_m p = on_letter (λ v x t. not (p (other v) (x ∷ t)))
 
+-- both pass
 abbrev pub and_m : Meaning → Meaning → Meaning
 and_m p q = on_letter (λ v x t. p v (x ∷ t) && q v (x ∷ t))
 
+-- one passes at least
 abbrev pub or_m : Meaning → Meaning → Meaning
 or_m p q = on_letter (λ v x t. p v (x ∷ t) || q v (x ∷ t))
 
+-- the rest passes
 abbrev pub next_m : Meaning → Meaning
 next_m p = on_letter (λ v x t. p v t)
 
+-- some suffix passes the second, and every longer one the first
 abbrev pub until_m : Meaning → Meaning → Meaning
 until_m p q v [] = is_weak v
 until_m p q v (x ∷ t) = q v (x ∷ t) || (p v (x ∷ t) && until_m p q v t)
 
+-- the second passes up to and with where the first does
 abbrev pub release_m : Meaning → Meaning → Meaning
 release_m p q = not_m (until_m (not_m p) (not_m q))
 
+-- the test of a formula
 abbrev pub meaning : Ltl → Meaning
 meaning True = true_m
 meaning False = on_letter (λ v x t. false)

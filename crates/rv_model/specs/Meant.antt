@@ -6,6 +6,7 @@ use Rattle.rv_model.specs.WellFormed.{IsAutomaton}
 use Rattle.rv_model.specs.Table.{Table, table_of}
 use Rattle.rv_model.specs.Judging.{Judge, Means, JudgesByTable, JudgesBySpec}
 
+-- a law: the table of an automaton means it
 abbrev pub TablesMean : Type 0
 TablesMean = (a : Machine) → IsAutomaton a → Means (table_of a) (Da a)
 

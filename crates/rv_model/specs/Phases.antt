@@ -14,6 +14,7 @@ use Rattle.rv_model.specs.declared.entry.Answer.TheVariants.{Passed, Started, Ke
 use Rattle.rv_model.specs.Numbers.{has_bit, number_of}
 use Rattle.rv_model.specs.Judging.{Judge}
 
+-- an instance waits, runs with the letters since its start, or is stopped
 pub data Phase : Type 0 where
   waiting : Phase
   running : List Letter → Phase
@@ -37,6 +38,7 @@ abbrev pub level : ℕ → List Entry → ℕ → ℕ → Bool
 level start [] i atom = has_bit start atom
 level start (e ∷ past) i atom = level_after start i atom e.act (level start past i atom)
 
+-- the set of the atoms that are on
 abbrev pub levels_of : ℕ → List Entry → ℕ → ℕ
 levels_of start past i = number_of (level start past i) 32
 
@@ -47,6 +49,7 @@ letter_at on (Ltl _ _ pulse) = Atoms (number_of (λ atom. on atom || has_bit pul
 
 -- ---- phase and answer
 
+-- the set of the rows that letters reach
 abbrev pub rows_of : Judge → List Letter → ℕ
 rows_of j word = number_of (j.reaches word) 32
 
@@ -65,6 +68,7 @@ phase_after j on i (Stop slot) p = if slot == i then stopped else p
 phase_after j on i (Clear slot) p = if slot == i then waiting else p
 phase_after j on i _ p = p
 
+-- the phase of an instance after a past
 abbrev pub phase_of : Judge → ℕ → List Entry → ℕ → Phase
 phase_of j start [] i = waiting
 phase_of j start (e ∷ past) i = phase_after j (level start (e ∷ past) i) i e.act (phase_of j start past i)

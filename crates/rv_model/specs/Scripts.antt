@@ -28,6 +28,7 @@ played s js seat (e ∷ past) = if e.seat == seat then played s js seat past ++ 
 abbrev pub is_shown : ℕ → Delivery → Bool
 is_shown look d = has_bit look 32 && has_bit look d.monitor
 
+-- the answer is a failure
 abbrev pub fails : Answer → Bool
 fails (Failed _) = true
 fails _ = false
@@ -59,11 +60,13 @@ PlaysTurns s panics (turn ∷ turns) (p ∷ ps) =
 abbrev pub turns_of : Work → List (List Delivery)
 turns_of w = map (λ turn. slice_range w.deliveries turn.from turn.to) w.turns
 
+-- the entries are the script of a CPU that has this work
 abbrev pub Plays : Setup → (ℕ → Bool) → Work → List Played → Type 0
 Plays s panics w ps = PlaysTurns s panics (turns_of w) ps
 
 -- ---- the control actor
 
+-- the act on these bits, if there are any
 abbrev pub bits_act : (ℕ → Act) → ℕ → List Act
 bits_act act bits = if bits == 0 then [] else act bits ∷ []
 
@@ -71,8 +74,10 @@ bits_act act bits = if bits == 0 then [] else act bits ∷ []
 abbrev pub clears : List ℕ → ℕ → List Act
 clears shape set = flat_map (λ monitor. if has_bit set monitor then list_of (λ k. Clear (slot_of shape monitor k)) (slice_index shape monitor) else []) (list_of (λ m. m) (length shape))
 
+-- the acts of one change: what it lowers, what it clears, and what it raises
 abbrev pub change_acts : List ℕ → Change → List Act
 change_acts shape c = bits_act Lower c.lower ++ clears shape c.clear ++ bits_act Raise c.raise
 
+-- the acts of all changes, in order
 abbrev pub control_acts : List ℕ → List Change → List Act
 control_acts shape changes = flat_map (change_acts shape) changes

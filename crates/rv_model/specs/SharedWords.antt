@@ -15,10 +15,12 @@ switch_after b (Raise bits) was = if has_bit bits b then true else was
 switch_after b (Lower bits) was = if has_bit bits b then false else was
 switch_after b _ was = was
 
+-- whether a switch is on: the newest act that names it decides
 abbrev pub switch : ℕ → List Entry → ℕ → Bool
 switch opening [] b = has_bit opening b
 switch opening (e ∷ past) b = switch_after b e.act (switch opening past b)
 
+-- the word of the switches
 abbrev pub switches_of : ℕ → List Entry → ℕ
 switches_of opening past = number_of (switch opening past) 64
 
@@ -28,9 +30,11 @@ packed j on waiting = 2 ^ 32 + on
 packed j on (running word) = rows_of j word * 2 ^ 32 + on
 packed j on stopped = 0
 
+-- the word of a slot, by its judge and its starting levels
 abbrev pub slot_word : Judge → ℕ → List Entry → ℕ → ℕ
 slot_word j start past i = packed j (levels_of start past i) (phase_of j start past i)
 
+-- the word of a slot after a past
 abbrev pub word_of : Setup → List Judge → List Entry → ℕ → ℕ
 word_of s js past i = slot_word (judge_of s js i) (start_of s i) past i
 
@@ -41,6 +45,7 @@ word_on s js past (Stop slot) = word_of s js past slot
 word_on s js past (Clear slot) = word_of s js past slot
 word_on s js past _ = switches_of s.switches past
 
+-- the answer of an entry after a past
 abbrev pub answer_at : Setup → List Judge → List Entry → Entry → Act → Answer
 answer_at s js past e (Deliver slot hit) = answer_to (judge_of s js slot) (start_of s slot) past e (Deliver slot hit)
 answer_at s js past e act = answer_to no_judge 0 past e act

@@ -1,6 +1,6 @@
 -- What a formula says of letters, in the weak and in the strong view (Eisner and others, 2003).
 -- Only the weak view of a truncated path is asked for at the end; the strong one is what `not` asks of its operand.
-use Rattle.std.specs.Prelude.{ℕ, ◌<◌, ◌≤◌, Bool, List, [], ◌∷◌, length, drop, ◌⊎◌, IsTrue}
+use Rattle.std.specs.Prelude.{ℕ, ◌<◌, ◌≤◌, List, [], ◌∷◌, length, drop, ◌⊎◌, IsTrue}
 use Rattle.rv_model.specs.Numbers.{has_bit}
 use Rattle.rv_model.specs.Ltl.{Ltl, True, False, Atom, Not, Next, Always, Eventually, And, Or, Imply, Equivalent, Until}
 
@@ -8,6 +8,7 @@ use Rattle.rv_model.specs.Ltl.{Ltl, True, False, Atom, Not, Next, Always, Eventu
 pub data View : Type 0 where
   Weak Strong : View
 
+-- the other view
 abbrev pub other : View → View
 other Weak = Strong
 other Strong = Weak
@@ -22,15 +23,19 @@ OnLetter P Weak [] = Unit {0}
 OnLetter P Strong [] = ⊥
 OnLetter P v (x ∷ t) = P v x t
 
+-- what always holds
 abbrev pub TrueSays : Says
 TrueSays = OnLetter (λ v x t. Unit {0})
 
+-- what does not hold in the other view
 abbrev pub NotSays : Says → Says
 NotSays P = OnLetter (λ v x t. ¬ P (other v) (x ∷ t))
 
+-- both hold
 abbrev pub AndSays : Says → Says → Says
 AndSays P Q = OnLetter (λ v x t. P v (x ∷ t) × Q v (x ∷ t))
 
+-- one holds at least
 abbrev pub OrSays : Says → Says → Says
 OrSays P Q = OnLetter (λ v x t. P v (x ∷ t) ⊎ Q v (x ∷ t))
 
@@ -38,9 +43,11 @@ OrSays P Q = OnLetter (λ v x t. P v (x ∷ t) ⊎ Q v (x ∷ t))
 abbrev pub UntilSays : Says → Says → Says
 UntilSays P Q = OnLetter (λ v x t. (k : ℕ) × (k ≤ length (x ∷ t)) × Q v (drop k (x ∷ t)) × ((j : ℕ) → j < k → P v (drop j (x ∷ t))))
 
+-- it is not so that the denial of the one holds until that of the other
 abbrev pub ReleaseSays : Says → Says → Says
 ReleaseSays P Q = NotSays (UntilSays (NotSays P) (NotSays Q))
 
+-- what a formula says of letters in a view
 abbrev pub says : Ltl → Says
 says True = TrueSays
 says False = OnLetter (λ v x t. ⊥)

@@ -11,6 +11,7 @@ use Rattle.rv_model.specs.Machine.{Machine}
 abbrev pub IsBefore : List ℕ → List ℕ → Type 0
 IsBefore x y = slice_cmp nat_cmp x y ≡ Less
 
+-- the byte lies between the two
 abbrev pub is_between : ℕ → ℕ → ℕ → Bool
 is_between low high b = nat_le low b && nat_le b high
 
@@ -22,15 +23,19 @@ is_event_byte b = is_between 97 122 b || is_between 65 90 b || is_between 48 57 
 abbrev pub is_state_byte : ℕ → Bool
 is_state_byte b = is_event_byte b || b == 46
 
+-- 1 to 64 bytes that pass the test
 abbrev pub IsNameOf : (ℕ → Bool) → List ℕ → Type 0
 IsNameOf is_byte name = (1 ≤ length name) × (length name ≤ 64) × All (λ b. IsTrue (is_byte b)) name
 
+-- the name of a state, which does not begin like a marker's
 abbrev pub IsStateName : List ℕ → Type 0
 IsStateName name = IsNameOf is_state_byte name × ¬ IsTrue (starts_with nat_eq name (codes "__init_"))
 
+-- by the state that it leaves, then by its event
 abbrev pub EdgeIsBefore : Edge → Edge → Type 0
 EdgeIsBefore e f = (e.from < f.from) ⊎ ((e.from ≡ f.from) × (e.event < f.event))
 
+-- what every automaton keeps
 pub record IsAutomaton (a : Machine) : Type 0 where
   pub some_state : 1 ≤ length a.states
   pub few_states : length a.states ≤ 31
