@@ -1,5 +1,5 @@
 -- What the checks of a rule know at their end.
-use Rattle.std.proofs.Common.{◌≡◌, ◌≢◌, ℕ, ◌<◌, ◌≤◌, Bool, true, List, length, Option, Some, None, Ok, sym, ap, subst, ◌∙◌, arith}
+use Rattle.std.proofs.Common.{◌≡◌, ◌≢◌, ℕ, ◌<◌, ◌≤◌, Bool, true, false, List, length, Option, Some, None, Ok, sym, ap, subst, ◌∙◌, arith}
 use Rattle.std.specs.Prelude.{Vec}
 use Rattle.std.specs.declared.alloc.Global.{Global}
 use Rattle.rv_text.specs.declared.numbers.TheConstants.{TOO_MANY_ATOMS, TOO_BIG}
@@ -8,9 +8,8 @@ use Rattle.rv_ltl.specs.declared.weight.Weight.{Weight}
 use Rattle.rv_ltl.specs.declared.weight.Weight.TheVariants.{Is}
 use Rattle.rv_ltl.specs.Grammar.{Expr}
 use Rattle.rv_ltl.specs.File.{Def}
-use Rattle.rv_ltl.specs.Replace.{once, value_of, weight_of}
+use Rattle.rv_ltl.specs.Replace.{once, value_of, any_endless, weight_of}
 use Rattle.rv_ltl.specs.Weights.{index_of, known_at, limited, weighed, IsSettled}
-use Rattle.rv_ltl.specs.Settles.{Settles}
 use Rattle.rv_ltl.specs.Reached.{AreUses, IsReached}
 use Rattle.rv_ltl.specs.Collected.{is_free, atoms_from, Collects}
 use Rattle.rv_ltl.specs.RuleFile.{atoms_of, within_limits, formula_of}
@@ -30,13 +29,11 @@ pub record Ends (ds : List Def) (root : ℕ) (wanted : List ℕ) (weight : Weigh
   pub weighs : weight ≡ limited (weight_of formula)
   pub mentioned : (y : ℕ) → Has wanted y → IsMentioned ds y
 
-pub the_end : (ds : List Def) (root place n : ℕ) (o : Option (Vec Weight Global)) (v : Vec Weight Global) (rows rows' : List (Vec Bool Global)) (fs fs' : List Bool) → index_of ds root ≡ Some place → once ds ≡ true → Settles ds o → o ≡ Some v
-    → AreUses ds rows n → n ≡ length ds → rows' ≡ rows → IsReached rows' place fs → fs' ≡ fs → Ends ds root (atoms_from (is_free ds) ds fs' n) (known_at v.items place)
-the_end ds root place n o v rows rows' fs fs' at each_once settles some uses count same reached flags =
-    let P : Option (Vec Weight Global) → Type 0 = λ x. Settles ds x in
-    let s : IsSettled ds v.items = subst P some settles in
+pub the_end : (ds : List Def) (root place n : ℕ) (ws : List Weight) (rows rows' : List (Vec Bool Global)) (fs fs' : List Bool) → index_of ds root ≡ Some place → once ds ≡ true → IsSettled ds ws → any_endless ds ds ≡ false
+    → AreUses ds rows n → n ≡ length ds → rows' ≡ rows → IsReached rows' place fs → fs' ≡ fs → Ends ds root (atoms_from (is_free ds) ds fs' n) (known_at ws place)
+the_end ds root place n ws rows rows' fs fs' at each_once s ends uses count same reached flags =
     let b = body_at ds root place at in
-    let f = ends_at ds ds s.ends place b.0 in
+    let f = ends_at ds ds ends place b.0 in
     let value = ap (λ (x : ℕ). value_of ds (length ds) x) (sym b.1) ∙ f.1 in
     let U : ℕ → Type 0 = λ m. AreUses ds rows m in
     let R : List (Vec Bool Global) → Type 0 = λ r. IsReached r place fs in
@@ -44,7 +41,7 @@ the_end ds root place n o v rows rows' fs fs' at each_once settles some uses cou
     record {
       formula = f.0;
       value = value;
-      checks = formula_is ds root place f.0 at each_once s.ends value;
+      checks = formula_is ds root place f.0 at each_once ends value;
       atoms = ap (λ (x : List Bool). atoms_from (is_free ds) ds x n) flags ∙ ap (λ (m : ℕ). atoms_from (is_free ds) ds fs m) count ∙ found;
       weighs = s.known place b.0 ∙ ap weighed f.1;
       mentioned = λ y h. let r = atoms_only (is_free ds) ds fs' n y h in (r.0, omega (arith, r.1, count), r.3);

@@ -8,7 +8,8 @@ use Rattle.rv_ltl.specs.File.{Def}
 use Rattle.rv_ltl.specs.Replace.{value_of, any_endless}
 use Rattle.rv_ltl.specs.Machine.{value}
 use Rattle.rv_ltl.specs.Weights.{def_at, known_at, weight_at, weights_by, weighed, IsDistinct, IsSure, IsStuck, IsSettled, open_count, known_count, flag, Learns, Passes}
-use Rattle.rv_ltl.proofs.Settling.{set_sure, never, endless_at, none_endless}
+use Rattle.rv_ltl.proofs.Settling.{set_sure, sure_after, never, endless_at, none_endless}
+use Rattle.rv_ltl.proofs.WeightLaws.{weighed_none}
 
 one_fewer : (ws : List Weight) (i : ℕ) (w : Weight) → i < length ws → known_at ws i ≡ Open → w ≢ Open → open_count (set ws i w) + 1 ≡ open_count ws
 one_fewer [] i w lt h n = absurd (omega arith)
@@ -68,25 +69,33 @@ nothing_learnt ds start ws new more i p l =
     } in
     subst P (sym l.0) made
 
-none_open : (ws : List Weight) → ((i : ℕ) → i < length ws → known_at ws i ≢ Open) → open_count ws ≡ 0
-none_open [] h = refl
-none_open (Open ∷ ws) h = absurd (h 0 (omega arith) refl)
-none_open (Large ∷ ws) h = none_open ws (λ i lt. h (suc i) (omega arith))
-none_open (Is x ∷ ws) h = none_open ws (λ i lt. h (suc i) (omega arith))
+-- what is known is the weight, and what stays open has none
+pub settled : (ds : List Def) (ws : List Weight) → length ws ≡ length ds → IsDistinct ds → IsSure ds ws (known_count ws) → IsStuck ds ws (length ds) → IsSettled ds ws
+settled ds ws e distinct sure stuck = record {
+  each = e;
+  known = λ i lt. by_weight i lt (known_at ws i) refl;
+}
+  where
+    few : known_count ws ≤ length ds
+    few = omega (arith, counts ws, e)
 
--- all is known
-pub settled : (ds : List Def) (ws : List Weight) → length ws ≡ length ds → IsSure ds ws (known_count ws) → ((i : ℕ) → i < length ws → known_at ws i ≢ Open) → IsSettled ds ws
-settled ds ws e sure all =
-    let k : known_count ws ≡ length ds = omega (arith, counts ws, none_open ws all) in
-    let Q : ℕ → Type 0 = λ n. IsSure ds ws n in
-    let s : IsSure ds ws (length ds) = subst Q k sure in
-    let known : (i : ℕ) → i < length ds → known_at ws i ≡ weighed (value_of ds (length ds) (def_at ds i).name) = λ i lt. s i lt (all i (omega (arith, e))) in
-    record {
-      each = e;
-      known = known;
-      ends = none_endless ds ds (λ i lt h. all i (omega (arith, e)) (known i lt ∙ ap weighed h));
-    }
+    right : (i : ℕ) → i < length ds → known_at ws i ≢ Open → known_at ws i ≡ weighed (value_of ds (length ds) (def_at ds i).name)
+    right i lt k = sure_after ds (known_count ws) (length ds) (def_at ds i).name (known_at ws i) few k (sure i lt k)
 
--- one stays open
-pub stuck_endless : (ds : List Def) (ws : List Weight) (i : ℕ) → length ws ≡ length ds → IsDistinct ds → IsStuck ds ws (length ds) → i < length ws → known_at ws i ≡ Open → any_endless ds ds ≡ true
-stuck_endless ds ws i e distinct stuck lt o = endless_at ds ds i (omega (arith, e)) (never ds ws distinct stuck (length ds) i (omega (arith, e)) o)
+    by_weight : (i : ℕ) → i < length ds → (w : Weight) → known_at ws i ≡ w → known_at ws i ≡ weighed (value_of ds (length ds) (def_at ds i).name)
+    by_weight i lt Open o = o ∙ sym (ap weighed (never ds ws distinct stuck (length ds) i lt o))
+    by_weight i lt Large o = right i lt (λ p. let q : Large ≡ Open = sym o ∙ p in absurd cc)
+    by_weight i lt (Is x) o = right i lt (λ p. let q : Is x ≡ Open = sym o ∙ p in absurd cc)
+
+-- where none stays open, none reaches itself
+pub settled_ends : (ds : List Def) (ws seen : List Weight) → IsSettled ds ws → seen ≡ ws → ((i : ℕ) → i < length seen → known_at seen i ≢ Open) → any_endless ds ds ≡ false
+settled_ends ds ws seen s same all =
+    let P : List Weight → Type 0 = λ x. (i : ℕ) → i < length x → known_at x i ≢ Open in
+    let none : (i : ℕ) → i < length ws → known_at ws i ≢ Open = subst P same all in
+    none_endless ds ds (λ i lt h. none i (omega (arith, s.each, lt)) (s.known i lt ∙ ap weighed h))
+
+-- where one stays open, it reaches itself
+pub settled_endless : (ds : List Def) (ws seen : List Weight) (i : ℕ) → IsSettled ds ws → seen ≡ ws → i < length seen → known_at seen i ≡ Open → any_endless ds ds ≡ true
+settled_endless ds ws seen i s same lt o =
+    let below : i < length ds = omega (arith, s.each, lt, ap (λ (x : List Weight). length x) same) in
+    endless_at ds ds i below (weighed_none (value_of ds (length ds) (def_at ds i).name) (sym (s.known i below) ∙ ap (λ (x : List Weight). known_at x i) (sym same) ∙ o))

@@ -1,5 +1,5 @@
 -- What is known of each definition stays right; where all is known none reaches itself, and where it is stuck one does.
-use Rattle.std.proofs.Common.{◌≡◌, ◌≢◌, ℕ, zero, suc, ◌<◌, Bool, true, false, ◌||◌, eqb, List, [], ◌∷◌, length, Option, Some, None, refl, sym, ap, subst, ◌∙◌, inl, inr, arith, get_or-set_other, get_or-set_same}
+use Rattle.std.proofs.Common.{◌≡◌, ◌≢◌, ℕ, zero, suc, ◌+◌, ◌-◌, ◌<◌, ◌≤◌, Bool, true, false, ◌||◌, eqb, List, [], ◌∷◌, length, Option, Some, None, refl, sym, ap, subst, ◌∙◌, inl, inr, arith, get_or-set_other, get_or-set_same}
 use Rattle.std.proofs.Math.ListN.{set}
 use Rattle.std.proofs.lemmas.Bool.{eqb-true, eqb-false}
 use Rattle.rv_ltl.specs.declared.weight.Weight.{Weight}
@@ -11,7 +11,7 @@ use Rattle.rv_ltl.specs.Reach.{Mentions}
 use Rattle.rv_ltl.specs.Replace.{body_of, is_none, replaced, value_of, any_endless}
 use Rattle.rv_ltl.specs.Machine.{value}
 use Rattle.rv_ltl.specs.Weights.{index_of, def_at, known_at, weight_at, weighed, weights_by, IsDistinct, IsSure, IsStuck}
-use Rattle.rv_ltl.proofs.Values.{value_more}
+use Rattle.rv_ltl.proofs.Values.{value_more, value_after}
 use Rattle.rv_ltl.proofs.WeightLaws.{weighed_some, is_weighed, open_name}
 
 -- a name is not defined, or its first definition is at a place
@@ -107,6 +107,13 @@ sure_more : (ds : List Def) (n x : ℕ) (w : Weight) → w ≢ Open → w ≡ we
 sure_more ds n x w k e =
     let s = weighed_some w (value_of ds n x) k e in
     s.2 ∙ sym (ap weighed (value_more ds n x s.0 s.1))
+
+-- what is known stays so with more definitions
+pub sure_after : (ds : List Def) (n more x : ℕ) (w : Weight) → n ≤ more → w ≢ Open → w ≡ weighed (value_of ds n x) → w ≡ weighed (value_of ds more x)
+sure_after ds n more x w le k e =
+    let s = weighed_some w (value_of ds n x) k e in
+    let count : n + (more - n) ≡ more = omega (arith, le) in
+    s.2 ∙ sym (ap weighed (sym (ap (λ (m : ℕ). value_of ds m x) count) ∙ value_after ds n (more - n) x s.0 s.1))
 
 -- one more is known
 pub set_sure : (ds : List Def) (ws : List Weight) (n j : ℕ) → length ws ≡ length ds → IsDistinct ds → IsSure ds ws n → j < length ds → value (weights_by (weight_at ds ws)) (def_at ds j).body ≢ Open

@@ -64,6 +64,11 @@ pub weighed_some : (w : Weight) (o : Option Expr) → w ≢ Open → w ≡ weigh
 weighed_some w None n e = absurd (n e)
 weighed_some w (Some f) n e = (f, refl, e)
 
+-- what has no weight stands for nothing
+pub weighed_none : (o : Option Expr) → weighed o ≡ Open → o ≡ None
+weighed_none None e = refl
+weighed_none (Some f) e = absurd (not_open (weight_of f) e)
+
 -- with an open operand nothing is known
 open_right : (op : Binary) (a : Weight) → two_weights op a Open ≡ Open
 open_right op Open = refl

@@ -14,7 +14,6 @@ pub mod Atoms
 pub mod RuleFile
 pub mod Machine
 pub mod Weights
-pub mod Settles
 pub mod Reached
 pub mod Collected
 pub mod Uses

@@ -7,7 +7,7 @@ use Rattle.rv_ltl.specs.Grammar.{Expr}
 use Rattle.rv_ltl.specs.Operators.{weight_two}
 use Rattle.rv_ltl.specs.Parse.{◌>>=◌}
 use Rattle.rv_ltl.specs.File.{Def}
-use Rattle.rv_ltl.specs.Replace.{weight_of, value_of, any_endless}
+use Rattle.rv_ltl.specs.Replace.{weight_of, value_of}
 use Rattle.rv_ltl.specs.Machine.{Values, value}
 
 -- a weight, as far as it counts
@@ -104,8 +104,7 @@ pub record Passes (ds : List Def) (start ws : List Weight) (more : Bool) (i : �
   pub fewer : open_count ws + flag more ≤ open_count start
   pub stuck : more ≡ false → IsStuck ds ws i
 
--- the weight of each definition, and none reaches itself
+-- the weight of what each definition stands for; it is open where that is nothing
 pub record IsSettled (ds : List Def) (ws : List Weight) : Type 0 where
   pub each : length ws ≡ length ds
   pub known : (i : ℕ) → i < length ds → known_at ws i ≡ weighed (value_of ds (length ds) (def_at ds i).name)
-  pub ends : any_endless ds ds ≡ false

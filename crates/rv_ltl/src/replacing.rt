@@ -9,9 +9,8 @@ ghost use Rattle.rv_ltl.specs.Rules.{GivesAtoms};
 use crate::atoms::atoms;
 use crate::definitions::Definition;
 use crate::reached::reached;
-use crate::settle::settle;
+use crate::settle::{settle, settled_weight};
 use crate::uses::{index, uses};
-use crate::weighing::known;
 use crate::weight::Weight;
 use rv_text::{CYCLE, DEFINED_TWICE, NO_RULE, Refusal, Refused, TOO_BIG, TOO_MANY_ATOMS};
 use std::alloc::Global;
@@ -52,14 +51,15 @@ pub fn limited_atoms(
         return Err(refused(DEFINED_TWICE));
     }
     let uses = uses(alloc, definitions)?;
-    let Some(weights) = settle(alloc, definitions, &uses)? else {
+    let weights = settle(alloc, definitions, &uses)?;
+    let Some(weight) = settled_weight(&weights, place) else {
         return Err(refused(CYCLE));
     };
     let flags = reached(alloc, &uses, place)?;
     let Some(out) = atoms(alloc, definitions, &flags)? else {
         return Err(refused(TOO_MANY_ATOMS));
     };
-    match known(&weights, place) {
+    match weight {
         Weight::Is(_) => Ok(out),
         _ => Err(refused(TOO_BIG)),
     }

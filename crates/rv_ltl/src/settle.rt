@@ -1,10 +1,9 @@
 //! The weight of what each definition stands for, from the inside out, without writing any of it out.
 //! Which definitions use which is asked first, so that each formula is weighed once.
 
-ghost use Rattle.std.specs.Prelude.{◌≡◌, ◌<◌, ℕ, length, IfOk, IsTrue, true, false};
+ghost use Rattle.std.specs.Prelude.{◌≡◌, ◌≢◌, ◌<◌, ℕ, length, IfOk, IfSome, IfNone, true, false};
 ghost use Rattle.rv_ltl.specs.Machine.{defs, AllCoded};
-ghost use Rattle.rv_ltl.specs.Weights.{IsDistinct, IsSure, Learns, Passes, known_at, known_count};
-ghost use Rattle.rv_ltl.specs.Settles.{Settles};
+ghost use Rattle.rv_ltl.specs.Weights.{IsDistinct, IsSettled, IsSure, Learns, Passes, known_at, known_count};
 ghost use Rattle.rv_ltl.specs.Reached.{AreUses, flag_at};
 ghost use Rattle.rv_ltl.specs.declared.weight.Weight.TheVariants.{Open};
 
@@ -23,18 +22,6 @@ fn is_ready(row: &[bool], weights: &[Weight]) -> bool
         }
     }
     true
-}
-
-fn any_open(weights: &[Weight]) -> bool
-    ensures yes { IsTrue result → (i : ℕ) × (i < length weights.now) × (known_at weights.now i ≡ Open) }
-    ensures no { (i : ℕ) → i < length weights.now → known_at weights.now i ≡ Open → IsTrue result }
-{
-    for i in 0..weights.len() {
-        if weights[i].is_open() {
-            return true;
-        }
-    }
-    false
 }
 
 // Puts down the weight of the definition, and says whether it could.
@@ -90,16 +77,16 @@ fn pass(
     Ok(more)
 }
 
-/// The weight of what each definition stands for; none where one reaches itself.
+/// The weight of what each definition stands for. That of one that reaches itself stays open.
 pub fn settle(
     alloc: Global,
     definitions: &[Definition],
     uses: &[Vec<bool>],
-) -> Result<Option<Vec<Weight>>, AllocError>
+) -> Result<Vec<Weight>, AllocError>
     requires distinct { IsDistinct (defs definitions.now) }
     requires coded { AllCoded definitions.now }
     requires uses { AreUses (defs definitions.now) uses.now (length definitions.now) }
-    ensures { IfOk result (λ weights. Settles (defs definitions.now) weights) }
+    ensures { IfOk result (λ weights. IsSettled (defs definitions.now) weights.items) }
 {
     let mut weights = Vec::new(alloc);
     for _ in 0..definitions.len() {
@@ -109,8 +96,19 @@ pub fn settle(
     while goes_on {
         goes_on = pass(alloc, definitions, uses, &mut weights)?;
     }
-    if any_open(&weights) {
-        return Ok(None);
+    Ok(weights)
+}
+
+/// The weight at this place, unless one stays open.
+pub fn settled_weight(weights: &[Weight], place: usize) -> Option<Weight>
+    ensures value { IfSome result (λ weight. weight ≡ known_at weights.now place) }
+    ensures some { IfSome result (λ weight. (i : ℕ) → i < length weights.now → known_at weights.now i ≢ Open) }
+    ensures none { IfNone result ((i : ℕ) × (i < length weights.now) × (known_at weights.now i ≡ Open)) }
+{
+    for i in 0..weights.len() {
+        if weights[i].is_open() {
+            return None;
+        }
     }
-    Ok(Some(weights))
+    Some(known(weights, place))
 }

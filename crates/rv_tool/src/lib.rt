@@ -1,6 +1,8 @@
 //! The top call: from the command's words and the files that they name to a status, a text and a history.
 #![tactic(auto)]
 
+#[cfg(test)]
+mod failing_tests;
 mod input;
 mod output;
 mod replaying;

@@ -1,0 +1,66 @@
+//! What no clause says: which call of the store or the sink fails, and with which line or front of the report the run then ends.
+use crate::rv;
+use crate::tests::{BINDINGS, REPORT, TRACE, WIP, first_words};
+use rv_io::{MemSink, MemStore, OpenGate};
+use std::test::Fail;
+
+/// The files of the first run.
+fn first_files(rt: &HostRuntime) -> Result<MemStore, Fail> {
+    let mut store = MemStore::new(rt.alloc());
+    store.add("wip.rv", BINDINGS.as_bytes())?;
+    store.add("wip.dot", WIP.as_bytes())?;
+    store.add("wip.txt", TRACE.as_bytes())?;
+    Ok(store)
+}
+
+#[test]
+fn a_failed_read_names_its_file(rt: HostRuntime) -> Result<(), Fail> {
+    let cases = [
+        (1, 3, "rv: cannot read wip.rv\n"),
+        (2, 3, "rv: cannot read wip.dot\n"),
+        (3, 3, "rv: cannot read wip.txt\n"),
+        (4, 1, REPORT),
+    ];
+    let words = first_words(&rt)?;
+    for (call, status, text) in cases {
+        let mut store = first_files(&rt)?;
+        store.fail_at(call)?;
+        let mut out = MemSink::new(rt.alloc(), 16, 512)?;
+        let finished = rv(
+            &rt,
+            rt.alloc(),
+            words.as_slice(),
+            &mut store,
+            &mut out,
+            &OpenGate,
+        );
+        assert_eq!(rt; finished.status, status, "at read {call}");
+        assert_eq!(rt; out.taken(), text.as_bytes(), "at read {call}");
+    }
+    Ok(())
+}
+
+#[test]
+fn a_failed_put_leaves_the_pieces_before_it(rt: HostRuntime) -> Result<(), Fail> {
+    let report = REPORT.as_bytes();
+    let words = first_words(&rt)?;
+    // The report is nine pieces, so that the tenth put is never made.
+    for earlier in 0..10usize {
+        let count = report.len().min(16 * earlier);
+        let status = if earlier < 9 { 4 } else { 1 };
+        let mut store = first_files(&rt)?;
+        let mut out = MemSink::new(rt.alloc(), 16, 512)?;
+        out.fail_at(earlier as u64 + 1)?;
+        let finished = rv(
+            &rt,
+            rt.alloc(),
+            words.as_slice(),
+            &mut store,
+            &mut out,
+            &OpenGate,
+        );
+        assert_eq!(rt; finished.status, status, "behind {earlier} puts");
+        assert_eq!(rt; out.taken(), &report[..count], "behind {earlier} puts");
+    }
+    Ok(())
+}
