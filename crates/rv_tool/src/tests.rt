@@ -4,7 +4,7 @@ use rv_io::{MemSink, MemStore, OpenGate};
 use std::test::Fail;
 
 /// A model in the style of the kernel's own.
-const WIP: &str = "digraph state_automaton {
+pub(crate) const WIP: &str = "digraph state_automaton {
 \tcenter = true;
 \tsize = \"7,11\";
 \t{node [shape = circle] \"non_preemptive\"};
