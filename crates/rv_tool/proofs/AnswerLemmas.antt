@@ -15,7 +15,7 @@ use Rattle.rv_tool.specs.Output.{refusal_text, missing_text}
 use Rattle.rv_tool.specs.Words.{CommandValue, replay}
 use Rattle.rv_tool.specs.Ready.{ready_value}
 use Rattle.rv_tool.specs.Headline.{IsReplayed, GivesUp, Says, Replays, Ends}
-use Rattle.rv_tool.specs.Runs.{Ended, Runs, Answers}
+use Rattle.rv_tool.specs.Runs.{Ended, Fails, Runs, Answers}
 
 module _ (old new : Option (List ℕ)) (before now status : ℕ) (h : List Entry) where
   -- the report of a run that was replayed
@@ -42,12 +42,12 @@ module _ (old new : Option (List ℕ)) (before now status : ℕ) (h : List Entry
   run_answers told first last bindings trace (Err (faults.Unread file)) (inr rose) runs files known = inr (rose, file, runs)
 
   -- a refusal that was said
-  pub refused_runs : (read : Result Ready BindFault) (file told : List ℕ) (refusal : Refusal) → read ≡ Err (faults.Refused file refusal) → told ≡ file → Says old new before now (refusal_text (Some told) refusal) 2 status h → Runs read old new before now status h
-  refused_runs read file told refusal is same says = rw is (subst (λ (f : List ℕ). Says old new before now (refusal_text (Some f) refusal) 2 status h) same says)
+  pub refused_fails : (fault : BindFault) (file told : List ℕ) (refusal : Refusal) → fault ≡ faults.Refused file refusal → told ≡ file → Says old new before now (refusal_text (Some told) refusal) 2 status h → Fails fault old new before now status h
+  refused_fails fault file told refusal is same says = rw is (subst (λ (f : List ℕ). Says old new before now (refusal_text (Some f) refusal) 2 status h) same says)
 
   -- an unread file that was said
-  pub unread_runs : (read : Result Ready BindFault) (file told : List ℕ) → read ≡ Err (faults.Unread file) → told ≡ file → Says old new before now (missing_text told) 3 status h → Runs read old new before now status h
-  unread_runs read file told is same says = rw is (subst (λ (f : List ℕ). Says old new before now (missing_text f) 3 status h) same says)
+  pub unread_fails : (fault : BindFault) (file told : List ℕ) → fault ≡ faults.Unread file → told ≡ file → Says old new before now (missing_text told) 3 status h → Fails fault old new before now status h
+  unread_fails fault file told is same says = rw is (subst (λ (f : List ℕ). Says old new before now (missing_text f) 3 status h) same says)
 
   -- the words ask for the command that was read
   pub words_answer : (asked : Option CommandValue) (said : Option CommandValue) (told : Option Files) (first last : ℕ) → said ≡ asked

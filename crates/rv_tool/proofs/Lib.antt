@@ -1,7 +1,9 @@
 pub mod AnswerLemmas
 pub mod ComesLemmas
+pub mod GrowingTexts
 pub mod ReadyLemmas
 pub mod ReplayedLemmas
 pub mod SaysLemmas
 pub mod SwitchLemmas
+pub mod TableLemmas
 pub mod TraceTextLemmas

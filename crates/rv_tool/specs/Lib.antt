@@ -1,7 +1,10 @@
+pub mod AutomatonTexts
 pub mod Faults
+pub mod FormulaTexts
 pub mod Headline
 pub mod Inputs
 pub mod Output
 pub mod Ready
 pub mod Runs
+pub mod Tables
 pub mod Words

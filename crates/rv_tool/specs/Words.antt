@@ -1,7 +1,10 @@
 -- What the words of the command line ask for.
 use Rattle.std.specs.Prelude.{ℕ, List, [], ◌∷◌, map, codes, bytes_eq, string_bytes, Option, Some, None, if◌then◌else◌, String}
 use Rattle.std.specs.declared.alloc.Global.{Global}
-use Rattle.rv_tool.specs.declared.words.Replay.{Replay}
+use Rattle.rv_tool.specs.declared.words.Command.{Command}
+use Rattle.rv_tool.specs.declared.words.Command.TheVariants as commands
+use Rattle.rv_tool.specs.declared.words.Kind.{Kind}
+use Rattle.rv_tool.specs.declared.words.Kind.TheVariants.{Da, Ltl}
 
 -- the words as texts
 abbrev pub texts_of : List (String Global) → List (List ℕ)
@@ -10,11 +13,26 @@ texts_of words = map string_bytes words
 pub data CommandValue : Type 0 where
   -- the bindings and the trace
   replay : List ℕ → List ℕ → CommandValue
+  -- the kind of specification, and its file
+  table : Kind → List ℕ → CommandValue
 
-abbrev pub command_value : Replay → CommandValue
-command_value named = replay named.bindings.now named.trace.now
+abbrev pub command_value : Command → CommandValue
+command_value (commands.Replay bindings trace) = replay bindings.now trace.now
+command_value (commands.Table kind file) = table kind file.now
 
--- `replay BINDINGS TRACE`
+-- `da` or `ltl`
+abbrev pub kind_of : List ℕ → Option Kind
+kind_of word = if bytes_eq word (codes "da") then Some Da else if bytes_eq word (codes "ltl") then Some Ltl else None
+
+-- `table da FILE` or `table ltl FILE`
+abbrev pub table_of : Option Kind → List ℕ → Option CommandValue
+table_of None file = None
+table_of (Some kind) file = Some (table kind file)
+
+-- `replay BINDINGS TRACE`, or a table
 abbrev pub command_of : List (List ℕ) → Option CommandValue
-command_of (word ∷ bindings ∷ trace ∷ []) = if bytes_eq word (codes "replay") then Some (replay bindings trace) else None
+command_of (word ∷ first ∷ second ∷ []) =
+    if bytes_eq word (codes "replay") then Some (replay first second)
+    else if bytes_eq word (codes "table") then table_of (kind_of first) second
+    else None
 command_of _ = None

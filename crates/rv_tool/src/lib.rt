@@ -1,11 +1,16 @@
 //! The top call: from the command's words and the files that they name to a status, a text and a history.
 #![tactic(auto)]
 
+mod automaton_text;
 #[cfg(test)]
 mod failing_tests;
+mod formula_text;
 mod input;
 mod output;
 mod replaying;
+#[cfg(test)]
+mod table_tests;
+mod tables;
 #[cfg(test)]
 mod tests;
 mod top;

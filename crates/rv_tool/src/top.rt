@@ -4,20 +4,24 @@ ghost use Rattle.std.specs.Result.{ForOk};
 ghost use Rattle.rv_tool.specs.Output.{refusal_text, missing_text};
 ghost use Rattle.rv_io.specs.Files.{Files};
 ghost use Rattle.rv_tool.specs.Headline.{Says, IsReplayed};
-ghost use Rattle.rv_tool.specs.Runs.{Ended, Runs, Answers};
+ghost use Rattle.rv_tool.specs.Runs.{Ended, Fails, Runs, PrintsRead, Answers};
 ghost use Rattle.rv_tool.specs.Words.{command_of, texts_of};
 ghost use Rattle.rv_tool.specs.Ready.{ready_value, IsReady};
 
 use crate::input::{Ready, read_input};
 use crate::output::{missing_line, refusal_line, tell};
 use crate::replaying::{Done, replayed};
-use crate::words::{Replay, read_words};
+use crate::tables::read_table;
+use crate::words::{Command, read_words};
 use rv_bind::BindFault;
 use rv_io::{Gate, Sink, Store};
 use rv_model::Closed;
 use rv_text::{Refusal, USAGE};
 use std::alloc::{AllocError, Global};
 use std::thread::Threads;
+
+/// A text was put.
+const PRINTED: u8 = 0;
 
 /// Refused.
 const REFUSED: u8 = 2;
@@ -52,10 +56,15 @@ pub fn rv<R: Threads + Sync, S: Store, K: Sink, G: Gate + Send>(
     let _ = rt;
     let _ = gate;
     match read_words(words) {
-        Some(Replay { bindings, trace }) => run(
+        Some(Command::Replay { bindings, trace }) => run(
             alloc,
             out,
             read_input(alloc, store, bindings, trace),
+        ),
+        Some(Command::Table { kind, file }) => print(
+            alloc,
+            out,
+            read_table(alloc, store, kind, file),
         ),
         None => refused(
             alloc,
@@ -76,14 +85,32 @@ fn run<K: Sink>(alloc: Global, out: &mut K, read: Result<Ready, BindFault>) -> F
 {
     match read {
         Ok(ready) => end(out, replayed(alloc, ready)),
-        Err(BindFault::Refused { file, refusal }) => refused(
-            alloc,
-            out,
-            Some(file.bytes()),
-            refusal,
-        ),
-        Err(BindFault::Unread { file }) => unread(alloc, out, file.bytes()),
-        Err(BindFault::Memory) => give_up(),
+        Err(fault) => failed(alloc, out, fault),
+    }
+}
+
+/// Puts the text that was read, or says why there is none.
+fn print<K: Sink>(alloc: Global, out: &mut K, read: Result<Vec<u8>, BindFault>) -> Finished
+    ensures { PrintsRead read (K.taken out.old) (K.taken out.new) (K.faults out.old) (K.faults out.new) result.status result.closed }
+{
+    match read {
+        Ok(text) => {
+            let status = tell(out, text.as_slice(), PRINTED);
+            let closed = Closed::new();
+            Finished { status, closed }
+        }
+        Err(fault) => failed(alloc, out, fault),
+    }
+}
+
+/// Says why there is nothing to put.
+fn failed<K: Sink>(alloc: Global, out: &mut K, fault: BindFault) -> Finished
+    ensures { Fails fault (K.taken out.old) (K.taken out.new) (K.faults out.old) (K.faults out.new) result.status result.closed }
+{
+    match fault {
+        BindFault::Refused { file, refusal } => refused(alloc, out, Some(file.bytes()), refusal),
+        BindFault::Unread { file } => unread(alloc, out, file.bytes()),
+        BindFault::Memory => give_up(),
     }
 }
 

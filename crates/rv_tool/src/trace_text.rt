@@ -21,7 +21,11 @@ use rv_trace::{TraceLine, read_trace};
 use std::alloc::Global;
 
 /// The bytes of the trace.
-fn read_text<S: Store>(alloc: Global, store: &mut S, name: &str) -> Result<Vec<u8>, BindFault>
+pub(crate) fn read_text<S: Store>(
+    alloc: Global,
+    store: &mut S,
+    name: &str,
+) -> Result<Vec<u8>, BindFault>
     ensures kept { S.files store.new ≡ S.files store.old }
     ensures later { S.faults store.old ≤ S.faults store.new }
     ensures text { Comes (λ text. text.items) (S.files store.old) (S.faults store.old) (S.faults store.new) result (λ files. of_name files name.now accepted) }
@@ -44,7 +48,7 @@ fn unread(alloc: Global, name: &str) -> BindFault
 }
 
 /// A reader's refusal of this file.
-fn refused(alloc: Global, name: &str, fault: Refused) -> BindFault
+pub(crate) fn refused(alloc: Global, name: &str, fault: Refused) -> BindFault
     ensures { IsFaultIn name.now fault result }
 {
     match fault {

@@ -1,12 +1,21 @@
 //! What the words of the command line ask for.
-ghost use Rattle.rv_tool.specs.Words.{command_of, command_value, texts_of};
+ghost use Rattle.rv_tool.specs.Words.{command_of, command_value, kind_of, texts_of};
 ghost use Rattle.std.specs.Prelude.{◌≡◌, option_map, bytes_eq};
 
-/// What `replay` names: its files.
+/// The kinds of specifications.
+#[derive(Clone, Copy, Debug, Drop, PartialEq, Eq)]
+pub enum Kind {
+    /// An automaton.
+    Da,
+    /// A rule.
+    Ltl,
+}
+
+/// A command, and the files that it names.
 #[derive(Clone, Copy, Debug, Drop)]
-pub(crate) struct Replay<'a> {
-    pub(crate) bindings: &'a str,
-    pub(crate) trace: &'a str,
+pub(crate) enum Command<'a> {
+    Replay { bindings: &'a str, trace: &'a str },
+    Table { kind: Kind, file: &'a str },
 }
 
 /// Whether the word is this one.
@@ -16,16 +25,40 @@ fn is(word: &str, said: &str) -> bool
     word == said
 }
 
-/// The command that the words are, if they are one.
-pub(crate) fn read_words(words: &[String]) -> Option<Replay<'_>>
-    ensures { option_map command_value result ≡ command_of (texts_of words.now) }
+/// The kind that the word is, if it is one.
+fn kind_of(word: &str) -> Option<Kind>
+    ensures { result ≡ kind_of word.now }
 {
-    if words.len() == 3 && is(words[0].as_str(), "replay") {
-        Some(Replay {
-            bindings: words[1].as_str(),
-            trace: words[2].as_str(),
-        })
+    if is(word, "da") {
+        Some(Kind::Da)
+    } else if is(word, "ltl") {
+        Some(Kind::Ltl)
     } else {
         None
     }
+}
+
+/// The command that the words are, if they are one.
+pub(crate) fn read_words(words: &[String]) -> Option<Command<'_>>
+    ensures { option_map command_value result ≡ command_of (texts_of words.now) }
+{
+    if words.len() != 3 {
+        return None;
+    }
+    if is(words[0].as_str(), "replay") {
+        return Some(Command::Replay {
+            bindings: words[1].as_str(),
+            trace: words[2].as_str(),
+        });
+    }
+    if is(words[0].as_str(), "table") {
+        return match kind_of(words[1].as_str()) {
+            Some(kind) => Some(Command::Table {
+                kind,
+                file: words[2].as_str(),
+            }),
+            None => None,
+        };
+    }
+    None
 }

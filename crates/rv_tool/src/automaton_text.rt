@@ -1,0 +1,128 @@
+//! The printed table of an automaton.
+ghost use Rattle.std.specs.Prelude.{◌≡◌, ◌++◌, ◌<◌, ◌+◌, [], length, IfOk, OnOk, flat_map, slice_index_or};
+ghost use Rattle.rv_model.specs.Numbers.{has_bit};
+ghost use Rattle.rv_tool.specs.AutomatonTexts.{counts_text, mark_text, state_line, edge_line, leaving_line, state_text, automaton_text};
+
+use rv_model::{Automaton, Edge, Names};
+use rv_text::Line;
+use std::alloc::{AllocError, Global};
+
+/// How many states and events there are.
+fn put_counts(out: &mut Line, states: usize, events: usize) -> Result<(), AllocError>
+    ensures { OnOk result (out.new ≡ out.old ++ counts_text states events) }
+{
+    out.text(b"states ")?;
+    out.number(states as u64)?;
+    out.text(b", events ")?;
+    out.number(events as u64)?;
+    out.text(b"\n")
+}
+
+/// Whether the set has this state.
+fn is_in(set: u32, state: usize) -> bool
+    requires { state < 32 }
+    ensures { result ≡ has_bit set state }
+{
+    (set >> state) & 1 == 1
+}
+
+/// The name at this place, where there is one.
+fn put_name(out: &mut Line, names: &Names, place: usize) -> Result<(), AllocError>
+    ensures { OnOk result (out.new ≡ out.old ++ slice_index_or names.now place []) }
+{
+    if place < names.len() {
+        out.text(names.get(place).bytes())
+    } else {
+        Ok(())
+    }
+}
+
+/// Whether the state is marked.
+fn put_mark(out: &mut Line, is_marked: bool) -> Result<(), AllocError>
+    ensures { OnOk result (out.new ≡ out.old ++ mark_text is_marked) }
+{
+    if is_marked {
+        out.text(b" marked")
+    } else {
+        Ok(())
+    }
+}
+
+/// The line of a state.
+fn put_state_line(out: &mut Line, automaton: &Automaton, state: usize) -> Result<(), AllocError>
+    requires { state < 31 }
+    ensures { OnOk result (out.new ≡ out.old ++ state_line automaton.now state) }
+{
+    out.number((state + 1) as u64)?;
+    out.text(b" ")?;
+    put_name(out, &automaton.states, state)?;
+    put_mark(out, is_in(automaton.marked, state))?;
+    out.text(b"\n")
+}
+
+/// The line of an edge.
+fn put_edge_line(out: &mut Line, events: &Names, edge: Edge) -> Result<(), AllocError>
+    ensures { OnOk result (out.new ≡ out.old ++ edge_line events.now edge) }
+{
+    out.text(b"  ")?;
+    put_name(out, events, edge.event as usize)?;
+    out.text(b" ")?;
+    out.number(edge.to as u64 + 1)?;
+    out.text(b"\n")
+}
+
+/// The same of an edge that leaves the state.
+fn put_leaving_line(
+    out: &mut Line,
+    events: &Names,
+    state: usize,
+    edge: Edge,
+) -> Result<(), AllocError>
+    ensures { OnOk result (out.new ≡ out.old ++ leaving_line events.now state edge) }
+{
+    if edge.from as usize == state {
+        put_edge_line(out, events, edge)
+    } else {
+        Ok(())
+    }
+}
+
+/// The lines of the edges that leave the state.
+fn put_edges(out: &mut Line, events: &Names, state: usize, edges: &[Edge]) -> Result<(), AllocError>
+    ensures { OnOk result (out.new ≡ out.old ++ flat_map (leaving_line events.now state) edges.now) }
+{
+    'edges: for edge in edges {
+        put_leaving_line(out, events, state, *edge)?;
+    }
+    Ok(())
+}
+
+/// A state and its edges.
+fn put_state(out: &mut Line, automaton: &Automaton, state: usize) -> Result<(), AllocError>
+    requires { state < 31 }
+    ensures { OnOk result (out.new ≡ out.old ++ state_text automaton.now state) }
+{
+    put_state_line(out, automaton, state)?;
+    put_edges(out, &automaton.events, state, &automaton.edges)
+}
+
+/// Appends the table: the states in order, each with its edges.
+#[tactic(auto, using(crate::proofs::GrowingTexts::none_numbered, crate::proofs::GrowingTexts::more_numbered))]
+fn put_automaton(out: &mut Line, automaton: &Automaton) -> Result<(), AllocError>
+    ensures { OnOk result (out.new ≡ out.old ++ automaton_text automaton.now) }
+{
+    put_counts(out, automaton.states.len(), automaton.events.len())?;
+    'states: for state in 0..automaton.states.len() {
+        put_state(out, automaton, state)?;
+    }
+    Ok(())
+}
+
+/// The table of the automaton.
+pub(crate) fn automaton_text(alloc: Global, automaton: &Automaton) -> Result<Vec<u8>, AllocError>
+    ensures { IfOk result (λ text. text.items ≡ automaton_text automaton.now) }
+{
+    let mut line = Line::new(alloc);
+    put_automaton(&mut line, automaton)?;
+    Ok(line.into_bytes())
+}

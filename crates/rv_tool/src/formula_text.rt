@@ -1,0 +1,217 @@
+//! The printed table of a formula.
+ghost use Rattle.std.specs.Prelude.{◌≡◌, ◌++◌, ◌<◌, ◌-◌, [], length, IfOk, OnOk, codes, flat_map, slice_index_or};
+ghost use Rattle.rv_model.specs.Numbers.{has_bit};
+ghost use Rattle.rv_model.specs.Formulas.{ltl};
+ghost use Rattle.rv_table.specs.Rows.{HasNode, node_in};
+ghost use Rattle.rv_tool.specs.FormulaTexts.{is_single, open_text, close_text, operator_text, formula_text, labels_text, further_text, member_text, rows_text, row_labels, row_text, sizes_text, nodes_text, IsFormulaTable};
+
+use rv_model::{Formula, Names};
+use rv_table::Table;
+use rv_text::Line;
+use std::alloc::{AllocError, Global};
+
+/// The atom's name, where it has one.
+fn put_atom(out: &mut Line, atoms: &Names, atom: u8) -> Result<(), AllocError>
+    ensures { OnOk result (out.new ≡ out.old ++ slice_index_or atoms.now atom []) }
+{
+    let place = atom as usize;
+    if place < atoms.len() {
+        out.text(atoms.get(place).bytes())
+    } else {
+        Ok(())
+    }
+}
+
+/// Whether it is a constant or a name.
+fn is_single(formula: &Formula) -> bool
+    ensures { result ≡ is_single (ltl formula.now) }
+{
+    matches!(formula, Formula::True | Formula::False | Formula::Atom(_))
+}
+
+/// What stands before an operand.
+fn put_open(out: &mut Line, formula: &Formula) -> Result<(), AllocError>
+    ensures { OnOk result (out.new ≡ out.old ++ open_text (ltl formula.now)) }
+{
+    if is_single(formula) {
+        Ok(())
+    } else {
+        out.text(b"(")
+    }
+}
+
+/// What stands behind an operand.
+fn put_close(out: &mut Line, formula: &Formula) -> Result<(), AllocError>
+    ensures { OnOk result (out.new ≡ out.old ++ close_text (ltl formula.now)) }
+{
+    if is_single(formula) {
+        Ok(())
+    } else {
+        out.text(b")")
+    }
+}
+
+/// Its operator.
+fn operator(formula: &Formula) -> &'static [u8]
+    ensures { result.now ≡ operator_text (ltl formula.now) }
+{
+    match formula {
+        Formula::True | Formula::False | Formula::Atom(_) => b"",
+        Formula::Not(_) => b"not ",
+        Formula::Next(_) => b"next ",
+        Formula::Always(_) => b"always ",
+        Formula::Eventually(_) => b"eventually ",
+        Formula::And(_, _) => b" and ",
+        Formula::Or(_, _) => b" or ",
+        Formula::Imply(_, _) => b" imply ",
+        Formula::Equivalent(_, _) => b" equivalent ",
+        Formula::Until(_, _) => b" until ",
+    }
+}
+
+/// A formula, whose operands stand in parentheses unless they are constants or names.
+fn put_formula(out: &mut Line, atoms: &Names, formula: &Formula) -> Result<(), AllocError>
+    ensures { OnOk result (out.new ≡ out.old ++ formula_text atoms.now (ltl formula.now)) }
+{
+    match formula {
+        Formula::True => out.text(b"true"),
+        Formula::False => out.text(b"false"),
+        Formula::Atom(atom) => put_atom(out, atoms, *atom),
+        Formula::Not(f) | Formula::Next(f) | Formula::Always(f) | Formula::Eventually(f) => {
+            out.text(operator(formula))?;
+            put_open(out, f)?;
+            put_formula(out, atoms, f)?;
+            put_close(out, f)
+        }
+        Formula::And(f, g)
+        | Formula::Or(f, g)
+        | Formula::Imply(f, g)
+        | Formula::Equivalent(f, g)
+        | Formula::Until(f, g) => {
+            put_open(out, f)?;
+            put_formula(out, atoms, f)?;
+            put_close(out, f)?;
+            out.text(operator(formula))?;
+            put_open(out, g)?;
+            put_formula(out, atoms, g)?;
+            put_close(out, g)
+        }
+    }
+}
+
+/// A label behind another one.
+fn put_further(out: &mut Line, atoms: &Names, formula: &Formula) -> Result<(), AllocError>
+    ensures { OnOk result (out.new ≡ out.old ++ further_text atoms.now (ltl formula.now)) }
+{
+    out.text(b"; ")?;
+    put_formula(out, atoms, formula)
+}
+
+/// The labels of a row.
+#[tactic(auto, using(crate::proofs::GrowingTexts::first_label, crate::proofs::GrowingTexts::more_labels))]
+fn put_labels(out: &mut Line, atoms: &Names, table: &Table, row: u32) -> Result<(), AllocError>
+    requires { HasNode table.now row }
+    ensures { OnOk result (out.new ≡ out.old ++ labels_text atoms.now (node_in table.now row).labels) }
+{
+    let count = table.labels(row);
+    if count > 0 {
+        put_formula(out, atoms, table.label(row, 0))?;
+        'places: for place in 1..count {
+            put_further(out, atoms, table.label(row, place))?;
+        }
+    }
+    Ok(())
+}
+
+/// Whether the set has this row.
+fn is_in(set: u32, row: u32) -> bool
+    requires { row < 32 }
+    ensures { result ≡ has_bit set row }
+{
+    (set >> row) & 1 == 1
+}
+
+/// A row, where it is in the set.
+fn put_member(out: &mut Line, set: u32, row: u32) -> Result<(), AllocError>
+    requires { row < 32 }
+    ensures { OnOk result (out.new ≡ out.old ++ member_text set row) }
+{
+    if is_in(set, row) {
+        out.text(b" ")?;
+        out.number(row as u64)
+    } else {
+        Ok(())
+    }
+}
+
+/// The rows of the set.
+#[tactic(auto, using(crate::proofs::GrowingTexts::none_numbered, crate::proofs::GrowingTexts::more_numbered))]
+fn put_rows(out: &mut Line, set: u32) -> Result<(), AllocError>
+    ensures { OnOk result (out.new ≡ out.old ++ rows_text set) }
+{
+    'rows: for row in 0..32u32 {
+        put_member(out, set, row)?;
+    }
+    Ok(())
+}
+
+/// The labels of a row besides row 0.
+fn put_row_labels(out: &mut Line, atoms: &Names, table: &Table, row: u32) -> Result<(), AllocError>
+    requires { HasNode table.now row }
+    ensures { OnOk result (out.new ≡ out.old ++ row_labels atoms.now row (node_in table.now row).labels) }
+{
+    if row > 0 {
+        out.text(b"[")?;
+        put_labels(out, atoms, table, row)?;
+        out.text(b"] ")?;
+    }
+    Ok(())
+}
+
+/// The line of a row.
+fn put_row(out: &mut Line, atoms: &Names, table: &Table, row: u32) -> Result<(), AllocError>
+    requires { HasNode table.now row }
+    ensures { OnOk result (out.new ≡ out.old ++ row_text atoms.now table.now row) }
+{
+    out.number(row as u64)?;
+    out.text(b" ")?;
+    put_row_labels(out, atoms, table, row)?;
+    out.text(b"->")?;
+    put_rows(out, table.next(row))?;
+    out.text(b"\n")
+}
+
+/// How many nodes and atoms there are.
+fn put_sizes(out: &mut Line, nodes: u32, atoms: usize) -> Result<(), AllocError>
+    ensures { OnOk result (out.new ≡ out.old ++ sizes_text nodes atoms) }
+{
+    out.text(b"nodes ")?;
+    out.number(nodes as u64)?;
+    out.text(b", atoms ")?;
+    out.number(atoms as u64)?;
+    out.text(b"\n")
+}
+
+/// Appends the table: row 0, and then the nodes in order.
+#[tactic(auto, using(crate::proofs::GrowingTexts::none_numbered, crate::proofs::GrowingTexts::more_numbered))]
+fn put_nodes(out: &mut Line, atoms: &Names, table: &Table) -> Result<(), AllocError>
+    requires { IsFormulaTable table.now }
+    ensures { OnOk result (out.new ≡ out.old ++ nodes_text atoms.now table.now) }
+{
+    let count = table.rows();
+    put_sizes(out, count, atoms.len())?;
+    'nodes: for row in 0..count + 1 {
+        put_row(out, atoms, table, row)?;
+    }
+    Ok(())
+}
+
+/// The table of a formula.
+pub(crate) fn nodes_text(alloc: Global, atoms: &Names, table: &Table) -> Result<Vec<u8>, AllocError>
+    requires { IsFormulaTable table.now }
+    ensures { IfOk result (λ text. text.items ≡ nodes_text atoms.now table.now) }
+{
+    let mut line = Line::new(alloc);
+    put_nodes(&mut line, atoms, table)?;
+    Ok(line.into_bytes())
+}

@@ -1,0 +1,80 @@
+//! From a specification's file to its printed table.
+ghost use Rattle.std.specs.Prelude.{◌≡◌, ◌≤◌};
+ghost use Rattle.rv_text.specs.Readings.{Gives};
+ghost use Rattle.rv_bind.specs.Outcomes.{Comes, of_file};
+ghost use Rattle.rv_tool.specs.Faults.{Tells};
+ghost use Rattle.rv_tool.specs.Tables.{rule_text, table_text, table_in};
+
+use crate::automaton_text::automaton_text;
+use crate::formula_text::nodes_text;
+use crate::trace_text::{read_text, refused};
+use crate::words::Kind;
+use rv_bind::BindFault;
+use rv_dot::read_dot;
+use rv_io::Store;
+use rv_ltl::read_ltl;
+use rv_model::Rule;
+use rv_nnf::normal;
+use rv_tableau::tableau;
+use rv_text::Refused;
+use std::alloc::Global;
+
+/// The table of an automaton file.
+fn da_text(alloc: Global, bytes: &[u8]) -> Result<Vec<u8>, Refused>
+    ensures { Gives (λ text. text.items) result (table_text Kind.Da bytes.now) }
+{
+    let automaton = read_dot(alloc, bytes)?;
+    Ok(automaton_text(alloc, &automaton)?)
+}
+
+/// The table of a rule.
+fn rule_text(alloc: Global, rule: &Rule) -> Result<Vec<u8>, Refused>
+    ensures { Gives (λ text. text.items) result (rule_text rule.now) }
+{
+    let parts = normal(alloc, &rule.formula)?;
+    let table = tableau(alloc, &parts)?;
+    Ok(nodes_text(alloc, &rule.atoms, &table)?)
+}
+
+/// The table of a rule file.
+fn ltl_text(alloc: Global, bytes: &[u8]) -> Result<Vec<u8>, Refused>
+    ensures { Gives (λ text. text.items) result (table_text Kind.Ltl bytes.now) }
+{
+    let rule = read_ltl(alloc, bytes)?;
+    rule_text(alloc, &rule)
+}
+
+/// The table of a specification's text.
+fn table_text(alloc: Global, kind: Kind, bytes: &[u8]) -> Result<Vec<u8>, Refused>
+    ensures { Gives (λ text. text.items) result (table_text kind bytes.now) }
+{
+    match kind {
+        Kind::Da => da_text(alloc, bytes),
+        Kind::Ltl => ltl_text(alloc, bytes),
+    }
+}
+
+/// The same, with the file in its fault.
+fn named_text(alloc: Global, kind: Kind, name: &str, bytes: &[u8]) -> Result<Vec<u8>, BindFault>
+    ensures { Tells (λ text. text.items) result (of_file name.now (table_text kind bytes.now)) }
+{
+    match table_text(alloc, kind, bytes) {
+        Ok(text) => Ok(text),
+        Err(fault) => Err(refused(alloc, name, fault)),
+    }
+}
+
+/// The table of a file.
+pub(crate) fn read_table<S: Store>(
+    alloc: Global,
+    store: &mut S,
+    kind: Kind,
+    name: &str,
+) -> Result<Vec<u8>, BindFault>
+    ensures kept { S.files store.new ≡ S.files store.old }
+    ensures later { S.faults store.old ≤ S.faults store.new }
+    ensures value { Comes (λ text. text.items) (S.files store.old) (S.faults store.old) (S.faults store.new) result (λ files. table_in files kind name.now) }
+{
+    let bytes = read_text(alloc, store, name)?;
+    named_text(alloc, kind, name, bytes.as_slice())
+}
