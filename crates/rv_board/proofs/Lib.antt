@@ -1,0 +1,4 @@
+pub mod KeepLemmas
+pub mod Knowing
+pub mod SoundLemmas
+pub mod WordSteps

@@ -1,0 +1,5 @@
+pub mod Codes
+pub mod Known
+pub mod Rule
+pub mod Seats
+pub mod Steps

@@ -1,0 +1,10 @@
+//! The words that threads share, and the seats from which threads change them. All changes are entries of one
+//! history, of which each seat has seen a beginning.
+#![tactic(auto)]
+
+mod rule;
+mod seat;
+mod view;
+
+pub use rv_model::Delivered;
+pub use seat::Seat;
