@@ -1,4 +1,7 @@
+pub mod AllowedLemmas
+pub mod CallLemmas
 pub mod KeepLemmas
 pub mod Knowing
+pub mod PartLemmas
 pub mod SoundLemmas
 pub mod WordSteps

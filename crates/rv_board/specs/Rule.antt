@@ -29,6 +29,12 @@ pub record IsMachine (s : Setup) (log : List Entry) : Type 0 where
   pub is_setup : IsSetup s
   pub live : (i : ℕ) → i < sum s.shape → IsLive (table_judge (table_at s i)) (slot_phase s (reverse log) i)
 
+-- what a board opens with: the words of an empty history
+pub record IsOpening (s : Setup) (words : List ℕ) : Type 0 where
+  pub is_setup : IsSetup s
+  pub wide : length words ≡ width s
+  pub each : (i : ℕ) → i < width s → slice_index words i ≡ word_at s [] i
+
 -- what one view has to do with the history
 pub record Fits (log : List Entry) (v : View) : Type 0 where
   pub begun : Begun log v.part
