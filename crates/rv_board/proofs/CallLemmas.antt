@@ -15,7 +15,7 @@ use Rattle.rv_core.specs.Setup.{FitsAct, ActFits, judges_of}
 use Rattle.rv_board.specs.declared.view.View.{View}
 use Rattle.rv_board.specs.Known.{knows, Begun, blank, part}
 use Rattle.rv_board.specs.Rule.{word_at, with_seen, first_view, view}
-use Rattle.rv_board.specs.Seats.{BoardId, SeatValue, board_id, seat_value, IsUsable, SeatGrows, Acts, Follows, Closes}
+use Rattle.rv_board.specs.Seats.{BoardId, SeatValue, board_id, seat_value, IsUsable, SeatGrows, Acts, Looks, Follows, Closes}
 use Rattle.rv_board.specs.Steps.{Ours, Saw, Made, Makes, made_after}
 use Rattle.rv_board.proofs.Knowing.{knows_own, known_is}
 use Rattle.rv_board.proofs.KeepLemmas.{CanMake}
@@ -136,3 +136,8 @@ closes table v w place found seat is s =
     let f : Follows w.part.seen v.part = follows w.part.seen v.part record { rest = s.rest; whole = s.list; none = s.none } in
     subst (λ (o : SeatValue). Closes o w.part.seen) is
     record { list = f; sound = s.sound; whole = all_seen v.setup v.part w.part.seen f s.sound }
+
+-- what a look tells
+pub looks-by : (number end : ℕ) (table table' : TableId) (m m' : Ours) (found : ℕ) (old : SeatValue) → IsUsable number end m → seat_value m.0.part (board_id table m.0.setup) ≡ old → table' ≡ table → Makes Look m found m'
+    → Looks old (seat_value m'.0.part (board_id table' m'.0.setup)) found
+looks-by number end table table' m m' found old u is same t = record { entry = entry_of m.0 m'.0 Look found t.0; acts = acts-by number end table table' m m' Look found old u is same t; found = sym t.0.word }

@@ -12,7 +12,9 @@ use Rattle.rv_core.specs.Advance.{acted}
 use Rattle.rv_core.specs.Setup.{FitsAct, ActFits, place_of, table_of_act, start_of_act, judges_of}
 use Rattle.rv_core.specs.Core.{IsCore}
 use Rattle.rv_core.proofs.CoreLemmas.{core-after, core-answer, fits-words}
-use Rattle.rv_board.specs.Rule.{width, word_at, IsMachine}
+use Rattle.rv_core.specs.Setup.{IsSetup}
+use Rattle.rv_core.proofs.OpeningLemmas.{opening_words, core-opens}
+use Rattle.rv_board.specs.Rule.{width, word_at, IsMachine, IsOpening}
 use Rattle.rv_board.specs.Steps.{made_after}
 
 -- the words that the history gives
@@ -90,3 +92,12 @@ acts s log seat act m replays fits bits fit = record {
 
     after : IsCore s (set (plain s log) place left) (log ++ x ∷ [])
     after = core-after s (plain s log) log c seat act found left fits bits read refl fit
+
+-- the words that a machine opens with are those of a board
+pub opening-is : (s : Setup) → IsSetup s → IsOpening s (opening_words s (sum s.shape))
+opening-is s k =
+    let c = core-opens s k in record {
+      is_setup = k;
+      wide = c.count ∙ add-one (sum s.shape);
+      each = core-word s (opening_words s (sum s.shape)) [] c;
+    }

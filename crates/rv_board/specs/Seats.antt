@@ -5,6 +5,7 @@ use Rattle.std.proofs.Common.{refl}
 use Rattle.atomic_table.specs.Seated.{TableId, table_id_coded}
 use Rattle.atomic_table.specs.Table.{Me}
 use Rattle.rv_model.specs.declared.entry.Act.{Act}
+use Rattle.rv_model.specs.declared.entry.Act.TheVariants.{Look}
 use Rattle.rv_model.specs.declared.entry.Entry.{Entry}
 use Rattle.rv_model.specs.Setups.{Setup, coded_setup}
 use Rattle.rv_model.specs.Histories.{IsSound}
@@ -63,6 +64,12 @@ pub record Acts (old new : SeatValue) (act : Act) (entry : Entry) : Type 0 where
 -- it does so by some entry
 abbrev pub Does : SeatValue → SeatValue → Act → Type 0
 Does old new act = (entry : Entry) × Acts old new act entry
+
+-- by a look, whose word is this one
+pub record Looks (old new : SeatValue) (word : ℕ) : Type 0 where
+  pub entry : Entry
+  pub acts : Acts old new Look entry
+  pub found : entry.after ≡ word
 
 -- the list begins with what the seat had seen, and goes on without its numbers
 pub record Follows (h : List Entry) (seat : Seat) : Type 0 where

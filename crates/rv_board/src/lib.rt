@@ -2,9 +2,11 @@
 //! history, of which each seat has seen a beginning.
 #![tactic(auto)]
 
+mod board;
 mod rule;
 mod seat;
 mod view;
 
+pub use board::{Board, BoardStart};
 pub use rv_model::Delivered;
 pub use seat::Seat;
