@@ -14,8 +14,8 @@ use Rattle.rv_model.specs.Seats.{Seat, known_of, entries_of, Grows}
 use Rattle.rv_core.specs.Setup.{FitsAct, ActFits, judges_of}
 use Rattle.rv_board.specs.declared.view.View.{View}
 use Rattle.rv_board.specs.Known.{knows, Begun, blank, part}
-use Rattle.rv_board.specs.Rule.{word_at, with_seen, first_view, view}
-use Rattle.rv_board.specs.Seats.{BoardId, SeatValue, board_id, seat_value, IsUsable, SeatGrows, Acts, Looks, Follows, Closes}
+use Rattle.rv_board.specs.Rule.{word_at, with_seen, first_view, joined}
+use Rattle.rv_board.specs.Seats.{BoardId, SeatValue, board_id, seat_value, IsUsable, SeatGrows, Acts, Looks, Follows, Joins, Closes}
 use Rattle.rv_board.specs.Steps.{Ours, Saw, Made, Makes, made_after}
 use Rattle.rv_board.proofs.Knowing.{knows_own, known_is}
 use Rattle.rv_board.proofs.KeepLemmas.{CanMake}
@@ -141,3 +141,21 @@ closes table v w place found seat is s =
 pub looks-by : (number end : ℕ) (table table' : TableId) (m m' : Ours) (found : ℕ) (old : SeatValue) → IsUsable number end m → seat_value m.0.part (board_id table m.0.setup) ≡ old → table' ≡ table → Makes Look m found m'
     → Looks old (seat_value m'.0.part (board_id table' m'.0.setup)) found
 looks-by number end table table' m m' found old u is same t = record { entry = entry_of m.0 m'.0 Look found t.0; acts = acts-by number end table table' m m' Look found old u is same t; found = sym t.0.word }
+
+-- what the two loads of a join tell
+joined-view : (table table' other : TableId) (v w x : View) (found : ℕ) → table' ≡ table → Saw word_at (joined v w) x 0 found → Joins (seat_value v.part (board_id table v.setup)) (seat_value w.part (board_id other w.setup)) (seat_value x.part (board_id table' x.setup))
+joined-view table table' other v w x found same s = record {
+  own = follows x.part.seen v.part s.left;
+  other = follows x.part.seen w.part s.right;
+  sound = s.sound;
+  gone = ap (λ (z : View). z.part.gone) s.same;
+  number = ap (λ (z : View). z.part.number) s.same;
+  end = ap (λ (z : View). z.part.end) s.same;
+  board = λ i. board_id (same i) ((s.same i).setup);
+}
+
+pub joins-by : (table table' other : TableId) (v w m x : View) (found : ℕ) (old from : SeatValue) → m ≡ joined v w → seat_value v.part (board_id table v.setup) ≡ old → seat_value w.part (board_id other w.setup) ≡ from → table' ≡ table → Saw word_at m x 0 found
+    → Joins old from (seat_value x.part (board_id table' x.setup))
+joins-by table table' other v w m x found old from both is from-is same s =
+    subst (λ (o : SeatValue × SeatValue). Joins o.0 o.1 (seat_value x.part (board_id table' x.setup))) (λ i. (is i, from-is i))
+    (joined-view table table' other v w x found same (subst (λ (z : View). Saw word_at z x 0 found) both s))

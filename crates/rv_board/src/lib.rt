@@ -5,6 +5,7 @@
 mod board;
 mod rule;
 mod seat;
+mod sharing;
 mod view;
 
 pub use board::{Board, BoardStart};
