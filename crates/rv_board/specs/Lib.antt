@@ -1,4 +1,5 @@
 pub mod Codes
+pub mod Deliveries
 pub mod Known
 pub mod Rule
 pub mod Seats

@@ -3,6 +3,7 @@
 #![tactic(auto)]
 
 mod board;
+mod delivery;
 mod rule;
 mod seat;
 mod sharing;
