@@ -5,4 +5,5 @@ pub mod Knowing
 pub mod PartLemmas
 pub mod RaceLemmas
 pub mod SoundLemmas
+pub mod WakingLemmas
 pub mod WordSteps

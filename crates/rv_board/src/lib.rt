@@ -7,6 +7,8 @@ mod delivery;
 mod rule;
 mod seat;
 mod sharing;
+#[cfg(test)]
+mod tests;
 mod view;
 
 pub use board::{Board, BoardStart};

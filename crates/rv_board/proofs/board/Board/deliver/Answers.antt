@@ -46,7 +46,7 @@ returns-then-found-word g c =
     let has : c.args.seat.now.part.number < c.args.seat.now.part.end = subst (λ (f : SeatValue). f.part.number < f.part.end) c.seat.view_is c.seat.invariant.has in
     let table = c.table-table.ensures ∙ ap (λ (z : Setup). table_at z c.args.slot) (ap (λ (z : BoardId). z.setup) (c.self.view_is ∙ sym c.requires.board)) in
     is-made c.args.seat.now _ _ _ c.args.slot _ c.loop-lost.word _ c.args.hit.now _ has (s.0 ∙ i.table) i.lost c.if-found-word.true
-        (c.advance-next.ensures.answer ∙ ap (λ (t : Table). (advanced t c.loop-lost.word c.args.hit.now).0) table) (at_same _ _ _ _ c.if-found-word.true s.2.0)
+    (c.advance-next.ensures.answer ∙ ap (λ (t : Table). (advanced t c.loop-lost.word c.args.hit.now).0) table) (at_same _ _ _ _ c.if-found-word.true s.2.0)
 
 pub loop-lost-preserved : goal.loop-lost-preserved
 loop-lost-preserved g c =
