@@ -1,6 +1,6 @@
 //! Two seats on one instance of the kernel's automaton of waking in a section that can't be preempted, and a gate
 //! at which one delivers between the tries of the other.
-ghost use Rattle.std.specs.Prelude.{◌≡◌, ◌<◌, [], ◌∷◌, sum, IfOk, length};
+ghost use Rattle.std.specs.Prelude.{◌≡◌, ◌<◌, [], ◌∷◌, sum, IfOk, length, All};
 ghost use Rattle.rv_model.specs.Table.{event_count};
 ghost use Rattle.rv_core.specs.Setup.{table_at};
 
@@ -8,7 +8,7 @@ use crate::{Board, BoardStart, Delivered, Seat};
 use rv_core::Setup;
 use rv_io::{Gate, OpenGate};
 use rv_model::{Answer, Automaton, Edge, Hit, Mode, Name, Names, Scope, What};
-use rv_slots::Shape;
+use rv_slots::{MAX_SLOTS, MAX_TASKS, Shape};
 use rv_table::Table;
 use std::alloc::{AllocError, Global};
 use std::test::Fail;
@@ -182,7 +182,7 @@ fn a_word_that_comes_back_is_no_lost_try(rt: HostRuntime) -> Result<(), Fail> {
     assert_eq!(rt; kept, Delivered::Done(Answer::Kept));
     assert_eq!(rt; board.word(&mut own, 0), 17_179_869_184);
     let Rival::Somebody(other) = gate else {
-        return Ok(());
+        panic!(rt; "the gate was taken away");
     };
     assert_eq!(rt; other.tries, 1);
     assert_eq!(rt;
@@ -212,7 +212,7 @@ fn a_lost_try_starts_from_the_word_that_was_found(rt: HostRuntime) -> Result<(),
     assert_eq!(rt; failed, Delivered::Done(Answer::Failed(4)));
     assert_eq!(rt; board.word(&mut own, 0), 4_294_967_296);
     let Rival::Somebody(other) = gate else {
-        return Ok(());
+        panic!(rt; "the gate was taken away");
     };
     assert_eq!(rt; other.tries, 2);
     assert_eq!(rt; other.words.as_slice(), [17_179_869_184].as_slice());
@@ -240,7 +240,7 @@ fn three_lost_tries_stop_the_instance_until_it_is_cleared(rt: HostRuntime) -> Re
     assert_eq!(rt; racing, Delivered::Racing);
     assert_eq!(rt; board.word(&mut own, 0), 0);
     let Rival::Somebody(mut other) = gate else {
-        return Ok(());
+        panic!(rt; "the gate was taken away");
     };
     assert_eq!(rt; other.tries, 3);
     assert_eq!(rt;
@@ -269,5 +269,82 @@ fn switches_go_on_and_off_and_stay_halted(rt: HostRuntime) -> Result<(), Fail> {
     board.raise(&mut actor, 1);
     assert_eq!(rt; board.look(&mut cpu), 21_474_836_481);
     assert_eq!(rt; board.word(&mut cpu, 0), 4_294_967_296);
+    Ok(())
+}
+
+/// Seats of the numbers 66 down to 1, one each, which have looked.
+fn split_all(alloc: Global, board: &Board, seat: &mut Seat) -> Result<Vec<Seat>, AllocError>
+    requires board { seat.old.board ≡ board.now }
+    requires range { (seat.old.part.number ≡ 0) × (seat.old.part.end ≡ 67) }
+    ensures same { seat.new.board ≡ board.now }
+    ensures seats { IfOk result (λ seats. All (λ s. s.board ≡ board.now) seats.items) }
+{
+    let mut seats = Vec::new(alloc);
+    for above in 0..66 {
+        let mut new = board.split(seat, 66 - above);
+        board.look(&mut new);
+        seats.push(new)?;
+    }
+    Ok(seats)
+}
+
+/// Joins them all.
+fn join_all(board: &Board, seat: &mut Seat, seats: Vec<Seat>)
+    requires board { seat.old.board ≡ board.now }
+    requires seats { All (λ s. s.board ≡ board.now) seats.items }
+    ensures { seat.new.board ≡ board.now }
+{
+    for from in seats {
+        board.join(seat, from);
+    }
+}
+
+#[test]
+fn all_seats_are_split_joined_and_closed(rt: HostRuntime) -> Result<(), Fail> {
+    let BoardStart { board, mut seat } = one_instance(rt.alloc())?;
+    let seats = split_all(rt.alloc(), &board, &mut seat)?;
+    assert_eq!(rt; seats.len(), 66);
+    for (place, other) in seats.iter().enumerate() {
+        assert_eq!(rt; other.number() as usize + place, 66);
+        assert_eq!(rt; other.end(), other.number() + 1);
+    }
+    assert_eq!(rt; seat.end(), 1);
+    join_all(&board, &mut seat, seats);
+    assert_eq!(rt; (seat.number(), seat.end()), (0, 1));
+    board.close(seat);
+    Ok(())
+}
+
+/// As many monitors as there may be, each of as many tasks as there may be.
+fn full_setup(alloc: Global) -> Result<Setup, AllocError>
+    ensures { IfOk result (λ setup. length setup.shape ≡ 32) }
+{
+    let automaton = waking(alloc)?;
+    let shape = Shape::new(alloc, &[Scope::Task; 32], MAX_TASKS)?;
+    let mut tables = Vec::new(alloc);
+    let mut starts = Vec::new(alloc);
+    for _ in 0..32usize {
+        tables.push(Table::from_automaton(alloc, &automaton)?)?;
+        starts.push(0)?;
+    }
+    Ok(Setup {
+        shape,
+        tables,
+        starts,
+        switches: 1 << 32,
+    })
+}
+
+#[test]
+fn a_full_board_has_all_its_words(rt: HostRuntime) -> Result<(), Fail> {
+    let setup = full_setup(rt.alloc())?;
+    let BoardStart { board, mut seat } = Board::new(rt.alloc(), setup)?;
+    let slots = board.shape().slots();
+    assert_eq!(rt; slots, MAX_SLOTS);
+    if slots > 0 {
+        assert_eq!(rt; board.word(&mut seat, 0), 4_294_967_296);
+        assert_eq!(rt; board.word(&mut seat, slots - 1), 4_294_967_296);
+    }
+    board.close(seat);
     Ok(())
 }
