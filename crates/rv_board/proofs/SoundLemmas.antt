@@ -1,0 +1,92 @@
+-- Sound histories: of a beginning, of one entry more, and what a changed word shows.
+use Rattle.std.proofs.Common.{◌≡◌, ◌≢◌, ◌⊎◌, inl, inr, ℕ, ◌+◌, ◌<◌, ◌≤◌, ◌==◌, Bool, true, false, ◌&&◌, not, List, [], ◌∷◌, ◌++◌, length, reverse, refl, ap, sym, ◌∙◌, subst, arith, append_assoc}
+use Rattle.std.specs.Prelude.{filter}
+use Rattle.std.proofs.lemmas.Bool.Decides.{nat_tests}
+use Rattle.std.proofs.lemmas.List.{append-nil, reverse-append}
+use Rattle.std.proofs.lemmas.List.Elements.{filter-append}
+use Rattle.std.proofs.Common.{length-append}
+use Rattle.rv_model.specs.declared.entry.Act.{Act}
+use Rattle.rv_model.specs.declared.entry.Act.TheVariants.{Deliver, Stop, Look, Raise, Lower, Clear}
+use Rattle.rv_model.specs.declared.entry.Entry.{Entry}
+use Rattle.rv_model.specs.Setups.{Setup, judge_of, start_of}
+use Rattle.rv_model.specs.Phases.{level, phase_of}
+use Rattle.rv_model.specs.Judging.{Judge}
+use Rattle.rv_model.specs.SharedWords.{word_of, word_on}
+use Rattle.rv_model.specs.Histories.{FitsWords, IsEarnedBy, IsHeldBy, IsSound, is_on, changed}
+use Rattle.rv_model.proofs.CutLemmas.{at_each-nil, at_each-snoc, at_each-front}
+use Rattle.rv_core.specs.Setup.{place_of}
+use Rattle.rv_core.proofs.WordLemmas.{packed-other}
+
+module _ (s : Setup) (js : List Judge) where
+  pub sound-empty : IsSound s js []
+  sound-empty = record {
+    replays = at_each-nil (FitsWords s js);
+    earned = at_each-nil (λ before e. IsEarnedBy e.act e.seat before);
+    held = at_each-nil (λ before e. (e.seat < 67) × IsHeldBy e.act e.seat);
+  }
+
+  -- the history so far was sound at each earlier time
+  pub sound-front : (log more : List Entry) → IsSound s js (log ++ more) → IsSound s js log
+  sound-front log more sound = record {
+    replays = at_each-front (FitsWords s js) log more sound.replays;
+    earned = at_each-front (λ before e. IsEarnedBy e.act e.seat before) log more sound.earned;
+    held = at_each-front (λ before e. (e.seat < 67) × IsHeldBy e.act e.seat) log more sound.held;
+  }
+
+  -- an entry that tells what its act did may come next
+  pub sound-snoc : (log : List Entry) (e : Entry) → IsSound s js log → FitsWords s js log e → IsEarnedBy e.act e.seat log → e.seat < 67 → IsHeldBy e.act e.seat → IsSound s js (log ++ e ∷ [])
+  sound-snoc log e sound fits earned low held = record {
+    replays = at_each-snoc (FitsWords s js) log e sound.replays fits;
+    earned = at_each-snoc (λ before x. IsEarnedBy x.act x.seat before) log e sound.earned earned;
+    held = at_each-snoc (λ before x. (x.seat < 67) × IsHeldBy x.act x.seat) log e sound.held (low, held);
+  }
+
+  -- an act that is not on the slot has another word
+  elsewhere : (slot : ℕ) (act : Act) → is_on slot act ≡ false → place_of act ≢ slot + 1
+  elsewhere slot (Deliver other hit) out = λ e. let same : other ≡ slot = omega arith in let equal : (other == slot) ≡ true = grind (arith, nat_tests) in cc
+  elsewhere slot (Stop other) out = λ e. let same : other ≡ slot = omega arith in let equal : (other == slot) ≡ true = grind (arith, nat_tests) in cc
+  elsewhere slot (Clear other) out = λ e. let same : other ≡ slot = omega arith in let equal : (other == slot) ≡ true = grind (arith, nat_tests) in cc
+  elsewhere slot Look out = λ e. absurd (omega arith)
+  elsewhere slot (Raise bits) out = λ e. absurd (omega arith)
+  elsewhere slot (Lower bits) out = λ e. absurd (omega arith)
+
+  -- the word of an act on the slot is the slot's
+  on-slot : (past : List Entry) (slot : ℕ) (act : Act) → is_on slot act ≡ true → word_on s js past act ≡ word_of s js past slot
+  on-slot past slot (Deliver other hit) here = let same : other ≡ slot = grind (arith, nat_tests) in ap (word_of s js past) same
+  on-slot past slot (Stop other) here = let same : other ≡ slot = grind (arith, nat_tests) in ap (word_of s js past) same
+  on-slot past slot (Clear other) here = let same : other ≡ slot = grind (arith, nat_tests) in ap (word_of s js past) same
+  on-slot past slot Look here = cc
+  on-slot past slot (Raise bits) here = cc
+  on-slot past slot (Lower bits) here = cc
+
+  -- an entry that is not counted leaves the slot's word as it was
+  still : (log : List Entry) (slot : ℕ) (e : Entry) → FitsWords s js log e → changed slot e ≡ false → word_of s js (e ∷ reverse log) slot ≡ word_of s js (reverse log) slot
+  still log slot e fits calm = on (is_on slot e.act) refl
+    where
+      on : (b : Bool) → is_on slot e.act ≡ b → word_of s js (e ∷ reverse log) slot ≡ word_of s js (reverse log) slot
+      on true here =
+          let quiet : (is_on slot e.act && not (e.before == e.after)) ≡ false = calm in
+          let equal : (e.before == e.after) ≡ true = (let q = (rw here at quiet) in grind (arith, nat_tests)) in
+          let same : e.before ≡ e.after = grind (arith, nat_tests) in
+          sym (on-slot (e ∷ reverse log) slot e.act here) ∙ sym fits.left ∙ sym same ∙ fits.found ∙ on-slot (reverse log) slot e.act here
+      on false out = packed-other (judge_of s js slot) (start_of s slot) (level (start_of s slot) (reverse log) slot) slot e.act (phase_of (judge_of s js slot) (start_of s slot) (reverse log) slot) (elsewhere slot e.act out)
+
+  -- where the word has changed, an entry changed it
+  pub changes : (log more : List Entry) (slot : ℕ) → IsSound s js (log ++ more) → word_of s js (reverse (log ++ more)) slot ≢ word_of s js (reverse log) slot → 1 ≤ length (filter (changed slot) more)
+  changes log [] slot sound ne = absurd (ne (ap (λ l. word_of s js (reverse l) slot) (append-nil log)))
+  changes log (e ∷ more) slot sound ne =
+      on (changed slot e) refl (λ calm. changes (log ++ e ∷ []) more slot (subst (IsSound s js) (sym regroup) sound) (λ same. ne (ap (λ l. word_of s js (reverse l) slot) (sym regroup) ∙ (same ∙ ap (λ l. word_of s js l slot) back ∙ still log slot e (sound.replays log e more refl) calm))))
+    where
+      regroup : (log ++ e ∷ []) ++ more ≡ log ++ e ∷ more
+      regroup = append_assoc log (e ∷ []) more
+
+      back : reverse (log ++ e ∷ []) ≡ e ∷ reverse log
+      back = reverse-append log (e ∷ [])
+
+      on : (b : Bool) → changed slot e ≡ b → (b ≡ false → 1 ≤ length (filter (changed slot) more)) → 1 ≤ length (filter (changed slot) (e ∷ more))
+      on true is rest = rw is (omega arith)
+      on false is rest = rw is (rest refl)
+
+-- of two lists, one after the other
+pub filter_append : (slot : ℕ) (xs ys : List Entry) → length (filter (changed slot) (xs ++ ys)) ≡ length (filter (changed slot) xs) + length (filter (changed slot) ys)
+filter_append slot xs ys = ap length (filter-append (changed slot) xs ys) ∙ length-append (filter (changed slot) xs) (filter (changed slot) ys)

@@ -1,0 +1,103 @@
+-- What one act makes of the words that a history gives.
+use Rattle.std.proofs.Common.{◌≡◌, ◌≢◌, ℕ, zero, suc, ◌+◌, ◌^◌, ◌<◌, Bool, true, false, List, [], ◌∷◌, ◌++◌, length, get_or, set, reverse, refl, ap, sym, ◌∙◌, subst, arith, add-one, get_or-set_same, get_or-set_other, sum}
+use Rattle.rv_model.specs.declared.entry.Act.{Act}
+use Rattle.rv_model.specs.declared.entry.Act.TheVariants.{Deliver, Stop, Look, Raise, Lower, Clear}
+use Rattle.rv_model.specs.declared.entry.Entry.{Entry}
+use Rattle.rv_model.specs.Numbers.{list_of}
+use Rattle.rv_model.specs.Setups.{Setup}
+use Rattle.rv_model.specs.SharedWords.{switches_of, word_of, word_on, answer_at}
+use Rattle.rv_model.specs.Histories.{FitsWords, Replays}
+use Rattle.rv_model.proofs.MeansLemmas.{length-list_of, get_or-list_of}
+use Rattle.rv_core.specs.Advance.{acted}
+use Rattle.rv_core.specs.Setup.{FitsAct, ActFits, place_of, table_of_act, start_of_act, judges_of}
+use Rattle.rv_core.specs.Core.{IsCore}
+use Rattle.rv_core.proofs.CoreLemmas.{core-after, core-answer, fits-words}
+use Rattle.rv_core.specs.Setup.{IsSetup}
+use Rattle.rv_core.proofs.OpeningLemmas.{opening_words, core-opens}
+use Rattle.rv_board.specs.Rule.{width, word_at, IsMachine, IsOpening}
+use Rattle.rv_board.specs.Steps.{made_after}
+
+-- the words that the history gives
+abbrev plain : Setup → List Entry → List ℕ
+plain s log = list_of (word_at s log) (width s)
+
+plain-length : (s : Setup) (log : List Entry) → length (plain s log) ≡ width s
+plain-length s log = length-list_of (word_at s log) (width s)
+
+plain-at : (s : Setup) (log : List Entry) (i : ℕ) → i < width s → get_or (plain s log) i 0 ≡ word_at s log i
+plain-at s log i low = get_or-list_of (word_at s log) (width s) i 0 low
+
+-- the machine of one thread would have these words
+is-core : (s : Setup) (log : List Entry) → IsMachine s log → Replays s (judges_of s) log → IsCore s (plain s log) log
+is-core s log m replays = record {
+  is_setup = m.is_setup;
+  count = plain-length s log ∙ sym (add-one (sum s.shape));
+  live = m.live;
+  switches_are = plain-at s log 0 (omega arith);
+  words_are = λ i low. rw (add-one i) (plain-at s log (suc i) (omega arith));
+  replays = replays;
+}
+
+-- the words of a machine are those of its history
+core-word : (s : Setup) (words : List ℕ) (log : List Entry) → IsCore s words log → (i : ℕ) → i < width s → get_or words i 0 ≡ word_at s log i
+core-word s words log c zero low = c.switches_are
+core-word s words log c (suc i) low = let one : suc i ≡ i + 1 = sym (add-one i) in ap (λ (n : ℕ). get_or words n 0) one ∙ c.words_are i (omega arith)
+
+-- an act's word is one of the words
+pub place-within : (s : Setup) (act : Act) → FitsAct s act → place_of act < width s
+place-within s (Deliver slot hit) f = let l = f.0 in omega arith
+place-within s (Stop slot) f = omega arith
+place-within s (Clear slot) f = omega arith
+place-within s Look f = omega arith
+place-within s (Raise _) f = omega arith
+place-within s (Lower _) f = omega arith
+
+-- what the act of a seat does to the words
+pub record Acted (s : Setup) (log : List Entry) (seat : ℕ) (act : Act) : Type 0 where
+  pub machine : IsMachine s (log ++ made_after s seat act log ∷ [])
+  pub fits : FitsWords s (judges_of s) log (made_after s seat act log)
+  pub here : word_at s (log ++ made_after s seat act log ∷ []) (place_of act) ≡ (made_after s seat act log).after
+  pub others : (i : ℕ) → i < width s → i ≢ place_of act → word_at s (log ++ made_after s seat act log ∷ []) i ≡ word_at s log i
+  pub answer : (acted (table_of_act s act) (start_of_act s act) (word_at s log (place_of act)) act).0 ≡ answer_at s (judges_of s) (reverse log) (made_after s seat act log) act
+
+pub acts : (s : Setup) (log : List Entry) (seat : ℕ) (act : Act) → IsMachine s log → Replays s (judges_of s) log → FitsAct s act → ActFits s act → (made_after s seat act log).after < 2 ^ 64 → Acted s log seat act
+acts s log seat act m replays fits bits fit = record {
+  machine = record { is_setup = after.is_setup; live = after.live };
+  fits = fits-words s (plain s log) log c seat act found left fits bits read refl fit;
+  here = sym (core-word s (set (plain s log) place left) (log ++ x ∷ []) after place inside) ∙ get_or-set_same (plain s log) place left 0 (let l = plain-length s log in let b = inside in omega arith);
+  others = λ i low ne. sym (core-word s (set (plain s log) place left) (log ++ x ∷ []) after i low) ∙ (get_or-set_other (plain s log) place i left 0 ne ∙ plain-at s log i low);
+  answer = core-answer s (plain s log) log c seat act found left fits bits read refl fit;
+}
+  where
+    place : ℕ
+    place = place_of act
+
+    x : Entry
+    x = made_after s seat act log
+
+    found : ℕ
+    found = word_at s log place
+
+    left : ℕ
+    left = x.after
+
+    inside : place < width s
+    inside = place-within s act fits
+
+    c : IsCore s (plain s log) log
+    c = is-core s log m replays
+
+    read : found ≡ get_or (plain s log) place found
+    read = sym (get_or-list_of (word_at s log) (width s) place found inside)
+
+    after : IsCore s (set (plain s log) place left) (log ++ x ∷ [])
+    after = core-after s (plain s log) log c seat act found left fits bits read refl fit
+
+-- the words that a machine opens with are those of a board
+pub opening-is : (s : Setup) → IsSetup s → IsOpening s (opening_words s (sum s.shape))
+opening-is s k =
+    let c = core-opens s k in record {
+      is_setup = k;
+      wide = c.count ∙ add-one (sum s.shape);
+      each = core-word s (opening_words s (sum s.shape)) [] c;
+    }

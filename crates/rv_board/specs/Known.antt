@@ -1,0 +1,39 @@
+-- What a seat has seen of a history, and all numbers that it knows.
+use Rattle.std.specs.Prelude.{◌≡◌, ℕ, zero, suc, ◌-◌, Bool, ◌||◌, List, [], ◌∷◌, ◌++◌}
+use Rattle.rv_model.specs.declared.entry.Entry.{Entry}
+use Rattle.rv_model.specs.Seats.{Seat, is_in, is_among, entries_of}
+
+-- from the number up to the end, or one of those that were joined in
+unfoldable pub known_by : ℕ → ℕ → List ℕ → ℕ → Bool
+known_by number end gone n = is_in number end n || is_among gone n
+
+-- what the seat knows, whatever it has seen
+abbrev pub knows : Seat → ℕ → Bool
+knows p = known_by p.number p.end p.gone
+
+-- the history begins with what was seen, and has no further entry by these numbers
+pub record Begun (log : List Entry) (p : Seat) : Type 0 where
+  pub rest : List Entry
+  pub whole : log ≡ p.seen ++ rest
+  pub none : entries_of (knows p) rest ≡ []
+
+-- so many numbers, from this one on
+abbrev pub count_from : ℕ → ℕ → List ℕ
+count_from a zero = []
+count_from a (suc n) = a ∷ count_from (suc a) n
+
+-- all numbers that a seat knows, as a list
+abbrev pub numbers : Seat → List ℕ
+numbers p = count_from p.number (p.end - p.number) ++ p.gone
+
+-- the seat of these
+abbrev pub part : ℕ → ℕ → List ℕ → List Entry → Seat
+part number end gone seen = record { number = number; end = end; gone = gone; seen = seen }
+
+-- one that knows no number and has seen nothing
+abbrev pub blank : Seat
+blank = part 0 0 [] []
+
+-- the same numbers, with this list
+abbrev pub with_list : Seat → List Entry → Seat
+with_list p log = part p.number p.end p.gone log

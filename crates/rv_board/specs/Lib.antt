@@ -1,0 +1,6 @@
+pub mod Codes
+pub mod Deliveries
+pub mod Known
+pub mod Rule
+pub mod Seats
+pub mod Steps

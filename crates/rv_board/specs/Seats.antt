@@ -1,0 +1,94 @@
+-- Seats and boards as plain data.
+use Rattle.std.specs.Prelude.{◌≡◌, ℕ, ◌<◌, ◌≤◌, true, List, [], ◌∷◌, ◌++◌}
+use Rattle.std.specs.Coded.{Coded, code_by, coded×}
+use Rattle.std.proofs.Common.{refl}
+use Rattle.atomic_table.specs.Seated.{TableId, table_id_coded}
+use Rattle.atomic_table.specs.Table.{Me}
+use Rattle.rv_model.specs.declared.entry.Act.{Act}
+use Rattle.rv_model.specs.declared.entry.Act.TheVariants.{Look}
+use Rattle.rv_model.specs.declared.entry.Entry.{Entry}
+use Rattle.rv_model.specs.Setups.{Setup, coded_setup}
+use Rattle.rv_model.specs.Histories.{IsSound}
+use Rattle.rv_model.specs.Seats.{Seat, known_of, entries_of, Grows}
+use Rattle.rv_core.specs.Setup.{judges_of}
+use Rattle.rv_board.specs.declared.view.View.{View}
+use Rattle.rv_board.specs.Codes.{coded_part}
+use Rattle.rv_board.specs.Known.{blank, numbers, part}
+use Rattle.rv_board.specs.Rule.{view}
+
+-- which board it is, and what it began with
+pub record BoardId : Type 0 where
+  pub table : TableId
+  pub setup : Setup
+
+-- what a seat knows, and the board that it is of
+pub record SeatValue : Type 0 where
+  pub part : Seat
+  pub board : BoardId
+
+-- its parts
+abbrev pub coded_board : Coded BoardId
+coded_board = code_by (TableId × Setup) (coded× table_id_coded coded_setup) (λ b. (b.table, b.setup)) (λ p. record { table = p.0; setup = p.1 }) (λ _. refl)
+
+-- its parts, from the code of an entry
+abbrev pub coded_seat : Coded Entry → Coded SeatValue
+coded_seat entry = code_by (Seat × BoardId) (coded× (coded_part entry) coded_board) (λ s. (s.part, s.board)) (λ p. record { part = p.0; board = p.1 }) (λ _. refl)
+
+abbrev pub board_id : TableId → Setup → BoardId
+board_id table setup = record { table = table; setup = setup }
+
+abbrev pub seat_value : Seat → BoardId → SeatValue
+seat_value part board = record { part = part; board = board }
+
+-- a seat between two calls
+pub record IsUsable (number end : ℕ) (me : Me Act View) : Type 0 where
+  pub number_is : number ≡ me.0.part.number
+  pub end_is : end ≡ me.0.part.end
+  pub has : me.0.part.number < me.0.part.end
+  pub small : me.0.part.end ≤ 67
+  pub left : me.0.left ≡ blank
+  pub right : me.0.right ≡ blank
+  pub empty : me.1 ≡ []
+  pub sound : IsSound me.0.setup (judges_of me.0.setup) me.0.part.seen
+
+-- the seat's list grows by these entries of its own, and it is of the same board
+pub record SeatGrows (old new : SeatValue) (own : List Entry) : Type 0 where
+  pub grows : Grows old.board.setup (judges_of old.board.setup) old.part new.part own
+  pub board : new.board ≡ old.board
+
+-- the seat's list grows by one entry of its own, of this act
+pub record Acts (old new : SeatValue) (act : Act) (entry : Entry) : Type 0 where
+  pub grows : SeatGrows old new (entry ∷ [])
+  pub act_is : entry.act ≡ act
+
+-- it does so by some entry
+abbrev pub Does : SeatValue → SeatValue → Act → Type 0
+Does old new act = (entry : Entry) × Acts old new act entry
+
+-- by a look, whose word is this one
+pub record Looks (old new : SeatValue) (word : ℕ) : Type 0 where
+  pub entry : Entry
+  pub acts : Acts old new Look entry
+  pub found : entry.after ≡ word
+
+-- the list begins with what the seat had seen, and goes on without its numbers
+pub record Follows (h : List Entry) (seat : Seat) : Type 0 where
+  pub rest : List Entry
+  pub list : h ≡ seat.seen ++ rest
+  pub none : entries_of (known_of seat) rest ≡ []
+
+-- the list begins with both lists, goes on without the numbers of either, and is sound; the numbers of the other are gone
+pub record Joins (old from new : SeatValue) : Type 0 where
+  pub own : Follows new.part.seen old.part
+  pub other : Follows new.part.seen from.part
+  pub sound : IsSound old.board.setup (judges_of old.board.setup) new.part.seen
+  pub gone : new.part.gone ≡ old.part.gone ++ numbers from.part
+  pub number : new.part.number ≡ old.part.number
+  pub end : new.part.end ≡ old.part.end
+  pub board : new.board ≡ old.board
+
+-- the whole history, which is sound, and of which the seat had seen the beginning
+pub record Closes (seat : SeatValue) (h : List Entry) : Type 0 where
+  pub list : Follows h seat.part
+  pub sound : IsSound seat.board.setup (judges_of seat.board.setup) h
+  pub whole : ((n : ℕ) → n < 67 → known_of seat.part n ≡ true) → h ≡ seat.part.seen

@@ -1,0 +1,84 @@
+-- What each kind of step tells the seat that takes it.
+use Rattle.std.specs.Prelude.{◌≡◌, ℕ, ◌-◌, ◌==◌, List, [], ◌∷◌, ◌++◌, reverse, MatchBool}
+use Rattle.std.specs.Int.{bit_not, w64}
+use mathlib.Core.Option.{Option, some, none}
+use Rattle.atomic_table.specs.Table.{Me, Step}
+use Rattle.rv_model.specs.declared.entry.Act.{Act}
+use Rattle.rv_model.specs.declared.entry.Act.TheVariants.{Stop, Look, Raise, Lower, Clear}
+use Rattle.rv_model.specs.declared.entry.Entry.{Entry}
+use Rattle.rv_model.specs.Setups.{Setup}
+use Rattle.rv_model.specs.SharedWords.{answer_at}
+use Rattle.rv_model.specs.Histories.{IsSound}
+use Rattle.rv_core.specs.Advance.{acted}
+use Rattle.rv_core.specs.Setup.{judges_of, place_of, table_of_act, start_of_act}
+use Rattle.rv_board.specs.declared.view.View.{View}
+use Rattle.rv_model.specs.Seats.{entries_of}
+use Rattle.rv_board.specs.Known.{knows, Begun}
+use Rattle.rv_board.specs.Rule.{word_at, with_seen}
+
+-- the history so far was seen, with no entry of the seat's own
+pub record Saw (code : Setup → List Entry → ℕ → ℕ) (v w : View) (place found : ℕ) : Type 0 where
+  pub same : w ≡ with_seen v w.part.seen
+  pub rest : List Entry
+  pub list : w.part.seen ≡ v.part.seen ++ rest
+  pub none : entries_of (knows v.part) rest ≡ []
+  pub word : found ≡ code v.setup w.part.seen place
+  pub sound : IsSound v.setup (judges_of v.setup) w.part.seen
+  pub left : Begun w.part.seen v.left
+  pub right : Begun w.part.seen v.right
+
+-- the entry that a seat makes of an act on a word
+abbrev pub made : Setup → ℕ → Act → ℕ → Entry
+made s seat act word = record { seat = seat; act = act; before = word; after = (acted (table_of_act s act) (start_of_act s act) word act).1 }
+
+-- the entry of the act after this history
+abbrev pub made_after : Setup → ℕ → Act → List Entry → Entry
+made_after s seat act log = made s seat act (word_at s log (place_of act))
+
+-- the history so far was seen, and the seat's act was added to it
+pub record Made (code : Setup → List Entry → ℕ → ℕ) (v w : View) (act : Act) (found : ℕ) : Type 0 where
+  pub same : w ≡ with_seen v w.part.seen
+  pub rest : List Entry
+  pub list : w.part.seen ≡ (v.part.seen ++ rest) ++ made_after v.setup v.part.number act (v.part.seen ++ rest) ∷ []
+  pub none : entries_of (knows v.part) rest ≡ []
+  pub word : found ≡ code v.setup (v.part.seen ++ rest) (place_of act)
+  pub sound : IsSound v.setup (judges_of v.setup) w.part.seen
+  pub answer : (acted (table_of_act v.setup act) (start_of_act v.setup act) (word_at v.setup (v.part.seen ++ rest) (place_of act)) act).0
+      ≡ answer_at v.setup (judges_of v.setup) (reverse (v.part.seen ++ rest)) (made_after v.setup v.part.number act (v.part.seen ++ rest)) act
+
+-- a seat's view, and nothing that it holds
+abbrev pub Ours : Type 0
+Ours = Me Act View
+
+-- the act that a step announces
+abbrev pub told : Option Act → Act
+told (some act) = act
+told none = Look
+
+-- ---- the kinds of step of a board
+
+abbrev pub Sees : Step Act → Ours → ℕ → Ours → Type 0
+Sees st m found m' = Saw word_at m.0 m'.0 st.word found × (m'.1 ≡ m.1)
+
+abbrev pub Makes : Act → Ours → ℕ → Ours → Type 0
+Makes act m found m' = Made word_at m.0 m'.0 act found × (m'.1 ≡ m.1)
+
+-- a compare-exchange that won, or lost
+abbrev pub Tries : Step Act → Ours → ℕ → Ours → Type 0
+Tries st m found m' = MatchBool (found == st.first) (Made word_at m.0 m'.0 (told st.said) found) (Saw word_at m.0 m'.0 st.word found) × (m'.1 ≡ m.1)
+
+abbrev pub Stops : Step Act → Ours → ℕ → Ours → Type 0
+Stops st = Makes (Stop (st.word - 1))
+
+abbrev pub Looks : Step Act → Ours → ℕ → Ours → Type 0
+Looks st = Makes Look
+
+abbrev pub Raises : Step Act → Ours → ℕ → Ours → Type 0
+Raises st = Makes (Raise st.first)
+
+-- the word that the switches are cut down to has the other bits
+abbrev pub Lowers : Step Act → Ours → ℕ → Ours → Type 0
+Lowers st = Makes (Lower (bit_not w64 st.first))
+
+abbrev pub Clears : Step Act → Ours → ℕ → Ours → Type 0
+Clears st = Makes (Clear (st.word - 1))

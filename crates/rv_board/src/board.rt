@@ -1,0 +1,156 @@
+//! The words that threads share.
+ghost use Rattle.std.specs.Prelude.{◌≡◌, ◌<◌, ◌^◌, [], IfOk, sum, reverse};
+ghost use Rattle.rv_model.specs.declared.entry.Act.TheVariants.{Look, Raise, Lower, Clear};
+ghost use Rattle.rv_model.specs.SharedWords.{word_of};
+ghost use Rattle.rv_core.specs.Setup.{judges_of};
+ghost use Rattle.rv_board.specs.Known.{part};
+ghost use Rattle.rv_board.specs.Rule.{IsOpening};
+ghost use Rattle.rv_board.specs.Seats.{seat_value, SeatGrows, Looks, Does};
+
+use crate::rule::{Clearing, Law, Looking, Lowering, Raising, Seeing};
+use crate::seat::Seat;
+use crate::view::View;
+use atomic_table::Table;
+use rv_core::Setup;
+use rv_model::Act;
+use rv_slots::Shape;
+use std::alloc::{AllocError, Global};
+use std::marker::Model;
+
+/// The bit of the switches that halts a run.
+const HALTED: u64 = 1 << 34;
+
+/// The switches, and a word for each slot of the setup. Contracts see which board it is, and what it began with.
+#[derive(Drop)]
+pub struct Board {
+    pub(crate) table: Table<Act, View, Setup, Law, Global>,
+    pub(crate) setup: Setup,
+}
+
+impl Model for Board {
+    ghost use Rattle.std.specs.Prelude.{◌≡◌};
+    ghost use Rattle.rv_board.specs.Rule.{width};
+    ghost use Rattle.rv_board.specs.Seats.{BoardId, coded_board};
+
+    ghost Value = { BoardId };
+
+    ghost coded = { coded_board };
+
+    ghost view = { λ b. record { table = b.table.shared.table_id; setup = b.setup } };
+
+    ghost invariant = { λ b. (b.table.shared.key ≡ b.setup) × (b.table.shared.table_id.words ≡ width b.setup) };
+}
+
+/// A new board, and its first seat, which has all numbers.
+#[derive(Drop)]
+pub struct BoardStart {
+    pub board: Board,
+    pub seat: Seat,
+}
+
+/// The switches, and then each slot's opening word.
+fn opening_words(alloc: Global, setup: &Setup) -> Result<Vec<u64>, AllocError>
+    ensures { IfOk result (λ words. IsOpening setup.now words.items) }
+{
+    setup.known();
+    let slots = setup.shape.slots();
+    let mut words = Vec::new(alloc);
+    words.push(setup.switches)?;
+    for slot in 0..slots {
+        words.push(setup.opening(slot))?;
+    }
+    Ok(words)
+}
+
+impl Board {
+    /// Every slot waits, and the seat has seen nothing.
+    pub fn new(alloc: Global, setup: Setup) -> Result<BoardStart, AllocError>
+        ensures board { IfOk result (λ start. start.board.setup ≡ setup) }
+        ensures seat { IfOk result (λ start. start.seat ≡ seat_value (part 0 67 [] []) start.board) }
+    {
+        let words = opening_words(alloc, &setup)?;
+        let (table, token) = Table::of_words(alloc, words.as_slice(), &setup)?;
+        Ok(BoardStart {
+            board: Board { table, setup },
+            seat: Seat {
+                token,
+                number: 0,
+                end: 67,
+            },
+        })
+    }
+
+    /// The shape of its setup. It is no step.
+    pub fn shape(&self) -> &Shape
+        ensures { result.now ≡ self.now.setup.shape }
+    {
+        &self.setup.shape
+    }
+
+    /// The switches.
+    pub fn look(&self, seat: &mut Seat) -> u64
+        requires { seat.old.board ≡ self.now }
+        ensures { Looks seat.old seat.new result }
+    {
+        self.table.shared.load::<Looking>(&mut seat.token, 0)
+    }
+
+    /// The halted switch goes on.
+    pub fn halt(&self, seat: &mut Seat)
+        requires { seat.old.board ≡ self.now }
+        ensures { Does seat.old seat.new (Raise (2 ^ 34)) }
+    {
+        self.table
+            .shared
+            .fetch_or::<Raising>(&mut seat.token, 0, HALTED);
+    }
+
+    /// These switches go on. Only the control actor calls it, and it does not halt.
+    pub fn raise(&self, seat: &mut Seat, bits: u64)
+        requires board { seat.old.board ≡ self.now }
+        requires actor { seat.old.part.number ≡ 1 }
+        requires bits { bits < 2 ^ 34 }
+        ensures { Does seat.old seat.new (Raise bits) }
+    {
+        self.table
+            .shared
+            .fetch_or::<Raising>(&mut seat.token, 0, bits);
+    }
+
+    /// These switches go off. Only the control actor calls it, and a run that is halted stays so.
+    pub fn lower(&self, seat: &mut Seat, bits: u64)
+        requires board { seat.old.board ≡ self.now }
+        requires actor { seat.old.part.number ≡ 1 }
+        requires bits { bits < 2 ^ 34 }
+        ensures { Does seat.old seat.new (Lower bits) }
+    {
+        self.table
+            .shared
+            .fetch_and::<Lowering>(&mut seat.token, 0, !bits);
+    }
+
+    /// The slot waits again, with its starting levels. Only the control actor calls it.
+    pub fn clear(&self, seat: &mut Seat, slot: u32)
+        requires board { seat.old.board ≡ self.now }
+        requires actor { seat.old.part.number ≡ 1 }
+        requires slot { slot < sum self.now.setup.shape }
+        ensures { Does seat.old seat.new (Clear slot) }
+    {
+        let opening = self.setup.opening(slot);
+        self.table
+            .shared
+            .swap::<Clearing>(&mut seat.token, slot as usize + 1, opening);
+    }
+
+    /// The word of a slot, as the history that the seat has then seen gives it.
+    pub fn word(&self, seat: &mut Seat, slot: u32) -> u64
+        requires board { seat.old.board ≡ self.now }
+        requires slot { slot < sum self.now.setup.shape }
+        ensures grows { SeatGrows seat.old seat.new [] }
+        ensures word { result ≡ word_of self.now.setup (judges_of self.now.setup) (reverse seat.new.part.seen) slot }
+    {
+        self.table
+            .shared
+            .load::<Seeing>(&mut seat.token, slot as usize + 1)
+    }
+}

@@ -1,0 +1,57 @@
+//! A hit is delivered to an instance.
+ghost use Rattle.std.specs.Prelude.{◌≡◌, ◌<◌, sum};
+ghost use Rattle.rv_core.specs.Advance.{FitsTable};
+ghost use Rattle.rv_core.specs.Setup.{table_at};
+ghost use Rattle.rv_board.specs.Deliveries.{Delivers};
+
+use crate::board::Board;
+use crate::rule::{Seeing, Stopping, Trying};
+use crate::seat::Seat;
+use rv_core::advance;
+use rv_io::Gate;
+use rv_model::{Act, Delivered, Hit};
+use rv_word::STOPPED;
+
+/// How often a delivery is tried.
+const TRIES: u32 = 3;
+
+impl Board {
+    /// Tries three times to put the next word in the place of the word that was found, and stops the instance where
+    /// other seats changed the word each time. The gate is called before each try, with the number of lost ones.
+    pub fn deliver<G: Gate>(
+        &self,
+        seat: &mut Seat,
+        cpu: u32,
+        slot: u32,
+        hit: &Hit,
+        gate: &mut G,
+    ) -> Delivered
+        requires board { seat.old.board ≡ self.now }
+        requires slot { slot < sum self.now.setup.shape }
+        requires hit { FitsTable (table_at self.now.setup slot) hit.now }
+        ensures { Delivers seat.old seat.new slot hit.now result }
+    {
+        let act = Act::Deliver { slot, hit: *hit };
+        let place = slot as usize + 1;
+        let shared = &self.table.shared;
+        let table = self.setup.table(slot);
+        let mut word = shared.load::<Seeing>(&mut seat.token, place);
+        for lost in 0..TRIES {
+            let next = advance(table, word, hit);
+            gate.between(cpu, lost);
+            let found = shared.compare_exchange_with::<Trying>(
+                &mut seat.token,
+                place,
+                word,
+                next.word,
+                &act,
+            );
+            if found == word {
+                return Delivered::Done(next.answer);
+            }
+            word = found;
+        }
+        shared.swap::<Stopping>(&mut seat.token, place, STOPPED);
+        Delivered::Racing
+    }
+}

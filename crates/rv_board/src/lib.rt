@@ -1,0 +1,16 @@
+//! The words that threads share, and the seats from which threads change them. All changes are entries of one
+//! history, of which each seat has seen a beginning.
+#![tactic(auto)]
+
+mod board;
+mod delivery;
+mod rule;
+mod seat;
+mod sharing;
+#[cfg(test)]
+mod tests;
+mod view;
+
+pub use board::{Board, BoardStart};
+pub use rv_model::Delivered;
+pub use seat::Seat;

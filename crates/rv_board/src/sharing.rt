@@ -1,0 +1,69 @@
+//! Seats are split and joined, and the last one closes the board.
+ghost use Rattle.std.specs.Prelude.{◌≡◌, ◌<◌, ◌≤◌, []};
+ghost use Rattle.rv_board.specs.Known.{part};
+ghost use Rattle.rv_board.specs.Rule.{cut_left, cut_right};
+ghost use Rattle.rv_board.specs.Seats.{seat_value, Joins, Closes};
+
+use crate::board::Board;
+use crate::rule::{Cut, Cutting, Joining, Law, Seeing};
+use crate::seat::Seat;
+use crate::view::View;
+use atomic_table::{Seat as Token, Shared};
+use rv_core::Setup;
+use rv_model::{Act, Closed};
+use std::marker::Brand;
+
+/// The token keeps what is below the number that is picked, and the new one has the rest.
+fn cut<N: Cutting>(
+    shared: &Shared<Act, View, Setup, Law>,
+    token: &mut Token<Act, View>,
+    number: u32,
+) -> Token<Act, View>
+    requires pick { number ≡ N.at }
+    requires board { (token.old.table_id ≡ shared.now.table_id) × (0 < shared.now.table_id.words) }
+    requires range { (token.old.me.0.part.number ≤ number) × (number ≤ token.old.me.0.part.end) }
+    ensures old { (token.new.table_id ≡ token.old.table_id) × (token.new.me ≡ (cut_left number token.old.me.0, token.old.me.1)) }
+    ensures new { (result.table_id ≡ token.old.table_id) × (result.me ≡ (cut_right number token.old.me.0, [])) }
+{
+    shared.split_seat::<Cut<N>>(token)
+}
+
+impl Board {
+    /// A new seat, which has the numbers from `number` on and has seen what the old one has.
+    pub fn split(&self, seat: &mut Seat, number: u32) -> Seat
+        requires board { seat.old.board ≡ self.now }
+        requires range { (seat.old.part.number < number) × (number < seat.old.part.end) }
+        ensures old { seat.new ≡ seat_value (part seat.old.part.number number seat.old.part.gone seat.old.part.seen) seat.old.board }
+        ensures new { result ≡ seat_value (part number seat.old.part.end [] seat.old.part.seen) seat.old.board }
+    {
+        let end = seat.end;
+        let token = cut::<Brand>(&self.table.shared, &mut seat.token, number);
+        seat.end = number;
+        Seat { token, number, end }
+    }
+
+    /// Takes in what another seat has seen, and its numbers, which are not used again.
+    pub fn join(&self, into: &mut Seat, from: Seat)
+        requires into { into.old.board ≡ self.now }
+        requires from { from.board ≡ self.now }
+        ensures { Joins into.old from into.new }
+    {
+        let Seat {
+            token,
+            number: _,
+            end: _,
+        } = from;
+        let shared = &self.table.shared;
+        shared.join_seat::<Joining>(&mut into.token, token);
+        shared.load::<Seeing>(&mut into.token, 0);
+    }
+
+    /// The history, of which the seat had seen the beginning. It is whole where the seat knows all numbers.
+    pub fn close(self, mut seat: Seat) -> Closed
+        requires { seat.board ≡ self }
+        ensures { Closes seat result }
+    {
+        self.table.shared.load::<Seeing>(&mut seat.token, 0);
+        Closed::of(&seat)
+    }
+}
