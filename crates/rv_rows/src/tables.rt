@@ -1,7 +1,4 @@
 //! Rules from their text on, as tables and as the plain programs judge them.
-ghost use Rattle.std.specs.Prelude.{IfOk};
-ghost use Rattle.rv_model.specs.Formulas.{ltl, HasAtomsBelow};
-
 use rv_ltl::read_ltl;
 use rv_model::{Formula, Letter, Rule};
 use rv_nnf::normal;
