@@ -4,24 +4,23 @@ use Rattle.std.specs.Prelude.{Option, Some, None, slice_get, slice_index_or, byt
 use Rattle.std.specs.List.{position_or_len}
 use Rattle.std.proofs.lemmas.List.Sums.{position_or_len_is}
 use Rattle.std.proofs.lemmas.Option.{slice_get_within, get_or_from_slice_get}
-use Rattle.rv_model.specs.declared.reactor.Reactor.{Reactor}
-use Rattle.rv_bind.specs.declared.bindings.Monitor.{Monitor}
 use Rattle.rv_model.specs.declared.hit.Mode.{Mode}
-use Rattle.rv_model.specs.declared.hit.What.TheVariants.{Da as event_of}
-use Rattle.rv_model.specs.declared.formula.Spec.{Spec}
-use Rattle.rv_model.specs.declared.formula.Spec.TheVariants as specs
-use Rattle.rv_model.specs.Machine.{Machine}
+use Rattle.rv_model.specs.declared.hit.What.{What}
+use Rattle.rv_bind.specs.declared.bindings.Monitor.{Monitor}
 use Rattle.rv_bind.specs.declared.bindings.Test.{Test}
 use Rattle.rv_bind.specs.declared.limits.TheConstants.{MAX_RULES}
 use Rattle.rv_bind.specs.Values.{OnValue, BoundValue}
-use Rattle.rv_bind.specs.Bound.{monitor_named, event_named, allows_by, rule_bound, with_reactor, react_bound}
+use Rattle.rv_bind.specs.LineReads.{after}
+use Rattle.rv_bind.specs.Forms.{Words}
+use Rattle.rv_bind.specs.Changes.{allows_what, what_of, atom_bit}
+use Rattle.rv_bind.specs.Bound.{monitor_named, allows_by, rule_bound, changed, with_change, change_bound, beginning, begin_at, begin_bound}
 
--- the reactor is changed where it stands
-pub with_reactor-set : (monitors : List Monitor) (place : ℕ) (reactor : Reactor) (m : Monitor) → place < length monitors → get_or monitors place m ≡ m
-    → with_reactor monitors place reactor ≡ set monitors place (record m { reactor = reactor })
-with_reactor-set [] place reactor m lt is = absurd (omega arith)
-with_reactor-set (x ∷ monitors) zero reactor m lt is = ap (λ (y : Monitor). record y { reactor = reactor } ∷ monitors) is
-with_reactor-set (x ∷ monitors) (suc place) reactor m lt is = ap (λ ms. x ∷ ms) (with_reactor-set monitors place reactor m (omega arith) is)
+-- a monitor is changed where it stands
+pub changed-set : (change : Monitor → Monitor) (monitors : List Monitor) (place : ℕ) (m : Monitor) → place < length monitors → get_or monitors place m ≡ m
+    → changed change monitors place ≡ set monitors place (change m)
+changed-set change [] place m lt is = absurd (omega arith)
+changed-set change (x ∷ monitors) zero m lt is = ap (λ (y : Monitor). change y ∷ monitors) is
+changed-set change (x ∷ monitors) (suc place) m lt is = ap (λ ms. x ∷ ms) (changed-set change monitors place m (omega arith) is)
 
 -- ---- a name in a list, with none at a lower place
 module _ (names : List (List ℕ)) (name : List ℕ) where
@@ -50,20 +49,26 @@ module _ (names : List (List ℕ)) (name : List ℕ) where
 
 -- ---- what a line adds
 
-pub event_is : (spec : Spec) (a : Machine) (events : List (List ℕ)) (name : List ℕ) (place : Option ℕ) → spec ≡ specs.Da a → events ≡ a.events
-    → place ≡ position (λ event. bytes_eq event name) events → place ≡ event_named spec name
-event_is spec a events name place is same found = found ∙ ap (position (λ event. bytes_eq event name)) same ∙ ap (λ s. event_named s name) (sym is)
-
 module _ (b : BoundValue) (name : List ℕ) (place : ℕ) (named : monitor_named b name ≡ Some place) where
-  pub react_added : (reactor : Reactor) (m : Monitor) (after : List Monitor) → place < length b.monitors → get_or b.monitors place m ≡ m → after ≡ set b.monitors place (record m { reactor = reactor })
-      → react_bound b (monitor_named b name) reactor ≡ Ok (record b { monitors = after })
-  react_added reactor m after lt is changed =
-      ap (λ (p : Option ℕ). react_bound b p reactor) named ∙ ap (λ (ms : List Monitor). Ok (record b { monitors = ms })) (with_reactor-set b.monitors place reactor m lt is ∙ sym changed)
+  -- a change of the monitor of this name
+  pub change_added : (change : Monitor → Monitor) (m : Monitor) (after : List Monitor) → place < length b.monitors → get_or b.monitors place m ≡ m → after ≡ set b.monitors place (change m)
+      → change_bound b (monitor_named b name) change ≡ Ok (record b { monitors = after })
+  change_added change m after lt is added =
+      ap (λ (p : Option ℕ). change_bound b p change) named ∙ ap (λ (ms : List Monitor). Ok (record b { monitors = ms })) (changed-set change b.monitors place m lt is ∙ sym added)
 
-  pub rule_added : (m : Monitor) (event : List ℕ) (by : Option (List ℕ)) (tests : List Test) (mode : Mode) (what : List ℕ) (number : ℕ) (after : List OnValue)
-      → slice_get b.monitors place ≡ Some m → allows_by m.scope by ≡ true → length b.rules < MAX_RULES → event_named m.spec what ≡ Some number
-      → after ≡ b.rules ++ record { monitor = place; event = event; by = by; tests = tests; hit = record { mode = mode; what = event_of number } } ∷ []
-      → rule_bound b (monitor_named b name) event by tests mode what ≡ Ok (record b { rules = after })
-  rule_added m event by tests mode what number after there allowed room found added =
+  -- an atom of the monitor of this name that starts true
+  pub begin_added : (atom : List ℕ) (bit : ℕ) (m : Monitor) (after : List Monitor) → slice_get b.monitors place ≡ Some m → atom_bit m.spec atom ≡ Ok bit → after ≡ set b.monitors place (beginning bit m)
+      → begin_bound b (monitor_named b name) atom ≡ Ok (record b { monitors = after })
+  begin_added atom bit m after there found added =
+      let lt : place < length b.monitors = slice_get_within b.monitors place m there in
+      let is : get_or b.monitors place m ≡ m = get_or_from_slice_get b.monitors place m m there in
+      rw (named, there, found) (ap (λ (ms : List Monitor). Ok (record b { monitors = ms })) (changed-set (beginning bit) b.monitors place m lt is ∙ sym added))
+
+  -- a rule of the monitor of this name
+  pub rule_added : (m : Monitor) (event : List ℕ) (by : Option (List ℕ)) (tests : List Test) (mode : Mode) (words : Words) (what : What) (after : List OnValue)
+      → slice_get b.monitors place ≡ Some m → allows_by m.scope by ≡ true → allows_what m.spec mode words ≡ true → length b.rules < MAX_RULES → what_of m.spec words ≡ Ok what
+      → after ≡ b.rules ++ record { monitor = place; event = event; by = by; tests = tests; hit = record { mode = mode; what = what } } ∷ []
+      → rule_bound b (monitor_named b name) event by tests mode words ≡ Ok (record b { rules = after })
+  rule_added m event by tests mode words what after there allowed fits room found added =
       let few : nat_lt (length b.rules) MAX_RULES ≡ true = grind arith in
-      rw (named, there, allowed, few, found) (ap (λ (rs : List OnValue). Ok (record b { rules = rs })) (sym added))
+      rw (named, there, allowed, fits, few, found) (ap (λ (rs : List OnValue). Ok (record b { rules = rs })) (sym added))

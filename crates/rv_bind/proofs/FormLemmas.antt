@@ -1,8 +1,10 @@
 -- A line's form, with one word read ahead.
-use Rattle.std.proofs.Common.{◌≡◌, ℕ, Bool, true, false, not, List, [], ◌∷◌, ◌++◌, refl, sym, ap, ◌∙◌}
+use Rattle.std.proofs.Common.{◌≡◌, ℕ, Bool, true, false, not, List, [], ◌∷◌, ◌++◌, refl, sym, ap, ◌∙◌, Bor}
 use Rattle.std.specs.Prelude.{Result, Ok, Err, Option, Some, None, bytes_eq, codes}
 use Rattle.std.specs.Str.{is_utf8, IsUtf8}
 use Rattle.std.proofs.lemmas.Str.{IsUtf8-from_is_utf8, is_utf8-from_IsUtf8}
+use Rattle.std.proofs.lemmas.List.{map-append, append_assoc, append-nil}
+use Rattle.rv_ltl.specs.Texts.{texts}
 use Rattle.rv_text.specs.declared.numbers.TheConstants.{BIND_SYNTAX}
 use Rattle.rv_bind.specs.LineReads.{after}
 use Rattle.rv_bind.specs.Forms.{FormValue, on, Words, Read, word_at, when, by_at, tests_at, hit_form, on_form, with_next, on_read}
@@ -38,3 +40,12 @@ pub on_read_is_form : (words : Words) → on_read words ≡ on_form words
 on_read_is_form [] = refl
 on_read_is_form (name ∷ []) = refl
 on_read_is_form (name ∷ event ∷ words) = ap (after (when (not (bytes_eq event (codes ":"))) event)) (λ i called. on-behind name called words i)
+
+-- one more word is taken
+pub one_taken : (taken more : List (Bor (List ℕ))) (word : Bor (List ℕ)) (words rest all : Words) → words ≡ word.now ∷ rest → texts taken ++ words ≡ all → more ≡ taken ++ word ∷ [] → texts more ++ rest ≡ all
+one_taken taken more word words rest all next so_far pushed =
+    ap (λ ts. texts ts ++ rest) pushed ∙ ap (λ ts. ts ++ rest) (map-append (λ s. s.now) taken (word ∷ [])) ∙ append_assoc (texts taken) (word.now ∷ []) rest ∙ ap (λ ws. texts taken ++ ws) (sym next) ∙ so_far
+
+-- no word is left
+pub all_taken : (taken : List (Bor (List ℕ))) (words all : Words) → words ≡ [] → texts taken ++ words ≡ all → texts taken ≡ all
+all_taken taken words all none so_far = sym (append-nil (texts taken)) ∙ ap (λ ws. texts taken ++ ws) (sym none) ∙ so_far

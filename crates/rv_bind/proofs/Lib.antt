@@ -1,5 +1,7 @@
 pub mod BoundLemmas
+pub mod ChangeLemmas
 pub mod FormLemmas
 pub mod OutcomeLemmas
+pub mod TableLemmas
 pub mod TestLemmas
 pub mod WellFormedLemmas

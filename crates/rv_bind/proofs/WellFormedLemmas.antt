@@ -1,25 +1,28 @@
 -- Each line keeps bindings well formed.
 use Rattle.std.proofs.Common.{◌≡◌, ℕ, zero, suc, ◌+◌, ◌<◌, ◌≤◌, Bool, true, false, not, List, [], ◌∷◌, ◌++◌, map, length, get_or, refl, sym, ap, ◌∙◌, subst, arith, length-append}
-use Rattle.std.specs.Prelude.{All, Option, Some, None, Result, Ok, Err, slice_get, nat_lt, position, bytes_eq, if◌then◌else◌}
-use Rattle.std.proofs.lemmas.List.{map-append}
+use Rattle.std.specs.Prelude.{All, Option, Some, None, Result, Ok, Err, ◌&&◌, slice_get, nat_lt, bit_or, if◌then◌else◌}
+use Rattle.std.proofs.lemmas.List.{map-append, append-nil}
 use Rattle.std.proofs.lemmas.List.Elements.{All-nil, All-push, All-weaker}
-use Rattle.std.proofs.lemmas.List.Quantifiers.{position-Some}
+use Rattle.rv_text.specs.declared.numbers.TheConstants.{BIND_SYNTAX, NAME_TWICE, TOO_MANY_RULES}
 use Rattle.rv_model.specs.declared.hit.Mode.{Mode}
+use Rattle.rv_model.specs.declared.hit.What.{What}
 use Rattle.rv_model.specs.declared.work.Scope.{Scope}
-use Rattle.rv_model.specs.declared.reactor.Reactor.{Reactor}
 use Rattle.rv_model.specs.declared.formula.Spec.{Spec}
-use Rattle.rv_model.specs.declared.formula.Spec.TheVariants as specs
-use Rattle.rv_model.specs.Machine.{Machine}
-use Rattle.rv_model.specs.Table.{Table, table_of}
-use Rattle.rv_model.specs.Judging.{Means}
+use Rattle.rv_model.specs.Table.{Table}
 use Rattle.rv_bind.specs.declared.bindings.Monitor.{Monitor}
 use Rattle.rv_bind.specs.declared.bindings.Item.{Item}
 use Rattle.rv_bind.specs.declared.bindings.Item.TheVariants as items
 use Rattle.rv_bind.specs.declared.bindings.Test.{Test}
-use Rattle.rv_bind.specs.declared.limits.TheConstants.{MAX_RULES}
+use Rattle.rv_bind.specs.declared.compile.Compiled.{Compiled}
+use Rattle.rv_bind.specs.declared.limits.TheConstants.{MAX_CONTAINERS, MAX_RULES}
+use Rattle.rv_bind.specs.LineReads.{after}
 use Rattle.rv_bind.specs.Values.{OnValue, BoundValue}
-use Rattle.rv_bind.specs.Bound.{nothing_bound, monitor_named, event_named, allows_by, with_rule, rule_at, rule_bound, with_reactor, react_bound, with_monitor}
-use Rattle.rv_bind.specs.WellFormed.{Kind, kind_of, kinds_of, FitsSpec, HasTable, HaveTables, FitsKind, IsItem, IsWellFormed}
+use Rattle.rv_bind.specs.Forms.{Words}
+use Rattle.rv_bind.specs.Changes.{allows_what, what_of, atom_bit}
+use Rattle.rv_bind.specs.Compiling.{Compiles}
+use Rattle.rv_bind.specs.Bound.{nothing_bound, is_taken, allows_by, with_rule, rule_at, rule_bound, changed, with_change, change_bound, beginning, begin_at, begin_bound, container_bound, items_of, with_monitor}
+use Rattle.rv_bind.specs.WellFormed.{Kind, kind_of, kinds_of, FitsSpec, StartsIn, HasTable, HaveTables, FitsKind, holders_of, IsHolder, IsItem, IsWellFormed}
+use Rattle.rv_bind.proofs.ChangeLemmas.{what_fits, starts_at_first, starts_more}
 
 pub nothing_formed : IsWellFormed nothing_bound
 nothing_formed = record {
@@ -28,33 +31,99 @@ nothing_formed = record {
   few_rules = omega arith;
   tables = tt;
   rules = All-nil (FitsKind []);
+  holders = All-nil (IsHolder 0);
   items = All-nil (IsItem 0 0);
 }
 
--- ---- a reactor
+-- ---- a change of a monitor
 
-with_reactor-kinds : (monitors : List Monitor) (place : ℕ) (reactor : Reactor) → kinds_of (with_reactor monitors place reactor) ≡ kinds_of monitors
-with_reactor-kinds [] place reactor = refl
-with_reactor-kinds (m ∷ monitors) zero reactor = refl
-with_reactor-kinds (m ∷ monitors) (suc place) reactor = ap (λ kinds. kind_of m ∷ kinds) (with_reactor-kinds monitors place reactor)
+changed-map : {X : Type 0} (change : Monitor → Monitor) (f : Monitor → X) → ((m : Monitor) → f (change m) ≡ f m) → (monitors : List Monitor) (place : ℕ) → map f (changed change monitors place) ≡ map f monitors
+changed-map change f same [] place = refl
+changed-map change f same (m ∷ monitors) zero = ap (λ x. x ∷ map f monitors) (same m)
+changed-map change f same (m ∷ monitors) (suc place) = ap (λ xs. f m ∷ xs) (changed-map change f same monitors place)
 
-with_reactor-length : (monitors : List Monitor) (place : ℕ) (reactor : Reactor) → length (with_reactor monitors place reactor) ≡ length monitors
-with_reactor-length [] place reactor = refl
-with_reactor-length (m ∷ monitors) zero reactor = refl
-with_reactor-length (m ∷ monitors) (suc place) reactor = ap (λ n. suc n) (with_reactor-length monitors place reactor)
+changed-length : (change : Monitor → Monitor) (monitors : List Monitor) (place : ℕ) → length (changed change monitors place) ≡ length monitors
+changed-length change [] place = refl
+changed-length change (m ∷ monitors) zero = refl
+changed-length change (m ∷ monitors) (suc place) = ap (λ n. suc n) (changed-length change monitors place)
 
-pub react_formed : (b after : BoundValue) (place : Option ℕ) (reactor : Reactor) → IsWellFormed b → react_bound b place reactor ≡ Ok after → IsWellFormed after
-react_formed b after None reactor w e = cc
-react_formed b after (Some place) reactor w e =
-    let is : record b { monitors = with_reactor b.monitors place reactor } ≡ after = cc in
+-- a change that leaves what tables and rules go by
+pub change_formed : (b after : BoundValue) (place : Option ℕ) (change : Monitor → Monitor) → ((m : Monitor) → kind_of (change m) ≡ kind_of m) → ((m : Monitor) → (change m).container ≡ m.container)
+    → IsWellFormed b → change_bound b place change ≡ Ok after → IsWellFormed after
+change_formed b after None change kind holder w e = cc
+change_formed b after (Some place) change kind holder w e =
+    let is : with_change b change place ≡ after = cc in
     subst IsWellFormed is (record {
       few_containers = w.few_containers;
-      few_monitors = rw (with_reactor-length b.monitors place reactor) w.few_monitors;
+      few_monitors = rw (changed-length change b.monitors place) w.few_monitors;
       few_rules = w.few_rules;
-      tables = rw (with_reactor-kinds b.monitors place reactor) w.tables;
-      rules = rw (with_reactor-kinds b.monitors place reactor) w.rules;
-      items = rw (with_reactor-length b.monitors place reactor) w.items;
+      tables = rw (changed-map change kind_of kind b.monitors place) w.tables;
+      rules = rw (changed-map change kind_of kind b.monitors place) w.rules;
+      holders = rw (changed-map change (λ m. m.container) holder b.monitors place) w.holders;
+      items = rw (changed-length change b.monitors place) w.items;
     })
+
+-- ---- an atom that starts true
+
+-- a kind that differs in its starting value alone
+record Began (kinds : List Kind) (i : ℕ) (kind : Kind) : Type 0 where
+  other : Kind
+  there : slice_get kinds i ≡ Some other
+  scope : other.scope ≡ kind.scope
+  spec : other.spec ≡ kind.spec
+
+kinds-began : (bit : ℕ) (monitors : List Monitor) (place i : ℕ) (kind : Kind) → slice_get (kinds_of monitors) i ≡ Some kind → Began (kinds_of (changed (beginning bit) monitors place)) i kind
+kinds-began bit [] place i kind e = cc
+kinds-began bit (m ∷ monitors) zero zero kind e =
+    let same : kind_of m ≡ kind = cc in
+    record { other = kind_of (beginning bit m); there = refl; scope = ap (λ (k : Kind). k.scope) same; spec = ap (λ (k : Kind). k.spec) same }
+kinds-began bit (m ∷ monitors) zero (suc i) kind e = record { other = kind; there = e; scope = refl; spec = refl }
+kinds-began bit (m ∷ monitors) (suc place) zero kind e = record { other = kind; there = e; scope = refl; spec = refl }
+kinds-began bit (m ∷ monitors) (suc place) (suc i) kind e =
+    let later = kinds-began bit monitors place i kind e in
+    record { other = later.other; there = later.there; scope = later.scope; spec = later.spec }
+
+fits-began : (bit : ℕ) (monitors : List Monitor) (place : ℕ) (r : OnValue) → FitsKind (kinds_of monitors) r → FitsKind (kinds_of (changed (beginning bit) monitors place)) r
+fits-began bit monitors place r f =
+    let began = kinds-began bit monitors place r.monitor f.kind f.there in
+    record {
+      kind = began.other;
+      there = began.there;
+      hit = subst (λ (s : Spec). FitsSpec s r.hit) (sym began.spec) f.hit;
+      by = subst (λ (s : Scope). allows_by s r.by ≡ true) (sym began.scope) f.by;
+    }
+
+module _ (atom : List ℕ) (bit : ℕ) (m : Monitor) (found : atom_bit m.spec atom ≡ Ok bit) where
+  tables-began : (monitors : List Monitor) (tables : List Table) (place : ℕ) → slice_get monitors place ≡ Some m → HaveTables (kinds_of monitors) tables → HaveTables (kinds_of (changed (beginning bit) monitors place)) tables
+  tables-began [] tables place e h = cc
+  tables-began (x ∷ monitors) [] place e h = absurd h
+  tables-began (x ∷ monitors) (t ∷ tables) zero e h =
+      let same : x ≡ m = cc in
+      (record { compiles = h.0.compiles; starting = starts_more x.spec atom x.starting bit (subst (λ (y : Monitor). atom_bit y.spec atom ≡ Ok bit) (sym same) found) h.0.starting }, h.1)
+  tables-began (x ∷ monitors) (t ∷ tables) (suc place) e h = (h.0, tables-began monitors tables place e h.1)
+
+  began_formed : (b : BoundValue) (place : ℕ) → slice_get b.monitors place ≡ Some m → IsWellFormed b → IsWellFormed (with_change b (beginning bit) place)
+  began_formed b place there w = record {
+    few_containers = w.few_containers;
+    few_monitors = rw (changed-length (beginning bit) b.monitors place) w.few_monitors;
+    few_rules = w.few_rules;
+    tables = tables-began b.monitors b.tables place there w.tables;
+    rules = All-weaker (FitsKind (kinds_of b.monitors)) (FitsKind (kinds_of (changed (beginning bit) b.monitors place))) (fits-began bit b.monitors place) b.rules w.rules;
+    holders = rw (changed-map (beginning bit) (λ m. m.container) (λ m. refl) b.monitors place) w.holders;
+    items = rw (changed-length (beginning bit) b.monitors place) w.items;
+  }
+
+begin_at_formed : (b done : BoundValue) (place : ℕ) (atom : List ℕ) → IsWellFormed b → (m : Option Monitor) → slice_get b.monitors place ≡ m → begin_at b place m atom ≡ Ok done → IsWellFormed done
+begin_at_formed b done place atom w None there e = cc
+begin_at_formed b done place atom w (Some m) there e = go (atom_bit m.spec atom) refl e
+  where
+    go : (bit : Result ℕ ℕ) → atom_bit m.spec atom ≡ bit → after bit (λ bit. Ok (with_change b (beginning bit) place)) ≡ Ok done → IsWellFormed done
+    go (Err number) found e = cc
+    go (Ok bit) found e = let is : with_change b (beginning bit) place ≡ done = cc in subst IsWellFormed is (began_formed atom bit m found b place there w)
+
+pub begin_formed : (b done : BoundValue) (place : Option ℕ) (atom : List ℕ) → IsWellFormed b → begin_bound b place atom ≡ Ok done → IsWellFormed done
+begin_formed b done None atom w e = cc
+begin_formed b done (Some place) atom w e = begin_at_formed b done place atom w (slice_get b.monitors place) refl e
 
 -- ---- a rule
 
@@ -63,48 +132,91 @@ slice_get-map f [] i x e = cc
 slice_get-map f (y ∷ ys) zero x e = let same : y ≡ x = cc in ap (λ z. Some (f z)) same
 slice_get-map f (y ∷ ys) (suc i) x e = slice_get-map f ys i x e
 
-event-fits : (spec : Spec) (name : List ℕ) (n : ℕ) (mode : Mode) → event_named spec name ≡ Some n → FitsSpec spec (record { mode = mode; what = Rattle.rv_model.specs.declared.hit.What.TheVariants.Da n })
-event-fits (specs.Da a) name n mode e = (position-Some (λ event. bytes_eq event name) a.events n [] e).0
-event-fits (specs.Ltl rule) name n mode e = cc
-
-module _ (b after : BoundValue) (place : ℕ) (event : List ℕ) (by : Option (List ℕ)) (tests : List Test) (mode : Mode) (what : List ℕ) (w : IsWellFormed b) where
-  with_rule_formed : (m : Monitor) → slice_get b.monitors place ≡ Some m → allows_by m.scope by ≡ true → length b.rules < MAX_RULES → (n : Option ℕ) → event_named m.spec what ≡ n
-      → with_rule b place event by tests mode n ≡ Ok after → IsWellFormed after
-  with_rule_formed m there allowed room None named e = cc
-  with_rule_formed m there allowed room (Some n) named e =
-      let rule : OnValue = record { monitor = place; event = event; by = by; tests = tests; hit = record { mode = mode; what = Rattle.rv_model.specs.declared.hit.What.TheVariants.Da n } } in
-      let is : record b { rules = b.rules ++ rule ∷ [] } ≡ after = cc in
-      let fits : FitsKind (kinds_of b.monitors) rule = record { kind = kind_of m; there = slice_get-map kind_of b.monitors place m there; hit = event-fits m.spec what n mode named; by = allowed } in
+module _ (b done : BoundValue) (place : ℕ) (event : List ℕ) (by : Option (List ℕ)) (tests : List Test) (mode : Mode) (words : Words) (w : IsWellFormed b) where
+  with_rule_formed : (m : Monitor) → slice_get b.monitors place ≡ Some m → allows_by m.scope by ≡ true → allows_what m.spec mode words ≡ true → length b.rules < MAX_RULES
+      → (what : Result What ℕ) → what_of m.spec words ≡ what → with_rule b place event by tests mode what ≡ Ok done → IsWellFormed done
+  with_rule_formed m there allowed fits room (Err number) found e = cc
+  with_rule_formed m there allowed fits room (Ok what) found e =
+      let rule : OnValue = record { monitor = place; event = event; by = by; tests = tests; hit = record { mode = mode; what = what } } in
+      let is : record b { rules = b.rules ++ rule ∷ [] } ≡ done = cc in
+      let of_kind : FitsKind (kinds_of b.monitors) rule =
+      record { kind = kind_of m; there = slice_get-map kind_of b.monitors place m there; hit = what_fits m.spec mode words what fits found; by = allowed } in
       subst IsWellFormed is (record {
         few_containers = w.few_containers;
         few_monitors = w.few_monitors;
         few_rules = rw length-append (omega arith);
         tables = w.tables;
-        rules = All-push (FitsKind (kinds_of b.monitors)) b.rules rule w.rules fits;
+        rules = All-push (FitsKind (kinds_of b.monitors)) b.rules rule w.rules of_kind;
+        holders = w.holders;
         items = w.items;
       })
 
-  rule_at_formed : (m : Option Monitor) → slice_get b.monitors place ≡ m → rule_at b place m event by tests mode what ≡ Ok after → IsWellFormed after
+  -- the rule where there is room
+  abbrev in_room : Monitor → Bool → Result BoundValue ℕ
+  in_room m few = if few then with_rule b place event by tests mode (what_of m.spec words) else Err TOO_MANY_RULES
+
+  rule_at_formed : (m : Option Monitor) → slice_get b.monitors place ≡ m → rule_at b place m event by tests mode words ≡ Ok done → IsWellFormed done
   rule_at_formed None there e = cc
-  rule_at_formed (Some m) there e = allowed (allows_by m.scope by) refl e
+  rule_at_formed (Some m) there e = by_form (allows_by m.scope by) refl (allows_what m.spec mode words) refl e
     where
-      room : (t : Bool) → nat_lt (length b.rules) MAX_RULES ≡ t → allows_by m.scope by ≡ true → (if t then with_rule b place event by tests mode (event_named m.spec what) else Err Rattle.rv_text.specs.declared.numbers.TheConstants.TOO_MANY_RULES) ≡ Ok after → IsWellFormed after
-      room true is ok e = with_rule_formed m there ok (let t = is in grind arith) (event_named m.spec what) refl e
-      room false is ok e = cc
+      room : (t : Bool) → nat_lt (length b.rules) MAX_RULES ≡ t → allows_by m.scope by ≡ true → allows_what m.spec mode words ≡ true → in_room m t ≡ Ok done → IsWellFormed done
+      room true is allowed fits e = with_rule_formed m there allowed fits (let t = is in grind arith) (what_of m.spec words) refl e
+      room false is allowed fits e = cc
 
-      allowed : (t : Bool) → allows_by m.scope by ≡ t
-          → (if t then (if nat_lt (length b.rules) MAX_RULES then with_rule b place event by tests mode (event_named m.spec what) else Err Rattle.rv_text.specs.declared.numbers.TheConstants.TOO_MANY_RULES) else Err Rattle.rv_text.specs.declared.numbers.TheConstants.BIND_SYNTAX) ≡ Ok after → IsWellFormed after
-      allowed true is e = room (nat_lt (length b.rules) MAX_RULES) refl is e
-      allowed false is e = cc
+      by_form : (t : Bool) → allows_by m.scope by ≡ t → (u : Bool) → allows_what m.spec mode words ≡ u → (if t && u then in_room m (nat_lt (length b.rules) MAX_RULES) else Err BIND_SYNTAX) ≡ Ok done → IsWellFormed done
+      by_form true is true fits e = room (nat_lt (length b.rules) MAX_RULES) refl is fits e
+      by_form true is false fits e = cc
+      by_form false is true fits e = cc
+      by_form false is false fits e = cc
 
-pub rule_formed : (b after : BoundValue) (place : Option ℕ) (event : List ℕ) (by : Option (List ℕ)) (tests : List Test) (mode : Mode) (what : List ℕ)
-    → IsWellFormed b → rule_bound b place event by tests mode what ≡ Ok after → IsWellFormed after
-rule_formed b after None event by tests mode what w e = cc
-rule_formed b after (Some place) event by tests mode what w e = rule_at_formed b after place event by tests mode what w (slice_get b.monitors place) refl e
+pub rule_formed : (b done : BoundValue) (place : Option ℕ) (event : List ℕ) (by : Option (List ℕ)) (tests : List Test) (mode : Mode) (words : Words)
+    → IsWellFormed b → rule_bound b place event by tests mode words ≡ Ok done → IsWellFormed done
+rule_formed b done None event by tests mode words w e = cc
+rule_formed b done (Some place) event by tests mode words w e = rule_at_formed b done place event by tests mode words w (slice_get b.monitors place) refl e
+
+-- ---- a container
+
+IsHolder-more : (n m : ℕ) → n ≤ m → (holder : Option ℕ) → IsHolder n holder → IsHolder m holder
+IsHolder-more n m le None h = tt
+IsHolder-more n m le (Some place) h = omega arith
+
+IsItem-more : (n m c d : ℕ) → n ≤ m → c ≤ d → (item : Item) → IsItem n c item → IsItem m d item
+IsItem-more n m c d le few (items.Monitor place) h = omega arith
+IsItem-more n m c d le few (items.Container place) h = omega arith
+
+module _ (b : BoundValue) (name : List ℕ) (w : IsWellFormed b) where
+  -- one more container
+  abbrev contained : BoundValue
+  contained = record b { containers = b.containers ++ name ∷ []; items = b.items ++ items.Container (length b.containers) ∷ [] }
+
+  contained_formed : length b.containers < 32 → IsWellFormed contained
+  contained_formed room =
+      let more : length contained.containers ≡ length b.containers + 1 = rw length-append refl in
+      let n = length b.containers in
+      let old : All (IsItem (length b.monitors) (n + 1)) b.items =
+      All-weaker (IsItem (length b.monitors) n) (IsItem (length b.monitors) (n + 1)) (IsItem-more (length b.monitors) (length b.monitors) n (n + 1) (omega arith) (omega arith)) b.items w.items in
+      record {
+        few_containers = rw more (omega arith);
+        few_monitors = w.few_monitors;
+        few_rules = w.few_rules;
+        tables = w.tables;
+        rules = w.rules;
+        holders = rw more (All-weaker (IsHolder n) (IsHolder (n + 1)) (IsHolder-more n (n + 1) (omega arith)) (holders_of b.monitors) w.holders);
+        items = rw more (All-push (IsItem (length b.monitors) (n + 1)) b.items (items.Container n) old (omega arith));
+      }
+
+  pub container_formed : (done : BoundValue) → container_bound b name ≡ Ok done → IsWellFormed done
+  container_formed done e = go (nat_lt (length b.containers) MAX_CONTAINERS) refl (is_taken b name) e
+    where
+      go : (t : Bool) → nat_lt (length b.containers) MAX_CONTAINERS ≡ t → (u : Bool) → (if t then (if u then Err NAME_TWICE else Ok contained) else Err BIND_SYNTAX) ≡ Ok done → IsWellFormed done
+      go true is false e = let is_done : contained ≡ done = cc in subst IsWellFormed is_done (contained_formed (let t = is in grind arith))
+      go true is true e = cc
+      go false is true e = cc
+      go false is false e = cc
 
 -- ---- a monitor
 
-HaveTables-push : (kinds : List Kind) (tables : List Table) (kind : Kind) (t : Table) → HaveTables kinds tables → HasTable kind kind.spec t → HaveTables (kinds ++ kind ∷ []) (tables ++ t ∷ [])
+HaveTables-push : (kinds : List Kind) (tables : List Table) (kind : Kind) (t : Table) → HaveTables kinds tables → HasTable kind t → HaveTables (kinds ++ kind ∷ []) (tables ++ t ∷ [])
 HaveTables-push [] [] kind t h has = (has, tt)
 HaveTables-push [] (u ∷ tables) kind t h has = absurd h
 HaveTables-push (k ∷ kinds) [] kind t h has = absurd h
@@ -118,22 +230,31 @@ slice_get-front (z ∷ zs) ys (suc i) x e = slice_get-front zs ys i x e
 FitsKind-more : (kinds more : List Kind) (r : OnValue) → FitsKind kinds r → FitsKind (kinds ++ more) r
 FitsKind-more kinds more r f = record { kind = f.kind; there = slice_get-front kinds more r.monitor f.kind f.there; hit = f.hit; by = f.by }
 
-IsItem-more : (n m containers : ℕ) → n ≤ m → (item : Item) → IsItem n containers item → IsItem m containers item
-IsItem-more n m containers le (items.Monitor place) h = omega arith
-IsItem-more n m containers le (items.Container place) h = h
+-- a monitor outside containers is one more item
+items-more : (monitors containers : ℕ) (old : List Item) (container : Option ℕ) → All (IsItem monitors containers) old → All (IsItem (monitors + 1) containers) (old ++ items_of container monitors)
+items-more monitors containers old container all = go container
+  where
+    kept : All (IsItem (monitors + 1) containers) old
+    kept = All-weaker (IsItem monitors containers) (IsItem (monitors + 1) containers) (IsItem-more monitors (monitors + 1) containers containers (omega arith) (omega arith)) old all
 
-pub monitor_formed : (b : BoundValue) (name : List ℕ) (scope : Scope) (file : List ℕ) (a : Machine) → IsWellFormed b → length b.monitors < 32 → Means (table_of a) (specs.Da a) → IsWellFormed (with_monitor b name scope file a)
-monitor_formed b name scope file a w room means =
-    let after : BoundValue = with_monitor b name scope file a in
-    let kind : Kind = record { scope = scope; spec = specs.Da a; starting = 0 } in
-    let more : length after.monitors ≡ length b.monitors + 1 = rw length-append refl in
-    let same : kinds_of after.monitors ≡ kinds_of b.monitors ++ kind ∷ [] = map-append kind_of b.monitors _ in
+    go : (container : Option ℕ) → All (IsItem (monitors + 1) containers) (old ++ items_of container monitors)
+    go None = All-push (IsItem (monitors + 1) containers) old (items.Monitor monitors) kept (omega arith)
+    go (Some place) = subst (All (IsItem (monitors + 1) containers)) (sym (append-nil old)) kept
+
+pub monitor_formed : (b : BoundValue) (name : List ℕ) (container : Option ℕ) (scope : Scope) (file : List ℕ) (compiled : Compiled)
+    → IsWellFormed b → length b.monitors < 32 → IsHolder (length b.containers) container → Compiles compiled.spec compiled.table → IsWellFormed (with_monitor b name container scope file compiled)
+monitor_formed b name container scope file compiled w room holder compiles =
+    let done : BoundValue = with_monitor b name container scope file compiled in
+    let kind : Kind = record { scope = scope; spec = compiled.spec; starting = 0 } in
+    let more : length done.monitors ≡ length b.monitors + 1 = rw length-append refl in
+    let same : kinds_of done.monitors ≡ kinds_of b.monitors ++ kind ∷ [] = map-append kind_of b.monitors _ in
+    let held : holders_of done.monitors ≡ holders_of b.monitors ++ container ∷ [] = map-append (λ m. m.container) b.monitors _ in
     record {
       few_containers = w.few_containers;
       few_monitors = rw more (omega arith);
       few_rules = w.few_rules;
-      tables = rw same (HaveTables-push (kinds_of b.monitors) b.tables kind (table_of a) w.tables (refl, means, refl));
+      tables = rw same (HaveTables-push (kinds_of b.monitors) b.tables kind compiled.table w.tables (record { compiles = compiles; starting = starts_at_first compiled.spec }));
       rules = rw same (All-weaker (FitsKind (kinds_of b.monitors)) (FitsKind (kinds_of b.monitors ++ kind ∷ [])) (FitsKind-more (kinds_of b.monitors) (kind ∷ [])) b.rules w.rules);
-      items = rw more (All-push (IsItem (length b.monitors + 1) (length b.containers)) b.items (items.Monitor (length b.monitors))
-          (All-weaker (IsItem (length b.monitors) (length b.containers)) (IsItem (length b.monitors + 1) (length b.containers)) (IsItem-more (length b.monitors) (length b.monitors + 1) (length b.containers) (omega arith)) b.items w.items) (omega arith));
+      holders = rw held (All-push (IsHolder (length b.containers)) (holders_of b.monitors) container w.holders holder);
+      items = rw more (items-more (length b.monitors) (length b.containers) b.items container w.items);
     }

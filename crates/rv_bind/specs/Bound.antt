@@ -1,29 +1,27 @@
 -- What a bindings file says (this project's choice: docs/FORMATS.md, "Bindings").
-use Rattle.std.specs.Prelude.{ℕ, zero, suc, ◌+◌, Bool, true, false, not, ◌&&◌, ◌||◌, List, [], ◌∷◌, ◌++◌, length, nat_lt, bytes_eq, position, is_some, Option, Some, None, Result, Ok, Err, slice_get, if◌then◌else◌}
-use Rattle.rv_text.specs.declared.numbers.TheConstants.{BIND_SYNTAX, NAME_TWICE, UNKNOWN_EVENT, TOO_MANY_MONITORS, TOO_MANY_RULES}
-use Rattle.rv_text.specs.declared.refusals.Refusal.{Refusal}
+use Rattle.std.specs.Prelude.{ℕ, zero, suc, ◌+◌, Bool, true, false, not, ◌&&◌, ◌||◌, List, [], ◌∷◌, ◌++◌, length, nat_lt, bit_or, bytes_eq, position, is_some, Option, Some, None, option_map, Result, Ok, Err, slice_get, if◌then◌else◌}
+use Rattle.rv_text.specs.declared.numbers.TheConstants.{BIND_SYNTAX, NAME_TWICE, TOO_MANY_MONITORS, TOO_MANY_RULES}
 use Rattle.rv_text.specs.TextLines.{LineText, lines_of}
 use Rattle.rv_text.specs.Words.{words_of}
 use Rattle.rv_io.specs.Files.{Files}
-use Rattle.rv_model.specs.declared.hit.Hit.{Hit}
 use Rattle.rv_model.specs.declared.hit.Mode.{Mode}
-use Rattle.rv_model.specs.declared.hit.What.TheVariants.{Da as event_of}
+use Rattle.rv_model.specs.declared.hit.What.{What}
 use Rattle.rv_model.specs.declared.work.Scope.{Scope}
 use Rattle.rv_model.specs.declared.work.Scope.TheVariants as scopes
 use Rattle.rv_model.specs.declared.reactor.Reactor.{Reactor}
 use Rattle.rv_model.specs.declared.reactor.Reactor.TheVariants as reactors
-use Rattle.rv_model.specs.declared.formula.Spec.{Spec}
-use Rattle.rv_model.specs.declared.formula.Spec.TheVariants as specs
-use Rattle.rv_model.specs.Machine.{Machine}
-use Rattle.rv_model.specs.Table.{Table, table_of}
-use Rattle.rv_dot.specs.Dot.{dot_of}
 use Rattle.rv_bind.specs.declared.bindings.Monitor.{Monitor}
 use Rattle.rv_bind.specs.declared.bindings.Item.{Item}
 use Rattle.rv_bind.specs.declared.bindings.Item.TheVariants as items
 use Rattle.rv_bind.specs.declared.bindings.Test.{Test}
-use Rattle.rv_bind.specs.declared.limits.TheConstants.{TEXT_LIMIT, MAX_MONITORS, MAX_RULES}
+use Rattle.rv_bind.specs.declared.compile.Compiled.{Compiled}
+use Rattle.rv_bind.specs.declared.forms.SpecKind.{SpecKind}
+use Rattle.rv_bind.specs.declared.limits.TheConstants.{TEXT_LIMIT, MAX_CONTAINERS, MAX_MONITORS, MAX_RULES}
+use Rattle.rv_bind.specs.LineReads.{after}
 use Rattle.rv_bind.specs.Values.{OnValue, BoundValue}
-use Rattle.rv_bind.specs.Forms.{FormValue, skipped, monitor, on, react, form_of}
+use Rattle.rv_bind.specs.Forms.{Words, FormValue, skipped, container, monitor, on, react, off, begin, form_of, or_syntax}
+use Rattle.rv_bind.specs.Changes.{allows_what, what_of, atom_bit}
+use Rattle.rv_bind.specs.Compiling.{compiled_of}
 use Rattle.rv_bind.specs.Outcomes.{Outcome, accepted, refused, reading, of_file, of_line, of_name}
 
 -- ---- one line
@@ -33,36 +31,52 @@ is_called name m = bytes_eq m.name name
 
 -- a container or a monitor has the name
 abbrev pub is_taken : BoundValue → List ℕ → Bool
-is_taken bound name = is_some (position (is_called name) bound.monitors) || is_some (position (λ container. bytes_eq container name) bound.containers)
+is_taken bound name = is_some (position (is_called name) bound.monitors) || is_some (position (λ other. bytes_eq other name) bound.containers)
 
 -- the monitor's place
 abbrev pub monitor_named : BoundValue → List ℕ → Option ℕ
 monitor_named bound name = position (is_called name) bound.monitors
 
--- one more monitor, with the automaton's table
-abbrev pub with_monitor : BoundValue → List ℕ → Scope → List ℕ → Machine → BoundValue
-with_monitor bound name scope file automaton = record bound {
-  monitors = bound.monitors ++ record { name = name; container = None; scope = scope; spec = specs.Da automaton; file = file; starting = 0; reactor = reactors.Nop; enabled = true } ∷ [];
-  items = bound.items ++ items.Monitor (length bound.monitors) ∷ [];
-  tables = bound.tables ++ table_of automaton ∷ [];
-}
+-- the place of the container, where one is named
+abbrev pub holder_named : List (List ℕ) → Option (List ℕ) → Result (Option ℕ) ℕ
+holder_named containers None = Ok None
+holder_named containers (Some name) = or_syntax (option_map Some (position (λ other. bytes_eq other name) containers))
 
 -- the name is free, and there is room for one more monitor
 abbrev pub room_for : BoundValue → List ℕ → Result Unit ℕ
 room_for bound name = if is_taken bound name then Err NAME_TWICE else if nat_lt (length bound.monitors) MAX_MONITORS then Ok tt else Err TOO_MANY_MONITORS
 
-abbrev pub automaton_of : Files → List ℕ → Outcome Machine
-automaton_of files file = of_name files file (λ text. of_file file (dot_of text))
+-- the monitor's container, where there is room for the monitor
+abbrev pub place_for : BoundValue → List ℕ → Option (List ℕ) → Result (Option ℕ) ℕ
+place_for bound name holder = after (holder_named bound.containers holder) (λ place. after (room_for bound name) (λ free. Ok place))
 
--- the automaton in the file is read where there is room for the monitor
-abbrev pub monitor_bound : Files → List ℕ → ℕ → BoundValue → List ℕ → Scope → List ℕ → Outcome BoundValue
-monitor_bound files here line bound name scope file =
-    reading (of_line here line (room_for bound name)) (λ free. reading (automaton_of files file) (λ automaton. accepted (with_monitor bound name scope file automaton)))
+-- a monitor in a container is no item by itself
+abbrev pub items_of : Option ℕ → ℕ → List Item
+items_of None place = items.Monitor place ∷ []
+items_of (Some holder) place = []
 
--- a place among the automaton's events
-abbrev pub event_named : Spec → List ℕ → Option ℕ
-event_named (specs.Da automaton) name = position (λ event. bytes_eq event name) automaton.events
-event_named (specs.Ltl rule) name = None
+-- one more monitor, with its table
+abbrev pub with_monitor : BoundValue → List ℕ → Option ℕ → Scope → List ℕ → Compiled → BoundValue
+with_monitor bound name holder scope file compiled = record bound {
+  monitors = bound.monitors ++ record { name = name; container = holder; scope = scope; spec = compiled.spec; file = file; starting = 0; reactor = reactors.Nop; enabled = true } ∷ [];
+  items = bound.items ++ items_of holder (length bound.monitors);
+  tables = bound.tables ++ compiled.table ∷ [];
+}
+
+abbrev pub compiled_in : Files → SpecKind → List ℕ → Outcome Compiled
+compiled_in files kind file = of_name files file (λ text. of_file file (compiled_of kind text))
+
+-- the specification's file is read and compiled where there is room for the monitor
+abbrev pub monitor_bound : Files → List ℕ → ℕ → BoundValue → List ℕ → Scope → SpecKind → List ℕ → Option (List ℕ) → Outcome BoundValue
+monitor_bound files here line bound name scope kind file holder =
+    reading (of_line here line (place_for bound name holder)) (λ place. reading (compiled_in files kind file) (λ compiled. accepted (with_monitor bound name place scope file compiled)))
+
+-- one more container; a 33rd is of no form, also where its name is taken
+abbrev pub container_bound : BoundValue → List ℕ → Result BoundValue ℕ
+container_bound bound name =
+    if nat_lt (length bound.containers) MAX_CONTAINERS
+    then (if is_taken bound name then Err NAME_TWICE else Ok (record bound { containers = bound.containers ++ name ∷ []; items = bound.items ++ items.Container (length bound.containers) ∷ [] }))
+    else Err BIND_SYNTAX
 
 -- `by` stands only at a task monitor
 abbrev pub allows_by : Scope → Option (List ℕ) → Bool
@@ -71,37 +85,65 @@ allows_by scopes.Task (Some field) = true
 allows_by scopes.Global (Some field) = false
 allows_by scopes.Cpu (Some field) = false
 
-abbrev pub with_rule : BoundValue → ℕ → List ℕ → Option (List ℕ) → List Test → Mode → Option ℕ → Result BoundValue ℕ
-with_rule bound place event by tests mode None = Err UNKNOWN_EVENT
-with_rule bound place event by tests mode (Some number) =
-    Ok (record bound { rules = bound.rules ++ record { monitor = place; event = event; by = by; tests = tests; hit = record { mode = mode; what = event_of number } } ∷ [] })
+abbrev pub with_rule : BoundValue → ℕ → List ℕ → Option (List ℕ) → List Test → Mode → Result What ℕ → Result BoundValue ℕ
+with_rule bound place event by tests mode (Err number) = Err number
+with_rule bound place event by tests mode (Ok what) =
+    Ok (record bound { rules = bound.rules ++ record { monitor = place; event = event; by = by; tests = tests; hit = record { mode = mode; what = what } } ∷ [] })
 
 -- a rule of the monitor at a place
-abbrev pub rule_at : BoundValue → ℕ → Option Monitor → List ℕ → Option (List ℕ) → List Test → Mode → List ℕ → Result BoundValue ℕ
-rule_at bound place None event by tests mode what = Err BIND_SYNTAX
-rule_at bound place (Some m) event by tests mode what =
-    if allows_by m.scope by then (if nat_lt (length bound.rules) MAX_RULES then with_rule bound place event by tests mode (event_named m.spec what) else Err TOO_MANY_RULES)
+abbrev pub rule_at : BoundValue → ℕ → Option Monitor → List ℕ → Option (List ℕ) → List Test → Mode → Words → Result BoundValue ℕ
+rule_at bound place None event by tests mode words = Err BIND_SYNTAX
+rule_at bound place (Some m) event by tests mode words =
+    if allows_by m.scope by && allows_what m.spec mode words
+    then (if nat_lt (length bound.rules) MAX_RULES then with_rule bound place event by tests mode (what_of m.spec words) else Err TOO_MANY_RULES)
     else Err BIND_SYNTAX
 
-abbrev pub rule_bound : BoundValue → Option ℕ → List ℕ → Option (List ℕ) → List Test → Mode → List ℕ → Result BoundValue ℕ
-rule_bound bound None event by tests mode what = Err BIND_SYNTAX
-rule_bound bound (Some place) event by tests mode what = rule_at bound place (slice_get bound.monitors place) event by tests mode what
+abbrev pub rule_bound : BoundValue → Option ℕ → List ℕ → Option (List ℕ) → List Test → Mode → Words → Result BoundValue ℕ
+rule_bound bound None event by tests mode words = Err BIND_SYNTAX
+rule_bound bound (Some place) event by tests mode words = rule_at bound place (slice_get bound.monitors place) event by tests mode words
 
--- the monitor at this place has this reactor, and the others what they had
-abbrev pub with_reactor : List Monitor → ℕ → Reactor → List Monitor
-with_reactor [] place reactor = []
-with_reactor (m ∷ monitors) zero reactor = record m { reactor = reactor } ∷ monitors
-with_reactor (m ∷ monitors) (suc place) reactor = m ∷ with_reactor monitors place reactor
+-- the monitor at this place is changed, and the others stay what they are
+abbrev pub changed : (Monitor → Monitor) → List Monitor → ℕ → List Monitor
+changed change [] place = []
+changed change (m ∷ monitors) zero = change m ∷ monitors
+changed change (m ∷ monitors) (suc place) = m ∷ changed change monitors place
 
-abbrev pub react_bound : BoundValue → Option ℕ → Reactor → Result BoundValue ℕ
-react_bound bound None reactor = Err BIND_SYNTAX
-react_bound bound (Some place) reactor = Ok (record bound { monitors = with_reactor bound.monitors place reactor })
+abbrev pub with_change : BoundValue → (Monitor → Monitor) → ℕ → BoundValue
+with_change bound change place = record bound { monitors = changed change bound.monitors place }
+
+-- it has this reactor
+abbrev pub reacting : Reactor → Monitor → Monitor
+reacting reactor m = record m { reactor = reactor }
+
+-- it is not enabled when a run begins
+abbrev pub disabled : Monitor → Monitor
+disabled m = record m { enabled = false }
+
+-- these atoms start true too
+abbrev pub beginning : ℕ → Monitor → Monitor
+beginning bits m = record m { starting = bit_or m.starting bits }
+
+abbrev pub change_bound : BoundValue → Option ℕ → (Monitor → Monitor) → Result BoundValue ℕ
+change_bound bound None change = Err BIND_SYNTAX
+change_bound bound (Some place) change = Ok (with_change bound change place)
+
+-- an atom of the monitor at a place starts true
+abbrev pub begin_at : BoundValue → ℕ → Option Monitor → List ℕ → Result BoundValue ℕ
+begin_at bound place None atom = Err BIND_SYNTAX
+begin_at bound place (Some m) atom = after (atom_bit m.spec atom) (λ bit. Ok (with_change bound (beginning bit) place))
+
+abbrev pub begin_bound : BoundValue → Option ℕ → List ℕ → Result BoundValue ℕ
+begin_bound bound None atom = Err BIND_SYNTAX
+begin_bound bound (Some place) atom = begin_at bound place (slice_get bound.monitors place) atom
 
 abbrev pub form_bound : Files → List ℕ → ℕ → BoundValue → FormValue → Outcome BoundValue
 form_bound files here line bound skipped = accepted bound
-form_bound files here line bound (monitor name scope file) = monitor_bound files here line bound name scope file
-form_bound files here line bound (on name event by tests mode what) = of_line here line (rule_bound bound (monitor_named bound name) event by tests mode what)
-form_bound files here line bound (react name reactor) = of_line here line (react_bound bound (monitor_named bound name) reactor)
+form_bound files here line bound (container name) = of_line here line (container_bound bound name)
+form_bound files here line bound (monitor name scope kind file holder) = monitor_bound files here line bound name scope kind file holder
+form_bound files here line bound (on name event by tests mode words) = of_line here line (rule_bound bound (monitor_named bound name) event by tests mode words)
+form_bound files here line bound (react name reactor) = of_line here line (change_bound bound (monitor_named bound name) (reacting reactor))
+form_bound files here line bound (off name) = of_line here line (change_bound bound (monitor_named bound name) disabled)
+form_bound files here line bound (begin name atom) = of_line here line (begin_bound bound (monitor_named bound name) atom)
 
 -- a line that ends past the limit is of no form, whatever it says
 abbrev pub form_in : LineText → Result FormValue ℕ

@@ -11,6 +11,8 @@ use Rattle.rv_model.specs.declared.reactor.Reactor.{Reactor}
 use Rattle.rv_model.specs.declared.reactor.Reactor.TheVariants as reactors
 use Rattle.rv_bind.specs.declared.bindings.Test.{Test}
 use Rattle.rv_bind.specs.declared.bindings.Test.TheVariants.{Is, IsNot}
+use Rattle.rv_bind.specs.declared.forms.SpecKind.{SpecKind}
+use Rattle.rv_bind.specs.declared.forms.SpecKind.TheVariants as kinds
 use Rattle.rv_bind.specs.LineReads.{after}
 
 -- the words of a line that are left
@@ -58,6 +60,9 @@ is_field word = list_all is_field_byte word
 abbrev pub scope_named : List ℕ → Option Scope
 scope_named word = if bytes_eq word (codes "global") then Some scopes.Global else if bytes_eq word (codes "cpu") then Some scopes.Cpu else if bytes_eq word (codes "task") then Some scopes.Task else None
 
+abbrev pub kind_named : List ℕ → Option SpecKind
+kind_named word = if bytes_eq word (codes "da") then Some kinds.Da else if bytes_eq word (codes "ltl") then Some kinds.Ltl else None
+
 abbrev pub mode_named : List ℕ → Option Mode
 mode_named word = if bytes_eq word (codes "event") then Some modes.Event else if bytes_eq word (codes "start") then Some modes.Start else if bytes_eq word (codes "start_run") then Some modes.StartRun else None
 
@@ -85,14 +90,37 @@ test_of word = test_split word (position (λ byte. not (is_field_byte byte)) wor
 -- a line by its form
 pub data FormValue : Type 0 where
   skipped : FormValue
-  -- its name, scope and file
-  monitor : List ℕ → Scope → List ℕ → FormValue
-  -- the monitor, the event, the field that has the pid, the tests, the mode, and the automaton's event
-  on : List ℕ → List ℕ → Option (List ℕ) → List Test → Mode → List ℕ → FormValue
+  -- its name
+  container : List ℕ → FormValue
+  -- its name, scope, kind and file, and its container
+  monitor : List ℕ → Scope → SpecKind → List ℕ → Option (List ℕ) → FormValue
+  -- the monitor, the event, the field that has the pid, the tests, the mode, and the words that say what is brought
+  on : List ℕ → List ℕ → Option (List ℕ) → List Test → Mode → Words → FormValue
   -- the monitor and its reactor
   react : List ℕ → Reactor → FormValue
+  -- the monitor
+  off : List ℕ → FormValue
+  -- the monitor and the atom
+  begin : List ℕ → List ℕ → FormValue
 
--- NAME SCOPE da FILE
+-- NAME
+abbrev pub container_form : Words → Result FormValue ℕ
+container_form words =
+    after (word_at words) (λ name.
+    after (when (is_name name.0) name.0) (λ called.
+    after (ended name.1) (λ done.
+    Ok (container called))))
+
+-- [in CONTAINER]
+abbrev pub holder_at : Words → Result (Option (List ℕ)) ℕ
+holder_at [] = Ok None
+holder_at (word ∷ words) =
+    after (when (bytes_eq word (codes "in")) word) (λ sign.
+    after (word_at words) (λ name.
+    after (ended name.1) (λ done.
+    Ok (Some name.0))))
+
+-- NAME SCOPE KIND FILE [in CONTAINER]
 abbrev pub monitor_form : Words → Result FormValue ℕ
 monitor_form words =
     after (word_at words) (λ name.
@@ -100,11 +128,11 @@ monitor_form words =
     after (word_at name.1) (λ scope.
     after (or_syntax (scope_named scope.0)) (λ reach.
     after (word_at scope.1) (λ kind.
-    after (when (bytes_eq kind.0 (codes "da")) kind.0) (λ da.
+    after (or_syntax (kind_named kind.0)) (λ language.
     after (word_at kind.1) (λ file.
     after (when (is_utf8 file.0) file.0) (λ text.
-    after (ended file.1) (λ done.
-    Ok (monitor called reach text))))))))))
+    after (holder_at file.1) (λ holder.
+    Ok (monitor called reach language text holder))))))))))
 
 -- MONITOR REACTOR
 abbrev pub react_form : Words → Result FormValue ℕ
@@ -114,6 +142,18 @@ react_form words =
     after (or_syntax (reactor_named reactor.0)) (λ chosen.
     after (ended reactor.1) (λ done.
     Ok (react name.0 chosen)))))
+
+-- MONITOR
+abbrev pub off_form : Words → Result FormValue ℕ
+off_form words = after (word_at words) (λ name. after (ended name.1) (λ done. Ok (off name.0)))
+
+-- MONITOR ATOM
+abbrev pub begin_form : Words → Result FormValue ℕ
+begin_form words =
+    after (word_at words) (λ name.
+    after (word_at name.1) (λ atom.
+    after (ended atom.1) (λ done.
+    Ok (begin name.0 atom.0))))
 
 -- [by FIELD]
 abbrev pub by_at : Words → Read (Option (List ℕ))
@@ -131,18 +171,16 @@ tests_at (word ∷ []) = if bytes_eq word (codes "if") then Err BIND_SYNTAX else
 tests_at (word ∷ test ∷ words) =
     if bytes_eq word (codes "if") then after (or_syntax (test_of test)) (λ first. with_test first (tests_at words)) else Ok ([], word ∷ test ∷ words)
 
--- : MODE WHAT
-abbrev pub hit_form : (Mode → List ℕ → FormValue) → Words → Result FormValue ℕ
+-- : MODE {WHAT}
+abbrev pub hit_form : (Mode → Words → FormValue) → Words → Result FormValue ℕ
 hit_form made words =
     after (word_at words) (λ colon.
     after (when (bytes_eq colon.0 (codes ":")) colon.0) (λ sign.
     after (word_at colon.1) (λ mode.
-    after (or_syntax (mode_named mode.0)) (λ kind.
-    after (word_at mode.1) (λ what.
-    after (ended what.1) (λ done.
-    Ok (made kind what.0)))))))
+    after (or_syntax (mode_named mode.0)) (λ chosen.
+    Ok (made chosen mode.1)))))
 
--- MONITOR EVENT [by FIELD] {if TEST} : MODE WHAT
+-- MONITOR EVENT [by FIELD] {if TEST} : MODE {WHAT}
 abbrev pub on_form : Words → Result FormValue ℕ
 on_form words =
     after (word_at words) (λ name.
@@ -171,10 +209,8 @@ on_read words =
     after (with_next (tests_at (by.0.1 ∷ by.1))) (λ tests.
     after (when (bytes_eq tests.0.1 (codes ":")) tests.0.1) (λ sign.
     after (word_at tests.1) (λ mode.
-    after (or_syntax (mode_named mode.0)) (λ kind.
-    after (word_at mode.1) (λ what.
-    after (ended what.1) (λ done.
-    Ok (on name.0 called by.0.0 tests.0.0 kind what.0)))))))))))
+    after (or_syntax (mode_named mode.0)) (λ chosen.
+    Ok (on name.0 called by.0.0 tests.0.0 chosen mode.1)))))))))
 
 -- these tests, and then those that are read
 abbrev pub with_tests : List Test → Read (List Test) → Read (List Test)
@@ -188,6 +224,9 @@ abbrev pub form_of : Words → Result FormValue ℕ
 form_of [] = Ok skipped
 form_of (word ∷ words) =
     if starts_with nat_eq word (codes "#") then Ok skipped
+    else if bytes_eq word (codes "container") then container_form words
     else if bytes_eq word (codes "monitor") then monitor_form words
     else if bytes_eq word (codes "on") then on_form words
-    else if bytes_eq word (codes "react") then react_form words else Err BIND_SYNTAX
+    else if bytes_eq word (codes "react") then react_form words
+    else if bytes_eq word (codes "off") then off_form words
+    else if bytes_eq word (codes "begin") then begin_form words else Err BIND_SYNTAX

@@ -1,5 +1,7 @@
 pub mod Bound
 pub mod BoundViews
+pub mod Changes
+pub mod Compiling
 pub mod Forms
 pub mod FormViews
 pub mod LineReads

@@ -1,17 +1,18 @@
 -- What accepted bindings keep, whatever the store tells.
-use Rattle.std.specs.Prelude.{◌≡◌, ℕ, ◌<◌, ◌≤◌, true, List, [], ◌∷◌, map, length, All, Option, Some, slice_get}
+use Rattle.std.specs.Prelude.{◌≡◌, ◌≢◌, ℕ, ◌^◌, ◌<◌, ◌≤◌, true, List, [], ◌∷◌, map, length, All, Option, Some, None, slice_get}
 use Rattle.rv_model.specs.declared.hit.Hit.{Hit}
+use Rattle.rv_model.specs.declared.hit.Mode.TheVariants as modes
 use Rattle.rv_model.specs.declared.hit.What.{What}
 use Rattle.rv_model.specs.declared.hit.What.TheVariants as whats
 use Rattle.rv_model.specs.declared.work.Scope.{Scope}
 use Rattle.rv_model.specs.declared.formula.Spec.{Spec}
 use Rattle.rv_model.specs.declared.formula.Spec.TheVariants as specs
-use Rattle.rv_model.specs.Table.{Table, table_of}
-use Rattle.rv_model.specs.Judging.{Means}
+use Rattle.rv_model.specs.Table.{Table}
 use Rattle.rv_bind.specs.declared.bindings.Monitor.{Monitor}
 use Rattle.rv_bind.specs.declared.bindings.Item.{Item}
 use Rattle.rv_bind.specs.declared.bindings.Item.TheVariants as items
 use Rattle.rv_bind.specs.Values.{OnValue, BoundValue}
+use Rattle.rv_bind.specs.Compiling.{Compiles}
 use Rattle.rv_bind.specs.Bound.{allows_by}
 
 -- what a monitor's table and rules go by
@@ -30,21 +31,31 @@ abbrev pub FitsEvents : ℕ → What → Type 0
 FitsEvents count (whats.Da event) = event < count
 FitsEvents count (whats.Ltl on off pulse) = ⊥
 
--- a hit of the specification's kind, in range
+-- sets of atoms that there are
+abbrev pub FitsAtoms : ℕ → What → Type 0
+FitsAtoms count (whats.Da event) = ⊥
+FitsAtoms count (whats.Ltl on off pulse) = (on < 2 ^ count) × (off < 2 ^ count) × (pulse < 2 ^ count)
+
+-- a hit of the specification's kind, in range; a start whose event is not run is an automaton's alone
 abbrev pub FitsSpec : Spec → Hit → Type 0
 FitsSpec (specs.Da automaton) hit = FitsEvents (length automaton.events) hit.what
-FitsSpec (specs.Ltl rule) hit = ⊥
+FitsSpec (specs.Ltl rule) hit = (hit.mode ≢ modes.Start) × FitsAtoms (length rule.atoms) hit.what
 
--- the table is the specification's; an automaton's starting value is 0
-abbrev pub HasTable : Kind → Spec → Table → Type 0
-HasTable kind (specs.Da automaton) t = (t ≡ table_of automaton) × Means t (specs.Da automaton) × (kind.starting ≡ 0)
-HasTable kind (specs.Ltl rule) t = ⊥
+-- an automaton's starting value is 0, and a rule's is a set of its atoms
+abbrev pub StartsIn : Spec → ℕ → Type 0
+StartsIn (specs.Da automaton) starting = starting ≡ 0
+StartsIn (specs.Ltl rule) starting = starting < 2 ^ length rule.atoms
+
+-- the table is the specification's and means it, and the starting value fits it
+pub record HasTable (kind : Kind) (t : Table) : Type 0 where
+  pub compiles : Compiles kind.spec t
+  pub starting : StartsIn kind.spec kind.starting
 
 abbrev pub HaveTables : List Kind → List Table → Type 0
 HaveTables [] [] = Unit {0}
 HaveTables [] (t ∷ tables) = ⊥
 HaveTables (kind ∷ kinds) [] = ⊥
-HaveTables (kind ∷ kinds) (t ∷ tables) = HasTable kind kind.spec t × HaveTables kinds tables
+HaveTables (kind ∷ kinds) (t ∷ tables) = HasTable kind t × HaveTables kinds tables
 
 -- the rule is of a monitor that there is, whose specification its hit fits
 pub record FitsKind (kinds : List Kind) (r : OnValue) : Type 0 where
@@ -52,6 +63,15 @@ pub record FitsKind (kinds : List Kind) (r : OnValue) : Type 0 where
   pub there : slice_get kinds r.monitor ≡ Some kind
   pub hit : FitsSpec kind.spec r.hit
   pub by : allows_by kind.scope r.by ≡ true
+
+-- the containers of the monitors
+abbrev pub holders_of : List Monitor → List (Option ℕ)
+holders_of monitors = map (λ m. m.container) monitors
+
+-- a container that there is, or none
+abbrev pub IsHolder : ℕ → Option ℕ → Type 0
+IsHolder containers None = Unit {0}
+IsHolder containers (Some place) = place < containers
 
 abbrev pub IsItem : ℕ → ℕ → Item → Type 0
 IsItem monitors containers (items.Monitor place) = place < monitors
@@ -63,4 +83,5 @@ pub record IsWellFormed (b : BoundValue) : Type 0 where
   pub few_rules : length b.rules ≤ 256
   pub tables : HaveTables (kinds_of b.monitors) b.tables
   pub rules : All (FitsKind (kinds_of b.monitors)) b.rules
+  pub holders : All (IsHolder (length b.containers)) (holders_of b.monitors)
   pub items : All (IsItem (length b.monitors) (length b.containers)) b.items

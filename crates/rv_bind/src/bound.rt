@@ -1,20 +1,23 @@
 //! What was bound so far, and what a line adds to it.
-ghost use Rattle.std.specs.Prelude.{◌≡◌, ◌≤◌, ◌<◌, ℕ, List, Option, Some, None, Bool, length, position, bytes_eq, option_copied, IfOk, IfSome, OnOk};
+ghost use Rattle.std.specs.Prelude.{◌≡◌, ◌≤◌, ◌<◌, ◌++◌, ℕ, List, Option, Some, None, Bool, length, position, bytes_eq, option_copied, IfOk, IfSome, OnOk};
 ghost use Rattle.std.specs.List.{position_or_len};
+ghost use Rattle.rv_ltl.specs.Texts.{texts};
 ghost use Rattle.rv_bind.specs.LineReads.{Reads};
-ghost use Rattle.rv_bind.specs.Bound.{nothing_bound, is_called, is_taken, monitor_named, room_for, with_monitor, event_named, allows_by, rule_bound, react_bound};
+ghost use Rattle.rv_bind.specs.Compiling.{Compiles};
+ghost use Rattle.rv_bind.specs.Bound.{nothing_bound, is_called, is_taken, monitor_named, holder_named, room_for, place_for, with_monitor, items_of, container_bound, allows_by, rule_bound, change_bound, reacting, disabled, begin_bound};
 ghost use Rattle.rv_bind.specs.BoundViews.{bound_value};
-ghost use Rattle.rv_bind.specs.WellFormed.{IsWellFormed};
+ghost use Rattle.rv_bind.specs.WellFormed.{IsWellFormed, IsHolder};
 ghost use Rattle.rv_bind.specs.declared.limits.TheConstants.{MAX_MONITORS};
 
 use crate::bindings::{Bindings, Bound, Item, Monitor, On};
+use crate::changes::{allows_what, atom_bit, what_of};
+use crate::compile::Compiled;
 use crate::fault::LineFault;
-use crate::forms::OnForm;
-use crate::limits::{MAX_MONITORS, MAX_RULES};
+use crate::forms::{MonitorForm, OnForm};
+use crate::limits::{MAX_CONTAINERS, MAX_MONITORS, MAX_RULES};
 use crate::words::SYNTAX;
-use rv_model::{Automaton, Hit, Name, Names, Reactor, Scope, Spec, What};
-use rv_table::Table;
-use rv_text::{NAME_TWICE, TOO_MANY_MONITORS, TOO_MANY_RULES, UNKNOWN_EVENT};
+use rv_model::{Hit, Name, Names, Reactor, Scope};
+use rv_text::{NAME_TWICE, TOO_MANY_MONITORS, TOO_MANY_RULES};
 use std::alloc::{AllocError, Global};
 
 /// The name's place in the list, or the list's length.
@@ -30,7 +33,7 @@ fn place_or_len(names: &Names, name: &[u8]) -> usize
 }
 
 /// The name's place in the list.
-fn place_in(names: &Names, name: &[u8]) -> Option<usize>
+pub(crate) fn place_in(names: &Names, name: &[u8]) -> Option<usize>
     ensures value { result ≡ position (λ other. bytes_eq other name.now) names.now }
     ensures within { IfSome result (λ place. place < length names.now) }
 {
@@ -57,17 +60,6 @@ fn place_of(monitors: &[Monitor], name: &[u8]) -> Option<usize>
     monitors.iter().position(|monitor| is_called(monitor, name))
 }
 
-/// The place of an automaton's event.
-fn event_place(spec: &Spec, name: &[u8]) -> Option<usize>
-    ensures value { result ≡ event_named spec.now name.now }
-    ensures few { IfSome result (λ place. place < 256) }
-{
-    match spec {
-        Spec::Da(automaton) => place_in(&automaton.events, name),
-        Spec::Ltl(_) => None,
-    }
-}
-
 /// Whether a monitor of the scope may have a rule that names the field of its pid.
 fn allows_by(scope: Scope, by: Option<&[u8]>) -> bool
     ensures { result ≡ allows_by scope (option_copied by.entry) }
@@ -91,6 +83,16 @@ fn owned(alloc: Global, field: Option<&[u8]>) -> Result<Option<Name>, AllocError
     }
 }
 
+/// One more item, where a monitor stands in no container.
+fn add_item(items: &mut Vec<Item>, container: Option<u8>, place: u8) -> Result<(), AllocError>
+    ensures { OnOk result (items.new.items ≡ items.old.items ++ items_of container place) }
+{
+    if container.is_none() {
+        items.push(Item::Monitor(place))?;
+    }
+    Ok(())
+}
+
 impl Bound {
     /// Nothing is bound.
     #[tactic(auto, using(crate::proofs::WellFormedLemmas::nothing_formed))]
@@ -109,13 +111,38 @@ impl Bound {
         }
     }
 
+    /// One more container.
+    pub(crate) fn add_container(&mut self, alloc: Global, name: &[u8]) -> Result<(), LineFault>
+        requires { IsWellFormed (bound_value self.old) }
+        ensures formed { OnOk result (IsWellFormed (bound_value self.new)) }
+        ensures container { Reads (λ done. bound_value self.new) result (container_bound (bound_value self.old) name.now) }
+    {
+        let place = self.bindings.containers.len();
+        if place >= MAX_CONTAINERS {
+            return Err(SYNTAX);
+        }
+        if self.is_taken(name) {
+            return Err(LineFault::Number(NAME_TWICE));
+        }
+        let name = Name::new(alloc, name)?;
+        self.bindings.containers.push(name)?;
+        self.bindings.items.push(Item::Container(place as u8))?;
+        Ok(())
+    }
+
+    /// Whether a container or a monitor has the name.
+    fn is_taken(&self, name: &[u8]) -> bool
+        ensures { result ≡ is_taken (bound_value self.now) name.now }
+    {
+        place_of(self.bindings.monitors.as_slice(), name).is_some()
+            || place_in(&self.bindings.containers, name).is_some()
+    }
+
     /// Whether the name is free, and there is room for one more monitor.
-    pub(crate) fn room_for(&self, name: &[u8]) -> Result<(), LineFault>
+    fn room_for(&self, name: &[u8]) -> Result<(), LineFault>
         ensures { Reads (λ done. tt) result (room_for (bound_value self.now) name.now) }
     {
-        if place_of(self.bindings.monitors.as_slice(), name).is_some()
-            || place_in(&self.bindings.containers, name).is_some()
-        {
+        if self.is_taken(name) {
             Err(LineFault::Number(NAME_TWICE))
         } else if self.bindings.monitors.len() < MAX_MONITORS {
             Ok(())
@@ -124,31 +151,62 @@ impl Bound {
         }
     }
 
+    /// The place of the container, where one is named.
+    fn holder(&self, holder: Option<&[u8]>) -> Result<Option<u8>, LineFault>
+        requires { length (bound_value self.now).containers ≤ 32 }
+        ensures place { Reads (λ place. place) result (holder_named (bound_value self.now).containers (option_copied holder.entry)) }
+        ensures within { IfOk result (IsHolder (length (bound_value self.now).containers)) }
+    {
+        let Some(name) = holder else {
+            return Ok(None);
+        };
+        match place_in(&self.bindings.containers, name) {
+            Some(place) => Ok(Some(place as u8)),
+            None => Err(SYNTAX),
+        }
+    }
+
+    /// The container of a monitor that there is room for.
+    pub(crate) fn place_for(
+        &self,
+        name: &[u8],
+        holder: Option<&[u8]>,
+    ) -> Result<Option<u8>, LineFault>
+        requires { IsWellFormed (bound_value self.now) }
+        ensures place { Reads (λ place. place) result (place_for (bound_value self.now) name.now (option_copied holder.entry)) }
+        ensures within { IfOk result (IsHolder (length (bound_value self.now).containers)) }
+        ensures room { OnOk result (length (bound_value self.now).monitors < MAX_MONITORS) }
+    {
+        let container = self.holder(holder)?;
+        self.room_for(name)?;
+        Ok(container)
+    }
+
     /// One more monitor, with its table.
     pub(crate) fn add_monitor(
         &mut self,
         alloc: Global,
-        name: &[u8],
-        scope: Scope,
-        file: &str,
-        automaton: Automaton,
+        form: MonitorForm<'_>,
+        container: Option<u8>,
+        compiled: Compiled,
     ) -> Result<(), AllocError>
         requires room { length (bound_value self.old).monitors < MAX_MONITORS }
         requires formed { IsWellFormed (bound_value self.old) }
-        ensures monitor { OnOk result (bound_value self.new ≡ with_monitor (bound_value self.old) name.now scope file.now automaton) }
+        requires holder { IsHolder (length (bound_value self.old).containers) container }
+        requires compiles { Compiles compiled.spec compiled.table }
+        ensures monitor { OnOk result (bound_value self.new ≡ with_monitor (bound_value self.old) form.entry.name.now container form.entry.scope form.entry.file.now compiled) }
         ensures formed { OnOk result (IsWellFormed (bound_value self.new)) }
     {
         let place = self.bindings.monitors.len() as u8;
-        let table = Table::from_automaton(alloc, &automaton)?;
-        let name = Name::new(alloc, name)?;
-        let file = Name::new(alloc, file.as_bytes())?;
-        self.tables.push(table)?;
-        self.bindings.items.push(Item::Monitor(place))?;
+        let name = Name::new(alloc, form.name)?;
+        let file = Name::new(alloc, form.file.as_bytes())?;
+        self.tables.push(compiled.table)?;
+        add_item(&mut self.bindings.items, container, place)?;
         self.bindings.monitors.push(Monitor {
             name,
-            container: None,
-            scope,
-            spec: Spec::Da(automaton),
+            container,
+            scope: form.scope,
+            spec: compiled.spec,
             file,
             starting: 0,
             reactor: Reactor::Nop,
@@ -161,7 +219,7 @@ impl Bound {
     pub(crate) fn add_rule(&mut self, alloc: Global, on: OnForm<'_>) -> Result<(), LineFault>
         requires { IsWellFormed (bound_value self.old) }
         ensures formed { OnOk result (IsWellFormed (bound_value self.new)) }
-        ensures rule { Reads (λ done. bound_value self.new) result (rule_bound (bound_value self.old) (monitor_named (bound_value self.old) on.entry.monitor.now) on.entry.event.now (option_copied on.entry.by) on.entry.tests.items on.entry.mode on.entry.what.now) }
+        ensures rule { Reads (λ done. bound_value self.new) result (rule_bound (bound_value self.old) (monitor_named (bound_value self.old) on.entry.monitor.now) on.entry.event.now (option_copied on.entry.by) on.entry.tests.items on.entry.mode (texts on.entry.words.items)) }
     {
         let Some(place) = place_of(self.bindings.monitors.as_slice(), on.monitor) else {
             return Err(SYNTAX);
@@ -170,12 +228,13 @@ impl Bound {
         if !allows_by(monitor.scope, on.by) {
             return Err(SYNTAX);
         }
+        if !allows_what(&monitor.spec, on.mode, on.words.as_slice()) {
+            return Err(SYNTAX);
+        }
         if self.bindings.rules.len() >= MAX_RULES {
             return Err(LineFault::Number(TOO_MANY_RULES));
         }
-        let Some(event) = event_place(&monitor.spec, on.what) else {
-            return Err(LineFault::Number(UNKNOWN_EVENT));
-        };
+        let what = what_of(&monitor.spec, on.words.as_slice())?;
         let by = owned(alloc, on.by)?;
         let name = Name::new(alloc, on.event)?;
         self.bindings.rules.push(On {
@@ -185,7 +244,7 @@ impl Bound {
             tests: on.tests,
             hit: Hit {
                 mode: on.mode,
-                what: What::Da { event: event as u8 },
+                what,
             },
         })?;
         Ok(())
@@ -195,12 +254,40 @@ impl Bound {
     pub(crate) fn choose(&mut self, monitor: &[u8], reactor: Reactor) -> Result<(), LineFault>
         requires { IsWellFormed (bound_value self.old) }
         ensures formed { OnOk result (IsWellFormed (bound_value self.new)) }
-        ensures reactor { Reads (λ done. bound_value self.new) result (react_bound (bound_value self.old) (monitor_named (bound_value self.old) monitor.now) reactor) }
+        ensures reactor { Reads (λ done. bound_value self.new) result (change_bound (bound_value self.old) (monitor_named (bound_value self.old) monitor.now) (reacting reactor)) }
     {
         let Some(place) = place_of(self.bindings.monitors.as_slice(), monitor) else {
             return Err(SYNTAX);
         };
         self.bindings.monitors[place].reactor = reactor;
+        Ok(())
+    }
+
+    /// The monitor of this name is not enabled when a run begins.
+    pub(crate) fn disable(&mut self, monitor: &[u8]) -> Result<(), LineFault>
+        requires { IsWellFormed (bound_value self.old) }
+        ensures formed { OnOk result (IsWellFormed (bound_value self.new)) }
+        ensures disabled { Reads (λ done. bound_value self.new) result (change_bound (bound_value self.old) (monitor_named (bound_value self.old) monitor.now) disabled) }
+    {
+        let Some(place) = place_of(self.bindings.monitors.as_slice(), monitor) else {
+            return Err(SYNTAX);
+        };
+        self.bindings.monitors[place].enabled = false;
+        Ok(())
+    }
+
+    /// The atom of this name starts true.
+    pub(crate) fn begin(&mut self, monitor: &[u8], atom: &[u8]) -> Result<(), LineFault>
+        requires { IsWellFormed (bound_value self.old) }
+        ensures formed { OnOk result (IsWellFormed (bound_value self.new)) }
+        ensures starting { Reads (λ done. bound_value self.new) result (begin_bound (bound_value self.old) (monitor_named (bound_value self.old) monitor.now) atom.now) }
+    {
+        let Some(place) = place_of(self.bindings.monitors.as_slice(), monitor) else {
+            return Err(SYNTAX);
+        };
+        let monitor = &mut self.bindings.monitors[place];
+        let bit = atom_bit(&monitor.spec, atom)?;
+        monitor.starting = monitor.starting | bit;
         Ok(())
     }
 }

@@ -1,13 +1,15 @@
 //! The files that bindings name, and the faults that name a file.
-ghost use Rattle.std.specs.Prelude.{◌≡◌, ◌≤◌, ◌⊎◌, ℕ, Option, Result};
+ghost use Rattle.std.specs.Prelude.{◌≡◌, ◌≤◌, ◌⊎◌, ℕ, Option, Result, IfOk};
 ghost use Rattle.rv_bind.specs.Outcomes.{Comes, IsFaultOf, InLine, accepted, of_name};
-ghost use Rattle.rv_bind.specs.Bound.{automaton_of};
+ghost use Rattle.rv_bind.specs.Bound.{compiled_in};
+ghost use Rattle.rv_bind.specs.Compiling.{Compiles};
 ghost use Rattle.rv_bind.specs.declared.fault.BindFault.TheVariants as faults;
 
+use crate::compile::{Compiled, compile};
 use crate::fault::{BindFault, LineFault};
-use rv_dot::read_dot;
+use crate::forms::SpecKind;
 use rv_io::{ReadError, Store};
-use rv_model::{Automaton, Name};
+use rv_model::Name;
 use rv_text::{Refusal, Refused};
 use std::alloc::Global;
 
@@ -64,19 +66,21 @@ pub(crate) fn in_line(
     }
 }
 
-/// The automaton in a file.
-pub(crate) fn read_automaton<S: Store>(
+/// The specification in a file, with its table.
+pub(crate) fn read_spec<S: Store>(
     alloc: Global,
     store: &mut S,
+    kind: SpecKind,
     file: &str,
-) -> Result<Automaton, BindFault>
+) -> Result<Compiled, BindFault>
     ensures kept { S.files store.new ≡ S.files store.old }
     ensures later { S.faults store.old ≤ S.faults store.new }
-    ensures automaton { Comes (λ automaton. automaton) (S.files store.old) (S.faults store.old) (S.faults store.new) result (λ files. automaton_of files file.now) }
+    ensures compiled { Comes (λ compiled. compiled) (S.files store.old) (S.faults store.old) (S.faults store.new) result (λ files. compiled_in files kind file.now) }
+    ensures compiles { IfOk result (λ compiled. Compiles compiled.spec compiled.table) }
 {
     let text = read_file(alloc, store, file)?;
-    match read_dot(alloc, text.as_slice()) {
-        Ok(automaton) => Ok(automaton),
+    match compile(alloc, kind, text.as_slice()) {
+        Ok(compiled) => Ok(compiled),
         Err(Refused::Because(refusal)) => Err(refused(alloc, file, refusal)),
         Err(Refused::Memory) => Err(BindFault::Memory),
     }

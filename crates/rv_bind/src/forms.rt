@@ -1,33 +1,60 @@
 //! A bindings line by its form.
-ghost use Rattle.std.specs.Prelude.{◌∷◌, option_copied};
+ghost use Rattle.std.specs.Prelude.{◌≡◌, ◌∷◌, option_copied, IfOk};
+ghost use Rattle.rv_ltl.specs.Texts.{texts};
 ghost use Rattle.rv_text.specs.Words.{words_of};
 ghost use Rattle.rv_bind.specs.LineReads.{Reads, Takes};
-ghost use Rattle.rv_bind.specs.Forms.{monitor_form, react_form, on_read, with_next, by_at, tests_at, test_next, form_of};
+ghost use Rattle.rv_bind.specs.Forms.{container_form, monitor_form, holder_at, react_form, off_form, begin_form, on_read, with_next, by_at, tests_at, test_next, form_of};
 ghost use Rattle.rv_bind.specs.FormViews.{form_value};
 
 use crate::bindings::Test;
 use crate::fault::LineFault;
 use crate::words::{
-    SYNTAX, allowed, end, is, is_field, is_name, mode, reactor, scope, test, text, word,
+    SYNTAX, allowed, end, is, is_field, is_name, kind, mode, reactor, scope, test, text, word,
 };
 use rv_model::{Mode, Reactor, Scope};
 use rv_text::Words;
-use std::alloc::Global;
+use std::alloc::{AllocError, Global};
+
+/// How a specification is written.
+#[derive(Clone, Copy, Debug, Drop, PartialEq, Eq)]
+pub(crate) enum SpecKind {
+    /// An automaton.
+    Da,
+    /// A rule of linear temporal logic.
+    Ltl,
+}
 
 #[derive(Drop)]
 pub(crate) enum Form<'a> {
     /// Nothing is said.
     Skipped,
-    Monitor {
+    Container {
         name: &'a [u8],
-        scope: Scope,
-        file: &'a str,
     },
+    Monitor(MonitorForm<'a>),
     On(OnForm<'a>),
     React {
         monitor: &'a [u8],
         reactor: Reactor,
     },
+    Off {
+        monitor: &'a [u8],
+    },
+    Begin {
+        monitor: &'a [u8],
+        atom: &'a [u8],
+    },
+}
+
+/// What is watched, and by which specification.
+#[derive(Drop)]
+pub(crate) struct MonitorForm<'a> {
+    pub(crate) name: &'a [u8],
+    pub(crate) scope: Scope,
+    pub(crate) kind: SpecKind,
+    pub(crate) file: &'a str,
+    /// The container's name.
+    pub(crate) holder: Option<&'a [u8]>,
 }
 
 /// Which lines hit which instance, and how.
@@ -38,7 +65,8 @@ pub(crate) struct OnForm<'a> {
     pub(crate) by: Option<&'a [u8]>,
     pub(crate) tests: Vec<Test>,
     pub(crate) mode: Mode,
-    pub(crate) what: &'a [u8],
+    /// What is brought: an event, or a change of an atom in each.
+    pub(crate) words: Vec<&'a [u8]>,
 }
 
 /// The form of a line.
@@ -52,15 +80,60 @@ pub(crate) fn read_form<'a>(alloc: Global, line: &'a [u8]) -> Result<Form<'a>, L
     };
     if first.starts_with("#".as_bytes()) {
         Ok(Form::Skipped)
+    } else if is(first, "container") {
+        container_line(&mut words)
     } else if is(first, "monitor") {
         monitor_line(&mut words)
     } else if is(first, "on") {
         on_line(alloc, &mut words)
     } else if is(first, "react") {
         react_line(&mut words)
+    } else if is(first, "off") {
+        off_line(&mut words)
+    } else if is(first, "begin") {
+        begin_line(&mut words)
     } else {
         Err(SYNTAX)
     }
+}
+
+fn container_line<'a>(words: &mut Words<'a>) -> Result<Form<'a>, LineFault>
+    ensures { Reads form_value result (container_form words.old) }
+{
+    let name = word(words)?;
+    let name = allowed(name, is_name(name))?;
+    end(words)?;
+    Ok(Form::Container { name })
+}
+
+fn off_line<'a>(words: &mut Words<'a>) -> Result<Form<'a>, LineFault>
+    ensures { Reads form_value result (off_form words.old) }
+{
+    let monitor = word(words)?;
+    end(words)?;
+    Ok(Form::Off { monitor })
+}
+
+fn begin_line<'a>(words: &mut Words<'a>) -> Result<Form<'a>, LineFault>
+    ensures { Reads form_value result (begin_form words.old) }
+{
+    let monitor = word(words)?;
+    let atom = word(words)?;
+    end(words)?;
+    Ok(Form::Begin { monitor, atom })
+}
+
+/// The container's name, where one is named at the line's end.
+fn holder<'a>(words: &mut Words<'a>) -> Result<Option<&'a [u8]>, LineFault>
+    ensures { Reads option_copied result (holder_at words.old) }
+{
+    let Some(sign) = words.next_word() else {
+        return Ok(None);
+    };
+    let _sign = allowed(sign, is(sign, "in"))?;
+    let name = word(words)?;
+    end(words)?;
+    Ok(Some(name))
 }
 
 fn monitor_line<'a>(words: &mut Words<'a>) -> Result<Form<'a>, LineFault>
@@ -69,11 +142,16 @@ fn monitor_line<'a>(words: &mut Words<'a>) -> Result<Form<'a>, LineFault>
     let name = word(words)?;
     let name = allowed(name, is_name(name))?;
     let scope = scope(word(words)?)?;
-    let kind = word(words)?;
-    let _da = allowed(kind, is(kind, "da"))?;
+    let kind = kind(word(words)?)?;
     let file = text(word(words)?)?;
-    end(words)?;
-    Ok(Form::Monitor { name, scope, file })
+    let holder = holder(words)?;
+    Ok(Form::Monitor(MonitorForm {
+        name,
+        scope,
+        kind,
+        file,
+        holder,
+    }))
 }
 
 fn react_line<'a>(words: &mut Words<'a>) -> Result<Form<'a>, LineFault>
@@ -95,16 +173,27 @@ fn on_line<'a>(alloc: Global, words: &mut Words<'a>) -> Result<Form<'a>, LineFau
     let (tests, colon) = tests(alloc, words, next)?;
     let _sign = allowed(colon, is(colon, ":"))?;
     let mode = mode(word(words)?)?;
-    let what = word(words)?;
-    end(words)?;
+    let words = rest(alloc, words)?;
     Ok(Form::On(OnForm {
         monitor,
         event,
         by,
         tests,
         mode,
-        what,
+        words,
     }))
+}
+
+/// The words that are left.
+#[tactic(auto, using(crate::proofs::FormLemmas::all_taken, crate::proofs::FormLemmas::one_taken))]
+fn rest<'a>(alloc: Global, words: &mut Words<'a>) -> Result<Vec<&'a [u8]>, AllocError>
+    ensures { IfOk result (λ taken. texts taken.items ≡ words.old) }
+{
+    let mut taken = Vec::new(alloc);
+    while let Some(word) = words.next_word() {
+        taken.push(word)?;
+    }
+    Ok(taken)
 }
 
 /// The field that has the pid, where one is named, and the word behind.

@@ -3,14 +3,18 @@
 
 mod bindings;
 mod bound;
+mod changes;
+mod compile;
 mod fault;
 mod files;
 mod forms;
 mod limits;
 mod reader;
+#[cfg(test)]
+mod tests;
 mod words;
 
 pub use bindings::{Bindings, Bound, Item, Monitor, On, Test};
 pub use fault::BindFault;
-pub use limits::{MAX_MONITORS, MAX_RULES, TEXT_LIMIT};
+pub use limits::{MAX_CONTAINERS, MAX_MONITORS, MAX_RULES, TEXT_LIMIT};
 pub use reader::read_bindings;

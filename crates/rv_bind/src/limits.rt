@@ -3,6 +3,9 @@
 /// The last byte at which a line may end.
 pub const TEXT_LIMIT: usize = 1_048_576;
 
+/// The most containers.
+pub const MAX_CONTAINERS: usize = 32;
+
 /// The most monitors.
 pub const MAX_MONITORS: usize = 32;
 

@@ -1,5 +1,5 @@
 //! From a bindings file, and the files that it names, to bindings.
-ghost use Rattle.std.specs.Prelude.{◌≡◌, ◌≤◌, IfOk, OnOk};
+ghost use Rattle.std.specs.Prelude.{◌≡◌, ◌≤◌, IfOk, OnOk, option_copied};
 ghost use Rattle.rv_text.specs.TextLines.{line_text};
 ghost use Rattle.rv_bind.specs.LineReads.{Reads};
 ghost use Rattle.rv_bind.specs.Outcomes.{Comes};
@@ -10,12 +10,11 @@ ghost use Rattle.rv_bind.specs.WellFormed.{IsWellFormed};
 
 use crate::bindings::Bound;
 use crate::fault::{BindFault, LineFault};
-use crate::files::{in_line, read_automaton, read_file};
-use crate::forms::{Form, read_form};
+use crate::files::{in_line, read_file, read_spec};
+use crate::forms::{Form, MonitorForm, read_form};
 use crate::limits::TEXT_LIMIT;
 use crate::words::SYNTAX;
 use rv_io::Store;
-use rv_model::Scope;
 use rv_text::{Cursor, TextLine};
 use std::alloc::{AllocError, Global};
 
@@ -84,9 +83,8 @@ fn bind_form<S: Store>(
 {
     match form {
         Form::Skipped => Ok(()),
-        Form::Monitor { name, scope, file } => bind_monitor(
-            alloc, store, here, line, bound, name, scope, file,
-        ),
+        Form::Container { name } => in_line(alloc, here, line, bound.add_container(alloc, name)),
+        Form::Monitor(form) => bind_monitor(alloc, store, here, line, bound, form),
         Form::On(on) => in_line(alloc, here, line, bound.add_rule(alloc, on)),
         Form::React { monitor, reactor } => in_line(
             alloc,
@@ -94,6 +92,8 @@ fn bind_form<S: Store>(
             line,
             bound.choose(monitor, reactor),
         ),
+        Form::Off { monitor } => in_line(alloc, here, line, bound.disable(monitor)),
+        Form::Begin { monitor, atom } => in_line(alloc, here, line, bound.begin(monitor, atom)),
     }
 }
 
@@ -105,21 +105,20 @@ fn bind_monitor<S: Store>(
     here: &str,
     line: u32,
     bound: &mut Bound,
-    name: &[u8],
-    scope: Scope,
-    file: &str,
+    form: MonitorForm<'_>,
 ) -> Result<(), BindFault>
     requires { IsWellFormed (bound_value bound.old) }
     ensures formed { OnOk result (IsWellFormed (bound_value bound.new)) }
     ensures kept { S.files store.new ≡ S.files store.old }
     ensures later { S.faults store.old ≤ S.faults store.new }
-    ensures bound { Comes (λ done. bound_value bound.new) (S.files store.old) (S.faults store.old) (S.faults store.new) result (λ files. monitor_bound files here.now line (bound_value bound.old) name.now scope file.now) }
+    ensures bound { Comes (λ done. bound_value bound.new) (S.files store.old) (S.faults store.old) (S.faults store.new) result (λ files. monitor_bound files here.now line (bound_value bound.old) form.entry.name.now form.entry.scope form.entry.kind form.entry.file.now (option_copied form.entry.holder)) }
 {
-    if let Err(fault) = bound.room_for(name) {
-        return in_line(alloc, here, line, Err(fault));
-    }
-    let automaton = read_automaton(alloc, store, file)?;
-    match bound.add_monitor(alloc, name, scope, file, automaton) {
+    let container = match bound.place_for(form.name, form.holder) {
+        Ok(container) => container,
+        Err(fault) => return in_line(alloc, here, line, Err(fault)),
+    };
+    let compiled = read_spec(alloc, store, form.kind, form.file)?;
+    match bound.add_monitor(alloc, form, container, compiled) {
         Ok(()) => Ok(()),
         Err(AllocError) => Err(BindFault::Memory),
     }

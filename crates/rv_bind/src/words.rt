@@ -2,11 +2,12 @@
 ghost use Rattle.std.specs.Prelude.{◌≡◌, ◌≤◌, ℕ, List, Option, Some, None, not, bytes_eq, position, codes, length, IfSome, IfOk, MatchOption, IsTrue};
 ghost use Rattle.std.specs.List.{list_all};
 ghost use Rattle.rv_bind.specs.LineReads.{Faults, Reads, Takes};
-ghost use Rattle.rv_bind.specs.Forms.{word_at, ended, is_name, is_name_byte, is_field, is_field_byte, scope_named, mode_named, reactor_named, test_of, test_behind, or_syntax, when};
+ghost use Rattle.rv_bind.specs.Forms.{word_at, ended, is_name, is_name_byte, is_field, is_field_byte, scope_named, kind_named, mode_named, reactor_named, test_of, test_behind, or_syntax, when};
 ghost use Rattle.std.specs.Str.{is_utf8};
 
 use crate::bindings::Test;
 use crate::fault::LineFault;
+use crate::forms::SpecKind;
 use rv_model::{Mode, Name, Reactor, Scope};
 use rv_text::{BIND_SYNTAX, Words};
 use std::alloc::Global;
@@ -89,6 +90,18 @@ pub(crate) fn scope(word: &[u8]) -> Result<Scope, LineFault>
         Ok(Scope::Cpu)
     } else if is(word, "task") {
         Ok(Scope::Task)
+    } else {
+        Err(SYNTAX)
+    }
+}
+
+pub(crate) fn kind(word: &[u8]) -> Result<SpecKind, LineFault>
+    ensures { Reads (λ kind. kind) result (or_syntax (kind_named word.now)) }
+{
+    if is(word, "da") {
+        Ok(SpecKind::Da)
+    } else if is(word, "ltl") {
+        Ok(SpecKind::Ltl)
     } else {
         Err(SYNTAX)
     }

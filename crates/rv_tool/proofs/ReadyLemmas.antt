@@ -4,6 +4,7 @@ use Rattle.std.specs.Prelude.{All, AllPairs, Some, slice_get, slice_index, slice
 use Rattle.std.proofs.lemmas.List.{append_assoc, map-append}
 use Rattle.std.proofs.lemmas.List.Elements.{All-push, All-nil, All-cons, All-head, All-tail, All-weaker}
 use Rattle.rv_model.specs.declared.hit.Mode.{Mode}
+use Rattle.rv_model.specs.declared.hit.Mode.TheVariants as modes
 use Rattle.rv_model.specs.declared.hit.What.{What}
 use Rattle.rv_model.specs.declared.hit.What.TheVariants as whats
 use Rattle.rv_model.specs.declared.formula.Spec.{Spec}
@@ -11,17 +12,19 @@ use Rattle.rv_model.specs.declared.formula.Spec.TheVariants as specs
 use Rattle.rv_model.specs.declared.work.Scope.{Scope}
 use Rattle.rv_model.specs.declared.work.Delivery.{Delivery}
 use Rattle.rv_model.specs.declared.work.Turn.{Turn}
-use Rattle.rv_model.specs.Table.{Table}
+use Rattle.rv_model.specs.Table.{Table, Node, of_labels}
 use Rattle.rv_model.specs.Works.{Work}
 use Rattle.rv_model.specs.Setups.{Setup, monitor_of, slot_of}
 use Rattle.rv_slots.specs.Shapes.{count_of}
 use Rattle.rv_slots.proofs.ShapeLemmas.{monitor_of-slot_of}
-use Rattle.rv_core.specs.Advance.{FitsKind}
+use Rattle.rv_core.specs.Advance.{IsRun, FitsKind}
 use Rattle.rv_core.specs.Setup.{FitsShape, no_table, table_at}
 use Rattle.rv_core.specs.Judged.{AllMean}
 use Rattle.rv_feed.specs.Lane.{LaneValue, IsNewLane, FitsDelivery, FitsLane, FitLanes, works_of}
 use Rattle.rv_bind.specs.declared.bindings.Monitor.{Monitor}
-use Rattle.rv_bind.specs.WellFormed.{Kind, kind_of, kinds_of, FitsSpec, HasTable, HaveTables}
+use Rattle.rv_bind.specs.Compiling.{IsTableOf}
+use Rattle.rv_bind.specs.WellFormed.{Kind, kind_of, kinds_of, FitsAtoms, FitsSpec, HasTable, HaveTables}
+use Rattle.rv_bind.proofs.TableLemmas.{labelled}
 use Rattle.rv_route.specs.Fitting.{FitsKindOf, WorksFit}
 use Rattle.rv_tool.specs.Inputs.{opened}
 
@@ -45,38 +48,46 @@ shape_fits monitors tables tasks scopes shape starts switches have scopes_are sh
     let started : length starts ≡ length monitors = ap (λ (ns : List ℕ). length ns) starts_are ∙ mapped_count (λ (m : Monitor). m.starting) monitors in
     record { many = tables_counted monitors tables have ∙ sym many; many_starts = started ∙ sym many; known_switches = known }
 
-means_of : (kind : Kind) (spec : Spec) (t : Table) → HasTable kind spec t → Rattle.rv_model.specs.Judging.Means t spec
-means_of kind (specs.Da a) t h = h.1
-means_of kind (specs.Ltl r) t h = absurd h
-
 pub tables_mean : (monitors : List Monitor) (tables : List Table) → HaveTables (kinds_of monitors) tables → AllMean (map (λ (m : Monitor). m.spec) monitors) tables
 tables_mean [] [] h = tt
 tables_mean [] (t ∷ tables) h = absurd h
 tables_mean (m ∷ monitors) [] h = absurd h
-tables_mean (m ∷ monitors) (t ∷ tables) h = (means_of (kind_of m) m.spec t h.0, tables_mean monitors tables h.1)
+tables_mean (m ∷ monitors) (t ∷ tables) h = (h.0.compiles.means, tables_mean monitors tables h.1)
 
 -- what stands at a monitor's place
 record At (monitors : List Monitor) (tables : List Table) (tasks place : ℕ) (kind : Kind) : Type 0 where
   below : place < length (map (count_of tasks) (map (λ (m : Monitor). m.scope) monitors))
   count : slice_index (map (count_of tasks) (map (λ (m : Monitor). m.scope) monitors)) place ≡ count_of tasks kind.scope
-  table : HasTable kind kind.spec (slice_index_or tables place no_table)
+  table : HasTable kind (slice_index_or tables place no_table)
 
 at_place : (monitors : List Monitor) (tables : List Table) (tasks place : ℕ) (kind : Kind) → slice_get (kinds_of monitors) place ≡ Some kind → HaveTables (kinds_of monitors) tables → At monitors tables tasks place kind
 at_place [] tables tasks place kind there h = cc
 at_place (m ∷ monitors) [] tasks place kind there h = absurd h
 at_place (m ∷ monitors) (t ∷ tables) tasks zero kind there h =
     let same : kind_of m ≡ kind = cc in
-    record { below = omega arith; count = ap (λ (k : Kind). count_of tasks k.scope) same; table = subst (λ (k : Kind). HasTable k k.spec t) same h.0 }
+    record { below = omega arith; count = ap (λ (k : Kind). count_of tasks k.scope) same; table = subst (λ (k : Kind). HasTable k t) same h.0 }
 at_place (m ∷ monitors) (t ∷ tables) tasks (suc place) kind there h =
     let rest = at_place monitors tables tasks place kind there h.1 in
     record { below = let b = rest.below in omega arith; count = rest.count; table = rest.table }
 
 -- ---- deliveries
 
-hit_fits : (kind : Kind) (spec : Spec) (t : Table) (mode : Mode) (what : What) → HasTable kind spec t → FitsSpec spec (record { mode = mode; what = what }) → FitsKind t mode what
-hit_fits kind (specs.Ltl r) t mode what h fits = absurd h
-hit_fits kind (specs.Da a) t mode (whats.Da event) h fits = subst (λ (u : Table). FitsKind u mode (whats.Da event)) (sym h.0) fits
-hit_fits kind (specs.Da a) t mode (whats.Ltl on off pulse) h fits = absurd fits
+run_of : (mode : Mode) → mode ≢ modes.Start → IsRun mode
+run_of modes.Event h = tt
+run_of modes.Start h = absurd (h refl)
+run_of modes.StartRun h = tt
+
+-- a change of atoms fits a table with labels
+label_fits : (nodes : List Node) (count : ℕ) (mode : Mode) (what : What) → mode ≢ modes.Start → FitsAtoms count what → FitsKind (of_labels nodes) mode what
+label_fits nodes count mode (whats.Da event) run fits = absurd fits
+label_fits nodes count mode (whats.Ltl on off pulse) run fits = run_of mode run
+
+hit_fits : (spec : Spec) (t : Table) (mode : Mode) (what : What) → IsTableOf spec t → FitsSpec spec (record { mode = mode; what = what }) → FitsKind t mode what
+hit_fits (specs.Ltl rule) t mode what is fits =
+    let labels = labelled rule.formula t is in
+    subst (λ (u : Table). FitsKind u mode what) (sym labels.1) (label_fits labels.0 (length rule.atoms) mode what fits.0 fits.1)
+hit_fits (specs.Da a) t mode (whats.Da event) is fits = subst (λ (u : Table). FitsKind u mode (whats.Da event)) (sym is) fits
+hit_fits (specs.Da a) t mode (whats.Ltl on off pulse) is fits = absurd fits
 
 module _ (monitors : List Monitor) (tables : List Table) (tasks : ℕ) (have : HaveTables (kinds_of monitors) tables) where
   delivery_fits : (d : Delivery) → FitsKindOf (kinds_of monitors) tasks d → FitsDelivery (opened monitors tables tasks) d
@@ -88,8 +99,8 @@ module _ (monitors : List Monitor) (tables : List Table) (tasks : ℕ) (have : H
       record {
         monitor = at.below;
         instance_fits = small;
-        hit = hit_fits f.kind f.kind.spec (table_at (opened monitors tables tasks) (slot_of shape d.monitor d.instance)) d.hit.mode d.hit.what
-            (subst (λ n. HasTable f.kind f.kind.spec (slice_index_or tables n no_table)) (sym monitor) at.table) f.hit;
+        hit = hit_fits f.kind.spec (table_at (opened monitors tables tasks) (slot_of shape d.monitor d.instance)) d.hit.mode d.hit.what
+            (subst (λ n. IsTableOf f.kind.spec (slice_index_or tables n no_table)) (sym monitor) at.table.compiles.is) f.hit;
       }
 
   -- ---- lanes

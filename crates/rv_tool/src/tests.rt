@@ -202,3 +202,94 @@ fn a_run_is_reported_and_a_refusal_names_its_line(rt: HostRuntime) -> Result<(),
     }
     Ok(())
 }
+
+/// A rule of one global instance, each of whose events has no atom.
+const NEXT: &str = "monitor m global ltl m.ltl
+on m tick : start_run
+react m printk
+";
+
+/// Two events.
+const TICKS: &str = "t-1 [000] 1.000001: tick:
+t-1 [000] 1.000002: tick:
+";
+
+/// A rule of a task in a container, with an atom that stays and one that does not.
+const FAULT: &str = "container rt
+monitor pagefault task ltl m.ltl in rt
+on pagefault sched_switch by next_pid if next_prio=98 : start_run +RT
+on pagefault page_fault_user : event *PAGEFAULT
+react pagefault printk
+";
+
+/// Two faults of one task.
+const FAULTS: &str = "<idle>-0 [000] 1.000001: sched_switch: prev_pid=0 prev_state=R ==> next_pid=12 next_prio=98
+t-12 [000] 1.000002: page_fault_user: address=0x1 ip=0x2 error_code=0x4
+<idle>-0 [000] 1.000003: sched_switch: prev_pid=0 prev_state=R ==> next_pid=12 next_prio=98
+t-12 [000] 1.000004: page_fault_user: address=0x1 ip=0x2 error_code=0x4
+";
+
+#[test]
+fn a_rule_is_watched(rt: HostRuntime) -> Result<(), Fail> {
+    let cases = [
+        (
+            "RULE = next false",
+            NEXT,
+            TICKS,
+            1,
+            "rv: monitor m: violation detected (line 2)
+m: instances 1, deliveries 2, failures 1, stopped 0
+",
+        ),
+        (
+            "RULE = eventually A",
+            NEXT,
+            TICKS,
+            0,
+            "m: instances 1, deliveries 2, failures 0, stopped 0
+",
+        ),
+        (
+            "RULE = A until B",
+            NEXT,
+            "t-1 [000] 1.000001: tick:\n",
+            1,
+            "rv: monitor m: violation detected (line 1)
+m: instances 1, deliveries 1, failures 1, stopped 0
+",
+        ),
+        (
+            "RULE = always (RT imply not PAGEFAULT)",
+            FAULT,
+            FAULTS,
+            1,
+            "rv: monitor rt:pagefault[task 12]: violation detected (line 2)
+rv: monitor rt:pagefault[task 12]: violation detected (line 4)
+rt:pagefault: instances 1, deliveries 4, failures 2, stopped 0
+",
+        ),
+        ("RULE = A and", NEXT, TICKS, 2, "rv: refused 9 in m.ltl\n"),
+    ];
+    for (rule, bindings, trace, status, text) in cases {
+        let mut store = MemStore::new(rt.alloc());
+        store.add("m.ltl", rule.as_bytes())?;
+        store.add("b.rv", bindings.as_bytes())?;
+        store.add("t.txt", trace.as_bytes())?;
+        let mut out = MemSink::new(rt.alloc(), 64, 512)?;
+        let mut words = Vec::new(rt.alloc());
+        for word in ["replay", "b.rv", "t.txt"] {
+            words.push(String::from_str(rt.alloc(), word)?)?;
+        }
+        let finished = rv(
+            &rt,
+            rt.alloc(),
+            words.as_slice(),
+            &mut store,
+            &mut out,
+            &OpenGate,
+        );
+        assert_eq!(rt; finished.status, status, "at {text}");
+        assert_eq!(rt; out.taken(), text.as_bytes(), "at {text}");
+    }
+    Ok(())
+}

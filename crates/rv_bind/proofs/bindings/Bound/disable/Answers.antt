@@ -1,0 +1,15 @@
+use Rattle.std.proofs.Common.{◌≡◌, Some, sym, refl, ap, ◌∙◌, rules}
+use Rattle.std.specs.Prelude.{position}
+use Rattle.rv_bind.specs.Bound.{is_called, monitor_named, disabled}
+use Rattle.rv_bind.specs.BoundViews.{bound_value}
+use Rattle.rv_bind.proofs.BoundLemmas.{change_added}
+use Rattle.rv_bind.proofs.WellFormedLemmas.{change_formed}
+use Rattle.rv_bind.proofs.bindings.Bound.disable.Goals as goal
+
+pub returns-clause-disabled : goal.returns-clause-disabled
+returns-clause-disabled c =
+    let named : monitor_named (bound_value c.args.self.now) c.args.monitor.now ≡ Some c.in-Some.place = ap (position (is_called c.args.monitor.now)) (sym c.as_slice.ensures.value) ∙ sym c.in-Some.ensures.value in
+    change_added (bound_value c.args.self.now) c.args.monitor.now c.in-Some.place named disabled c.index_mut.result.now _ (search rules) (sym c.index_mut.ensures.value) refl
+
+pub returns-clause-formed : goal.returns-clause-formed
+returns-clause-formed c = change_formed (bound_value c.args.self.now) _ _ disabled (λ m. refl) (λ m. refl) c.requires (returns-clause-disabled c)

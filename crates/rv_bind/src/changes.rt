@@ -1,0 +1,247 @@
+//! What an `on` line brings: an automaton's event, or what becomes of a rule's atoms.
+ghost use Rattle.std.specs.Prelude.{◌≡◌, ◌≤◌, ◌<◌, ◌+◌, ◌*◌, ◌^◌, ◌||◌, ℕ, List, length, if◌then◌else◌, IfOk, bytes_eq, is_some};
+ghost use Rattle.std.specs.List.{list_all, list_any};
+ghost use Rattle.rv_ltl.specs.Texts.{texts};
+ghost use Rattle.rv_bind.specs.LineReads.{Reads};
+ghost use Rattle.rv_bind.specs.Changes.{is_sign, is_change, atom_in, says, stands_twice, runs_its_event, is_one, allows_what, signed, are_known, change_of, event_at, event_of, what_of, place_named, bit_at_place, atom_bit};
+
+use crate::bound::place_in;
+use crate::fault::LineFault;
+use crate::words::SYNTAX;
+use rv_model::{Automaton, Mode, Names, Rule, Spec, What};
+use rv_text::{UNKNOWN_ATOM, UNKNOWN_EVENT};
+
+fn is_sign(byte: u8) -> bool
+    ensures { result ≡ is_sign byte }
+{
+    byte == b'+' || (byte == b'-' || byte == b'*')
+}
+
+fn is_change(word: &[u8]) -> bool
+    ensures { result ≡ is_change word.now }
+{
+    match word {
+        [sign, _, ..] => is_sign(*sign),
+        _ => false,
+    }
+}
+
+/// The name behind the sign.
+fn atom_in(word: &[u8]) -> &[u8]
+    ensures { result.now ≡ atom_in word.now }
+{
+    match word {
+        [_, name @ ..] => name,
+        [] => word,
+    }
+}
+
+/// Whether the word is this sign and the atom's name.
+fn says(sign: u8, atom: &[u8], word: &[u8]) -> bool
+    ensures { result ≡ says sign atom.now word.now }
+{
+    match word {
+        [first, name @ ..] => *first == sign && name == atom,
+        [] => false,
+    }
+}
+
+/// Whether each word is a sign and a name.
+fn are_changes(words: &[&[u8]]) -> bool
+    ensures { result ≡ list_all is_change (texts words.now) }
+{
+    let mut rest = words;
+    while let [word, others @ ..] = rest {
+        if !is_change(word) {
+            return false;
+        }
+        rest = others;
+    }
+    true
+}
+
+/// Whether a word has this name behind its sign.
+fn names_atom(words: &[&[u8]], name: &[u8]) -> bool
+    ensures { result ≡ list_any (λ other. bytes_eq (atom_in other) name.now) (texts words.now) }
+{
+    let mut rest = words;
+    while let [word, others @ ..] = rest {
+        if atom_in(word) == name {
+            return true;
+        }
+        rest = others;
+    }
+    false
+}
+
+/// Whether two words have one name behind their signs.
+fn stands_twice(words: &[&[u8]]) -> bool
+    ensures { result ≡ stands_twice (texts words.now) }
+{
+    let mut rest = words;
+    while let [word, others @ ..] = rest {
+        if names_atom(others, atom_in(word)) {
+            return true;
+        }
+        rest = others;
+    }
+    false
+}
+
+fn runs_its_event(mode: Mode) -> bool
+    ensures { result ≡ runs_its_event mode }
+{
+    match mode {
+        Mode::Event | Mode::StartRun => true,
+        Mode::Start => false,
+    }
+}
+
+fn is_one(words: &[&[u8]]) -> bool
+    ensures { result ≡ is_one (texts words.now) }
+{
+    match words {
+        [_] => true,
+        _ => false,
+    }
+}
+
+/// Whether a rule's mode and words have the form that is its specification's.
+pub(crate) fn allows_what(spec: &Spec, mode: Mode, words: &[&[u8]]) -> bool
+    ensures { result ≡ allows_what spec.now mode (texts words.now) }
+{
+    match spec {
+        Spec::Da(_) => is_one(words),
+        Spec::Ltl(_) => runs_its_event(mode) && (are_changes(words) && !stands_twice(words)),
+    }
+}
+
+/// The set of one atom.
+fn bit(place: usize) -> u32
+    requires { place < 32 }
+    ensures { result ≡ 2 ^ place }
+{
+    1 << place
+}
+
+/// Whether a word is this sign and the atom's name.
+fn any_says(sign: u8, atom: &[u8], words: &[&[u8]]) -> bool
+    ensures { result ≡ list_any (says sign atom.now) (texts words.now) }
+{
+    let mut rest = words;
+    while let [word, others @ ..] = rest {
+        if says(sign, atom, word) {
+            return true;
+        }
+        rest = others;
+    }
+    false
+}
+
+/// The set with one more place, which is in it or not.
+fn with_place(set: u32, place: usize, is_in: bool) -> u32
+    requires place { place < 32 }
+    requires below { set < 2 ^ place }
+    ensures { result ≡ (if is_in then 1 else 0) * 2 ^ place + set }
+{
+    if is_in { bit(place) + set } else { set }
+}
+
+/// The set of the atoms that stand behind this sign.
+fn signed(sign: u8, atoms: &Names, words: &[&[u8]]) -> u32
+    requires { length atoms.now ≤ 32 }
+    ensures { result ≡ signed sign atoms.now (texts words.now) }
+{
+    let mut set = 0;
+    for place in 0..atoms.len() {
+        let is_in = any_says(sign, atoms.get(place).bytes(), words);
+        set = with_place(set, place, is_in);
+    }
+    set
+}
+
+/// Whether the word names an atom.
+fn names_one(atoms: &Names, word: &[u8]) -> bool
+    ensures { result ≡ is_some (place_named atoms.now (atom_in word.now)) }
+{
+    place_in(atoms, atom_in(word)).is_some()
+}
+
+/// Whether each word names an atom.
+fn are_known(atoms: &Names, words: &[&[u8]]) -> bool
+    ensures { result ≡ are_known atoms.now (texts words.now) }
+{
+    let mut rest = words;
+    while let [word, others @ ..] = rest {
+        if !names_one(atoms, word) {
+            return false;
+        }
+        rest = others;
+    }
+    true
+}
+
+/// What becomes of the atoms.
+fn change_of(rule: &Rule, words: &[&[u8]]) -> Result<What, LineFault>
+    ensures { Reads (λ what. what) result (change_of rule.now.atoms (texts words.now)) }
+{
+    let atoms = &rule.atoms;
+    if !are_known(atoms, words) {
+        return Err(LineFault::Number(UNKNOWN_ATOM));
+    }
+    Ok(What::Ltl {
+        on: signed(b'+', atoms, words),
+        off: signed(b'-', atoms, words),
+        pulse: signed(b'*', atoms, words),
+    })
+}
+
+/// The event of this name.
+fn event_named(automaton: &Automaton, name: &[u8]) -> Result<What, LineFault>
+    ensures { Reads (λ what. what) result (event_at (place_named automaton.now.events name.now)) }
+{
+    match place_in(&automaton.events, name) {
+        Some(place) => Ok(What::Da { event: place as u8 }),
+        None => Err(LineFault::Number(UNKNOWN_EVENT)),
+    }
+}
+
+/// The one event of the words.
+fn event_of(automaton: &Automaton, words: &[&[u8]]) -> Result<What, LineFault>
+    ensures { Reads (λ what. what) result (event_of automaton.now.events (texts words.now)) }
+{
+    match words {
+        [word] => event_named(automaton, word),
+        _ => Err(SYNTAX),
+    }
+}
+
+/// What the words bring.
+pub(crate) fn what_of(spec: &Spec, words: &[&[u8]]) -> Result<What, LineFault>
+    ensures { Reads (λ what. what) result (what_of spec.now (texts words.now)) }
+{
+    match spec {
+        Spec::Da(automaton) => event_of(automaton, words),
+        Spec::Ltl(rule) => change_of(rule, words),
+    }
+}
+
+/// The set of one atom of a rule.
+fn bit_of(rule: &Rule, atom: &[u8]) -> Result<u32, LineFault>
+    ensures { Reads (λ bit. bit) result (bit_at_place (place_named rule.now.atoms atom.now)) }
+{
+    match place_in(&rule.atoms, atom) {
+        Some(place) => Ok(bit(place)),
+        None => Err(LineFault::Number(UNKNOWN_ATOM)),
+    }
+}
+
+/// The set of the atom of this name, where the specification is a rule.
+pub(crate) fn atom_bit(spec: &Spec, atom: &[u8]) -> Result<u32, LineFault>
+    ensures { Reads (λ bit. bit) result (atom_bit spec.now atom.now) }
+{
+    match spec {
+        Spec::Da(_) => Err(SYNTAX),
+        Spec::Ltl(rule) => bit_of(rule, atom),
+    }
+}
