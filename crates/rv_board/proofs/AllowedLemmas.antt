@@ -1,5 +1,5 @@
 -- Each kind of step is allowed.
-use Rattle.std.proofs.Common.{◌≡◌, ℕ, suc, ◌+◌, ◌-◌, ◌^◌, ◌<◌, ◌≤◌, ◌==◌, refl, ap, sym, ◌∙◌, subst, arith, sum, inl, inr, Fits, w64}
+use Rattle.std.proofs.Common.{◌≡◌, ℕ, ◌+◌, ◌-◌, ◌^◌, ◌<◌, ◌==◌, refl, ap, subst, arith, sum, Fits, w64}
 use Rattle.std.specs.Prelude.{bit_and, bit_or}
 use Rattle.std.specs.Int.{bit_not}
 use Rattle.std.specs.Int.Bits.{and_lt}
@@ -7,18 +7,17 @@ use Rattle.std.proofs.Math.Facts.{Fits-or}
 use mathlib.Core.Option.{some, none}
 use prog.Atomic.{either}
 use Rattle.atomic_table.specs.Table.{step, Allows}
-use Rattle.rv_model.specs.declared.entry.Act.{Act}
 use Rattle.rv_model.specs.declared.entry.Act.TheVariants.{Deliver, Stop, Look, Raise, Lower, Clear}
 use Rattle.rv_model.specs.declared.hit.Hit.{Hit}
 use Rattle.rv_model.specs.Setups.{Setup, start_of}
 use Rattle.rv_model.specs.Histories.{IsHeldBy, LostThrice}
 use Rattle.rv_core.specs.Advance.{FitsTable, WhatFits, advanced}
-use Rattle.rv_core.specs.Setup.{FitsAct, ActFits, table_at}
+use Rattle.rv_core.specs.Setup.{table_at}
 use Rattle.rv_word.specs.Words.{packed}
 use Rattle.rv_board.specs.Rule.{width, KeptPlainly}
 use Rattle.rv_board.specs.Steps.{Ours, Makes, Sees, Tries, Looks, Raises, Lowers, Clears, Stops}
 use Rattle.rv_board.specs.Seats.{IsUsable}
-use Rattle.rv_board.proofs.KeepLemmas.{makes, tries, sees, left_by}
+use Rattle.rv_board.proofs.KeepLemmas.{makes, tries, sees}
 use Rattle.rv_board.proofs.CallLemmas.{may}
 
 -- a union of two words is a word

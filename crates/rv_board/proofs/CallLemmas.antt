@@ -1,7 +1,5 @@
 -- What a call owes for its step, and what it tells by it.
-use Rattle.std.proofs.Common.{◌≡◌, inl, inr, ℕ, ◌<◌, ◌≤◌, ◌==◌, Bool, true, List, [], ◌∷◌, ◌++◌, refl, ap, sym, ◌∙◌, subst, arith, append_assoc}
-use Rattle.std.specs.Prelude.{All}
-use Rattle.std.proofs.lemmas.Bool.Decides.{nat_tests}
+use Rattle.std.proofs.Common.{◌≡◌, inl, inr, ℕ, ◌<◌, Bool, true, List, [], ◌∷◌, ◌++◌, refl, ap, sym, ◌∙◌, subst, arith, append_assoc}
 use Rattle.std.proofs.lemmas.List.{append-nil}
 use Rattle.std.proofs.lemmas.List.Elements.{filter-append, All-nil, All-cons}
 use Rattle.atomic_table.specs.Seated.{TableId}
@@ -13,9 +11,9 @@ use Rattle.rv_model.specs.Histories.{IsSound, IsEarnedBy, IsHeldBy}
 use Rattle.rv_model.specs.Seats.{Seat, known_of, entries_of, Grows}
 use Rattle.rv_core.specs.Setup.{FitsAct, ActFits, judges_of}
 use Rattle.rv_board.specs.declared.view.View.{View}
-use Rattle.rv_board.specs.Known.{knows, Begun, blank, part}
+use Rattle.rv_board.specs.Known.{knows, Begun}
 use Rattle.rv_board.specs.Rule.{word_at, with_seen, first_view, joined}
-use Rattle.rv_board.specs.Seats.{BoardId, SeatValue, board_id, seat_value, IsUsable, SeatGrows, Acts, Looks, Follows, Joins, Closes}
+use Rattle.rv_board.specs.Seats.{SeatValue, board_id, seat_value, IsUsable, SeatGrows, Acts, Looks, Follows, Joins, Closes}
 use Rattle.rv_board.specs.Steps.{Ours, Saw, Made, Makes, made_after}
 use Rattle.rv_board.proofs.Knowing.{knows_own, known_is}
 use Rattle.rv_board.proofs.KeepLemmas.{CanMake}

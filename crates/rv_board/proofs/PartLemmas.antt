@@ -1,6 +1,5 @@
 -- A board that opens, and seats that are split and joined.
-use Rattle.std.proofs.Common.{◌≡◌, ◌≢◌, ◌⊎◌, inl, inr, ⊎_elim, ℕ, zero, suc, ◌+◌, ◌-◌, ◌<◌, ◌≤◌, ◌==◌, nat_lt, Bool, true, false, ◌||◌, List, [], ◌∷◌, ◌++◌, length, set, refl, ap, sym, ◌∙◌, subst, arith, true≢false, length-append, append_assoc}
-use Rattle.std.specs.Prelude.{slice_index}
+use Rattle.std.proofs.Common.{◌≡◌, ◌≢◌, ◌⊎◌, inl, inr, ⊎_elim, ℕ, zero, suc, ◌+◌, ◌-◌, ◌<◌, ◌≤◌, ◌==◌, nat_lt, Bool, true, false, ◌||◌, List, [], ◌∷◌, ◌++◌, length, set, refl, ap, sym, ◌∙◌, subst, arith, true≢false, length-append}
 use Rattle.std.specs.List.{list_any}
 use mathlib.Core.Option.{some, some-injective, some-ne-none}
 use lib.ListN.{get_elem?}
@@ -14,7 +13,7 @@ use Rattle.rv_model.specs.Seats.{Seat, is_in, is_among, entries_of}
 use Rattle.rv_core.specs.Setup.{judges_of}
 use Rattle.rv_board.specs.declared.view.View.{View}
 use Rattle.rv_board.specs.Known.{known_by, knows, Begun, count_from, numbers, part, blank}
-use Rattle.rv_board.specs.Rule.{width, word_at, IsOpening, Fits, KeptPlainly, first_view, spent_view, cut_left, cut_right, joined}
+use Rattle.rv_board.specs.Rule.{IsOpening, Fits, KeptPlainly, first_view, spent_view, cut_left, cut_right, joined}
 use Rattle.rv_board.proofs.Knowing.{not_true, none_of, none_after, none_either, knows_blank, none_blank, begun_blank, cut_left_within, cut_right_within}
 use Rattle.rv_board.proofs.KeepLemmas.{each_set, blank_within, AllApart, apart_set, apart_snoc}
 use Rattle.rv_board.proofs.SoundLemmas.{sound-empty}

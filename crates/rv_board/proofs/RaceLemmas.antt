@@ -1,5 +1,5 @@
 -- What a seat has seen after some lost tries.
-use Rattle.std.proofs.Common.{◌≡◌, ◌≢◌, ℕ, suc, ◌+◌, ◌<◌, ◌≤◌, ◌==◌, Bool, true, false, List, [], ◌∷◌, ◌++◌, length, reverse, refl, ap, sym, ◌∙◌, subst, arith, append_assoc, add-one}
+use Rattle.std.proofs.Common.{◌≡◌, ◌≢◌, ℕ, suc, ◌+◌, ◌<◌, ◌≤◌, ◌==◌, Bool, true, false, List, [], ◌∷◌, ◌++◌, length, reverse, refl, ap, sym, ◌∙◌, subst, arith, append_assoc}
 use Rattle.std.specs.Prelude.{filter, MatchBool}
 use Rattle.std.proofs.lemmas.Bool.Decides.{nat_tests}
 use Rattle.atomic_table.specs.Seated.{TableId}
@@ -11,14 +11,14 @@ use Rattle.rv_model.specs.declared.hit.Hit.{Hit}
 use Rattle.rv_model.specs.Setups.{Setup}
 use Rattle.rv_model.specs.SharedWords.{word_of, answer_at}
 use Rattle.rv_model.specs.Histories.{LostThrice, IsSound, changed}
-use Rattle.rv_model.specs.Seats.{Seat, known_of, entries_of}
+use Rattle.rv_model.specs.Seats.{entries_of}
 use Rattle.rv_core.specs.Advance.{acted, advanced}
 use Rattle.rv_core.specs.Setup.{place_of, table_at, table_of_act, start_of_act, judges_of}
 use Rattle.rv_board.specs.declared.view.View.{View}
 use Rattle.rv_board.specs.Deliveries.{IsMade, IsGivenUp}
 use Rattle.rv_board.specs.Known.{knows, blank}
 use Rattle.rv_board.specs.Rule.{word_at, with_seen, view}
-use Rattle.rv_board.specs.Seats.{BoardId, SeatValue, board_id, seat_value, IsUsable, Acts}
+use Rattle.rv_board.specs.Seats.{SeatValue, board_id, seat_value, IsUsable, Acts}
 use Rattle.rv_board.specs.Steps.{Ours, Saw, Made, made_after}
 use Rattle.rv_board.proofs.Knowing.{none_append, none_is, knows_own, known_is}
 use Rattle.rv_board.proofs.SoundLemmas.{changes, filter_append}

@@ -1,11 +1,11 @@
 -- What one act makes of the words that a history gives.
-use Rattle.std.proofs.Common.{◌≡◌, ◌≢◌, ℕ, zero, suc, ◌+◌, ◌^◌, ◌<◌, Bool, true, false, List, [], ◌∷◌, ◌++◌, length, get_or, set, reverse, refl, ap, sym, ◌∙◌, subst, arith, add-one, get_or-set_same, get_or-set_other, sum}
+use Rattle.std.proofs.Common.{◌≡◌, ◌≢◌, ℕ, zero, suc, ◌+◌, ◌^◌, ◌<◌, List, [], ◌∷◌, ◌++◌, length, get_or, set, reverse, refl, ap, sym, ◌∙◌, arith, add-one, get_or-set_same, get_or-set_other, sum}
 use Rattle.rv_model.specs.declared.entry.Act.{Act}
 use Rattle.rv_model.specs.declared.entry.Act.TheVariants.{Deliver, Stop, Look, Raise, Lower, Clear}
 use Rattle.rv_model.specs.declared.entry.Entry.{Entry}
 use Rattle.rv_model.specs.Numbers.{list_of}
 use Rattle.rv_model.specs.Setups.{Setup}
-use Rattle.rv_model.specs.SharedWords.{switches_of, word_of, word_on, answer_at}
+use Rattle.rv_model.specs.SharedWords.{answer_at}
 use Rattle.rv_model.specs.Histories.{FitsWords, Replays}
 use Rattle.rv_model.proofs.MeansLemmas.{length-list_of, get_or-list_of}
 use Rattle.rv_core.specs.Advance.{acted}

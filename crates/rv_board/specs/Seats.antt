@@ -14,7 +14,6 @@ use Rattle.rv_core.specs.Setup.{judges_of}
 use Rattle.rv_board.specs.declared.view.View.{View}
 use Rattle.rv_board.specs.Codes.{coded_part}
 use Rattle.rv_board.specs.Known.{blank, numbers, part}
-use Rattle.rv_board.specs.Rule.{view}
 
 -- which board it is, and what it began with
 pub record BoardId : Type 0 where

@@ -1,6 +1,5 @@
 -- The opening words are those of an empty history.
 use Rattle.std.proofs.Common.{◌≡◌, ◌∷◌, ◌++◌, [], ℕ, arith, sum, ap, ◌∙◌, rules, subst, sym}
-use Rattle.std.proofs.Common.{List}
 use Rattle.rv_board.specs.Rule.{IsOpening}
 use Rattle.rv_board.proofs.WordSteps.{opening-is}
 use Rattle.rv_core.proofs.OpeningLemmas.{opens-none, opens-more, opening_words}

@@ -1,12 +1,11 @@
 -- Each try is allowed, and counts one change by others where it is lost.
-use Rattle.std.proofs.Common.{◌≡◌, ◌+◌, ◌<◌, sym, ap, ◌∙◌, subst, arith, sum, add-one}
+use Rattle.std.proofs.Common.{◌<◌, sym, ap, ◌∙◌, subst, arith, sum, add-one}
 use Rattle.rv_model.specs.Setups.{Setup}
 use Rattle.rv_model.specs.Table.{Table}
 use Rattle.rv_core.specs.Advance.{FitsTable, advanced}
 use Rattle.rv_core.specs.Setup.{table_at}
 use Rattle.rv_board.specs.declared.view.View.{View}
-use Rattle.rv_board.specs.Rule.{width}
-use Rattle.rv_board.specs.Seats.{BoardId, SeatValue, IsUsable}
+use Rattle.rv_board.specs.Seats.{BoardId, SeatValue}
 use Rattle.rv_board.proofs.AllowedLemmas.{loads, exchanges, stops}
 use Rattle.rv_board.proofs.RaceLemmas.{lost_more, raced, usable_lost, at_same, at_other, is-made, given_up}
 use Rattle.rv_board.proofs.board.Board.deliver.Goals as goal

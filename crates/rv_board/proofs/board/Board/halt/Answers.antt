@@ -1,4 +1,4 @@
-use Rattle.std.proofs.Common.{inl, inr, sym, ap, ◌∙◌, refl, arith}
+use Rattle.std.proofs.Common.{inr, sym, ap, ◌∙◌, refl, arith}
 use Rattle.rv_board.specs.Seats.{BoardId, SeatValue}
 use Rattle.rv_board.proofs.AllowedLemmas.{raises}
 use Rattle.rv_board.proofs.CallLemmas.{acts-as}

@@ -1,4 +1,4 @@
-use Rattle.std.proofs.Common.{◌+◌, ◌<◌, sym, ap, ◌∙◌, subst, arith, sum}
+use Rattle.std.proofs.Common.{◌<◌, sym, ap, ◌∙◌, subst, arith, sum}
 use Rattle.rv_model.specs.Setups.{Setup}
 use Rattle.rv_board.specs.Seats.{BoardId, SeatValue}
 use Rattle.rv_board.proofs.AllowedLemmas.{loads}
