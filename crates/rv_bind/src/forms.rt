@@ -28,22 +28,12 @@ pub(crate) enum SpecKind {
 pub(crate) enum Form<'a> {
     /// Nothing is said.
     Skipped,
-    Container {
-        name: &'a [u8],
-    },
+    Container { name: &'a [u8] },
     Monitor(MonitorForm<'a>),
     On(OnForm<'a>),
-    React {
-        monitor: &'a [u8],
-        reactor: Reactor,
-    },
-    Off {
-        monitor: &'a [u8],
-    },
-    Begin {
-        monitor: &'a [u8],
-        atom: &'a [u8],
-    },
+    React { monitor: &'a [u8], reactor: Reactor },
+    Off { monitor: &'a [u8] },
+    Begin { monitor: &'a [u8], atom: &'a [u8] },
 }
 
 /// What is watched, and by which specification.

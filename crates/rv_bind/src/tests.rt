@@ -1,6 +1,6 @@
 //! Which bindings are accepted, and why others are refused, at each limit.
 
-use crate::{BindFault, Bound, Item, Test, read_bindings};
+use crate::{BindFault, Item, Test, read_bindings};
 use rv_io::MemStore;
 use rv_model::{Mode, Reactor, Scope, Spec, What};
 use rv_text::Line;
@@ -39,23 +39,30 @@ fn put_names(
     Ok(())
 }
 
-/// What came of the bindings: `ok`, or the file with the refusal's number and line, or the unread file.
-fn told(alloc: Global, store: &mut MemStore) -> Result<Vec<u8>, AllocError> {
-    let mut out = Line::new(alloc);
-    match read_bindings(alloc, store, "b.rv") {
-        Ok(_) => out.text(b"ok")?,
-        Err(BindFault::Refused { file, refusal }) => {
+/// The file with the refusal's number and line, or the unread file.
+fn tell(out: &mut Line, fault: BindFault) -> Result<(), AllocError> {
+    match fault {
+        BindFault::Refused { file, refusal } => {
             out.text(file.bytes())?;
             out.text(b" ")?;
             out.number(refusal.number as u64)?;
             out.text(b" ")?;
-            out.number(refusal.line as u64)?;
+            out.number(refusal.line as u64)
         }
-        Err(BindFault::Unread { file }) => {
+        BindFault::Unread { file } => {
             out.text(b"unread ")?;
-            out.text(file.bytes())?;
+            out.text(file.bytes())
         }
-        Err(BindFault::Memory) => out.text(b"memory")?,
+        BindFault::Memory => out.text(b"memory"),
+    }
+}
+
+/// What came of the bindings: `ok`, or the fault.
+fn told(alloc: Global, store: &mut MemStore) -> Result<Vec<u8>, AllocError> {
+    let mut out = Line::new(alloc);
+    match read_bindings(alloc, store, "b.rv") {
+        Ok(_bound) => out.text(b"ok")?,
+        Err(fault) => tell(&mut out, fault)?,
     }
     Ok(out.into_bytes())
 }
@@ -98,8 +105,7 @@ fn each_line_has_the_first_refusal(rt: HostRuntime) -> Result<(), Fail> {
         ("on a x : event x", "b.rv 18 1"),
     ];
     for (bindings, answer) in cases {
-        assert_eq!(
-            rt;
+        assert_eq!(rt;
             told_of(rt.alloc(), bindings.as_bytes())?.as_slice(),
             answer.as_bytes(),
             "at {bindings}"
@@ -145,8 +151,7 @@ fn each_line_of_a_monitor_has_the_first_refusal(rt: HostRuntime) -> Result<(), F
         let mut bindings = Vec::new(rt.alloc());
         put(&mut bindings, BOTH, 1)?;
         put(&mut bindings, line.as_bytes(), 1)?;
-        assert_eq!(
-            rt;
+        assert_eq!(rt;
             told_of(rt.alloc(), &bindings)?.as_slice(),
             answer.as_bytes(),
             "at {line}"
@@ -240,7 +245,11 @@ fn a_specification_is_refused_under_its_own_name(rt: HostRuntime) -> Result<(), 
         answer.text(b"s ")?;
         answer.number(number as u64)?;
         answer.text(b" 0")?;
-        assert_eq!(rt; told(rt.alloc(), &mut store)?.as_slice(), answer.bytes(), "at {number}");
+        assert_eq!(rt;
+            told(rt.alloc(), &mut store)?.as_slice(),
+            answer.bytes(),
+            "at {number}"
+        );
     }
     Ok(())
 }
@@ -263,24 +272,32 @@ fn each_limit_is_the_last_that_is_accepted(rt: HostRuntime) -> Result<(), Fail> 
             put(&mut text, b"monitor m cpu da one.dot\n", 1)?;
         }
         put(&mut text, b"on m x : event x\n", rules)?;
-        assert_eq!(rt; told_of(rt.alloc(), &text)?.as_slice(), answer.as_bytes(), "at {answer}");
+        assert_eq!(rt;
+            told_of(rt.alloc(), &text)?.as_slice(),
+            answer.as_bytes(),
+            "at {answer}"
+        );
     }
     Ok(())
 }
 
 #[test]
 fn a_text_ends_at_its_limit(rt: HostRuntime) -> Result<(), Fail> {
-    let cases = [
-        (1_048_575, "ok"),
-        (1_048_576, "b.rv 18 1"),
-    ];
+    let cases = [(1_048_575, "ok"), (1_048_576, "b.rv 18 1")];
     for (before, answer) in cases {
         let mut text = Vec::new(rt.alloc());
         put(&mut text, b"#", before)?;
         put(&mut text, b"\n", 1)?;
-        assert_eq!(rt; told_of(rt.alloc(), &text)?.as_slice(), answer.as_bytes(), "at {before}");
+        assert_eq!(rt;
+            told_of(rt.alloc(), &text)?.as_slice(),
+            answer.as_bytes(),
+            "at {before}"
+        );
     }
-    assert_eq!(rt; told_of(rt.alloc(), b"monitor a cpu da \xff")?.as_slice(), b"b.rv 18 1".as_slice());
+    assert_eq!(rt;
+        told_of(rt.alloc(), b"monitor a cpu da \xff")?.as_slice(),
+        b"b.rv 18 1".as_slice()
+    );
     Ok(())
 }
 
@@ -297,27 +314,20 @@ fn monitors_stand_in_containers(rt: HostRuntime) -> Result<(), Fail> {
     let mut store = MemStore::new(rt.alloc());
     store.add("one.dot", ONE)?;
     store.add("b.rv", NEST)?;
-    let Ok(Bound { bindings, tables }) = read_bindings(rt.alloc(), &mut store, "b.rv") else {
-        return Err(Fail::new("not accepted"));
-    };
+    let bound = read_bindings(rt.alloc(), &mut store, "b.rv")?;
+    let bindings = &bound.bindings;
     assert_eq!(rt; bindings.containers.len(), 1);
-    assert_eq!(rt; tables.len(), 3);
-    assert_eq!(rt; bindings.items.as_slice(), [Item::Container(0), Item::Monitor(2)].as_slice());
-    let shown = [
-        ("snep", Some(0), true),
-        ("sco", Some(0), false),
-        ("wip", None, true),
-    ];
+    assert_eq!(rt; bound.tables.len(), 3);
+    assert_eq!(rt;
+        bindings.items.as_slice(),
+        [Item::Container(0), Item::Monitor(2)].as_slice()
+    );
     assert_eq!(rt; bindings.monitors.len(), 3);
-    for place in 0..3usize {
-        if place < bindings.monitors.len() {
-            let monitor = &bindings.monitors[place];
-            let (name, container, enabled) = shown[place];
-            assert_eq!(rt; monitor.name.bytes(), name.as_bytes());
-            assert_eq!(rt; monitor.container, container);
-            assert_eq!(rt; monitor.enabled, enabled);
-            assert_eq!(rt; monitor.starting, 0);
-        }
+    if let [snep, sco, wip] = bindings.monitors.as_slice() {
+        assert_eq!(rt; snep.name.bytes(), b"snep".as_slice());
+        assert!(rt; snep.container == Some(0) && snep.enabled);
+        assert!(rt; sco.container == Some(0) && !sco.enabled);
+        assert!(rt; wip.container == None && wip.enabled);
     }
     Ok(())
 }
@@ -335,9 +345,7 @@ fn atoms_are_named_by_their_bits(rt: HostRuntime) -> Result<(), Fail> {
     let mut store = MemStore::new(rt.alloc());
     store.add("pagefault.ltl", b"RULE = always (RT imply not PAGEFAULT)")?;
     store.add("b.rv", FAULT)?;
-    let Ok(bound) = read_bindings(rt.alloc(), &mut store, "b.rv") else {
-        return Err(Fail::new("not accepted"));
-    };
+    let bound = read_bindings(rt.alloc(), &mut store, "b.rv")?;
     let bindings = &bound.bindings;
     assert_eq!(rt; bindings.monitors.len(), 1);
     assert_eq!(rt; bindings.rules.len(), 2);
@@ -349,10 +357,24 @@ fn atoms_are_named_by_their_bits(rt: HostRuntime) -> Result<(), Fail> {
     }
     if let [first, second] = bindings.rules.as_slice() {
         assert!(rt; first.hit.mode == Mode::StartRun);
-        assert_eq!(rt; first.hit.what, What::Ltl { on: 2, off: 0, pulse: 0 });
+        assert_eq!(rt;
+            first.hit.what,
+            What::Ltl {
+                on: 2,
+                off: 0,
+                pulse: 0
+            }
+        );
         assert_eq!(rt; first.tests.len(), 1);
         assert!(rt; matches!(first.tests.as_slice(), [Test::Is { .. }]));
-        assert_eq!(rt; second.hit.what, What::Ltl { on: 0, off: 0, pulse: 1 });
+        assert_eq!(rt;
+            second.hit.what,
+            What::Ltl {
+                on: 0,
+                off: 0,
+                pulse: 1
+            }
+        );
     }
     Ok(())
 }

@@ -223,7 +223,8 @@ react pagefault printk
 ";
 
 /// Two faults of one task.
-const FAULTS: &str = "<idle>-0 [000] 1.000001: sched_switch: prev_pid=0 prev_state=R ==> next_pid=12 next_prio=98
+const FAULTS: &str =
+    "<idle>-0 [000] 1.000001: sched_switch: prev_pid=0 prev_state=R ==> next_pid=12 next_prio=98
 t-12 [000] 1.000002: page_fault_user: address=0x1 ip=0x2 error_code=0x4
 <idle>-0 [000] 1.000003: sched_switch: prev_pid=0 prev_state=R ==> next_pid=12 next_prio=98
 t-12 [000] 1.000004: page_fault_user: address=0x1 ip=0x2 error_code=0x4
