@@ -1,4 +1,4 @@
--- Each step keeps the rule.
+-- A step keeps the rule, whichever word stands for a history and whatever else is to hold.
 use Rattle.std.proofs.Common.{◌≡◌, ◌≢◌, ◌⊎◌, inl, inr, ⊎_elim, ℕ, zero, suc, ◌^◌, ◌<◌, ◌≤◌, ◌==◌, Bool, true, false, List, [], ◌∷◌, ◌++◌, length, set, get_or, reverse, refl, ap, sym, ◌∙◌, subst, arith, append_assoc, true≢false, length-set, get_or-set_same, get_or-set_other}
 use Rattle.std.specs.Prelude.{slice_index}
 use mathlib.Core.Logic.{dite}
@@ -26,69 +26,7 @@ use Rattle.rv_board.specs.Steps.{Ours, Saw, Made, Makes, Sees, Tries, made_after
 use Rattle.rv_board.proofs.Knowing.{not_true, none_append, none_is, none_append_is, knows_blank, begun_blank, knows_own}
 use Rattle.rv_board.proofs.SoundLemmas.{sound-snoc, filter_append}
 use Rattle.rv_board.proofs.WordSteps.{place-within, Acted, acts}
-
-abbrev pub St : Type 0
-St = State Act View
-
--- what holds of each view, after one is changed
-pub each_set : (Q : ℕ → View → Type 0) (views : List View) (id : ℕ) (w : View) → Q id w → ((j : ℕ) (u : View) → j ≢ id → get_elem? views j ≡ some u → Q j u) → (j : ℕ) (u : View) → get_elem? (set views id w) j ≡ some u → Q j u
-each_set Q views id w mine others j u e =
-    ⊎_elim
-    (λ (x : (j ≡ id) × (w ≡ u)). subst (λ (y : ℕ × View). Q y.0 y.1) (λ i. (sym x.0 i, x.1 i)) mine)
-    (λ (x : (j ≢ id) × (get_elem? views j ≡ some u)). others j u x.0 x.1)
-    (at_set views id j w u e)
-
--- the two know no number in common
-abbrev pub Apart : View → View → Type 0
-Apart x y = (n : ℕ) → knows x.part n ≡ true → knows y.part n ≡ true → ⊥
-
-abbrev pub AllApart : List View → Type 0
-AllApart views = (i j : ℕ) (x y : View) → get_elem? views i ≡ some x → get_elem? views j ≡ some y → i ≢ j → Apart x y
-
--- all are apart after one is changed, if it is apart from the others
-pub apart_set : (views : List View) (id : ℕ) (w : View) → AllApart views → ((j : ℕ) (u : View) → j ≢ id → get_elem? views j ≡ some u → Apart w u) → AllApart (set views id w)
-apart_set views id w olds new i j x y ei ej ne =
-    each_set (λ a u. a ≢ j → Apart u y) views id w
-    (λ ne'. each_set (λ b z. id ≢ b → Apart w z) views id w (λ bad. absurd (bad refl)) (λ b z other e _. new b z other e) j y ej ne')
-    (λ a u other e ne'. each_set (λ b z. a ≢ b → Apart u z) views id w (λ _ n s t. new a u other e n t s) (λ b z _ e' ab. olds a b u z e e' ab) j y ej ne')
-    i x ei ne
-
-at_snoc_last : (l : List View) (a b : View) (j : ℕ) → get_elem? (l ++ a ∷ []) j ≡ some b → (get_elem? l j ≡ some b) ⊎ ((a ≡ b) × (j ≡ length l))
-at_snoc_last [] a b zero e = inr (some-injective a b e, refl)
-at_snoc_last [] a b (suc j) e = absurd (some-ne-none b (sym e))
-at_snoc_last (x ∷ xs) a b zero e = inl e
-at_snoc_last (x ∷ xs) a b (suc j) e = elim (at_snoc_last xs a b j e) [ inl h ↦ inl h | inr t ↦ inr (t.0, ap suc t.1) ]
-
--- all are apart after one came, if it is apart from the others
-pub apart_snoc : (views : List View) (w : View) → AllApart views → ((j : ℕ) (u : View) → get_elem? views j ≡ some u → Apart u w) → AllApart (views ++ w ∷ [])
-apart_snoc views w olds new i j x y ei ej ne = on (at_snoc_last views w x i ei) (at_snoc_last views w y j ej)
-  where
-    on : (get_elem? views i ≡ some x) ⊎ ((w ≡ x) × (i ≡ length views)) → (get_elem? views j ≡ some y) ⊎ ((w ≡ y) × (j ≡ length views)) → Apart x y
-    on (inl a) (inl b) = olds i j x y a b ne
-    on (inl a) (inr b) = subst (Apart x) b.0 (new i x a)
-    on (inr a) (inl b) = subst (λ (z : View). Apart z y) a.0 (λ n s t. new j y b n t s)
-    on (inr a) (inr b) = absurd (ne (a.1 ∙ sym b.1))
-
-begun_longer : (log new : List Entry) (p : Seat) → Begun log p → entries_of (knows p) new ≡ [] → Begun (log ++ new) p
-begun_longer log new p b quiet = record {
-  rest = b.rest ++ new;
-  whole = ap (λ l. l ++ new) b.whole ∙ append_assoc p.seen b.rest new;
-  none = none_append (knows p) b.rest new b.none quiet;
-}
-
-begun_all : (log : List Entry) (p : Seat) → Begun log (with_list p log)
-begun_all log p = record { rest = []; whole = sym (append-nil log); none = refl }
-
-pub blank_within : (p : Seat) (n : ℕ) → knows blank n ≡ true → knows p n ≡ true
-blank_within p n t = absurd (knows_blank n t)
-
-range_within : (number end : ℕ) (gone : List ℕ) (m : ℕ) → is_in (suc number) end m ≡ true → known_by number end gone m ≡ true
-unfolding is_in known_by
-range_within number end gone m t = grind (arith, nat_tests)
-
-range_not_own : (number end : ℕ) → is_in (suc number) end number ≡ false
-unfolding is_in
-range_not_own number end = grind (arith, nat_tests)
+use Rattle.rv_board.proofs.ViewLemmas.{St, each_set, Apart, AllApart, apart_set, begun_longer, begun_all, blank_within, range_within, range_not_own}
 
 -- three entries of others that came before stay, whatever others added since
 raced_longer : (p : ℕ → Bool) (seat slot : ℕ) (log rest : List Entry) → p seat ≡ true → entries_of p rest ≡ [] → LostThrice slot seat log → LostThrice slot seat (log ++ rest)
@@ -238,46 +176,3 @@ module _ (code : Setup → List Entry → ℕ → ℕ) (also : List Entry → Li
           answer = subst (λ (z : Setup × List Entry). (acted (table_of_act z.0 act) (start_of_act z.0 act) (word_at z.0 z.1 (place_of act)) act).0 ≡ answer_at z.0 (judges_of z.0) (reverse z.1) (made_after z.0 v.part.number act z.1) act) (λ i. (sym can.setup i, all i)) does.answer;
         },
       )
-
--- ---- a board
-
--- a load
-pub sees : (k : Setup) (slots id : ℕ) (me : Ours) (i : ℕ) → i < width k → me.0.setup ≡ k → me.0.part.number < me.0.part.end → Allows (KeptPlainly k) slots id me i (λ n. n) (Sees (step slots i 0 0 none) me)
-sees k slots id me i inside setup has s r _ at _ = let t = sees_with word_at nothing_else k id me i inside setup has s r at tt in (with_seen me.0 r.log, keeps, tt, t.0, (t.1, refl))
-
--- the word after an act, from the one that it finds
-abbrev pub left_by : Setup → Act → ℕ → ℕ
-left_by k act word = (acted (table_of_act k act) (start_of_act k act) word act).1
-
--- where the step writes what the act leaves
-makes_at : (k : Setup) (id : ℕ) (me : Ours) (act : Act) (n : ℕ) → CanMake k me.0 act → (s : St) (r : KeptPlainly k s) → get_elem? s.views id ≡ some me.0 → n ≡ left_by k act (slice_index s.words (place_of act)) → n < 2 ^ 64
-    → KeptPlainly k (stepped s (place_of act) n id me.1 (with_seen me.0 (r.log ++ made_after k me.0.part.number act r.log ∷ [])) keeps)
-    × Made word_at me.0 (with_seen me.0 (r.log ++ made_after k me.0.part.number act r.log ∷ [])) act (slice_index s.words (place_of act))
-makes_at k id me act n can s r at is small =
-    let found : slice_index s.words (place_of act) ≡ word_at k r.log (place_of act) = r.words (place_of act) (place-within k act can.fits) in
-    let left : n ≡ left_by k act (word_at k r.log (place_of act)) = is ∙ ap (left_by k act) found in
-    let does : Acted k r.log me.0.part.number act = acts k r.log me.0.part.number act r.machine r.sound.replays can.fits can.bits (subst (λ (z : ℕ). z < 2 ^ 64) left small) in
-    makes_with word_at nothing_else k id me act n can s r at does (left ∙ sym does.here) does.others tt
-
--- a step that is one act, whatever it finds
-pub makes : (k : Setup) (slots id : ℕ) (me : Ours) (act : Act) (f : ℕ → ℕ) → CanMake k me.0 act → ((n : ℕ) → n < 18446744073709551616 → (f n ≡ left_by k act n) × (f n < 2 ^ 64)) → Allows (KeptPlainly k) slots id me (place_of act) f (Makes act me)
-makes k slots id me act f can does s r _ at small =
-    let d = does (slice_index s.words (place_of act)) small in
-    let t = makes_at k id me act (f (slice_index s.words (place_of act))) can s r at d.0 d.1 in
-    (with_seen me.0 (r.log ++ made_after k me.0.part.number act r.log ∷ []), keeps, tt, t.0, (t.1, refl))
-
--- a compare-exchange that makes the act where it finds what the act was computed from
-pub tries : (k : Setup) (slots id : ℕ) (me : Ours) (act : Act) (old new : ℕ) → CanMake k me.0 act → new ≡ left_by k act old → new < 2 ^ 64 → Allows (KeptPlainly k) slots id me (place_of act) (λ n. either (n == old) new n) (Tries (step slots (place_of act) old new (some act)) me)
-tries k slots id me act old new can does fit s r _ at small = on (found == old) refl
-  where
-    found : ℕ
-    found = slice_index s.words (place_of act)
-
-    on : (b : Bool) → (found == old) ≡ b → (w : View) × (a : Rattle.atomic_table.specs.Table.Act Act) × Rattle.atomic_table.specs.Table.Valid s.homes me.1 a × KeptPlainly k (stepped s (place_of act) (either (found == old) new found) id me.1 w a) × Tries (step slots (place_of act) old new (some act)) me found (w, Rattle.atomic_table.specs.Table.carried_after me.1 a)
-    on true hit =
-        let same : found ≡ old = grind (arith, nat_tests) in
-        let t = makes_at k id me act new can s r at (does ∙ ap (left_by k act) (sym same)) fit in
-        (with_seen me.0 (r.log ++ made_after k me.0.part.number act r.log ∷ []), keeps, tt, rw hit t.0, (rw hit t.1, refl))
-    on false miss =
-        let t = sees_with word_at nothing_else k id me (place_of act) (place-within k act can.fits) can.setup can.has s r at tt in
-        (with_seen me.0 r.log, keeps, tt, rw miss t.0, (rw miss t.1, refl))

@@ -18,6 +18,7 @@ use Rattle.rv_core.specs.Setup.{place_of}
 use Rattle.rv_core.proofs.WordLemmas.{packed-other}
 
 module _ (s : Setup) (js : List Judge) where
+  -- the empty history is sound
   pub sound-empty : IsSound s js []
   sound-empty = record {
     replays = at_each-nil (FitsWords s js);

@@ -21,9 +21,11 @@ use Rattle.rv_board.specs.Steps.{made_after}
 abbrev plain : Setup → List Entry → List ℕ
 plain s log = list_of (word_at s log) (width s)
 
+-- as many as a board has
 plain-length : (s : Setup) (log : List Entry) → length (plain s log) ≡ width s
 plain-length s log = length-list_of (word_at s log) (width s)
 
+-- each by its place
 plain-at : (s : Setup) (log : List Entry) (i : ℕ) → i < width s → get_or (plain s log) i 0 ≡ word_at s log i
 plain-at s log i low = get_or-list_of (word_at s log) (width s) i 0 low
 
@@ -60,6 +62,7 @@ pub record Acted (s : Setup) (log : List Entry) (seat : ℕ) (act : Act) : Type 
   pub others : (i : ℕ) → i < width s → i ≢ place_of act → word_at s (log ++ made_after s seat act log ∷ []) i ≡ word_at s log i
   pub answer : (acted (table_of_act s act) (start_of_act s act) (word_at s log (place_of act)) act).0 ≡ answer_at s (judges_of s) (reverse log) (made_after s seat act log) act
 
+-- the act of a seat does just that
 pub acts : (s : Setup) (log : List Entry) (seat : ℕ) (act : Act) → IsMachine s log → Replays s (judges_of s) log → FitsAct s act → ActFits s act → (made_after s seat act log).after < 2 ^ 64 → Acted s log seat act
 acts s log seat act m replays fits bits fit = record {
   machine = record { is_setup = after.is_setup; live = after.live };

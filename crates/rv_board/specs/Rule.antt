@@ -70,6 +70,7 @@ KeptPlainly = Kept word_at nothing_else
 
 -- ---- views
 
+-- the view of these
 abbrev pub view : Seat → Seat → Seat → Setup → View
 view p left right s = record { part = p; left = left; right = right; setup = s }
 
