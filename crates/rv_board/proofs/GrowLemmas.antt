@@ -6,9 +6,9 @@ use Rattle.std.proofs.lemmas.List.{append-nil}
 use Rattle.std.proofs.lemmas.List.Elements.{filter-append, All-nil, All-append, All-head, All-tail}
 use Rattle.rv_model.specs.declared.entry.Entry.{Entry}
 use Rattle.rv_model.specs.Histories.{IsSound}
-use Rattle.rv_model.specs.Seats.{Seat, known_of, entries_of}
+use Rattle.rv_model.specs.Seats.{known_of, entries_of}
 use Rattle.rv_core.specs.Setup.{judges_of}
-use Rattle.rv_board.specs.Known.{known_by, knows, blank, numbers}
+use Rattle.rv_board.specs.Known.{known_by, blank, numbers}
 use Rattle.rv_board.specs.Rule.{view, no_setup}
 use Rattle.rv_board.specs.Seats.{BoardId, SeatValue, SeatGrows, Follows, Joins}
 use Rattle.rv_board.proofs.Knowing.{knows_own, known_is}

@@ -1,22 +1,18 @@
 -- Seats that are joined.
-use Rattle.std.proofs.Common.{◌≡◌, ◌≢◌, ◌⊎◌, inl, inr, ⊎_elim, ℕ, zero, suc, ◌+◌, ◌-◌, ◌<◌, ◌≤◌, ◌==◌, nat_lt, Bool, true, false, ◌||◌, List, [], ◌∷◌, ◌++◌, length, set, refl, ap, sym, ◌∙◌, subst, arith, true≢false, length-append}
-use Rattle.std.specs.List.{list_any}
-use mathlib.Core.Option.{some, some-injective, some-ne-none}
+use Rattle.std.proofs.Common.{◌≡◌, ◌≢◌, ◌⊎◌, inl, inr, ⊎_elim, ℕ, ◌<◌, ◌≤◌, nat_lt, Bool, true, false, List, [], ◌∷◌, ◌++◌, length, set, refl, ap, sym, ◌∙◌, subst, arith, true≢false, length-append}
+use mathlib.Core.Option.{some}
 use lib.ListN.{get_elem?}
 use Rattle.std.proofs.lemmas.Bool.Decides.{nat_tests}
-use Rattle.std.proofs.lemmas.List.Folds.{list_any-append}
-use Rattle.atomic_table.specs.Table.{opening, Splits, Joins}
-use Rattle.atomic_table.proofs.Lists.{at_snoc, set_else}
+use Rattle.atomic_table.specs.Table.{Joins}
+use Rattle.atomic_table.proofs.Lists.{set_else}
 use Rattle.rv_model.specs.declared.entry.Entry.{Entry}
 use Rattle.rv_model.specs.Setups.{Setup}
-use Rattle.rv_model.specs.Seats.{Seat, is_in, is_among, entries_of}
-use Rattle.rv_core.specs.Setup.{judges_of}
+use Rattle.rv_model.specs.Seats.{is_in, is_among, entries_of}
 use Rattle.rv_board.specs.declared.view.View.{View}
-use Rattle.rv_board.specs.Known.{known_by, knows, Begun, count_from, numbers, part, blank}
-use Rattle.rv_board.specs.Rule.{IsOpening, Fits, KeptPlainly, first_view, spent_view, cut_left, cut_right, joined}
-use Rattle.rv_board.proofs.Knowing.{not_true, none_of, none_after, none_either, knows_blank, none_blank, begun_blank, cut_left_within, cut_right_within}
-use Rattle.rv_board.proofs.ViewLemmas.{each_set, blank_within, AllApart, apart_set, apart_snoc}
-use Rattle.rv_board.proofs.SoundLemmas.{sound-empty}
+use Rattle.rv_board.specs.Known.{knows, Begun, numbers, blank}
+use Rattle.rv_board.specs.Rule.{Fits, KeptPlainly, spent_view, joined}
+use Rattle.rv_board.proofs.Knowing.{not_true, none_of, none_after, none_either, knows_blank, none_blank, begun_blank}
+use Rattle.rv_board.proofs.ViewLemmas.{each_set, blank_within, AllApart}
 use Rattle.rv_board.proofs.NumberLemmas.{none_among, range_right, in_range, or_cases, among_append, numbers_known, joined_cases, joined_left, joined_right}
 
 -- of two beginnings of one list, one begins the other

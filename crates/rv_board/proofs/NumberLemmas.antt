@@ -1,22 +1,12 @@
 -- Which numbers a seat knows after a cut and after a join.
-use Rattle.std.proofs.Common.{◌≡◌, ◌≢◌, ◌⊎◌, inl, inr, ⊎_elim, ℕ, zero, suc, ◌+◌, ◌-◌, ◌<◌, ◌≤◌, ◌==◌, nat_lt, Bool, true, false, ◌||◌, List, [], ◌∷◌, ◌++◌, length, set, refl, ap, sym, ◌∙◌, subst, arith, true≢false, length-append}
+use Rattle.std.proofs.Common.{◌≡◌, ◌≢◌, ◌⊎◌, inl, inr, ⊎_elim, ℕ, zero, suc, ◌+◌, ◌-◌, ◌<◌, ◌≤◌, ◌==◌, Bool, true, false, ◌||◌, List, [], ◌++◌, refl, sym, ◌∙◌, arith, true≢false}
 use Rattle.std.specs.List.{list_any}
-use mathlib.Core.Option.{some, some-injective, some-ne-none}
-use lib.ListN.{get_elem?}
 use Rattle.std.proofs.lemmas.Bool.Decides.{nat_tests}
 use Rattle.std.proofs.lemmas.List.Folds.{list_any-append}
-use Rattle.atomic_table.specs.Table.{opening, Splits, Joins}
-use Rattle.atomic_table.proofs.Lists.{at_snoc, set_else}
-use Rattle.rv_model.specs.declared.entry.Entry.{Entry}
-use Rattle.rv_model.specs.Setups.{Setup}
-use Rattle.rv_model.specs.Seats.{Seat, is_in, is_among, entries_of}
-use Rattle.rv_core.specs.Setup.{judges_of}
+use Rattle.rv_model.specs.Seats.{Seat, is_in, is_among}
 use Rattle.rv_board.specs.declared.view.View.{View}
-use Rattle.rv_board.specs.Known.{known_by, knows, Begun, count_from, numbers, part, blank}
-use Rattle.rv_board.specs.Rule.{IsOpening, Fits, KeptPlainly, first_view, spent_view, cut_left, cut_right, joined}
-use Rattle.rv_board.proofs.Knowing.{not_true, none_of, none_after, none_either, knows_blank, none_blank, begun_blank, cut_left_within, cut_right_within}
-use Rattle.rv_board.proofs.ViewLemmas.{each_set, blank_within, AllApart, apart_set, apart_snoc}
-use Rattle.rv_board.proofs.SoundLemmas.{sound-empty}
+use Rattle.rv_board.specs.Known.{known_by, knows, count_from, numbers}
+use Rattle.rv_board.specs.Rule.{joined}
 
 -- no number is among none
 pub none_among : (n : ℕ) → is_among [] n ≡ false

@@ -1,30 +1,18 @@
 -- The steps of a board, each of whose words is the one that the history gives.
-use Rattle.std.proofs.Common.{◌≡◌, ◌≢◌, ◌⊎◌, inl, inr, ⊎_elim, ℕ, zero, suc, ◌^◌, ◌<◌, ◌≤◌, ◌==◌, Bool, true, false, List, [], ◌∷◌, ◌++◌, length, set, get_or, reverse, refl, ap, sym, ◌∙◌, subst, arith, append_assoc, true≢false, length-set, get_or-set_same, get_or-set_other}
+use Rattle.std.proofs.Common.{◌≡◌, ℕ, ◌^◌, ◌<◌, ◌==◌, Bool, true, false, [], ◌∷◌, ◌++◌, refl, ap, sym, ◌∙◌, subst, arith}
 use Rattle.std.specs.Prelude.{slice_index}
-use mathlib.Core.Logic.{dite}
-use mathlib.Core.Option.{some, none, some-injective, some-ne-none}
-use native.Mathlib.Decide.{ℕ_discrete}
+use mathlib.Core.Option.{some, none}
 use lib.ListN.{get_elem?}
 use prog.Atomic.{either}
 use Rattle.std.proofs.lemmas.Bool.Decides.{nat_tests}
-use Rattle.std.proofs.lemmas.List.{append-nil}
 use Rattle.atomic_table.specs.Table.{State, keeps, step, stepped, Allows}
-use Rattle.atomic_table.proofs.Lists.{at_set}
 use Rattle.rv_model.specs.declared.entry.Act.{Act}
-use Rattle.rv_model.specs.declared.entry.Act.TheVariants.{Deliver, Stop, Look, Raise, Lower, Clear}
-use Rattle.rv_model.specs.declared.entry.Entry.{Entry}
 use Rattle.rv_model.specs.Setups.{Setup}
-use Rattle.rv_model.specs.SharedWords.{answer_at}
-use Rattle.rv_model.specs.Histories.{LostThrice, IsEarnedBy, IsHeldBy, IsSound}
-use Rattle.rv_model.specs.Seats.{Seat, is_in, entries_of}
 use Rattle.rv_core.specs.Advance.{acted}
-use Rattle.rv_core.specs.Setup.{FitsAct, ActFits, place_of, table_of_act, start_of_act, judges_of}
+use Rattle.rv_core.specs.Setup.{place_of, table_of_act, start_of_act}
 use Rattle.rv_board.specs.declared.view.View.{View}
-use Rattle.rv_board.specs.Known.{known_by, knows, Begun, blank, with_list}
-use Rattle.rv_board.specs.Rule.{width, word_at, IsMachine, Fits, Kept, nothing_else, KeptPlainly, with_seen}
-use Rattle.rv_board.specs.Steps.{Ours, Saw, Made, Makes, Sees, Tries, made_after}
-use Rattle.rv_board.proofs.Knowing.{not_true, none_append, none_is, none_append_is, knows_blank, begun_blank, knows_own}
-use Rattle.rv_board.proofs.SoundLemmas.{sound-snoc, filter_append}
+use Rattle.rv_board.specs.Rule.{width, word_at, nothing_else, KeptPlainly, with_seen}
+use Rattle.rv_board.specs.Steps.{Ours, Made, Makes, Sees, Tries, made_after}
 use Rattle.rv_board.proofs.WordSteps.{place-within, Acted, acts}
 use Rattle.rv_board.proofs.ViewLemmas.{St}
 use Rattle.rv_board.proofs.KeepLemmas.{CanMake, sees_with, makes_with}
