@@ -25,13 +25,13 @@ IsCalm (Stop slot) = ⊥
 IsCalm _ = Unit {0}
 
 -- what is calm is earned by nothing
-calm : (seat : ℕ) (act : Act) (log : List Entry) → IsCalm act → IsEarnedBy act seat log
-calm seat (Stop slot) log h = absurd h
-calm seat (Deliver slot hit) log h = tt
-calm seat Look log h = tt
-calm seat (Raise bits) log h = tt
-calm seat (Lower bits) log h = tt
-calm seat (Clear slot) log h = tt
+calm : (seat : ℕ) (act : Act) (history : List Entry) → IsCalm act → IsEarnedBy act seat history
+calm seat (Stop slot) history h = absurd h
+calm seat (Deliver slot hit) history h = tt
+calm seat Look history h = tt
+calm seat (Raise bits) history h = tt
+calm seat (Lower bits) history h = tt
+calm seat (Clear slot) history h = tt
 
 -- what a usable seat may do
 pub may : (k : Setup) (number end : ℕ) (me : Ours) (act : Act) → IsUsable number end me → me.0.setup ≡ k → FitsAct k act → ActFits k act → IsHeldBy act me.0.part.number → IsCalm act → CanMake k me.0 act

@@ -25,8 +25,8 @@ one_begins (x ∷ a) b (y ∷ c) d p =
     elim (one_begins a b c d tail) [ inl t ↦ inl (t.0, cc (head, t.1), t.2) | inr t ↦ inr (t.0, cc (head, t.1), t.2) ]
 
 -- of two beginnings of the history, the longer has all entries that either seat knows
-longer_begun : (log : List Entry) (v w : View) → Begun log v.part → Begun log w.part → Begun log (joined v w).part
-longer_begun log v w a b = on (nat_lt (length v.part.seen) (length w.part.seen)) refl
+longer_begun : (history : List Entry) (v w : View) → Begun history v.part → Begun history w.part → Begun history (joined v w).part
+longer_begun history v w a b = on (nat_lt (length v.part.seen) (length w.part.seen)) refl
   where
     test : Bool
     test = nat_lt (length v.part.seen) (length w.part.seen)
@@ -34,7 +34,7 @@ longer_begun log v w a b = on (nat_lt (length v.part.seen) (length w.part.seen))
     within : (n : ℕ) → knows (joined v w).part n ≡ true → (knows v.part n ≡ true) ⊎ (knows w.part n ≡ true)
     within = joined_cases v w
 
-    on : (c : Bool) → test ≡ c → Begun log (joined v w).part
+    on : (c : Bool) → test ≡ c → Begun history (joined v w).part
     on true is = elim (one_begins v.part.seen a.rest w.part.seen b.rest (sym a.whole ∙ b.whole)) [
       | inl t ↦ record { rest = b.rest; whole = rw is b.whole; none = none_either (knows v.part) (knows w.part) (knows (joined v w).part) b.rest within (none_after (knows v.part) t.0 b.rest (subst (λ l. entries_of (knows v.part) l ≡ []) t.2 a.none)) b.none }
       | inr t ↦ absurd (let l = length-append w.part.seen t.0 in let l' : length (w.part.seen ++ t.0) ≡ length v.part.seen = ap length t.1 in let lt : length v.part.seen < length w.part.seen = grind (arith, nat_tests) in omega arith)
@@ -54,27 +54,27 @@ longer_begun log v w a b = on (nat_lt (length v.part.seen) (length w.part.seen))
 -- a view takes in another, and the other is left with nothing
 pub joins : (k : Setup) (id : ℕ) (v : View) (other : ℕ) (w : View) → Joins (KeptPlainly k) id v other w (joined v w) spent_view
 joins k id v other w s r e ne there = record {
-  log = r.log;
+  history = r.history;
   wide = r.wide;
   words = r.words;
   machine = r.machine;
   sound = r.sound;
   further = tt;
-  fits = each_set (λ j u. Fits r.log u) (set s.views id (joined v w)) other spent_view blank_fits (λ j u _ x. each_set (λ j' u'. Fits r.log u') s.views id (joined v w) both_fits (λ j' u' _ x'. r.fits j' u' x') j u x);
+  fits = each_set (λ j u. Fits r.history u) (set s.views id (joined v w)) other spent_view blank_fits (λ j u _ x. each_set (λ j' u'. Fits r.history u') s.views id (joined v w) both_fits (λ j' u' _ x'. r.fits j' u' x') j u x);
   apart = gives_apart;
 }
   where
     at_other : get_elem? s.views other ≡ some w
     at_other = sym (set_else s.views id other (joined v w) ne) ∙ there
 
-    fv : Fits r.log v
+    fv : Fits r.history v
     fv = r.fits id v e
 
-    fw : Fits r.log w
+    fw : Fits r.history w
     fw = r.fits other w at_other
 
-    blank_fits : Fits r.log spent_view
-    blank_fits = record { begun = begun_blank r.log; left = begun_blank r.log; right = begun_blank r.log; left_within = blank_within blank; right_within = blank_within blank; distinct = λ n _. none_among n; unused = none_of (knows blank) (is_in 1 0) r.log (λ n t. in_range 0 0 [] n (range_right 0 1 0 n (omega arith) t)) (none_blank r.log) }
+    blank_fits : Fits r.history spent_view
+    blank_fits = record { begun = begun_blank r.history; left = begun_blank r.history; right = begun_blank r.history; left_within = blank_within blank; right_within = blank_within blank; distinct = λ n _. none_among n; unused = none_of (knows blank) (is_in 1 0) r.history (λ n t. in_range 0 0 [] n (range_right 0 1 0 n (omega arith) t)) (none_blank r.history) }
 
     distinct : (n : ℕ) → is_in v.part.number v.part.end n ≡ true → is_among (v.part.gone ++ numbers w.part) n ≡ false
     distinct n t = not_true (is_among (v.part.gone ++ numbers w.part) n)
@@ -82,8 +82,8 @@ joins k id v other w s r e ne there = record {
         (λ a. r.apart id other v w e at_other (λ same. ne (sym same)) n (in_range v.part.number v.part.end v.part.gone n t) (numbers_known w.part n a))
         (or_cases (is_among v.part.gone n) (is_among (numbers w.part) n) (sym (among_append v.part.gone (numbers w.part) n) ∙ h)))
 
-    both_fits : Fits r.log (joined v w)
-    both_fits = record { begun = longer_begun r.log v w fv.begun fw.begun; left = fv.begun; right = fw.begun; left_within = joined_left v w; right_within = joined_right v w; distinct = distinct; unused = fv.unused }
+    both_fits : Fits r.history (joined v w)
+    both_fits = record { begun = longer_begun r.history v w fv.begun fw.begun; left = fv.begun; right = fw.begun; left_within = joined_left v w; right_within = joined_right v w; distinct = distinct; unused = fv.unused }
 
     gives_apart : AllApart (set (set s.views id (joined v w)) other spent_view)
     gives_apart i j x y ei ej not n kx ky =

@@ -74,8 +74,8 @@ none_blank [] = refl
 none_blank (x ∷ xs) = rw (no (knows blank x.seat) (knows_blank x.seat)) (none_blank xs)
 
 -- and it fits every history
-pub begun_blank : (log : List Entry) → Begun log blank
-begun_blank log = record { rest = log; whole = refl; none = none_blank log }
+pub begun_blank : (history : List Entry) → Begun history blank
+begun_blank history = record { rest = history; whole = refl; none = none_blank history }
 
 -- a seat knows its own number
 pub knows_own : (number end : ℕ) (gone : List ℕ) → number < end → known_by number end gone number ≡ true

@@ -19,7 +19,7 @@ use Rattle.rv_board.proofs.NumberLemmas.{none_among, range_left, range_right, cu
 -- the table at the start
 pub opens : (k : Setup) (words : List ℕ) → IsOpening k words → KeptPlainly k (opening words [] (first_view k))
 opens k words o = record {
-  log = [];
+  history = [];
   wide = o.wide;
   words = o.each;
   machine = record { is_setup = o.is_setup; live = λ i low. tt };
@@ -47,8 +47,8 @@ opens k words o = record {
     apart (suc i) j v w e f ne = absurd (some-ne-none v (sym e))
 
 -- who knows fewer numbers has seen as much
-begun_fewer : (log : List Entry) (p q : Seat) → Begun log p → ((n : ℕ) → knows q n ≡ true → knows p n ≡ true) → q.seen ≡ p.seen → Begun log q
-begun_fewer log p q b within same = record { rest = b.rest; whole = b.whole ∙ ap (λ l. l ++ b.rest) (sym same); none = none_of (knows p) (knows q) b.rest within b.none }
+begun_fewer : (history : List Entry) (p q : Seat) → Begun history p → ((n : ℕ) → knows q n ≡ true → knows p n ≡ true) → q.seen ≡ p.seen → Begun history q
+begun_fewer history p q b within same = record { rest = b.rest; whole = b.whole ∙ ap (λ l. l ++ b.rest) (sym same); none = none_of (knows p) (knows q) b.rest within b.none }
 
 -- what holds of each view of two lists of views, of which the second has one more
 each_snoc : (Q : ℕ → View → Type 0) (views : List View) (w : View) → ((j : ℕ) (u : View) → get_elem? views j ≡ some u → Q j u) → ((j : ℕ) → Q j w) → (j : ℕ) (u : View) → get_elem? (views ++ w ∷ []) j ≡ some u → Q j u
@@ -57,42 +57,42 @@ each_snoc Q views w olds new j u e = ⊎_elim (λ (x : get_elem? views j ≡ som
 -- a view is cut, and each side knows its own numbers
 pub splits : (k : Setup) (id : ℕ) (v : View) (at : ℕ) → v.part.number ≤ at → at ≤ v.part.end → Splits (KeptPlainly k) id v (cut_left at v) (cut_right at v)
 splits k id v at low high s r e = record {
-  log = r.log;
+  history = r.history;
   wide = r.wide;
   words = r.words;
   machine = r.machine;
   sound = r.sound;
   further = tt;
-  fits = each_snoc (λ j u. Fits r.log u) views (cut_right at v) (each_set (λ j u. Fits r.log u) s.views id (cut_left at v) left (λ j u _ x. r.fits j u x)) (λ _. right);
+  fits = each_snoc (λ j u. Fits r.history u) views (cut_right at v) (each_set (λ j u. Fits r.history u) s.views id (cut_left at v) left (λ j u _ x. r.fits j u x)) (λ _. right);
   apart = apart_snoc views (cut_right at v) (apart_set s.views id (cut_left at v) r.apart (λ j u ne x n s' t. r.apart id j v u e x (λ h. ne (sym h)) n (cut_left_within v.part.number at v.part.end v.part.gone n high s') t)) old_new;
 }
   where
     views : List View
     views = set s.views id (cut_left at v)
 
-    f : Fits r.log v
+    f : Fits r.history v
     f = r.fits id v e
 
-    left : Fits r.log (cut_left at v)
+    left : Fits r.history (cut_left at v)
     left = record {
-      begun = begun_fewer r.log v.part (part v.part.number at v.part.gone v.part.seen) f.begun (λ n t. cut_left_within v.part.number at v.part.end v.part.gone n high t) refl;
-      left = begun_blank r.log;
-      right = begun_blank r.log;
+      begun = begun_fewer r.history v.part (part v.part.number at v.part.gone v.part.seen) f.begun (λ n t. cut_left_within v.part.number at v.part.end v.part.gone n high t) refl;
+      left = begun_blank r.history;
+      right = begun_blank r.history;
       left_within = blank_within (part v.part.number at v.part.gone v.part.seen);
       right_within = blank_within (part v.part.number at v.part.gone v.part.seen);
       distinct = λ n t. f.distinct n (range_left v.part.number at v.part.end n high t);
-      unused = none_of (is_in (suc v.part.number) v.part.end) (is_in (suc v.part.number) at) r.log (λ n t. range_left (suc v.part.number) at v.part.end n high t) f.unused;
+      unused = none_of (is_in (suc v.part.number) v.part.end) (is_in (suc v.part.number) at) r.history (λ n t. range_left (suc v.part.number) at v.part.end n high t) f.unused;
     }
 
-    right : Fits r.log (cut_right at v)
+    right : Fits r.history (cut_right at v)
     right = record {
-      begun = begun_fewer r.log v.part (part at v.part.end [] v.part.seen) f.begun (λ n t. cut_right_within v.part.number at v.part.end v.part.gone n low t) refl;
-      left = begun_blank r.log;
-      right = begun_blank r.log;
+      begun = begun_fewer r.history v.part (part at v.part.end [] v.part.seen) f.begun (λ n t. cut_right_within v.part.number at v.part.end v.part.gone n low t) refl;
+      left = begun_blank r.history;
+      right = begun_blank r.history;
       left_within = blank_within (part at v.part.end [] v.part.seen);
       right_within = blank_within (part at v.part.end [] v.part.seen);
       distinct = λ n _. none_among n;
-      unused = none_of (is_in (suc v.part.number) v.part.end) (is_in (suc at) v.part.end) r.log (λ n t. range_right (suc v.part.number) (suc at) v.part.end n (omega arith) t) f.unused;
+      unused = none_of (is_in (suc v.part.number) v.part.end) (is_in (suc at) v.part.end) r.history (λ n t. range_right (suc v.part.number) (suc at) v.part.end n (omega arith) t) f.unused;
     }
 
     old_new : (i : ℕ) (x : View) → get_elem? views i ≡ some x → (n : ℕ) → knows x.part n ≡ true → knows (part at v.part.end [] v.part.seen) n ≡ true → ⊥

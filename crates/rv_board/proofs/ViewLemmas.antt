@@ -59,16 +59,16 @@ apart_snoc views w olds new i j x y ei ej ne = on (at_snoc_last views w x i ei) 
     on (inr a) (inr b) = absurd (ne (a.1 ∙ sym b.1))
 
 -- a beginning of the history stays one, if what comes is by other seats
-pub begun_longer : (log new : List Entry) (p : Seat) → Begun log p → entries_of (knows p) new ≡ [] → Begun (log ++ new) p
-begun_longer log new p b quiet = record {
+pub begun_longer : (history new : List Entry) (p : Seat) → Begun history p → entries_of (knows p) new ≡ [] → Begun (history ++ new) p
+begun_longer history new p b quiet = record {
   rest = b.rest ++ new;
   whole = ap (λ l. l ++ new) b.whole ∙ append_assoc p.seen b.rest new;
   none = none_append (knows p) b.rest new b.none quiet;
 }
 
 -- the whole history is a beginning
-pub begun_all : (log : List Entry) (p : Seat) → Begun log (with_list p log)
-begun_all log p = record { rest = []; whole = sym (append-nil log); none = refl }
+pub begun_all : (history : List Entry) (p : Seat) → Begun history (with_list p history)
+begun_all history p = record { rest = []; whole = sym (append-nil history); none = refl }
 
 -- who knows no number knows no more than another
 pub blank_within : (p : Seat) (n : ℕ) → knows blank n ≡ true → knows p n ≡ true

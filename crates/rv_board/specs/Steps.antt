@@ -33,7 +33,7 @@ made s seat act word = record { seat = seat; act = act; before = word; after = (
 
 -- the entry of the act after this history
 abbrev pub made_after : Setup → ℕ → Act → List Entry → Entry
-made_after s seat act log = made s seat act (word_at s log (place_of act))
+made_after s seat act history = made s seat act (word_at s history (place_of act))
 
 -- the history so far was seen, and the seat's act was added to it
 pub record Made (code : Setup → List Entry → ℕ → ℕ) (v w : View) (act : Act) (found : ℕ) : Type 0 where
