@@ -78,7 +78,7 @@ pub record Follows (h : List Entry) (seat : Seat) : Type 0 where
   pub list : h ≡ seat.seen ++ rest
   pub none : entries_of (known_of seat) rest ≡ []
 
--- the list begins with both lists, goes on without the numbers of either, and is sound; the numbers of the other are gone
+-- the list begins with both lists, goes on without the numbers of either, and is sound; the numbers of the other were joined in
 pub record Joins (old from new : SeatValue) : Type 0 where
   pub own : Follows new.part.seen old.part
   pub other : Follows new.part.seen from.part
