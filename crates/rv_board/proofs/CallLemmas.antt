@@ -24,14 +24,16 @@ abbrev pub IsCalm : Act → Type 0
 IsCalm (Stop slot) = ⊥
 IsCalm _ = Unit {0}
 
-calm : (seat : ℕ) (act : Act) (log : List Entry) → IsCalm act → IsEarnedBy act seat log
-calm seat (Stop slot) log h = absurd h
-calm seat (Deliver slot hit) log h = tt
-calm seat Look log h = tt
-calm seat (Raise bits) log h = tt
-calm seat (Lower bits) log h = tt
-calm seat (Clear slot) log h = tt
+-- what is calm is earned by nothing
+calm : (seat : ℕ) (act : Act) (history : List Entry) → IsCalm act → IsEarnedBy act seat history
+calm seat (Stop slot) history h = absurd h
+calm seat (Deliver slot hit) history h = tt
+calm seat Look history h = tt
+calm seat (Raise bits) history h = tt
+calm seat (Lower bits) history h = tt
+calm seat (Clear slot) history h = tt
 
+-- what a usable seat may do
 pub may : (k : Setup) (number end : ℕ) (me : Ours) (act : Act) → IsUsable number end me → me.0.setup ≡ k → FitsAct k act → ActFits k act → IsHeldBy act me.0.part.number → IsCalm act → CanMake k me.0 act
 may k number end me act u setup fits bits held h = record { setup = setup; has = u.has; small = u.small; fits = fits; bits = bits; held = held; earned = calm me.0.part.number act me.0.part.seen h }
 
@@ -52,6 +54,7 @@ usable number end m m' u same good kept =
       sound = subst (λ (k : Setup). IsSound k (judges_of k) m'.0.part.seen) (sym (ap (λ (v : View). v.setup) same)) good;
     }
 
+-- a list of one entry of a known number
 made_known : (p : ℕ → Bool) (x : Entry) → p x.seat ≡ true → entries_of p (x ∷ []) ≡ x ∷ []
 made_known p x t = rw t refl
 
@@ -117,6 +120,7 @@ grows_seen table table' v w place found old is same s =
 pub follows : (h : List Entry) (p : Seat) → Begun h p → Follows h p
 follows h p b = record { rest = b.rest; list = b.whole; none = subst (λ (q : ℕ → Bool). entries_of q b.rest ≡ []) (sym (known_is p)) b.none }
 
+-- an entry of a known number is not missing
 no_such : (e : Entry) (rest : List Entry) (known : ℕ → Bool) → known e.seat ≡ true → entries_of known (e ∷ rest) ≡ [] → ⊥
 no_such e rest known yes-known none-left = let f : entries_of known (e ∷ rest) ≡ [] = none-left in cc (rw yes-known at f)
 
@@ -152,6 +156,7 @@ joined-view table table' other v w x found same s = record {
   board = λ i. board_id (same i) ((s.same i).setup);
 }
 
+-- and of the seats as contracts see them
 pub joins-by : (table table' other : TableId) (v w m x : View) (found : ℕ) (old from : SeatValue) → m ≡ joined v w → seat_value v.part (board_id table v.setup) ≡ old → seat_value w.part (board_id other w.setup) ≡ from → table' ≡ table → Saw word_at m x 0 found
     → Joins old from (seat_value x.part (board_id table' x.setup))
 joins-by table table' other v w m x found old from both is from-is same s =

@@ -1,15 +1,12 @@
--- Each step keeps the rule.
-use Rattle.std.proofs.Common.{◌≡◌, ◌≢◌, ◌⊎◌, inl, inr, ⊎_elim, ℕ, zero, suc, ◌^◌, ◌<◌, ◌≤◌, ◌==◌, Bool, true, false, List, [], ◌∷◌, ◌++◌, length, set, get_or, reverse, refl, ap, sym, ◌∙◌, subst, arith, append_assoc, true≢false, length-set, get_or-set_same, get_or-set_other}
+-- A step keeps the rule, whichever word stands for a history and whatever else is to hold.
+use Rattle.std.proofs.Common.{◌≡◌, ◌≢◌, ℕ, suc, ◌<◌, ◌≤◌, Bool, true, false, List, [], ◌∷◌, ◌++◌, length, set, get_or, reverse, refl, ap, sym, ◌∙◌, subst, arith, append_assoc, true≢false, length-set, get_or-set_same, get_or-set_other}
 use Rattle.std.specs.Prelude.{slice_index}
 use mathlib.Core.Logic.{dite}
-use mathlib.Core.Option.{some, none, some-injective, some-ne-none}
+use mathlib.Core.Option.{some}
 use native.Mathlib.Decide.{ℕ_discrete}
 use lib.ListN.{get_elem?}
-use prog.Atomic.{either}
-use Rattle.std.proofs.lemmas.Bool.Decides.{nat_tests}
 use Rattle.std.proofs.lemmas.List.{append-nil}
-use Rattle.atomic_table.specs.Table.{State, keeps, step, stepped, Allows}
-use Rattle.atomic_table.proofs.Lists.{at_set}
+use Rattle.atomic_table.specs.Table.{keeps, stepped}
 use Rattle.rv_model.specs.declared.entry.Act.{Act}
 use Rattle.rv_model.specs.declared.entry.Act.TheVariants.{Deliver, Stop, Look, Raise, Lower, Clear}
 use Rattle.rv_model.specs.declared.entry.Entry.{Entry}
@@ -20,79 +17,17 @@ use Rattle.rv_model.specs.Seats.{Seat, is_in, entries_of}
 use Rattle.rv_core.specs.Advance.{acted}
 use Rattle.rv_core.specs.Setup.{FitsAct, ActFits, place_of, table_of_act, start_of_act, judges_of}
 use Rattle.rv_board.specs.declared.view.View.{View}
-use Rattle.rv_board.specs.Known.{known_by, knows, Begun, blank, with_list}
-use Rattle.rv_board.specs.Rule.{width, word_at, IsMachine, Fits, Kept, nothing_else, KeptPlainly, with_seen}
-use Rattle.rv_board.specs.Steps.{Ours, Saw, Made, Makes, Sees, Tries, made_after}
-use Rattle.rv_board.proofs.Knowing.{not_true, none_append, none_is, none_append_is, knows_blank, begun_blank, knows_own}
+use Rattle.rv_board.specs.Known.{knows, Begun}
+use Rattle.rv_board.specs.Rule.{width, word_at, IsMachine, Fits, Kept, with_seen}
+use Rattle.rv_board.specs.Steps.{Ours, Saw, Made, made_after}
+use Rattle.rv_board.proofs.Knowing.{not_true, none_append, none_is, none_append_is, begun_blank, knows_own}
 use Rattle.rv_board.proofs.SoundLemmas.{sound-snoc, filter_append}
-use Rattle.rv_board.proofs.WordSteps.{place-within, Acted, acts}
-
-abbrev pub St : Type 0
-St = State Act View
-
--- what holds of each view, after one is changed
-pub each_set : (Q : ℕ → View → Type 0) (views : List View) (id : ℕ) (w : View) → Q id w → ((j : ℕ) (u : View) → j ≢ id → get_elem? views j ≡ some u → Q j u) → (j : ℕ) (u : View) → get_elem? (set views id w) j ≡ some u → Q j u
-each_set Q views id w mine others j u e =
-    ⊎_elim
-    (λ (x : (j ≡ id) × (w ≡ u)). subst (λ (y : ℕ × View). Q y.0 y.1) (λ i. (sym x.0 i, x.1 i)) mine)
-    (λ (x : (j ≢ id) × (get_elem? views j ≡ some u)). others j u x.0 x.1)
-    (at_set views id j w u e)
-
--- the two know no number in common
-abbrev pub Apart : View → View → Type 0
-Apart x y = (n : ℕ) → knows x.part n ≡ true → knows y.part n ≡ true → ⊥
-
-abbrev pub AllApart : List View → Type 0
-AllApart views = (i j : ℕ) (x y : View) → get_elem? views i ≡ some x → get_elem? views j ≡ some y → i ≢ j → Apart x y
-
--- all are apart after one is changed, if it is apart from the others
-pub apart_set : (views : List View) (id : ℕ) (w : View) → AllApart views → ((j : ℕ) (u : View) → j ≢ id → get_elem? views j ≡ some u → Apart w u) → AllApart (set views id w)
-apart_set views id w olds new i j x y ei ej ne =
-    each_set (λ a u. a ≢ j → Apart u y) views id w
-    (λ ne'. each_set (λ b z. id ≢ b → Apart w z) views id w (λ bad. absurd (bad refl)) (λ b z other e _. new b z other e) j y ej ne')
-    (λ a u other e ne'. each_set (λ b z. a ≢ b → Apart u z) views id w (λ _ n s t. new a u other e n t s) (λ b z _ e' ab. olds a b u z e e' ab) j y ej ne')
-    i x ei ne
-
-at_snoc_last : (l : List View) (a b : View) (j : ℕ) → get_elem? (l ++ a ∷ []) j ≡ some b → (get_elem? l j ≡ some b) ⊎ ((a ≡ b) × (j ≡ length l))
-at_snoc_last [] a b zero e = inr (some-injective a b e, refl)
-at_snoc_last [] a b (suc j) e = absurd (some-ne-none b (sym e))
-at_snoc_last (x ∷ xs) a b zero e = inl e
-at_snoc_last (x ∷ xs) a b (suc j) e = elim (at_snoc_last xs a b j e) [ inl h ↦ inl h | inr t ↦ inr (t.0, ap suc t.1) ]
-
--- all are apart after one came, if it is apart from the others
-pub apart_snoc : (views : List View) (w : View) → AllApart views → ((j : ℕ) (u : View) → get_elem? views j ≡ some u → Apart u w) → AllApart (views ++ w ∷ [])
-apart_snoc views w olds new i j x y ei ej ne = on (at_snoc_last views w x i ei) (at_snoc_last views w y j ej)
-  where
-    on : (get_elem? views i ≡ some x) ⊎ ((w ≡ x) × (i ≡ length views)) → (get_elem? views j ≡ some y) ⊎ ((w ≡ y) × (j ≡ length views)) → Apart x y
-    on (inl a) (inl b) = olds i j x y a b ne
-    on (inl a) (inr b) = subst (Apart x) b.0 (new i x a)
-    on (inr a) (inl b) = subst (λ (z : View). Apart z y) a.0 (λ n s t. new j y b n t s)
-    on (inr a) (inr b) = absurd (ne (a.1 ∙ sym b.1))
-
-begun_longer : (log new : List Entry) (p : Seat) → Begun log p → entries_of (knows p) new ≡ [] → Begun (log ++ new) p
-begun_longer log new p b quiet = record {
-  rest = b.rest ++ new;
-  whole = ap (λ l. l ++ new) b.whole ∙ append_assoc p.seen b.rest new;
-  none = none_append (knows p) b.rest new b.none quiet;
-}
-
-begun_all : (log : List Entry) (p : Seat) → Begun log (with_list p log)
-begun_all log p = record { rest = []; whole = sym (append-nil log); none = refl }
-
-pub blank_within : (p : Seat) (n : ℕ) → knows blank n ≡ true → knows p n ≡ true
-blank_within p n t = absurd (knows_blank n t)
-
-range_within : (number end : ℕ) (gone : List ℕ) (m : ℕ) → is_in (suc number) end m ≡ true → known_by number end gone m ≡ true
-unfolding is_in known_by
-range_within number end gone m t = grind (arith, nat_tests)
-
-range_not_own : (number end : ℕ) → is_in (suc number) end number ≡ false
-unfolding is_in
-range_not_own number end = grind (arith, nat_tests)
+use Rattle.rv_board.proofs.WordSteps.{place-within, Acted}
+use Rattle.rv_board.proofs.ViewLemmas.{St, each_set, apart_set, begun_longer, begun_all, blank_within, range_within, range_not_own}
 
 -- three entries of others that came before stay, whatever others added since
-raced_longer : (p : ℕ → Bool) (seat slot : ℕ) (log rest : List Entry) → p seat ≡ true → entries_of p rest ≡ [] → LostThrice slot seat log → LostThrice slot seat (log ++ rest)
-raced_longer p seat slot log rest own quiet t = record {
+raced_longer : (p : ℕ → Bool) (seat slot : ℕ) (history rest : List Entry) → p seat ≡ true → entries_of p rest ≡ [] → LostThrice slot seat history → LostThrice slot seat (history ++ rest)
+raced_longer p seat slot history rest own quiet t = record {
   until = t.until;
   since = t.since ++ rest;
   is = ap (λ l. l ++ rest) t.is ∙ append_assoc t.until t.since rest;
@@ -101,13 +36,13 @@ raced_longer p seat slot log rest own quiet t = record {
 }
 
 -- what an act has earned it keeps, whatever others added since
-earned_longer : (p : ℕ → Bool) (seat : ℕ) (act : Act) (log rest : List Entry) → p seat ≡ true → entries_of p rest ≡ [] → IsEarnedBy act seat log → IsEarnedBy act seat (log ++ rest)
-earned_longer p seat (Stop slot) log rest own quiet t = raced_longer p seat slot log rest own quiet t
-earned_longer p seat (Deliver slot hit) log rest own quiet t = tt
-earned_longer p seat Look log rest own quiet t = tt
-earned_longer p seat (Raise bits) log rest own quiet t = tt
-earned_longer p seat (Lower bits) log rest own quiet t = tt
-earned_longer p seat (Clear slot) log rest own quiet t = tt
+earned_longer : (p : ℕ → Bool) (seat : ℕ) (act : Act) (history rest : List Entry) → p seat ≡ true → entries_of p rest ≡ [] → IsEarnedBy act seat history → IsEarnedBy act seat (history ++ rest)
+earned_longer p seat (Stop slot) history rest own quiet t = raced_longer p seat slot history rest own quiet t
+earned_longer p seat (Deliver slot hit) history rest own quiet t = tt
+earned_longer p seat Look history rest own quiet t = tt
+earned_longer p seat (Raise bits) history rest own quiet t = tt
+earned_longer p seat (Lower bits) history rest own quiet t = tt
+earned_longer p seat (Clear slot) history rest own quiet t = tt
 
 -- what a seat owes for an act
 pub record CanMake (s : Setup) (v : View) (act : Act) : Type 0 where
@@ -121,47 +56,47 @@ pub record CanMake (s : Setup) (v : View) (act : Act) : Type 0 where
 
 module _ (code : Setup → List Entry → ℕ → ℕ) (also : List Entry → List View → Type 0) where
   -- the words and the history after a step, and the view that has seen it all
-  pub moved : (k : Setup) (s : St) (r : Kept code also k s) (id : ℕ) (c : List (ℕ × Act)) (v : View) → get_elem? s.views id ≡ some v → (i n : ℕ) (new log : List Entry) → log ≡ r.log ++ new
-      → IsMachine k log → IsSound k (judges_of k) log
-      → ((j : ℕ) → j < width k → get_or (set s.words i n) j 0 ≡ code k log j)
+  pub moved : (k : Setup) (s : St) (r : Kept code also k s) (id : ℕ) (c : List (ℕ × Act)) (v : View) → get_elem? s.views id ≡ some v → (i n : ℕ) (new history : List Entry) → history ≡ r.history ++ new
+      → IsMachine k history → IsSound k (judges_of k) history
+      → ((j : ℕ) → j < width k → get_or (set s.words i n) j 0 ≡ code k history j)
       → ((p : ℕ → Bool) → p v.part.number ≡ false → entries_of p new ≡ [])
       → v.part.number < v.part.end
-      → also log (set s.views id (with_seen v log))
-      → Kept code also k (stepped s i n id c (with_seen v log) keeps)
-  moved k s r id c v at i n new log is machine sound gives theirs has further = record {
-    log = log;
+      → also history (set s.views id (with_seen v history))
+      → Kept code also k (stepped s i n id c (with_seen v history) keeps)
+  moved k s r id c v at i n new history is machine sound gives theirs has further = record {
+    history = history;
     wide = length-set s.words i n ∙ r.wide;
     words = gives;
     machine = machine;
     sound = sound;
-    fits = each_set (λ j u. Fits log u) s.views id w mine others;
+    fits = each_set (λ j u. Fits history u) s.views id w mine others;
     apart = apart_set s.views id w r.apart (λ j u ne e. r.apart id j v u at e (λ h. ne (sym h)));
     further = further;
   }
     where
       w : View
-      w = with_seen v log
+      w = with_seen v history
 
       own : knows v.part v.part.number ≡ true
       own = knows_own v.part.number v.part.end v.part.gone has
 
-      mine : Fits log w
+      mine : Fits history w
       mine = record {
-        begun = begun_all log v.part;
-        left = begun_blank log;
-        right = begun_blank log;
+        begun = begun_all history v.part;
+        left = begun_blank history;
+        right = begun_blank history;
         left_within = blank_within v.part;
         right_within = blank_within v.part;
         distinct = (r.fits id v at).distinct;
-        unused = subst (λ l. entries_of (is_in (suc v.part.number) v.part.end) l ≡ []) (sym is) (none_append (is_in (suc v.part.number) v.part.end) r.log new (r.fits id v at).unused (theirs (is_in (suc v.part.number) v.part.end) (range_not_own v.part.number v.part.end)));
+        unused = subst (λ l. entries_of (is_in (suc v.part.number) v.part.end) l ≡ []) (sym is) (none_append (is_in (suc v.part.number) v.part.end) r.history new (r.fits id v at).unused (theirs (is_in (suc v.part.number) v.part.end) (range_not_own v.part.number v.part.end)));
       }
 
-      others : (j : ℕ) (u : View) → j ≢ id → get_elem? s.views j ≡ some u → Fits log u
+      others : (j : ℕ) (u : View) → j ≢ id → get_elem? s.views j ≡ some u → Fits history u
       others j u ne e =
           let f = r.fits j u e in
           let alone : knows u.part v.part.number ≡ false = not_true (knows u.part v.part.number) (λ t. r.apart j id u v e at ne v.part.number t own) in
           let quiet : (p : ℕ → Bool) → ((m : ℕ) → p m ≡ true → knows u.part m ≡ true) → entries_of p new ≡ [] = λ p within. theirs p (not_true (p v.part.number) (λ t. true≢false (sym (within v.part.number t) ∙ alone))) in
-          let more : (p : Seat) → Begun r.log p → ((m : ℕ) → knows p m ≡ true → knows u.part m ≡ true) → Begun log p = λ p b within. subst (λ l. Begun l p) (sym is) (begun_longer r.log new p b (quiet (knows p) within)) in
+          let more : (p : Seat) → Begun r.history p → ((m : ℕ) → knows p m ≡ true → knows u.part m ≡ true) → Begun history p = λ p b within. subst (λ l. Begun l p) (sym is) (begun_longer r.history new p b (quiet (knows p) within)) in
           let free : ℕ → Bool = is_in (suc u.part.number) u.part.end in
           record {
             begun = more u.part f.begun (λ m t. t);
@@ -170,114 +105,71 @@ module _ (code : Setup → List Entry → ℕ → ℕ) (also : List Entry → Li
             left_within = f.left_within;
             right_within = f.right_within;
             distinct = f.distinct;
-            unused = subst (λ l. entries_of free l ≡ []) (sym is) (none_append free r.log new f.unused (quiet free (λ m t. range_within u.part.number u.part.end u.part.gone m t)));
+            unused = subst (λ l. entries_of free l ≡ []) (sym is) (none_append free r.history new f.unused (quiet free (λ m t. range_within u.part.number u.part.end u.part.gone m t)));
           }
 
   -- a word that is written with its own value
-  same_words : (k : Setup) (s : St) (r : Kept code also k s) (i n : ℕ) → i < width k → n ≡ slice_index s.words i → (j : ℕ) → j < width k → get_or (set s.words i n) j 0 ≡ code k r.log j
+  same_words : (k : Setup) (s : St) (r : Kept code also k s) (i n : ℕ) → i < width k → n ≡ slice_index s.words i → (j : ℕ) → j < width k → get_or (set s.words i n) j 0 ≡ code k r.history j
   same_words k s r i n inside is j low = dite (ℕ_discrete j i)
       (λ e. let lt : i < length s.words = subst (λ (z : ℕ). i < z) (sym r.wide) inside in
-      subst (λ (z : ℕ). get_or (set s.words i n) z 0 ≡ code k r.log z) (sym e) (get_or-set_same s.words i n 0 lt ∙ (is ∙ r.words i inside)))
+      subst (λ (z : ℕ). get_or (set s.words i n) z 0 ≡ code k r.history z) (sym e) (get_or-set_same s.words i n 0 lt ∙ (is ∙ r.words i inside)))
       (λ ne. get_or-set_other s.words i j n 0 ne ∙ r.words j low)
 
   -- a step that makes no entry
   pub sees_with : (k : Setup) (id : ℕ) (me : Ours) (i : ℕ) → i < width k → me.0.setup ≡ k → me.0.part.number < me.0.part.end → (s : St) (r : Kept code also k s) → get_elem? s.views id ≡ some me.0
-      → also r.log (set s.views id (with_seen me.0 r.log))
-      → Kept code also k (stepped s i (slice_index s.words i) id me.1 (with_seen me.0 r.log) keeps) × Saw code me.0 (with_seen me.0 r.log) i (slice_index s.words i)
+      → also r.history (set s.views id (with_seen me.0 r.history))
+      → Kept code also k (stepped s i (slice_index s.words i) id me.1 (with_seen me.0 r.history) keeps) × Saw code me.0 (with_seen me.0 r.history) i (slice_index s.words i)
   sees_with k id me i inside setup has s r at further =
       let f = r.fits id me.0 at in (
-        moved k s r id me.1 me.0 at i (slice_index s.words i) [] r.log (sym (append-nil r.log)) r.machine r.sound (same_words k s r i (slice_index s.words i) inside refl) (λ p _. refl) has further,
+        moved k s r id me.1 me.0 at i (slice_index s.words i) [] r.history (sym (append-nil r.history)) r.machine r.sound (same_words k s r i (slice_index s.words i) inside refl) (λ p _. refl) has further,
         record {
           same = refl;
           rest = f.begun.rest;
           list = f.begun.whole;
           none = f.begun.none;
-          word = r.words i inside ∙ ap (λ (z : Setup). code z r.log i) (sym setup);
-          sound = subst (λ (z : Setup). IsSound z (judges_of z) r.log) (sym setup) r.sound;
+          word = r.words i inside ∙ ap (λ (z : Setup). code z r.history i) (sym setup);
+          sound = subst (λ (z : Setup). IsSound z (judges_of z) r.history) (sym setup) r.sound;
           left = f.left;
           right = f.right;
         },
       )
 
   -- the words after an act
-  acted_words : (k : Setup) (s : St) (r : Kept code also k s) (act : Act) (x : Entry) (n : ℕ) → place_of act < width k → n ≡ code k (r.log ++ x ∷ []) (place_of act)
-      → ((j : ℕ) → j < width k → j ≢ place_of act → code k (r.log ++ x ∷ []) j ≡ code k r.log j)
-      → (j : ℕ) → j < width k → get_or (set s.words (place_of act) n) j 0 ≡ code k (r.log ++ x ∷ []) j
+  acted_words : (k : Setup) (s : St) (r : Kept code also k s) (act : Act) (x : Entry) (n : ℕ) → place_of act < width k → n ≡ code k (r.history ++ x ∷ []) (place_of act)
+      → ((j : ℕ) → j < width k → j ≢ place_of act → code k (r.history ++ x ∷ []) j ≡ code k r.history j)
+      → (j : ℕ) → j < width k → get_or (set s.words (place_of act) n) j 0 ≡ code k (r.history ++ x ∷ []) j
   acted_words k s r act x n inside is others j low = dite (ℕ_discrete j (place_of act))
       (λ e. let lt : place_of act < length s.words = subst (λ (z : ℕ). place_of act < z) (sym r.wide) inside in
-      subst (λ (z : ℕ). get_or (set s.words (place_of act) n) z 0 ≡ code k (r.log ++ x ∷ []) z) (sym e) (get_or-set_same s.words (place_of act) n 0 lt ∙ is))
+      subst (λ (z : ℕ). get_or (set s.words (place_of act) n) z 0 ≡ code k (r.history ++ x ∷ []) z) (sym e) (get_or-set_same s.words (place_of act) n 0 lt ∙ is))
       (λ ne. get_or-set_other s.words (place_of act) j n 0 ne ∙ (r.words j low ∙ sym (others j low ne)))
 
   -- a step that makes an entry
   pub makes_with : (k : Setup) (id : ℕ) (me : Ours) (act : Act) (n : ℕ) → CanMake k me.0 act → (s : St) (r : Kept code also k s) → get_elem? s.views id ≡ some me.0
-      → Acted k r.log me.0.part.number act
-      → n ≡ code k (r.log ++ made_after k me.0.part.number act r.log ∷ []) (place_of act)
-      → ((j : ℕ) → j < width k → j ≢ place_of act → code k (r.log ++ made_after k me.0.part.number act r.log ∷ []) j ≡ code k r.log j)
-      → also (r.log ++ made_after k me.0.part.number act r.log ∷ []) (set s.views id (with_seen me.0 (r.log ++ made_after k me.0.part.number act r.log ∷ [])))
-      → Kept code also k (stepped s (place_of act) n id me.1 (with_seen me.0 (r.log ++ made_after k me.0.part.number act r.log ∷ [])) keeps)
-      × Made code me.0 (with_seen me.0 (r.log ++ made_after k me.0.part.number act r.log ∷ [])) act (slice_index s.words (place_of act))
+      → Acted k r.history me.0.part.number act
+      → n ≡ code k (r.history ++ made_after k me.0.part.number act r.history ∷ []) (place_of act)
+      → ((j : ℕ) → j < width k → j ≢ place_of act → code k (r.history ++ made_after k me.0.part.number act r.history ∷ []) j ≡ code k r.history j)
+      → also (r.history ++ made_after k me.0.part.number act r.history ∷ []) (set s.views id (with_seen me.0 (r.history ++ made_after k me.0.part.number act r.history ∷ [])))
+      → Kept code also k (stepped s (place_of act) n id me.1 (with_seen me.0 (r.history ++ made_after k me.0.part.number act r.history ∷ [])) keeps)
+      × Made code me.0 (with_seen me.0 (r.history ++ made_after k me.0.part.number act r.history ∷ [])) act (slice_index s.words (place_of act))
   makes_with k id me act n can s r at does is others further =
       let v : View = me.0 in
-      let x : Entry = made_after k v.part.number act r.log in
+      let x : Entry = made_after k v.part.number act r.history in
       let f = r.fits id v at in
       let own : knows v.part v.part.number ≡ true = knows_own v.part.number v.part.end v.part.gone can.has in
       let has = can.has in
       let small = can.small in
-      let earned : IsEarnedBy act v.part.number r.log = subst (IsEarnedBy act v.part.number) (sym f.begun.whole) (earned_longer (knows v.part) v.part.number act v.part.seen f.begun.rest own f.begun.none can.earned) in
-      let sound : IsSound k (judges_of k) (r.log ++ x ∷ []) = sound-snoc k (judges_of k) r.log x r.sound does.fits earned (omega arith) can.held in
-      let all : r.log ≡ v.part.seen ++ f.begun.rest = f.begun.whole in
+      let earned : IsEarnedBy act v.part.number r.history = subst (IsEarnedBy act v.part.number) (sym f.begun.whole) (earned_longer (knows v.part) v.part.number act v.part.seen f.begun.rest own f.begun.none can.earned) in
+      let sound : IsSound k (judges_of k) (r.history ++ x ∷ []) = sound-snoc k (judges_of k) r.history x r.sound does.fits earned (omega arith) can.held in
+      let all : r.history ≡ v.part.seen ++ f.begun.rest = f.begun.whole in
       let inside : place_of act < width k = place-within k act can.fits in (
-        moved k s r id me.1 v at (place_of act) n (x ∷ []) (r.log ++ x ∷ []) refl does.machine sound (acted_words k s r act x n inside is others) (λ p not. rw not refl) has further,
+        moved k s r id me.1 v at (place_of act) n (x ∷ []) (r.history ++ x ∷ []) refl does.machine sound (acted_words k s r act x n inside is others) (λ p not. rw not refl) has further,
         record {
           same = refl;
           rest = f.begun.rest;
           list = λ i. all i ++ made_after (sym can.setup i) v.part.number act (all i) ∷ [];
           none = f.begun.none;
           word = subst (λ (z : Setup × List Entry). slice_index s.words (place_of act) ≡ code z.0 z.1 (place_of act)) (λ i. (sym can.setup i, all i)) (r.words (place_of act) inside);
-          sound = subst (λ (z : Setup). IsSound z (judges_of z) (r.log ++ x ∷ [])) (sym can.setup) sound;
+          sound = subst (λ (z : Setup). IsSound z (judges_of z) (r.history ++ x ∷ [])) (sym can.setup) sound;
           answer = subst (λ (z : Setup × List Entry). (acted (table_of_act z.0 act) (start_of_act z.0 act) (word_at z.0 z.1 (place_of act)) act).0 ≡ answer_at z.0 (judges_of z.0) (reverse z.1) (made_after z.0 v.part.number act z.1) act) (λ i. (sym can.setup i, all i)) does.answer;
         },
       )
-
--- ---- a board
-
--- a load
-pub sees : (k : Setup) (slots id : ℕ) (me : Ours) (i : ℕ) → i < width k → me.0.setup ≡ k → me.0.part.number < me.0.part.end → Allows (KeptPlainly k) slots id me i (λ n. n) (Sees (step slots i 0 0 none) me)
-sees k slots id me i inside setup has s r _ at _ = let t = sees_with word_at nothing_else k id me i inside setup has s r at tt in (with_seen me.0 r.log, keeps, tt, t.0, (t.1, refl))
-
--- the word after an act, from the one that it finds
-abbrev pub left_by : Setup → Act → ℕ → ℕ
-left_by k act word = (acted (table_of_act k act) (start_of_act k act) word act).1
-
--- where the step writes what the act leaves
-makes_at : (k : Setup) (id : ℕ) (me : Ours) (act : Act) (n : ℕ) → CanMake k me.0 act → (s : St) (r : KeptPlainly k s) → get_elem? s.views id ≡ some me.0 → n ≡ left_by k act (slice_index s.words (place_of act)) → n < 2 ^ 64
-    → KeptPlainly k (stepped s (place_of act) n id me.1 (with_seen me.0 (r.log ++ made_after k me.0.part.number act r.log ∷ [])) keeps)
-    × Made word_at me.0 (with_seen me.0 (r.log ++ made_after k me.0.part.number act r.log ∷ [])) act (slice_index s.words (place_of act))
-makes_at k id me act n can s r at is small =
-    let found : slice_index s.words (place_of act) ≡ word_at k r.log (place_of act) = r.words (place_of act) (place-within k act can.fits) in
-    let left : n ≡ left_by k act (word_at k r.log (place_of act)) = is ∙ ap (left_by k act) found in
-    let does : Acted k r.log me.0.part.number act = acts k r.log me.0.part.number act r.machine r.sound.replays can.fits can.bits (subst (λ (z : ℕ). z < 2 ^ 64) left small) in
-    makes_with word_at nothing_else k id me act n can s r at does (left ∙ sym does.here) does.others tt
-
--- a step that is one act, whatever it finds
-pub makes : (k : Setup) (slots id : ℕ) (me : Ours) (act : Act) (f : ℕ → ℕ) → CanMake k me.0 act → ((n : ℕ) → n < 18446744073709551616 → (f n ≡ left_by k act n) × (f n < 2 ^ 64)) → Allows (KeptPlainly k) slots id me (place_of act) f (Makes act me)
-makes k slots id me act f can does s r _ at small =
-    let d = does (slice_index s.words (place_of act)) small in
-    let t = makes_at k id me act (f (slice_index s.words (place_of act))) can s r at d.0 d.1 in
-    (with_seen me.0 (r.log ++ made_after k me.0.part.number act r.log ∷ []), keeps, tt, t.0, (t.1, refl))
-
--- a compare-exchange that makes the act where it finds what the act was computed from
-pub tries : (k : Setup) (slots id : ℕ) (me : Ours) (act : Act) (old new : ℕ) → CanMake k me.0 act → new ≡ left_by k act old → new < 2 ^ 64 → Allows (KeptPlainly k) slots id me (place_of act) (λ n. either (n == old) new n) (Tries (step slots (place_of act) old new (some act)) me)
-tries k slots id me act old new can does fit s r _ at small = on (found == old) refl
-  where
-    found : ℕ
-    found = slice_index s.words (place_of act)
-
-    on : (b : Bool) → (found == old) ≡ b → (w : View) × (a : Rattle.atomic_table.specs.Table.Act Act) × Rattle.atomic_table.specs.Table.Valid s.homes me.1 a × KeptPlainly k (stepped s (place_of act) (either (found == old) new found) id me.1 w a) × Tries (step slots (place_of act) old new (some act)) me found (w, Rattle.atomic_table.specs.Table.carried_after me.1 a)
-    on true hit =
-        let same : found ≡ old = grind (arith, nat_tests) in
-        let t = makes_at k id me act new can s r at (does ∙ ap (left_by k act) (sym same)) fit in
-        (with_seen me.0 (r.log ++ made_after k me.0.part.number act r.log ∷ []), keeps, tt, rw hit t.0, (rw hit t.1, refl))
-    on false miss =
-        let t = sees_with word_at nothing_else k id me (place_of act) (place-within k act can.fits) can.setup can.has s r at tt in
-        (with_seen me.0 r.log, keeps, tt, rw miss t.0, (rw miss t.1, refl))

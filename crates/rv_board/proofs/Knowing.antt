@@ -7,10 +7,12 @@ use Rattle.rv_model.specs.Histories.{NoneOf}
 use Rattle.rv_model.specs.Seats.{Seat, is_in, is_among, known_of, entries_of}
 use Rattle.rv_board.specs.Known.{known_by, knows, blank, Begun}
 
+-- what is not true is false
 no : (b : Bool) → (b ≡ true → ⊥) → b ≡ false
 no true f = absurd (f refl)
 no false f = refl
 
+-- the same, for other files
 pub not_true : (b : Bool) → (b ≡ true → ⊥) → b ≡ false
 not_true = no
 
@@ -24,9 +26,11 @@ none_of p q (x ∷ xs) within e = on (p x.seat) (q x.seat) refl refl (λ e'. non
     on false true pa qb more = absurd (true≢false (sym (within x.seat qb) ∙ pa))
     on false false pa qb more = rw qb (more (let f : entries_of p (x ∷ xs) ≡ [] = e in rw pa at f))
 
+-- none in either list, none in both
 pub none_append : (p : ℕ → Bool) (xs ys : List Entry) → entries_of p xs ≡ [] → entries_of p ys ≡ [] → entries_of p (xs ++ ys) ≡ []
 none_append p xs ys e f = filter-append (λ (x : Entry). p x.seat) xs ys ∙ (ap (λ l. l ++ entries_of p ys) e ∙ f)
 
+-- none in both, none in the second
 pub none_after : (p : ℕ → Bool) (xs ys : List Entry) → entries_of p (xs ++ ys) ≡ [] → entries_of p ys ≡ []
 none_after p xs ys e = tail (entries_of p xs) (entries_of p ys) (sym (filter-append (λ (x : Entry). p x.seat) xs ys) ∙ e)
   where
@@ -34,6 +38,7 @@ none_after p xs ys e = tail (entries_of p xs) (entries_of p ys) (sym (filter-app
     tail [] b f = f
     tail (x ∷ a) b f = absurd (cc)
 
+-- none in both, none in the first
 pub none_before : (p : ℕ → Bool) (xs ys : List Entry) → entries_of p (xs ++ ys) ≡ [] → entries_of p xs ≡ []
 none_before p xs ys e = front (entries_of p xs) (entries_of p ys) (sym (filter-append (λ (x : Entry). p x.seat) xs ys) ∙ e)
   where
@@ -41,6 +46,7 @@ none_before p xs ys e = front (entries_of p xs) (entries_of p ys) (sym (filter-a
     front [] b f = refl
     front (x ∷ a) b f = absurd (cc)
 
+-- of numbers that are known by one of two, where neither has an entry
 pub none_either : (p q r : ℕ → Bool) (xs : List Entry) → ((n : ℕ) → r n ≡ true → (p n ≡ true) ⊎ (q n ≡ true)) → entries_of p xs ≡ [] → entries_of q xs ≡ [] → entries_of r xs ≡ []
 none_either p q r xs split e f = none_of (λ n. p n || q n) r xs (λ n t. either_true (p n) (q n) (split n t)) (both xs e f)
   where
@@ -57,17 +63,21 @@ none_either p q r xs split e f = none_of (λ n. p n || q n) r xs (λ n t. either
         on false true pc qd more = absurd (let g : entries_of q (y ∷ ys) ≡ [] = b in cc (rw qd at g))
         on false false pc qd more = rw (pc, qd) (more (let g : entries_of p (y ∷ ys) ≡ [] = a in rw pc at g) (let g : entries_of q (y ∷ ys) ≡ [] = b in rw qd at g))
 
+-- the blank seat knows no number
 pub knows_blank : (n : ℕ) → knows blank n ≡ true → ⊥
 unfolding known_by is_in is_among
 knows_blank n t = absurd (grind (arith, nat_tests))
 
+-- so it has no entry
 pub none_blank : (xs : List Entry) → entries_of (knows blank) xs ≡ []
 none_blank [] = refl
 none_blank (x ∷ xs) = rw (no (knows blank x.seat) (knows_blank x.seat)) (none_blank xs)
 
-pub begun_blank : (log : List Entry) → Begun log blank
-begun_blank log = record { rest = log; whole = refl; none = none_blank log }
+-- and it fits every history
+pub begun_blank : (history : List Entry) → Begun history blank
+begun_blank history = record { rest = history; whole = refl; none = none_blank history }
 
+-- a seat knows its own number
 pub knows_own : (number end : ℕ) (gone : List ℕ) → number < end → known_by number end gone number ≡ true
 unfolding known_by is_in is_among
 knows_own number end gone h = grind (arith, nat_tests)
@@ -77,6 +87,7 @@ pub cut_left_within : (number at end : ℕ) (gone : List ℕ) (n : ℕ) → at �
 unfolding known_by is_in is_among
 cut_left_within number at end gone n h t = grind (arith, nat_tests)
 
+-- the other side of the cut
 pub cut_right_within : (number at end : ℕ) (gone : List ℕ) (n : ℕ) → number ≤ at → known_by at end [] n ≡ true → known_by number end gone n ≡ true
 unfolding known_by is_in is_among
 cut_right_within number at end gone n h t = grind (arith, nat_tests)
@@ -92,6 +103,7 @@ none_is p seat (x ∷ xs) own e = on (p x.seat) refl (λ e'. none_is p seat xs o
         let other : x.seat ≢ seat = λ same. true≢false (sym own ∙ sym (ap p same) ∙ px) in
         (grind (arith, nat_tests), more (let f : entries_of p (x ∷ xs) ≡ [] = e in rw px at f))
 
+-- a number with no entry in either list
 pub none_append_is : (seat : ℕ) (xs ys : List Entry) → NoneOf seat xs → NoneOf seat ys → NoneOf seat (xs ++ ys)
 none_append_is seat [] ys a b = b
 none_append_is seat (x ∷ xs) ys a b = (a.0, none_append_is seat xs ys a.1 b)

@@ -1,9 +1,14 @@
 pub mod AllowedLemmas
 pub mod CallLemmas
+pub mod GrowLemmas
+pub mod JoinLemmas
 pub mod KeepLemmas
 pub mod Knowing
-pub mod PartLemmas
+pub mod NumberLemmas
 pub mod RaceLemmas
 pub mod SoundLemmas
+pub mod SplitLemmas
+pub mod StepLemmas
+pub mod ViewLemmas
 pub mod WakingLemmas
 pub mod WordSteps

@@ -34,6 +34,7 @@ pub record Lost (v w : View) (slot lost word : ℕ) : Type 0 where
   pub sees : word ≡ word_of v.setup (judges_of v.setup) (reverse w.part.seen) slot
   pub sound : IsSound v.setup (judges_of v.setup) w.part.seen
 
+-- at first no try is lost
 pub lost_none : (v w : View) (slot place word : ℕ) → place ≡ suc slot → Saw word_at v w place word → Lost v w slot 0 word
 lost_none v w slot place word at s = record {
   same = s.same;
@@ -45,6 +46,7 @@ lost_none v w slot place word at s = record {
   sound = s.sound;
 }
 
+-- one more try is lost, since another seat changed the word
 pub lost_more : (v w x : View) (slot place lost word found : ℕ) → place ≡ suc slot → Lost v w slot lost word → Saw word_at w x place found → found ≢ word → Lost v x slot (lost + 1) found
 lost_more v w x slot place lost word found at l s ne =
     let setup : w.setup ≡ v.setup = ap (λ (z : View). z.setup) l.same in
@@ -116,6 +118,7 @@ opened f = view f.part blank blank f.board.setup
 pub opened_is : (number end : ℕ) (table : TableId) (me : Ours) (old : SeatValue) → IsUsable number end me → seat_value me.0.part (board_id table me.0.setup) ≡ old → me.0 ≡ opened old
 opened_is number end table me old u same = λ i. view ((same i).part) (u.left i) (u.right i) ((same i).board.setup)
 
+-- a seat that has lost tries is usable
 pub usable_lost : (number end : ℕ) (table : TableId) (m m' : Ours) (old : SeatValue) (slot lost word : ℕ) → IsUsable number end m → seat_value m.0.part (board_id table m.0.setup) ≡ old → Lost (opened old) m'.0 slot lost word → m'.1 ≡ [] → IsUsable number end m'
 usable_lost number end table m m' old slot lost word u is l none-held =
     let back = opened_is number end table m old u is in
@@ -125,9 +128,11 @@ usable_lost number end table m m' old slot lost word u is l none-held =
 acts_opened : (old : SeatValue) (x : View) (table : TableId) (act : Act) (found : ℕ) → old.part.number < old.part.end → table ≡ old.board.table → (m : Made word_at (opened old) x act found) → Acts old (seat_value x.part (board_id table x.setup)) act (entry_of (opened old) x act found m)
 acts_opened old x table act found has same m = record { grows = record { grows = grown_by (opened old) x act found has m; board = λ i. board_id (same i) (ap (λ (v : View). v.setup) m.same i) }; act_is = refl }
 
+-- what a compare-exchange tells where it won
 pub at_same : (found old : ℕ) (P Q : Type 0) → found ≡ old → MatchBool (found == old) P Q → P
 at_same found old P Q is h = let e : (found == old) ≡ true = grind (arith, nat_tests) in subst (λ (b : Bool). MatchBool b P Q) e h
 
+-- and where it lost
 pub at_other : (found old : ℕ) (P Q : Type 0) → found ≢ old → MatchBool (found == old) P Q → Q
 at_other found old P Q is h = let e : (found == old) ≡ false = grind (arith, nat_tests) in subst (λ (b : Bool). MatchBool b P Q) e h
 

@@ -18,6 +18,7 @@ use Rattle.rv_core.specs.Setup.{place_of}
 use Rattle.rv_core.proofs.WordLemmas.{packed-other}
 
 module _ (s : Setup) (js : List Judge) where
+  -- the empty history is sound
   pub sound-empty : IsSound s js []
   sound-empty = record {
     replays = at_each-nil (FitsWords s js);
@@ -26,19 +27,19 @@ module _ (s : Setup) (js : List Judge) where
   }
 
   -- the history so far was sound at each earlier time
-  pub sound-front : (log more : List Entry) → IsSound s js (log ++ more) → IsSound s js log
-  sound-front log more sound = record {
-    replays = at_each-front (FitsWords s js) log more sound.replays;
-    earned = at_each-front (λ before e. IsEarnedBy e.act e.seat before) log more sound.earned;
-    held = at_each-front (λ before e. (e.seat < 67) × IsHeldBy e.act e.seat) log more sound.held;
+  pub sound-front : (history more : List Entry) → IsSound s js (history ++ more) → IsSound s js history
+  sound-front history more sound = record {
+    replays = at_each-front (FitsWords s js) history more sound.replays;
+    earned = at_each-front (λ before e. IsEarnedBy e.act e.seat before) history more sound.earned;
+    held = at_each-front (λ before e. (e.seat < 67) × IsHeldBy e.act e.seat) history more sound.held;
   }
 
   -- an entry that tells what its act did may come next
-  pub sound-snoc : (log : List Entry) (e : Entry) → IsSound s js log → FitsWords s js log e → IsEarnedBy e.act e.seat log → e.seat < 67 → IsHeldBy e.act e.seat → IsSound s js (log ++ e ∷ [])
-  sound-snoc log e sound fits earned low held = record {
-    replays = at_each-snoc (FitsWords s js) log e sound.replays fits;
-    earned = at_each-snoc (λ before x. IsEarnedBy x.act x.seat before) log e sound.earned earned;
-    held = at_each-snoc (λ before x. (x.seat < 67) × IsHeldBy x.act x.seat) log e sound.held (low, held);
+  pub sound-snoc : (history : List Entry) (e : Entry) → IsSound s js history → FitsWords s js history e → IsEarnedBy e.act e.seat history → e.seat < 67 → IsHeldBy e.act e.seat → IsSound s js (history ++ e ∷ [])
+  sound-snoc history e sound fits earned low held = record {
+    replays = at_each-snoc (FitsWords s js) history e sound.replays fits;
+    earned = at_each-snoc (λ before x. IsEarnedBy x.act x.seat before) history e sound.earned earned;
+    held = at_each-snoc (λ before x. (x.seat < 67) × IsHeldBy x.act x.seat) history e sound.held (low, held);
   }
 
   -- an act that is not on the slot has another word
@@ -60,28 +61,28 @@ module _ (s : Setup) (js : List Judge) where
   on-slot past slot (Lower bits) here = cc
 
   -- an entry that is not counted leaves the slot's word as it was
-  still : (log : List Entry) (slot : ℕ) (e : Entry) → FitsWords s js log e → changed slot e ≡ false → word_of s js (e ∷ reverse log) slot ≡ word_of s js (reverse log) slot
-  still log slot e fits calm = on (is_on slot e.act) refl
+  still : (history : List Entry) (slot : ℕ) (e : Entry) → FitsWords s js history e → changed slot e ≡ false → word_of s js (e ∷ reverse history) slot ≡ word_of s js (reverse history) slot
+  still history slot e fits calm = on (is_on slot e.act) refl
     where
-      on : (b : Bool) → is_on slot e.act ≡ b → word_of s js (e ∷ reverse log) slot ≡ word_of s js (reverse log) slot
+      on : (b : Bool) → is_on slot e.act ≡ b → word_of s js (e ∷ reverse history) slot ≡ word_of s js (reverse history) slot
       on true here =
           let quiet : (is_on slot e.act && not (e.before == e.after)) ≡ false = calm in
           let equal : (e.before == e.after) ≡ true = (let q = (rw here at quiet) in grind (arith, nat_tests)) in
           let same : e.before ≡ e.after = grind (arith, nat_tests) in
-          sym (on-slot (e ∷ reverse log) slot e.act here) ∙ sym fits.left ∙ sym same ∙ fits.found ∙ on-slot (reverse log) slot e.act here
-      on false out = packed-other (judge_of s js slot) (start_of s slot) (level (start_of s slot) (reverse log) slot) slot e.act (phase_of (judge_of s js slot) (start_of s slot) (reverse log) slot) (elsewhere slot e.act out)
+          sym (on-slot (e ∷ reverse history) slot e.act here) ∙ sym fits.left ∙ sym same ∙ fits.found ∙ on-slot (reverse history) slot e.act here
+      on false out = packed-other (judge_of s js slot) (start_of s slot) (level (start_of s slot) (reverse history) slot) slot e.act (phase_of (judge_of s js slot) (start_of s slot) (reverse history) slot) (elsewhere slot e.act out)
 
   -- where the word has changed, an entry changed it
-  pub changes : (log more : List Entry) (slot : ℕ) → IsSound s js (log ++ more) → word_of s js (reverse (log ++ more)) slot ≢ word_of s js (reverse log) slot → 1 ≤ length (filter (changed slot) more)
-  changes log [] slot sound ne = absurd (ne (ap (λ l. word_of s js (reverse l) slot) (append-nil log)))
-  changes log (e ∷ more) slot sound ne =
-      on (changed slot e) refl (λ calm. changes (log ++ e ∷ []) more slot (subst (IsSound s js) (sym regroup) sound) (λ same. ne (ap (λ l. word_of s js (reverse l) slot) (sym regroup) ∙ (same ∙ ap (λ l. word_of s js l slot) back ∙ still log slot e (sound.replays log e more refl) calm))))
+  pub changes : (history more : List Entry) (slot : ℕ) → IsSound s js (history ++ more) → word_of s js (reverse (history ++ more)) slot ≢ word_of s js (reverse history) slot → 1 ≤ length (filter (changed slot) more)
+  changes history [] slot sound ne = absurd (ne (ap (λ l. word_of s js (reverse l) slot) (append-nil history)))
+  changes history (e ∷ more) slot sound ne =
+      on (changed slot e) refl (λ calm. changes (history ++ e ∷ []) more slot (subst (IsSound s js) (sym regroup) sound) (λ same. ne (ap (λ l. word_of s js (reverse l) slot) (sym regroup) ∙ (same ∙ ap (λ l. word_of s js l slot) back ∙ still history slot e (sound.replays history e more refl) calm))))
     where
-      regroup : (log ++ e ∷ []) ++ more ≡ log ++ e ∷ more
-      regroup = append_assoc log (e ∷ []) more
+      regroup : (history ++ e ∷ []) ++ more ≡ history ++ e ∷ more
+      regroup = append_assoc history (e ∷ []) more
 
-      back : reverse (log ++ e ∷ []) ≡ e ∷ reverse log
-      back = reverse-append log (e ∷ [])
+      back : reverse (history ++ e ∷ []) ≡ e ∷ reverse history
+      back = reverse-append history (e ∷ [])
 
       on : (b : Bool) → changed slot e ≡ b → (b ≡ false → 1 ≤ length (filter (changed slot) more)) → 1 ≤ length (filter (changed slot) (e ∷ more))
       on true is rest = rw is (omega arith)

@@ -1,7 +1,6 @@
 -- The tests' automaton is one.
 use Rattle.std.proofs.Common.{◌≡◌, ◌≢◌, ℕ, zero, suc, ◌<◌, [], ◌∷◌, List, get_or, ap, IsTrue, inl, inr, arith, refl, Bool, true, false}
-use Rattle.std.specs.List.{All, AllPairs}
-use Rattle.std.specs.List.{Any}
+use Rattle.std.specs.List.{All, AllPairs, Any}
 use Rattle.std.proofs.lemmas.List.Elements.{All-cons, All-nil}
 use Rattle.std.proofs.lemmas.List.Kept.{AllPairs-cons}
 use Rattle.rv_model.specs.declared.automaton.Edge.{Edge}
@@ -12,10 +11,11 @@ use Rattle.rv_model.specs.Table.{Table, of_events, of_labels, event_count}
 use Rattle.rv_core.specs.Advance.{FitsKind}
 use Rattle.rv_model.specs.WellFormed.{IsAutomaton, IsBefore, IsStateName, IsNameOf, is_event_byte, is_state_byte, EdgeIsBefore}
 
--- what holds of one element, and of three
+-- what holds of one element holds of all of one
 one-all : {X : Type 0} (P : X → Type 0) (x : X) → P x → All P (x ∷ [])
 one-all P x p = All-cons P x [] p (All-nil P)
 
+-- and of three
 three-all : {X : Type 0} (P : X → Type 0) (x y z : X) → P x → P y → P z → All P (x ∷ y ∷ z ∷ [])
 three-all P x y z p q r = All-cons P x (y ∷ z ∷ []) p (All-cons P y (z ∷ []) q (one-all P z r))
 
@@ -35,9 +35,11 @@ three-ordered R x y z xy xz yz = AllPairs-cons R x (y ∷ z ∷ []) (All-cons (R
 abbrev pub disabled : Edge
 disabled = record { from = 0; event = 0; to = 1 }
 
+-- it is enabled
 abbrev pub enabled : Edge
 enabled = record { from = 1; event = 1; to = 0 }
 
+-- a waking, while it is disabled
 abbrev pub woken : Edge
 woken = record { from = 1; event = 2; to = 1 }
 
@@ -45,19 +47,22 @@ woken = record { from = 1; event = 2; to = 1 }
 abbrev pub waking : Machine
 waking = record { states = (112 ∷ []) ∷ (110 ∷ []) ∷ []; events = (100 ∷ []) ∷ (101 ∷ []) ∷ (119 ∷ []) ∷ []; edges = disabled ∷ enabled ∷ woken ∷ []; marked = 1 }
 
+-- each event stands on an edge
 used : (event : ℕ) → event < 3 → Any (λ e. e.event ≡ event) waking.edges
 used zero lt = (0, disabled, omega arith, refl, refl)
 used (suc zero) lt = (1, enabled, omega arith, refl, refl)
 used (suc (suc zero)) lt = (2, woken, omega arith, refl, refl)
 used (suc (suc (suc n))) lt = absurd (omega arith)
 
--- the second state has another name than the first
+-- the name of the second state
 abbrev other : List ℕ
 other = 110 ∷ []
 
+-- the name of the first state
 abbrev first : List ℕ
 first = 112 ∷ []
 
+-- the two names differ
 other-name : other ≢ first
 other-name e = let same : get_or other 0 0 ≡ get_or first 0 0 = ap (λ (xs : List ℕ). get_or xs 0 0) e in omega arith
 

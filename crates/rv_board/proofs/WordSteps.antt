@@ -19,29 +19,31 @@ use Rattle.rv_board.specs.Steps.{made_after}
 
 -- the words that the history gives
 abbrev plain : Setup → List Entry → List ℕ
-plain s log = list_of (word_at s log) (width s)
+plain s history = list_of (word_at s history) (width s)
 
-plain-length : (s : Setup) (log : List Entry) → length (plain s log) ≡ width s
-plain-length s log = length-list_of (word_at s log) (width s)
+-- as many as a board has
+plain-length : (s : Setup) (history : List Entry) → length (plain s history) ≡ width s
+plain-length s history = length-list_of (word_at s history) (width s)
 
-plain-at : (s : Setup) (log : List Entry) (i : ℕ) → i < width s → get_or (plain s log) i 0 ≡ word_at s log i
-plain-at s log i low = get_or-list_of (word_at s log) (width s) i 0 low
+-- each by its place
+plain-at : (s : Setup) (history : List Entry) (i : ℕ) → i < width s → get_or (plain s history) i 0 ≡ word_at s history i
+plain-at s history i low = get_or-list_of (word_at s history) (width s) i 0 low
 
 -- the machine of one thread would have these words
-is-core : (s : Setup) (log : List Entry) → IsMachine s log → Replays s (judges_of s) log → IsCore s (plain s log) log
-is-core s log m replays = record {
+is-core : (s : Setup) (history : List Entry) → IsMachine s history → Replays s (judges_of s) history → IsCore s (plain s history) history
+is-core s history m replays = record {
   is_setup = m.is_setup;
-  count = plain-length s log ∙ sym (add-one (sum s.shape));
+  count = plain-length s history ∙ sym (add-one (sum s.shape));
   live = m.live;
-  switches_are = plain-at s log 0 (omega arith);
-  words_are = λ i low. rw (add-one i) (plain-at s log (suc i) (omega arith));
+  switches_are = plain-at s history 0 (omega arith);
+  words_are = λ i low. rw (add-one i) (plain-at s history (suc i) (omega arith));
   replays = replays;
 }
 
 -- the words of a machine are those of its history
-core-word : (s : Setup) (words : List ℕ) (log : List Entry) → IsCore s words log → (i : ℕ) → i < width s → get_or words i 0 ≡ word_at s log i
-core-word s words log c zero low = c.switches_are
-core-word s words log c (suc i) low = let one : suc i ≡ i + 1 = sym (add-one i) in ap (λ (n : ℕ). get_or words n 0) one ∙ c.words_are i (omega arith)
+core-word : (s : Setup) (words : List ℕ) (history : List Entry) → IsCore s words history → (i : ℕ) → i < width s → get_or words i 0 ≡ word_at s history i
+core-word s words history c zero low = c.switches_are
+core-word s words history c (suc i) low = let one : suc i ≡ i + 1 = sym (add-one i) in ap (λ (n : ℕ). get_or words n 0) one ∙ c.words_are i (omega arith)
 
 -- an act's word is one of the words
 pub place-within : (s : Setup) (act : Act) → FitsAct s act → place_of act < width s
@@ -53,30 +55,31 @@ place-within s (Raise _) f = omega arith
 place-within s (Lower _) f = omega arith
 
 -- what the act of a seat does to the words
-pub record Acted (s : Setup) (log : List Entry) (seat : ℕ) (act : Act) : Type 0 where
-  pub machine : IsMachine s (log ++ made_after s seat act log ∷ [])
-  pub fits : FitsWords s (judges_of s) log (made_after s seat act log)
-  pub here : word_at s (log ++ made_after s seat act log ∷ []) (place_of act) ≡ (made_after s seat act log).after
-  pub others : (i : ℕ) → i < width s → i ≢ place_of act → word_at s (log ++ made_after s seat act log ∷ []) i ≡ word_at s log i
-  pub answer : (acted (table_of_act s act) (start_of_act s act) (word_at s log (place_of act)) act).0 ≡ answer_at s (judges_of s) (reverse log) (made_after s seat act log) act
+pub record Acted (s : Setup) (history : List Entry) (seat : ℕ) (act : Act) : Type 0 where
+  pub machine : IsMachine s (history ++ made_after s seat act history ∷ [])
+  pub fits : FitsWords s (judges_of s) history (made_after s seat act history)
+  pub here : word_at s (history ++ made_after s seat act history ∷ []) (place_of act) ≡ (made_after s seat act history).after
+  pub others : (i : ℕ) → i < width s → i ≢ place_of act → word_at s (history ++ made_after s seat act history ∷ []) i ≡ word_at s history i
+  pub answer : (acted (table_of_act s act) (start_of_act s act) (word_at s history (place_of act)) act).0 ≡ answer_at s (judges_of s) (reverse history) (made_after s seat act history) act
 
-pub acts : (s : Setup) (log : List Entry) (seat : ℕ) (act : Act) → IsMachine s log → Replays s (judges_of s) log → FitsAct s act → ActFits s act → (made_after s seat act log).after < 2 ^ 64 → Acted s log seat act
-acts s log seat act m replays fits bits fit = record {
+-- the act of a seat does just that
+pub acts : (s : Setup) (history : List Entry) (seat : ℕ) (act : Act) → IsMachine s history → Replays s (judges_of s) history → FitsAct s act → ActFits s act → (made_after s seat act history).after < 2 ^ 64 → Acted s history seat act
+acts s history seat act m replays fits bits fit = record {
   machine = record { is_setup = after.is_setup; live = after.live };
-  fits = fits-words s (plain s log) log c seat act found left fits bits read refl fit;
-  here = sym (core-word s (set (plain s log) place left) (log ++ x ∷ []) after place inside) ∙ get_or-set_same (plain s log) place left 0 (let l = plain-length s log in let b = inside in omega arith);
-  others = λ i low ne. sym (core-word s (set (plain s log) place left) (log ++ x ∷ []) after i low) ∙ (get_or-set_other (plain s log) place i left 0 ne ∙ plain-at s log i low);
-  answer = core-answer s (plain s log) log c seat act found left fits bits read refl fit;
+  fits = fits-words s (plain s history) history c seat act found left fits bits read refl fit;
+  here = sym (core-word s (set (plain s history) place left) (history ++ x ∷ []) after place inside) ∙ get_or-set_same (plain s history) place left 0 (let l = plain-length s history in let b = inside in omega arith);
+  others = λ i low ne. sym (core-word s (set (plain s history) place left) (history ++ x ∷ []) after i low) ∙ (get_or-set_other (plain s history) place i left 0 ne ∙ plain-at s history i low);
+  answer = core-answer s (plain s history) history c seat act found left fits bits read refl fit;
 }
   where
     place : ℕ
     place = place_of act
 
     x : Entry
-    x = made_after s seat act log
+    x = made_after s seat act history
 
     found : ℕ
-    found = word_at s log place
+    found = word_at s history place
 
     left : ℕ
     left = x.after
@@ -84,14 +87,14 @@ acts s log seat act m replays fits bits fit = record {
     inside : place < width s
     inside = place-within s act fits
 
-    c : IsCore s (plain s log) log
-    c = is-core s log m replays
+    c : IsCore s (plain s history) history
+    c = is-core s history m replays
 
-    read : found ≡ get_or (plain s log) place found
-    read = sym (get_or-list_of (word_at s log) (width s) place found inside)
+    read : found ≡ get_or (plain s history) place found
+    read = sym (get_or-list_of (word_at s history) (width s) place found inside)
 
-    after : IsCore s (set (plain s log) place left) (log ++ x ∷ [])
-    after = core-after s (plain s log) log c seat act found left fits bits read refl fit
+    after : IsCore s (set (plain s history) place left) (history ++ x ∷ [])
+    after = core-after s (plain s history) history c seat act found left fits bits read refl fit
 
 -- the words that a machine opens with are those of a board
 pub opening-is : (s : Setup) → IsSetup s → IsOpening s (opening_words s (sum s.shape))

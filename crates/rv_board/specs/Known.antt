@@ -12,9 +12,9 @@ abbrev pub knows : Seat → ℕ → Bool
 knows p = known_by p.number p.end p.gone
 
 -- the history begins with what was seen, and has no further entry by these numbers
-pub record Begun (log : List Entry) (p : Seat) : Type 0 where
+pub record Begun (history : List Entry) (p : Seat) : Type 0 where
   pub rest : List Entry
-  pub whole : log ≡ p.seen ++ rest
+  pub whole : history ≡ p.seen ++ rest
   pub none : entries_of (knows p) rest ≡ []
 
 -- so many numbers, from this one on
@@ -36,4 +36,4 @@ blank = part 0 0 [] []
 
 -- the same numbers, with this list
 abbrev pub with_list : Seat → List Entry → Seat
-with_list p log = part p.number p.end p.gone log
+with_list p history = part p.number p.end p.gone history

@@ -21,13 +21,13 @@ width s = suc (sum s.shape)
 
 -- which word stands for a history: the switches, and then the slots
 abbrev pub word_at : Setup → List Entry → ℕ → ℕ
-word_at s log zero = switches_of s.switches (reverse log)
-word_at s log (suc slot) = word_of s (judges_of s) (reverse log) slot
+word_at s history zero = switches_of s.switches (reverse history)
+word_at s history (suc slot) = word_of s (judges_of s) (reverse history) slot
 
 -- the tables are tables, and what runs by the history has rows
-pub record IsMachine (s : Setup) (log : List Entry) : Type 0 where
+pub record IsMachine (s : Setup) (history : List Entry) : Type 0 where
   pub is_setup : IsSetup s
-  pub live : (i : ℕ) → i < sum s.shape → IsLive (table_judge (table_at s i)) (slot_phase s (reverse log) i)
+  pub live : (i : ℕ) → i < sum s.shape → IsLive (table_judge (table_at s i)) (slot_phase s (reverse history) i)
 
 -- what a board opens with: the words of an empty history
 pub record IsOpening (s : Setup) (words : List ℕ) : Type 0 where
@@ -36,33 +36,33 @@ pub record IsOpening (s : Setup) (words : List ℕ) : Type 0 where
   pub each : (i : ℕ) → i < width s → slice_index words i ≡ word_at s [] i
 
 -- what one view has to do with the history
-pub record Fits (log : List Entry) (v : View) : Type 0 where
-  pub begun : Begun log v.part
+pub record Fits (history : List Entry) (v : View) : Type 0 where
+  pub begun : Begun history v.part
   -- between the two loads of a join
-  pub left : Begun log v.left
-  pub right : Begun log v.right
+  pub left : Begun history v.left
+  pub right : Begun history v.right
   pub left_within : (n : ℕ) → knows v.left n ≡ true → knows v.part n ≡ true
   pub right_within : (n : ℕ) → knows v.right n ≡ true → knows v.part n ≡ true
   -- no number that may still be handed out was joined in
   pub distinct : (n : ℕ) → is_in v.part.number v.part.end n ≡ true → is_among v.part.gone n ≡ false
   -- nor has it an entry
-  pub unused : entries_of (is_in (suc v.part.number) v.part.end) log ≡ []
+  pub unused : entries_of (is_in (suc v.part.number) v.part.end) history ≡ []
 
 -- There is one sound history, which gives the words, and each seat has seen a beginning of it. No two seats know one number.
 -- `code` is which word stands for a history, and `also` what else is to hold.
 pub record Kept (code : Setup → List Entry → ℕ → ℕ) (also : List Entry → List View → Type 0) (s : Setup) (t : State Act View) : Type 0 where
-  pub log : List Entry
+  pub history : List Entry
   pub wide : length t.words ≡ width s
-  pub words : (i : ℕ) → i < width s → slice_index t.words i ≡ code s log i
-  pub machine : IsMachine s log
-  pub sound : IsSound s (judges_of s) log
-  pub fits : (j : ℕ) (v : View) → get_elem? t.views j ≡ some v → Fits log v
+  pub words : (i : ℕ) → i < width s → slice_index t.words i ≡ code s history i
+  pub machine : IsMachine s history
+  pub sound : IsSound s (judges_of s) history
+  pub fits : (j : ℕ) (v : View) → get_elem? t.views j ≡ some v → Fits history v
   pub apart : (i j : ℕ) (v w : View) → get_elem? t.views i ≡ some v → get_elem? t.views j ≡ some w → i ≢ j → (n : ℕ) → knows v.part n ≡ true → knows w.part n ≡ true → ⊥
-  pub further : also log t.views
+  pub further : also history t.views
 
 -- nothing else
 abbrev pub nothing_else : List Entry → List View → Type 0
-nothing_else log views = Unit {0}
+nothing_else history views = Unit {0}
 
 -- the rule of a board: each word is the one that the history gives
 abbrev pub KeptPlainly : Setup → State Act View → Type 0
@@ -70,6 +70,7 @@ KeptPlainly = Kept word_at nothing_else
 
 -- ---- views
 
+-- the view of these
 abbrev pub view : Seat → Seat → Seat → Setup → View
 view p left right s = record { part = p; left = left; right = right; setup = s }
 
@@ -87,7 +88,7 @@ first_view s = view (part 0 67 [] []) blank blank s
 
 -- the same seat, which has seen this list
 abbrev pub with_seen : View → List Entry → View
-with_seen v log = view (with_list v.part log) blank blank v.setup
+with_seen v history = view (with_list v.part history) blank blank v.setup
 
 -- how a view is cut at a number
 abbrev pub cut_left : ℕ → View → View

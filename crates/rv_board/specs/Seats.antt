@@ -33,9 +33,11 @@ coded_board = code_by (TableId × Setup) (coded× table_id_coded coded_setup) (�
 abbrev pub coded_seat : Coded Entry → Coded SeatValue
 coded_seat entry = code_by (Seat × BoardId) (coded× (coded_part entry) coded_board) (λ s. (s.part, s.board)) (λ p. record { part = p.0; board = p.1 }) (λ _. refl)
 
+-- the board of these
 abbrev pub board_id : TableId → Setup → BoardId
 board_id table setup = record { table = table; setup = setup }
 
+-- the seat of these
 abbrev pub seat_value : Seat → BoardId → SeatValue
 seat_value part board = record { part = part; board = board }
 
@@ -76,7 +78,7 @@ pub record Follows (h : List Entry) (seat : Seat) : Type 0 where
   pub list : h ≡ seat.seen ++ rest
   pub none : entries_of (known_of seat) rest ≡ []
 
--- the list begins with both lists, goes on without the numbers of either, and is sound; the numbers of the other are gone
+-- the list begins with both lists, goes on without the numbers of either, and is sound; the numbers of the other were joined in
 pub record Joins (old from new : SeatValue) : Type 0 where
   pub own : Follows new.part.seen old.part
   pub other : Follows new.part.seen from.part

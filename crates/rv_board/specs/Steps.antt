@@ -33,7 +33,7 @@ made s seat act word = record { seat = seat; act = act; before = word; after = (
 
 -- the entry of the act after this history
 abbrev pub made_after : Setup → ℕ → Act → List Entry → Entry
-made_after s seat act log = made s seat act (word_at s log (place_of act))
+made_after s seat act history = made s seat act (word_at s history (place_of act))
 
 -- the history so far was seen, and the seat's act was added to it
 pub record Made (code : Setup → List Entry → ℕ → ℕ) (v w : View) (act : Act) (found : ℕ) : Type 0 where
@@ -57,9 +57,11 @@ told none = Look
 
 -- ---- the kinds of step of a board
 
+-- a load
 abbrev pub Sees : Step Act → Ours → ℕ → Ours → Type 0
 Sees st m found m' = Saw word_at m.0 m'.0 st.word found × (m'.1 ≡ m.1)
 
+-- a step that is one act, whatever it finds
 abbrev pub Makes : Act → Ours → ℕ → Ours → Type 0
 Makes act m found m' = Made word_at m.0 m'.0 act found × (m'.1 ≡ m.1)
 
@@ -67,18 +69,22 @@ Makes act m found m' = Made word_at m.0 m'.0 act found × (m'.1 ≡ m.1)
 abbrev pub Tries : Step Act → Ours → ℕ → Ours → Type 0
 Tries st m found m' = MatchBool (found == st.first) (Made word_at m.0 m'.0 (told st.said) found) (Saw word_at m.0 m'.0 st.word found) × (m'.1 ≡ m.1)
 
+-- a swap of 0 into the word of a slot, which is the word behind it
 abbrev pub Stops : Step Act → Ours → ℕ → Ours → Type 0
 Stops st = Makes (Stop (st.word - 1))
 
+-- a load of the switches
 abbrev pub Looks : Step Act → Ours → ℕ → Ours → Type 0
 Looks st = Makes Look
 
+-- an `or` of the switches with bits
 abbrev pub Raises : Step Act → Ours → ℕ → Ours → Type 0
 Raises st = Makes (Raise st.first)
 
--- the word that the switches are cut down to has the other bits
+-- an `and` of the switches with all other bits
 abbrev pub Lowers : Step Act → Ours → ℕ → Ours → Type 0
 Lowers st = Makes (Lower (bit_not w64 st.first))
 
+-- a swap of the opening word into the word of a slot
 abbrev pub Clears : Step Act → Ours → ℕ → Ours → Type 0
 Clears st = Makes (Clear (st.word - 1))

@@ -8,7 +8,7 @@ ghost use Rattle.rv_board.specs.Rule.{IsOpening};
 ghost use Rattle.rv_board.specs.Seats.{seat_value, SeatGrows, Looks, Does};
 
 use crate::rule::{Clearing, Law, Looking, Lowering, Raising, Seeing};
-use crate::seat::Seat;
+use crate::seat::{SEATS, Seat};
 use crate::view::View;
 use atomic_table::Table;
 use rv_core::Setup;
@@ -75,7 +75,7 @@ impl Board {
             seat: Seat {
                 token,
                 number: 0,
-                end: 67,
+                end: SEATS,
             },
         })
     }

@@ -17,7 +17,8 @@ const TRIES: u32 = 3;
 
 impl Board {
     /// Tries three times to put the next word in the place of the word that was found, and stops the instance where
-    /// other seats changed the word each time. The gate is called before each try, with the number of lost ones.
+    /// other seats changed the word each time. The gate is called before each try, with the number of lost
+    /// ones. At most five atomic steps are made, and none waits.
     pub fn deliver<G: Gate>(
         &self,
         seat: &mut Seat,

@@ -13,4 +13,4 @@ mod view;
 
 pub use board::{Board, BoardStart};
 pub use rv_model::Delivered;
-pub use seat::Seat;
+pub use seat::{SEATS, Seat};

@@ -2,11 +2,15 @@
 ghost use Rattle.std.specs.Prelude.{◌≡◌, ◌<◌, ◌≤◌};
 ghost use Rattle.rv_model.specs.Histories.{IsSound};
 ghost use Rattle.rv_core.specs.Setup.{judges_of};
+ghost use Rattle.rv_board.specs.declared.seat.TheConstants.{SEATS};
 
 use crate::view::View;
 use atomic_table::Seat as Token;
 use rv_model::{Act, Keeps};
 use std::marker::Model;
+
+/// All seats of a board have numbers below this one.
+pub const SEATS: u32 = 67;
 
 /// It has a number, and may hand on the numbers above it and below `end`. Contracts see what it knows too: the
 /// numbers that were joined into it, the entries that it has seen, and the board that it is of.
@@ -46,7 +50,7 @@ impl Seat {
     /// It may hand on the numbers below this one.
     pub fn end(&self) -> u32
         ensures end { result ≡ self.now.part.end }
-        ensures range { (self.now.part.number < result) × (result ≤ 67) }
+        ensures range { (self.now.part.number < result) × (result ≤ SEATS) }
     {
         self.end
     }

@@ -302,6 +302,7 @@ fn join_all(board: &Board, seat: &mut Seat, seats: Vec<Seat>)
 #[test]
 fn all_seats_are_split_joined_and_closed(rt: HostRuntime) -> Result<(), Fail> {
     let BoardStart { board, mut seat } = one_instance(rt.alloc())?;
+    cross(&board, &seat);
     let seats = split_all(rt.alloc(), &board, &mut seat)?;
     assert_eq!(rt; seats.len(), 66);
     for (place, other) in seats.iter().enumerate() {
@@ -347,4 +348,16 @@ fn a_full_board_has_all_its_words(rt: HostRuntime) -> Result<(), Fail> {
     }
     board.close(seat);
     Ok(())
+}
+
+/// What threads may share.
+fn shared<T: Sync>(_value: &T) {}
+
+/// What may go to another thread.
+fn sent<T: Send>(_value: &T) {}
+
+/// Threads share a board, and each has a seat.
+fn cross(board: &Board, seat: &Seat) {
+    shared(board);
+    sent(seat);
 }

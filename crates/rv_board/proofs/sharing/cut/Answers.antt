@@ -1,7 +1,7 @@
 use Rattle.std.proofs.Common.{ℕ, subst}
 use Rattle.atomic_table.specs.Table.{Splits}
 use Rattle.rv_board.specs.Rule.{KeptPlainly, cut_left, cut_right}
-use Rattle.rv_board.proofs.PartLemmas.{splits}
+use Rattle.rv_board.proofs.SplitLemmas.{splits}
 use Rattle.rv_board.proofs.sharing.cut.Goals as goal
 
 pub split_seat-requires : goal.split_seat-requires

@@ -1,9 +1,9 @@
 use Rattle.std.proofs.Common.{◌<◌, sym, ap, ◌∙◌, arith, subst}
 use Rattle.rv_board.specs.Seats.{BoardId, SeatValue}
 use Rattle.rv_board.specs.Steps.{Ours}
-use Rattle.rv_board.proofs.PartLemmas.{joins}
+use Rattle.rv_board.proofs.JoinLemmas.{joins}
 use Rattle.rv_board.proofs.CallLemmas.{joins-by}
-use Rattle.rv_board.proofs.KeepLemmas.{sees}
+use Rattle.rv_board.proofs.StepLemmas.{sees}
 use Rattle.rv_board.proofs.board.Board.join.Goals as goal
 
 pub join_seat-requires : goal.join_seat-requires
