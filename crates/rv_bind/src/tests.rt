@@ -169,9 +169,15 @@ fn a_line_of_many_words_ends_at_once(rt: HostRuntime) -> Result<(), Fail> {
         text.text(b" +A")?;
         text.number(number)?;
     }
-    assert_eq!(rt; told_of(rt.alloc(), text.bytes())?.as_slice(), b"b.rv 21 3".as_slice());
+    assert_eq!(rt;
+        told_of(rt.alloc(), text.bytes())?.as_slice(),
+        b"b.rv 21 3".as_slice()
+    );
     text.text(b" -A0")?;
-    assert_eq!(rt; told_of(rt.alloc(), text.bytes())?.as_slice(), b"b.rv 18 3".as_slice());
+    assert_eq!(rt;
+        told_of(rt.alloc(), text.bytes())?.as_slice(),
+        b"b.rv 18 3".as_slice()
+    );
     Ok(())
 }
 
