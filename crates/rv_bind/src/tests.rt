@@ -160,27 +160,6 @@ fn each_line_of_a_monitor_has_the_first_refusal(rt: HostRuntime) -> Result<(), F
     Ok(())
 }
 
-#[test]
-fn a_line_of_many_words_ends_at_once(rt: HostRuntime) -> Result<(), Fail> {
-    let mut text = Line::new(rt.alloc());
-    text.text(BOTH)?;
-    text.text(b"on r x : event")?;
-    for number in 0..100_000u64 {
-        text.text(b" +A")?;
-        text.number(number)?;
-    }
-    assert_eq!(rt;
-        told_of(rt.alloc(), text.bytes())?.as_slice(),
-        b"b.rv 21 3".as_slice()
-    );
-    text.text(b" -A0")?;
-    assert_eq!(rt;
-        told_of(rt.alloc(), text.bytes())?.as_slice(),
-        b"b.rv 18 3".as_slice()
-    );
-    Ok(())
-}
-
 /// The specification whose refusal has this number.
 fn refused(alloc: Global, number: u8) -> Result<Vec<u8>, AllocError> {
     let mut text = Vec::new(alloc);
