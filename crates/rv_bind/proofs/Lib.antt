@@ -4,4 +4,5 @@ pub mod FormLemmas
 pub mod OutcomeLemmas
 pub mod TableLemmas
 pub mod TestLemmas
+pub mod TwiceLemmas
 pub mod WellFormedLemmas

@@ -228,7 +228,7 @@ impl Bound {
         if !allows_by(monitor.scope, on.by) {
             return Err(SYNTAX);
         }
-        if !allows_what(&monitor.spec, on.mode, on.words.as_slice()) {
+        if !allows_what(alloc, &monitor.spec, on.mode, on.words.as_slice())? {
             return Err(SYNTAX);
         }
         if self.bindings.rules.len() >= MAX_RULES {

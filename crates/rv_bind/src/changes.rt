@@ -1,5 +1,5 @@
 //! What an `on` line brings: an automaton's event, or what becomes of a rule's atoms.
-ghost use Rattle.std.specs.Prelude.{◌≡◌, ◌≤◌, ◌<◌, ◌+◌, ◌*◌, ◌^◌, ◌||◌, ℕ, List, length, if◌then◌else◌, IfOk, bytes_eq, is_some};
+ghost use Rattle.std.specs.Prelude.{◌≡◌, ◌≤◌, ◌<◌, ◌+◌, ◌*◌, ◌^◌, ◌||◌, ℕ, List, length, if◌then◌else◌, IfOk, is_some};
 ghost use Rattle.std.specs.List.{list_all, list_any};
 ghost use Rattle.rv_ltl.specs.Texts.{texts};
 ghost use Rattle.rv_bind.specs.LineReads.{Reads};
@@ -10,6 +10,8 @@ use crate::fault::LineFault;
 use crate::words::SYNTAX;
 use rv_model::{Automaton, Mode, Names, Rule, Spec, What};
 use rv_text::{UNKNOWN_ATOM, UNKNOWN_EVENT};
+use std::alloc::{AllocError, Global};
+use std::collections::BTreeSet;
 
 fn is_sign(byte: u8) -> bool
     ensures { result ≡ is_sign byte }
@@ -60,32 +62,19 @@ fn are_changes(words: &[&[u8]]) -> bool
     true
 }
 
-/// Whether a word has this name behind its sign.
-fn names_atom(words: &[&[u8]], name: &[u8]) -> bool
-    ensures { result ≡ list_any (λ other. bytes_eq (atom_in other) name.now) (texts words.now) }
-{
-    let mut rest = words;
-    while let [word, others @ ..] = rest {
-        if atom_in(word) == name {
-            return true;
-        }
-        rest = others;
-    }
-    false
-}
-
 /// Whether two words have one name behind their signs.
-fn stands_twice(words: &[&[u8]]) -> bool
-    ensures { result ≡ stands_twice (texts words.now) }
+fn stands_twice(alloc: Global, words: &[&[u8]]) -> Result<bool, AllocError>
+    ensures { IfOk result (λ twice. twice ≡ stands_twice (texts words.now)) }
 {
+    let mut names = BTreeSet::new(alloc);
     let mut rest = words;
     while let [word, others @ ..] = rest {
-        if names_atom(others, atom_in(word)) {
-            return true;
+        if !names.insert(atom_in(word))? {
+            return Ok(true);
         }
         rest = others;
     }
-    false
+    Ok(false)
 }
 
 fn runs_its_event(mode: Mode) -> bool
@@ -107,12 +96,23 @@ fn is_one(words: &[&[u8]]) -> bool
 }
 
 /// Whether a rule's mode and words have the form that is its specification's.
-pub(crate) fn allows_what(spec: &Spec, mode: Mode, words: &[&[u8]]) -> bool
-    ensures { result ≡ allows_what spec.now mode (texts words.now) }
+pub(crate) fn allows_what(
+    alloc: Global,
+    spec: &Spec,
+    mode: Mode,
+    words: &[&[u8]],
+) -> Result<bool, AllocError>
+    ensures { IfOk result (λ allowed. allowed ≡ allows_what spec.now mode (texts words.now)) }
 {
     match spec {
-        Spec::Da(_) => is_one(words),
-        Spec::Ltl(_) => runs_its_event(mode) && (are_changes(words) && !stands_twice(words)),
+        Spec::Da(_) => Ok(is_one(words)),
+        Spec::Ltl(_) => {
+            if !runs_its_event(mode) || !are_changes(words) {
+                return Ok(false);
+            }
+            let twice = stands_twice(alloc, words)?;
+            Ok(!twice)
+        }
     }
 }
 
