@@ -1,10 +1,9 @@
 //! Rules from their text on, as tables and as the plain programs judge them.
+use crate::formulas::formula_table;
 use rv_ltl::read_ltl;
 use rv_model::{Formula, Letter, Rule};
-use rv_nnf::normal;
 use rv_plain::{View, satisfies};
 use rv_table::Table;
-use rv_tableau::tableau;
 use rv_text::Refused;
 use std::alloc::Global;
 use std::test::Fail;
@@ -45,8 +44,7 @@ const RULES: [&str; 30] = [
 
 /// The table of a rule.
 fn table_of(alloc: Global, rule: &Rule) -> Result<Table, Refused> {
-    let parts = normal(alloc, &rule.formula)?;
-    tableau(alloc, &parts)
+    formula_table(alloc, &rule.formula)
 }
 
 /// Whether the table reaches some row by the letters exactly where the formula holds weakly.

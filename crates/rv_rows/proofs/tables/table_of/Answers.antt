@@ -3,5 +3,5 @@ use Rattle.rv_model.specs.Formulas.{ltl}
 use Rattle.rv_tableau.proofs.AtomsBelow.{atoms_within}
 use Rattle.rv_rows.proofs.tables.table_of.Goals as goal
 
-pub normal-requires : goal.normal-requires
-normal-requires c = atoms_within _ 32 c.rule.invariant.few_atoms (ltl c.rule.inside.formula) c.rule.invariant.in_range
+pub formula_table-requires : goal.formula_table-requires
+formula_table-requires c = atoms_within _ 32 c.rule.invariant.few_atoms (ltl c.rule.inside.formula) c.rule.invariant.in_range
