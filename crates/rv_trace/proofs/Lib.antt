@@ -4,5 +4,6 @@ pub mod LiesLemmas
 pub mod LineLemmas
 pub mod MoveLemmas
 pub mod PlaceLemmas
+pub mod RunLemmas
 pub mod StampLemmas
 pub mod TraceLemmas

@@ -1,12 +1,12 @@
 -- A timestamp by its places, in both directions.
-use Rattle.std.proofs.Common.{◌≡◌, ℕ, suc, ◌+◌, ◌<◌, ◌≤◌, inl, inr, true, false, List, length, get_or, sym, ◌∙◌, ap, arith}
-use Rattle.std.proofs.lemmas.Bool.{and_parts, and_from, or_cases, or_left, or_right, ltb-true, eqb-true, eq-eqb, lt-ltb, cases_lt}
+use Rattle.std.proofs.Common.{◌≡◌, ℕ, suc, ◌+◌, ◌<◌, ◌≤◌, ◌||◌, ◌==◌, inl, inr, true, false, not, cond, List, length, get_or, Option, Some, None, refl, sym, ◌∙◌, ap, subst, arith}
+use Rattle.std.proofs.lemmas.Bool.{false≢true, not-false, and_parts, and_from, or_cases, or_left, or_right, ltb-true, eqb-true, eq-eqb, ne_eqb, lt-ltb, cases_lt, cases_order}
 use Rattle.std.proofs.lemmas.List.{get_or_past}
-use Rattle.rv_text.specs.Places.{is_digit, run_end}
+use Rattle.rv_text.specs.Places.{is_digit, is_blank, is_of, run_end}
 use Rattle.rv_text.specs.declared.runs.Kind.TheVariants as kinds
-use Rattle.rv_text.proofs.LeastLemmas.{run_end-is, run_end-each}
+use Rattle.rv_text.proofs.LeastLemmas.{run_end-is, run_end-each, run_end-stop}
 use Rattle.rv_trace.specs.declared.parts.Part.{Part}
-use Rattle.rv_trace.specs.Lines.{is_stamp}
+use Rattle.rv_trace.specs.Lines.{is_stamp, word_from, word_at, stamp_end}
 use Rattle.rv_trace.specs.Stamps.{AreDigits, IsStampTo, IsStamp}
 
 -- a run of digits that has one is digits
@@ -72,3 +72,105 @@ places-stamp text word colon is =
           rw (whole, part) (and_from _ _ (lt-ltb _ _ has.whole.some) (or_right _ _
           (and_from _ _ (and_from _ _ (and_from _ _ (eq-eqb _ _ has.mark) (lt-ltb _ _ has.part.some)) (eq-eqb _ _ is.mark)) (eq-eqb _ _ is.last)))))
     ]
+
+-- a digit is no blank
+digit-word : (byte : ℕ) → is_digit byte ≡ true → is_of kinds.Word byte ≡ true
+digit-word byte digit =
+    elim (is_blank byte) as (λ b. is_blank byte ≡ b → not b ≡ true) [
+      | true ↦ (λ blank. absurd (false≢true (sym (elim (or_cases _ _ blank) [
+        | inl space ↦ ap is_digit (eqb-true byte 32 space)
+        | inr tab ↦ ap is_digit (eqb-true byte 9 tab)
+      ]) ∙ digit)))
+      | false ↦ (λ _. refl)
+    ] refl
+
+-- this byte stands there, and it is no blank
+marked-word : (text : List ℕ) (place k byte : ℕ) → place ≡ k → get_or text place 0 ≡ byte → is_of kinds.Word byte ≡ true → is_of kinds.Word (get_or text k 0) ≡ true
+marked-word text place k byte same is word = subst (λ (n : ℕ). is_of kinds.Word (get_or text n 0) ≡ true) same (ap (is_of kinds.Word) is ∙ word)
+
+-- no blank stands in a timestamp
+stamp-word : (text : List ℕ) (word : Part) (colon : ℕ) → IsStampTo text word colon → (k : ℕ) → word.from ≤ k → k < word.to → is_of kinds.Word (get_or text k 0) ≡ true
+stamp-word text word colon is k low high =
+    elim (cases_lt k colon) [
+      | inl before ↦ elim is.digits [
+        | inl digits ↦ digit-word (get_or text k 0) (digits.each k low before)
+        | inr pointed ↦ (let has = pointed.1 in
+            elim (cases_order k pointed.0) [
+              | inl same ↦ marked-word text pointed.0 k 46 (sym same) has.mark refl
+              | inr sides ↦ elim sides [
+                | inl less ↦ digit-word (get_or text k 0) (has.whole.each k low less)
+                | inr more ↦ digit-word (get_or text k 0) (has.part.each k (omega arith) before)
+              ]
+            ])
+      ]
+      | inr on ↦ marked-word text colon k 58 (omega (arith, is.last)) is.mark refl
+    ]
+
+module _ (text : List ℕ) (from end : ℕ) (within : end ≤ length text) where
+  abbrev pub stands : Type 0
+  stands = (to : ℕ) → is_stamp text (record { from = from; to = to }) ≡ (end == to)
+
+  -- a timestamp with no more of a word behind it is the word
+  pub stamp-whole : stands → (end == length text || is_blank (get_or text end 0)) ≡ true → run_end kinds.Word text from ≡ end
+  stamp-whole is behind =
+      let some = stamp-places text (record { from = from; to = end }) (is end ∙ eq-eqb end end refl) in
+      let stamp = some.1 in
+      let low : from ≤ end = elim stamp.digits [
+        | inl digits ↦ omega (arith, digits.some, stamp.last)
+        | inr pointed ↦ omega (arith, pointed.1.whole.some, pointed.1.part.some, stamp.last)
+      ] in
+      run_end-is kinds.Word text from end low within (stamp-word text (record { from = from; to = end }) some.0 stamp)
+      (λ more. elim (or_cases _ _ behind) [
+        | inl last ↦ absurd (let e : end ≡ length text = eqb-true _ _ last in omega arith)
+        | inr blank ↦ ap not blank
+      ])
+
+  pub stamp-is : stands → (end == length text || is_blank (get_or text end 0)) ≡ true → Some end ≡ cond (is_stamp text (word_from text from)) (Some (run_end kinds.Word text from)) None
+  stamp-is is behind =
+      let whole = stamp-whole is behind in
+      sym (ap (λ b. cond b (Some (run_end kinds.Word text from)) None) (is (run_end kinds.Word text from) ∙ eq-eqb _ _ (sym whole)) ∙ ap Some whole)
+
+  -- a word that goes on does not end here
+  goes_on : from ≤ length text → (end == length text || is_blank (get_or text end 0)) ≡ false → end ≡ run_end kinds.Word text from → ⊥
+  goes_on inside_text behind last =
+      elim (cases_lt end (length text)) [
+        | inl before ↦ (
+            let stop = run_end-stop kinds.Word text from inside_text (omega arith) in
+            let blank : is_blank (get_or text end 0) ≡ true = subst (λ (n : ℕ). is_blank (get_or text n 0) ≡ true) (sym last) (not-false _ stop) in
+            false≢true (sym behind ∙ or_right _ _ blank))
+        | inr past ↦ false≢true (sym behind ∙ or_left _ _ (eq-eqb _ _ (let e : end ≡ length text = omega arith in e)))
+      ]
+
+  -- a word that goes on is none
+  pub stamp-is_not : from ≤ length text → stands → (end == length text || is_blank (get_or text end 0)) ≡ false → None ≡ cond (is_stamp text (word_from text from)) (Some (run_end kinds.Word text from)) None
+  stamp-is_not inside_text is behind =
+      sym (ap (λ b. cond b (Some (run_end kinds.Word text from)) None) (is (run_end kinds.Word text from) ∙ ne_eqb _ _ (goes_on inside_text behind)))
+
+-- the end of the word that begins here, where it is a timestamp
+abbrev pub end_from : List ℕ → ℕ → Option ℕ
+end_from text from = cond (is_stamp text (word_from text from)) (Some (run_end kinds.Word text from)) None
+
+module _ (text : List ℕ) (place : ℕ) where
+  abbrev pub first : ℕ
+  first = run_end kinds.Blank text place
+
+  abbrev pub second : ℕ
+  second = run_end kinds.Blank text (run_end kinds.Word text first)
+
+  -- the first word is a timestamp
+  pub first-end : (end : ℕ) → Some end ≡ end_from text first → Some end ≡ stamp_end text place
+  unfolding stamp_end word_at
+  first-end end =
+      elim (is_stamp text (word_from text first)) as (λ b. Some end ≡ cond b (Some (run_end kinds.Word text first)) None → Some end ≡ cond b (Some (run_end kinds.Word text first)) (end_from text second)) [
+        | true ↦ (λ is. is)
+        | false ↦ (λ is. absurd cc)
+      ]
+
+  -- or else the second one
+  pub second-end : None ≡ end_from text first → end_from text second ≡ stamp_end text place
+  unfolding stamp_end word_at
+  second-end =
+      elim (is_stamp text (word_from text first)) as (λ b. None ≡ cond b (Some (run_end kinds.Word text first)) None → end_from text second ≡ cond b (Some (run_end kinds.Word text first)) (end_from text second)) [
+        | true ↦ (λ is. absurd cc)
+        | false ↦ (λ is. refl)
+      ]

@@ -1,6 +1,6 @@
 -- What a trace line says: a head, a timestamp as the first or second word after it, an event, and the fields
 -- (the text of Linux, Documentation/trace/ftrace.rst; which lines are accepted is this project's choice: docs/FORMATS.md, "Trace text").
-use Rattle.std.specs.Prelude.{◌≤◌, ℕ, ◌+◌, ◌-◌, Bool, ◌&&◌, ◌||◌, ◌==◌, nat_lt, nat_le, nat_eq, List, length, Option, Some, None, option_map, option_and_then, Result, Ok, Err, slice_index, if◌then◌else◌, codes}
+use Rattle.std.specs.Prelude.{◌≤◌, ℕ, ◌+◌, ◌-◌, Bool, false, ◌&&◌, ◌||◌, ◌==◌, nat_lt, nat_le, nat_eq, List, length, Option, Some, None, option_map, option_and_then, Result, Ok, Err, slice_index, if◌then◌else◌, codes}
 use Rattle.std.specs.List.{starts_with, ends_with}
 use Rattle.std.specs.Option.{ok_or}
 use Rattle.rv_text.specs.Places.{run_end, between}
@@ -20,6 +20,15 @@ use Rattle.rv_trace.specs.Heads.{head_of}
 -- the first word from a place on
 unfoldable pub word_at : List ℕ → ℕ → Part
 word_at text place = let from = run_end kinds.Blank text place in record { from = from; to = run_end kinds.Word text from }
+
+-- the word that begins at a place
+abbrev pub word_from : List ℕ → ℕ → Part
+word_from text from = record { from = from; to = run_end kinds.Word text from }
+
+-- whether this is the end, where there is one
+abbrev pub is_end : Option ℕ → ℕ → Bool
+is_end None to = false
+is_end (Some end) to = end == to
 
 -- digits, then nothing or a point and digits, then a colon, which ends it
 unfoldable pub is_stamp : List ℕ → Part → Bool

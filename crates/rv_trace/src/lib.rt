@@ -6,6 +6,7 @@ mod head;
 mod laws;
 mod line;
 mod parts;
+mod runs;
 mod trace;
 
 pub use fields::field;

@@ -6,7 +6,8 @@ ghost use Rattle.rv_trace.specs.Lines.{is_skipped, is_lost, number_up_to, said, 
 
 use crate::head::byte_at;
 use crate::parts::{Parts, parts_of};
-use rv_text::{Kind, LOST_EVENTS, Refusal, TOO_MANY_CPUS, TRACE_SYNTAX, decimal, run_end};
+use crate::runs::blanks_end;
+use rv_text::{LOST_EVENTS, Refusal, TOO_MANY_CPUS, TRACE_SYNTAX, decimal};
 
 /// The largest PID that there may be.
 pub const LAST_PID: u32 = 4_294_967_295;
@@ -40,7 +41,7 @@ pub struct TraceLine {
 fn is_skipped(text: &[u8]) -> bool
     ensures { result ≡ is_skipped text.now }
 {
-    run_end(Kind::Blank, text, 0) == text.len() || byte_at(text, 0) == b'#'
+    blanks_end(text, 0) == text.len() || byte_at(text, 0) == b'#'
 }
 
 /// Whether the line says that events were lost.

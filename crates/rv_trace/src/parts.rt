@@ -1,10 +1,13 @@
 //! The parts of a trace line: behind its head stand a timestamp, the name of an event, and the fields.
-ghost use Rattle.std.specs.Prelude.{◌≡◌, ◌<◌, ◌≤◌, ◌+◌, length, IfSome};
+ghost use Rattle.std.specs.Prelude.{◌≡◌, ◌<◌, ◌≤◌, ◌+◌, ◌||◌, ◌==◌, ℕ, length, slice_index, IfSome, Some, None, if◌then◌else◌};
+ghost use Rattle.rv_text.specs.Places.{is_blank, run_end};
+ghost use Rattle.rv_text.specs.declared.runs.Kind.TheVariants as kinds;
 ghost use Rattle.rv_trace.specs.Heads.{IsHead};
-ghost use Rattle.rv_trace.specs.Lines.{word_at, is_stamp, stamp_end, event_at, parts_of};
+ghost use Rattle.rv_trace.specs.Lines.{is_end, word_from, word_at, is_stamp, stamp_end, event_at, parts_of};
 
 use crate::head::{Head, byte_at, find_head};
-use rv_text::{Kind, run_end};
+use crate::runs::{blanks_end, digits_end, word_end};
+use rv_text::Kind;
 
 /// A piece of the line, by its places.
 #[derive(Clone, Copy, Debug, Drop, PartialEq, Eq)]
@@ -29,28 +32,55 @@ fn word_at(text: &[u8], place: usize) -> Part
     ensures order { result.from ≤ result.to }
     ensures high { result.to ≤ length text.now }
 {
-    let from = run_end(Kind::Blank, text, place);
-    let to = run_end(Kind::Word, text, from);
+    let from = blanks_end(text, place);
+    let to = word_end(text, from);
     Part { from, to }
 }
 
-/// Whether the word is a timestamp.
+/// The place behind the timestamp that begins here, whatever stands there.
 #[tactic(auto, unfolding(crate::specs::Lines::is_stamp))]
-fn is_stamp(text: &[u8], word: Part) -> bool
-    requires { word.from ≤ length text.now }
-    ensures { result ≡ is_stamp text.now word }
+fn behind_stamp(text: &[u8], from: usize) -> Option<usize>
+    requires { from ≤ length text.now }
+    ensures value { (to : ℕ) → is_stamp text.now (record { from = from; to = to }) ≡ is_end result to }
+    ensures high { IfSome result (λ end. end ≤ length text.now) }
 {
-    let whole = run_end(Kind::Digit, text, word.from);
-    if whole == word.from {
-        return false;
+    let whole = digits_end(text, from);
+    if whole == from {
+        return None;
     }
     match byte_at(text, whole) {
-        b':' => whole + 1 == word.to,
+        b':' => Some(whole + 1),
         b'.' => {
-            let part = run_end(Kind::Digit, text, whole + 1);
-            part > whole + 1 && byte_at(text, part) == b':' && part + 1 == word.to
+            let part = digits_end(text, whole + 1);
+            if part > whole + 1 && byte_at(text, part) == b':' {
+                Some(part + 1)
+            } else {
+                None
+            }
         }
-        _ => false,
+        _ => None,
+    }
+}
+
+/// Whether no word goes on here.
+fn is_word_end(text: &[u8], place: usize) -> bool
+    requires { place ≤ length text.now }
+    ensures { result ≡ (place == length text.now || is_blank (slice_index text.now place)) }
+{
+    place == text.len() || Kind::Blank.has(text[place])
+}
+
+/// Where the timestamp ends that is the word that begins here.
+fn stamp_from(text: &[u8], from: usize) -> Option<usize>
+    requires { from ≤ length text.now }
+    ensures value { result ≡ (if is_stamp text.now (word_from text.now from) then Some (run_end kinds.Word text.now from) else None) }
+    ensures high { IfSome result (λ end. end ≤ length text.now) }
+{
+    let end = behind_stamp(text, from)?;
+    if is_word_end(text, end) {
+        Some(end)
+    } else {
+        None
     }
 }
 
@@ -61,15 +91,12 @@ fn stamp_end(text: &[u8], place: usize) -> Option<usize>
     ensures value { result ≡ stamp_end text.now place }
     ensures high { IfSome result (λ end. end ≤ length text.now) }
 {
-    let first = word_at(text, place);
-    if is_stamp(text, first) {
-        return Some(first.to);
+    let first = blanks_end(text, place);
+    if let Some(end) = stamp_from(text, first) {
+        return Some(end);
     }
-    let second = word_at(text, first.to);
-    if is_stamp(text, second) {
-        return Some(second.to);
-    }
-    None
+    let second = blanks_end(text, word_end(text, first));
+    stamp_from(text, second)
 }
 
 /// The name of the event.
