@@ -11,6 +11,9 @@ use std::io::{ErrorKind, Read};
 use std::marker::Model;
 use std::rt::Files;
 
+/// How many bytes one read asks for.
+const READ_PIECE: usize = 65_536;
+
 /// It tells nothing of its files, and is seen as its count of faults.
 #[derive(Drop)]
 pub struct Disk<'a, R> {
@@ -57,7 +60,7 @@ fn read_front<F: Read>(file: &mut F, alloc: Global, most: usize) -> Result<Vec<u
     ensures whole { IfOk result (λ text. IfSome (F.remaining file.old) (λ left. text.items ≡ take most left)) }
 {
     let mut text = Vec::new(alloc);
-    let mut buffer = [0u8; 4096];
+    let mut buffer = [0u8; READ_PIECE];
     while text.len() < most {
         let room = buffer.len().min(most - text.len());
         if read_some(file, &mut buffer[..room], &mut text)? == 0 {

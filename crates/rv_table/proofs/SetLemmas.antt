@@ -1,14 +1,14 @@
 -- Sets of rows by their bits.
-use Rattle.std.proofs.Common.{◌≡◌, ◌≢◌, ℕ, zero, suc, ◌+◌, ◌*◌, ◌%◌, ◌^◌, ◌<◌, ◌==◌, ◌&&◌, ◌||◌, add-one, not, nat_eq, bit_and, bit_or, Bool, true, false, ◌⊎◌, inl, inr, arith, refl, sym, ap, ◌∙◌, max, List, Option}
+use Rattle.std.proofs.Common.{◌≡◌, ◌≢◌, ℕ, zero, suc, ◌+◌, ◌*◌, ◌/◌, ◌%◌, ◌^◌, ◌<◌, ◌≤◌, ◌==◌, ◌&&◌, ◌||◌, add-one, not, nat_eq, bit_and, bit_or, Bool, true, false, ◌⊎◌, inl, inr, arith, refl, sym, ap, ◌∙◌, max, List, Option}
 use Rattle.std.specs.Int.{bit_at}
-use Rattle.std.proofs.lemmas.Nat.Bits.{and_pow, bit_at-zero, bit_at-lt, bit_at_or, bit_at-pow_same, bit_at-pow_other}
-use Rattle.std.proofs.lemmas.Nat.{one_shl, pow_pos}
+use Rattle.std.proofs.lemmas.Nat.Bits.{and_pow, bit_at-zero, bit_at-lt, bit_at_or, bit_at_above, bit_at-pow_same, bit_at-pow_other}
+use Rattle.std.proofs.lemmas.Nat.{one_shl, pow_pos, shr_split, mod_below}
 use Rattle.rv_model.specs.declared.hit.Letter.{Letter}
 use Rattle.rv_model.specs.declared.hit.Letter.TheVariants.{Atoms}
 use Rattle.rv_model.specs.Numbers.{has_bit}
 use Rattle.rv_model.specs.Table.{Table, of_events, follows}
 use Rattle.rv_model.specs.Stepping.{some_follows, step_set}
-use Rattle.rv_model.proofs.NumberLemmas.{bit_of, bit_or_not, is_number_of}
+use Rattle.rv_model.proofs.NumberLemmas.{bit_of, nat_lt_or, bit_or_not, is_number_of}
 
 -- the test for a member reads its bit
 pub test_bit : (set member : ℕ) → member < 32 → not (nat_eq (bit_and set (1 * 2 ^ member % 4294967296)) 0) ≡ has_bit set member
@@ -47,6 +47,27 @@ some_follows-none t set x q = refl
 pub some_follows-more : (t : Table) (set : ℕ) (x : Letter) (n q : ℕ) → some_follows t set x (n + 1) q ≡ (some_follows t set x n q || (has_bit set n && follows t n x q))
 unfolding some_follows
 some_follows-more t set x n q = rw (add-one n) refl
+
+-- a set that is below a row's bit has no row from there on
+past : (set row n : ℕ) → set / 2 ^ row ≡ 0 → row ≤ n → has_bit set n ≡ false
+past set row n none le =
+    let split : 0 * 2 ^ row + set % 2 ^ row ≡ set = ap (λ (h : ℕ). h * 2 ^ row + set % 2 ^ row) (sym none) ∙ shr_split set row in
+    let low = mod_below set (2 ^ row) (pow_pos row) in
+    let below : set < 2 ^ row = grind (arith, split, low) in
+    ap (λ (b : ℕ). b == 1) (bit_at_above set row n below le)
+
+-- such rows add none
+pub some_follows-rest : (t : Table) (set : ℕ) (x : Letter) (row n q : ℕ) → set / 2 ^ row ≡ 0 → row ≤ n → some_follows t set x n q ≡ some_follows t set x row q
+unfolding some_follows
+some_follows-rest t set x row zero q none le = let first : row ≡ 0 = omega arith in rw first refl
+some_follows-rest t set x row (suc n) q none le = elim (nat_lt_or row (suc n) le) [
+  | inl lt ↦ rw (past set row n none (omega arith)) (no_more (some_follows t set x n q) ∙ some_follows-rest t set x row n q none (omega arith))
+  | inr same ↦ ap (λ (m : ℕ). some_follows t set x m q) (sym same)
+]
+  where
+    no_more : (b : Bool) → (b || false) ≡ b
+    no_more true = refl
+    no_more false = refl
 
 -- a set with the bits of the step is the step
 pub is_step_set : (t : Table) (set : ℕ) (x : Letter) (out : ℕ) → out < 2 ^ 32 → ((q : ℕ) → q < 32 → has_bit out q ≡ some_follows t set x 32 q) → out ≡ step_set t set x

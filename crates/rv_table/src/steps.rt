@@ -44,8 +44,12 @@ pub fn follow_events(rows: &[Row], set: u32, event: u8) -> u32
     ensures { (count : ℕ) → result ≡ step_set (of_events count rows.now) set (Event event) }
 {
     let mut out: u32 = 0;
-    for row in 0..32 {
+    let mut row: u8 = 0;
+    let mut rest = set;
+    while rest != 0 {
         out = follow(rows, out, set, row, event);
+        row += 1;
+        rest >>= 1;
     }
     out
 }
