@@ -1,6 +1,6 @@
 -- Lists of monitors and names.
-use Rattle.std.proofs.Common.{◌≡◌, ℕ, zero, suc, ◌<◌, ◌≤◌, Bool, true, false, ◌⊎◌, inl, inr, ◌+◌, List, [], ◌∷◌, ◌++◌, length, get_or, set, refl, sym, ap, ◌∙◌, arith}
-use Rattle.std.specs.Prelude.{Option, Some, None, slice_get, slice_index_or, bytes_eq, position, nat_lt, Result, Ok, Err}
+use Rattle.std.proofs.Common.{◌≡◌, ℕ, zero, suc, ◌<◌, ◌≤◌, true, false, ◌⊎◌, inl, inr, ◌+◌, List, [], ◌∷◌, ◌++◌, length, get_or, set, sym, ap, ◌∙◌, arith}
+use Rattle.std.specs.Prelude.{Option, Some, slice_get, slice_index_or, bytes_eq, nat_lt, Ok}
 use Rattle.std.specs.List.{position_or_len}
 use Rattle.std.proofs.lemmas.List.Sums.{position_or_len_is}
 use Rattle.std.proofs.lemmas.Option.{slice_get_within, get_or_from_slice_get}
@@ -13,7 +13,7 @@ use Rattle.rv_bind.specs.Values.{OnValue, BoundValue}
 use Rattle.rv_bind.specs.LineReads.{after}
 use Rattle.rv_bind.specs.Forms.{Words}
 use Rattle.rv_bind.specs.Changes.{allows_what, what_of, atom_bit}
-use Rattle.rv_bind.specs.Bound.{monitor_named, allows_by, rule_bound, changed, with_change, change_bound, beginning, begin_at, begin_bound}
+use Rattle.rv_bind.specs.Bound.{monitor_named, allows_by, rule_bound, changed, change_bound, beginning, begin_bound}
 
 -- a monitor is changed where it stands
 pub changed-set : (change : Monitor → Monitor) (monitors : List Monitor) (place : ℕ) (m : Monitor) → place < length monitors → get_or monitors place m ≡ m

@@ -1,5 +1,5 @@
 -- What a line brings fits its specification.
-use Rattle.std.proofs.Common.{◌≡◌, ◌≢◌, ℕ, ◌+◌, ◌*◌, ◌^◌, ◌<◌, ◌≤◌, Bool, true, false, List, [], ◌∷◌, ◌++◌, length, get_or, Bor, Some, None, refl, sym, ap, ◌∙◌, subst, arith, add-one, if◌then◌else◌}
+use Rattle.std.proofs.Common.{◌≡◌, ◌≢◌, ℕ, ◌+◌, ◌*◌, ◌^◌, ◌<◌, ◌≤◌, Bool, true, false, List, [], ◌∷◌, length, get_or, Bor, Some, None, refl, sym, ap, ◌∙◌, subst, arith, add-one, if◌then◌else◌}
 use Rattle.std.specs.Prelude.{Option, Result, Ok, Err, ◌&&◌, not, bytes_eq, bit_or}
 use Rattle.std.specs.List.{list_all}
 use Rattle.std.proofs.lemmas.Nat.{or_lt, pow_pos}
@@ -11,7 +11,6 @@ use Rattle.rv_model.specs.declared.hit.What.{What}
 use Rattle.rv_model.specs.declared.hit.What.TheVariants as whats
 use Rattle.rv_model.specs.declared.formula.Spec.{Spec}
 use Rattle.rv_model.specs.declared.formula.Spec.TheVariants as specs
-use Rattle.rv_model.specs.Formulas.{RuleValue}
 use Rattle.rv_model.specs.Numbers.{number_of}
 use Rattle.rv_model.proofs.NumberLemmas.{number_of-lt}
 use Rattle.rv_text.specs.declared.numbers.TheConstants.{UNKNOWN_ATOM}
@@ -19,7 +18,7 @@ use Rattle.rv_ltl.specs.Texts.{texts}
 use Rattle.rv_bind.specs.declared.fault.LineFault.{LineFault}
 use Rattle.rv_bind.specs.LineReads.{Reads}
 use Rattle.rv_bind.specs.Forms.{Words}
-use Rattle.rv_bind.specs.Changes.{runs_its_event, is_change, stands_twice, allows_what, place_named, signed, are_known, change_of, event_at, event_of, what_of, bit_at_place, atom_bit}
+use Rattle.rv_bind.specs.Changes.{runs_its_event, is_change, stands_twice, allows_what, place_named, signed, are_known, event_at, event_of, what_of, bit_at_place, atom_bit}
 use Rattle.rv_bind.specs.WellFormed.{FitsEvents, FitsAtoms, FitsSpec, StartsIn}
 
 -- ---- a set, place by place

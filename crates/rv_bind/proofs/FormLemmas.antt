@@ -1,13 +1,13 @@
 -- A line's form, with one word read ahead.
 use Rattle.std.proofs.Common.{◌≡◌, ℕ, Bool, true, false, not, List, [], ◌∷◌, ◌++◌, refl, sym, ap, ◌∙◌, Bor}
-use Rattle.std.specs.Prelude.{Result, Ok, Err, Option, Some, None, bytes_eq, codes}
+use Rattle.std.specs.Prelude.{Result, Ok, Err, bytes_eq, codes}
 use Rattle.std.specs.Str.{is_utf8, IsUtf8}
 use Rattle.std.proofs.lemmas.Str.{IsUtf8-from_is_utf8, is_utf8-from_IsUtf8}
 use Rattle.std.proofs.lemmas.List.{map-append, append_assoc, append-nil}
 use Rattle.rv_ltl.specs.Texts.{texts}
 use Rattle.rv_text.specs.declared.numbers.TheConstants.{BIND_SYNTAX}
 use Rattle.rv_bind.specs.LineReads.{after}
-use Rattle.rv_bind.specs.Forms.{FormValue, on, Words, Read, word_at, when, by_at, tests_at, hit_form, on_form, with_next, on_read}
+use Rattle.rv_bind.specs.Forms.{FormValue, on, Words, Read, when, by_at, tests_at, hit_form, on_form, with_next, on_read}
 
 -- text is kept as it is
 pub text_kept : (bytes text : List ℕ) → (text ≡ bytes) × IsUtf8 bytes → when (is_utf8 bytes) bytes ≡ Ok text

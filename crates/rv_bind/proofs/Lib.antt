@@ -2,6 +2,7 @@ pub mod BoundLemmas
 pub mod ChangeLemmas
 pub mod FormLemmas
 pub mod OutcomeLemmas
+pub mod ReachedLemmas
 pub mod TableLemmas
 pub mod TestLemmas
 pub mod TwiceLemmas

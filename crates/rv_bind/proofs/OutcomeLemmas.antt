@@ -1,7 +1,6 @@
 -- What a reader's parts answer, joined to what the whole comes to.
-use Rattle.std.proofs.Common.{◌≡◌, ℕ, ◌<◌, ◌≤◌, List, refl, sym, ap, ◌∙◌, ◌⊎◌, inl, inr, arith, subst}
+use Rattle.std.proofs.Common.{◌≡◌, ℕ, ◌≤◌, List, refl, ap, ◌∙◌, inl, inr, arith}
 use Rattle.std.specs.Prelude.{Option, Some, None, Result, Ok, Err, OnOk, IsOk, IsErrAnd}
-use Rattle.rv_text.specs.declared.refusals.Refusal.{Refusal}
 use Rattle.rv_io.specs.Files.{Files, Rose, front_read}
 use Rattle.rv_bind.specs.declared.fault.LineFault.{LineFault}
 use Rattle.rv_bind.specs.declared.fault.LineFault.TheVariants as lines
@@ -9,7 +8,7 @@ use Rattle.rv_bind.specs.declared.fault.BindFault.{BindFault}
 use Rattle.rv_bind.specs.declared.fault.BindFault.TheVariants as faults
 use Rattle.rv_bind.specs.LineReads.{Faults, Reads}
 use Rattle.rv_bind.specs.Values.{BoundValue}
-use Rattle.rv_bind.specs.Outcomes.{Outcome, accepted, refused, missing, reading, of_line, of_text, of_name, Comes, IsFaultOf, InLine}
+use Rattle.rv_bind.specs.Outcomes.{Outcome, accepted, reading, of_line, of_text, of_name, Comes, IsFaultOf, InLine}
 
 module _ (file : List ℕ) (line : ℕ) (new : BoundValue) (told : Option Files) (before now : ℕ) (result : Result Unit BindFault) where
   -- a line's fault is the whole's, whatever comes behind it

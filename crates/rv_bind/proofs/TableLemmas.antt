@@ -1,12 +1,12 @@
 -- The tables of specifications.
-use Rattle.std.proofs.Common.{◌≡◌, ℕ, List, refl, sym, ap, ◌∙◌, subst}
+use Rattle.std.proofs.Common.{◌≡◌, List, sym, ap, ◌∙◌, subst}
 use Rattle.std.specs.Prelude.{Result, Ok, Err, IfOk}
 use Rattle.rv_text.specs.declared.refusals.Refusal.{Refusal}
 use Rattle.rv_text.specs.declared.refusals.Refused.{Refused}
 use Rattle.rv_text.specs.Readings.{and_then, Gives}
 use Rattle.rv_model.specs.Ltl.{Ltl}
 use Rattle.rv_model.specs.Table.{Table, Node, of_labels}
-use Rattle.rv_model.specs.Formulas.{RuleValue, IsRule}
+use Rattle.rv_model.specs.Formulas.{RuleValue}
 use Rattle.rv_model.specs.declared.formula.Spec.TheVariants as specs
 use Rattle.rv_model.specs.Judging.{Means}
 use Rattle.rv_nnf.specs.Parts.{Piece}

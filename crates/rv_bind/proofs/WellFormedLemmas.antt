@@ -1,6 +1,6 @@
 -- Each line keeps bindings well formed.
-use Rattle.std.proofs.Common.{◌≡◌, ℕ, zero, suc, ◌+◌, ◌<◌, ◌≤◌, Bool, true, false, not, List, [], ◌∷◌, ◌++◌, map, length, get_or, refl, sym, ap, ◌∙◌, subst, arith, length-append}
-use Rattle.std.specs.Prelude.{All, Option, Some, None, Result, Ok, Err, ◌&&◌, slice_get, nat_lt, bit_or, if◌then◌else◌}
+use Rattle.std.proofs.Common.{◌≡◌, ℕ, zero, suc, ◌+◌, ◌<◌, ◌≤◌, Bool, true, false, List, [], ◌∷◌, ◌++◌, map, length, refl, sym, ap, subst, arith, length-append}
+use Rattle.std.specs.Prelude.{All, Option, Some, None, Result, Ok, Err, ◌&&◌, slice_get, nat_lt, if◌then◌else◌}
 use Rattle.std.proofs.lemmas.List.{map-append, append-nil}
 use Rattle.std.proofs.lemmas.List.Elements.{All-nil, All-push, All-weaker}
 use Rattle.rv_text.specs.declared.numbers.TheConstants.{BIND_SYNTAX, NAME_TWICE, TOO_MANY_RULES}
@@ -21,7 +21,7 @@ use Rattle.rv_bind.specs.Forms.{Words}
 use Rattle.rv_bind.specs.Changes.{allows_what, what_of, atom_bit}
 use Rattle.rv_bind.specs.Compiling.{Compiles}
 use Rattle.rv_bind.specs.Bound.{nothing_bound, is_taken, allows_by, with_rule, rule_at, rule_bound, changed, with_change, change_bound, beginning, begin_at, begin_bound, container_bound, items_of, with_monitor}
-use Rattle.rv_bind.specs.WellFormed.{Kind, kind_of, kinds_of, FitsSpec, StartsIn, HasTable, HaveTables, FitsKind, holders_of, IsHolder, IsItem, IsWellFormed}
+use Rattle.rv_bind.specs.WellFormed.{Kind, kind_of, kinds_of, FitsSpec, HasTable, HaveTables, FitsKind, holders_of, IsHolder, IsItem, IsWellFormed}
 use Rattle.rv_bind.proofs.ChangeLemmas.{what_fits, starts_at_first, starts_more}
 
 pub nothing_formed : IsWellFormed nothing_bound

@@ -1,5 +1,5 @@
 -- What a bindings file says (this project's choice: docs/FORMATS.md, "Bindings").
-use Rattle.std.specs.Prelude.{ℕ, zero, suc, ◌+◌, Bool, true, false, not, ◌&&◌, ◌||◌, List, [], ◌∷◌, ◌++◌, length, nat_lt, bit_or, bytes_eq, position, is_some, Option, Some, None, option_map, Result, Ok, Err, slice_get, if◌then◌else◌}
+use Rattle.std.specs.Prelude.{ℕ, zero, suc, Bool, true, false, ◌&&◌, ◌||◌, List, [], ◌∷◌, ◌++◌, length, nat_lt, bit_or, bytes_eq, position, is_some, Option, Some, None, option_map, Result, Ok, Err, slice_get, if◌then◌else◌}
 use Rattle.rv_text.specs.declared.numbers.TheConstants.{BIND_SYNTAX, NAME_TWICE, TOO_MANY_MONITORS, TOO_MANY_RULES}
 use Rattle.rv_text.specs.TextLines.{LineText, lines_of}
 use Rattle.rv_text.specs.Words.{words_of}
@@ -18,11 +18,11 @@ use Rattle.rv_bind.specs.declared.compile.Compiled.{Compiled}
 use Rattle.rv_bind.specs.declared.forms.SpecKind.{SpecKind}
 use Rattle.rv_bind.specs.declared.limits.TheConstants.{TEXT_LIMIT, MAX_CONTAINERS, MAX_MONITORS, MAX_RULES}
 use Rattle.rv_bind.specs.LineReads.{after}
-use Rattle.rv_bind.specs.Values.{OnValue, BoundValue}
+use Rattle.rv_bind.specs.Values.{BoundValue}
 use Rattle.rv_bind.specs.Forms.{Words, FormValue, skipped, container, monitor, on, react, off, begin, form_of, or_syntax}
 use Rattle.rv_bind.specs.Changes.{allows_what, what_of, atom_bit}
 use Rattle.rv_bind.specs.Compiling.{compiled_of}
-use Rattle.rv_bind.specs.Outcomes.{Outcome, accepted, refused, reading, of_file, of_line, of_name}
+use Rattle.rv_bind.specs.Outcomes.{Outcome, accepted, reading, of_file, of_line, of_name}
 
 -- ---- one line
 

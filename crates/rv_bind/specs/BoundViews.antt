@@ -1,5 +1,4 @@
 -- The program's bindings as plain values.
-use Rattle.rv_bind.specs.declared.bindings.Bindings.{Bindings}
 use Rattle.rv_bind.specs.declared.bindings.Bound.{Bound}
 use Rattle.rv_bind.specs.Values.{BoundValue}
 

@@ -3,8 +3,6 @@ use Rattle.std.specs.Option.{option_copied}
 use Rattle.rv_ltl.specs.Texts.{texts}
 use Rattle.rv_bind.specs.declared.forms.Form.{Form}
 use Rattle.rv_bind.specs.declared.forms.Form.TheVariants as forms
-use Rattle.rv_bind.specs.declared.forms.MonitorForm.{MonitorForm}
-use Rattle.rv_bind.specs.declared.forms.OnForm.{OnForm}
 use Rattle.rv_bind.specs.Forms.{FormValue, skipped, container, monitor, on, react, off, begin}
 
 -- a borrowed text as its bytes

@@ -1,5 +1,5 @@
 -- What reading files comes to, in the stated order of the reading: a value, a refusal with its file, or a missing file.
-use Rattle.std.specs.Prelude.{◌≡◌, ◌⊎◌, ℕ, List, Option, Some, None, Result, Ok, Err, IsErrAnd, option_map}
+use Rattle.std.specs.Prelude.{◌≡◌, ◌⊎◌, ℕ, List, bytes_eq, Option, Some, None, Result, Ok, Err, IsErrAnd, option_map, if◌then◌else◌}
 use Rattle.rv_text.specs.declared.refusals.Refusal.{Refusal}
 use Rattle.rv_io.specs.Files.{Files, Rose, front_read}
 use Rattle.rv_bind.specs.declared.fault.LineFault.{LineFault}
@@ -45,6 +45,25 @@ Comes view told before now (Ok x) outcome = (files : Files) → told ≡ Some fi
 Comes view told before now (Err faults.Memory) outcome = Unit {0}
 Comes view told before now (Err (faults.Refused file refusal)) outcome = (files : Files) → told ≡ Some files → outcome files ≡ refused file refusal
 Comes view told before now (Err (faults.Unread file)) outcome = ((files : Files) × (told ≡ Some files) × (outcome files ≡ missing file)) ⊎ Rose before now
+
+-- ---- which file is named
+
+-- the files without this one
+abbrev pub without : List ℕ → Files → Files
+without file files name = if bytes_eq name file then None else files name
+
+-- the order of the reading comes to this file, with no refusal and no missing file before it: of the files without it, it is what is missing
+abbrev pub IsReached : {Y : Type 0} → (Files → Outcome Y) → Files → List ℕ → Type 0
+IsReached outcome files file = outcome (without file files) ≡ missing file
+
+-- a file that is said to be unread is reached on what the store tells
+abbrev pub Names : {X Y : Type 0} → Option Files → Result X BindFault → (Files → Outcome Y) → Type 0
+Names told (Ok x) outcome = Unit {0}
+Names told (Err faults.Memory) outcome = Unit {0}
+Names told (Err (faults.Refused file refusal)) outcome = Unit {0}
+Names told (Err (faults.Unread file)) outcome = (files : Files) → told ≡ Some files → IsReached outcome files file
+
+-- ---- the faults of a line
 
 -- a fault in the place of a refusal, unless memory ran out
 abbrev pub IsFaultOf : BindFault → List ℕ → Refusal → Type 0

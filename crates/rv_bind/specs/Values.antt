@@ -1,10 +1,8 @@
 -- Bindings as plain values.
-use Rattle.std.specs.Prelude.{ℕ, List, Option}
-use Rattle.rv_model.specs.declared.hit.Hit.{Hit}
+use Rattle.std.specs.Prelude.{ℕ, List}
 use Rattle.rv_model.specs.Table.{Table}
 use Rattle.rv_bind.specs.declared.bindings.Monitor.{Monitor}
 use Rattle.rv_bind.specs.declared.bindings.Item.{Item}
-use Rattle.rv_bind.specs.declared.bindings.Test.{Test}
 use Rattle.rv_bind.specs.RuleValues.{OnValue}
 pub use Rattle.rv_bind.specs.RuleValues.{OnValue}
 

@@ -1,6 +1,6 @@
 //! The files that bindings name, and the faults that name a file.
 ghost use Rattle.std.specs.Prelude.{◌≡◌, ◌≤◌, ◌⊎◌, ℕ, Option, Result, IfOk};
-ghost use Rattle.rv_bind.specs.Outcomes.{Comes, IsFaultOf, InLine, accepted, of_name};
+ghost use Rattle.rv_bind.specs.Outcomes.{Comes, Names, IsFaultOf, InLine, accepted, of_name};
 ghost use Rattle.rv_bind.specs.Bound.{compiled_in};
 ghost use Rattle.rv_bind.specs.Compiling.{Compiles};
 ghost use Rattle.rv_bind.specs.declared.fault.BindFault.TheVariants as faults;
@@ -14,6 +14,7 @@ use rv_text::{Refusal, Refused};
 use std::alloc::Global;
 
 /// The bytes of a file, which is unread where it is missing or a read failed.
+#[tactic(auto, using(crate::proofs::ReachedLemmas::unread_named))]
 pub(crate) fn read_file<S: Store>(
     alloc: Global,
     store: &mut S,
@@ -22,6 +23,7 @@ pub(crate) fn read_file<S: Store>(
     ensures kept { S.files store.new ≡ S.files store.old }
     ensures later { S.faults store.old ≤ S.faults store.new }
     ensures text { Comes (λ text. text.items) (S.files store.old) (S.faults store.old) (S.faults store.new) result (λ files. of_name files name.now accepted) }
+    ensures named { Names (S.files store.old) result (λ files. of_name files name.now accepted) }
 {
     match store.read(alloc, name) {
         Ok(text) => Ok(text),
@@ -67,6 +69,7 @@ pub(crate) fn in_line(
 }
 
 /// The specification in a file, with its table.
+#[tactic(auto, using(crate::proofs::ReachedLemmas::spec_named, crate::proofs::ReachedLemmas::refused_named))]
 pub(crate) fn read_spec<S: Store>(
     alloc: Global,
     store: &mut S,
@@ -76,6 +79,7 @@ pub(crate) fn read_spec<S: Store>(
     ensures kept { S.files store.new ≡ S.files store.old }
     ensures later { S.faults store.old ≤ S.faults store.new }
     ensures compiled { Comes (λ compiled. compiled) (S.files store.old) (S.faults store.old) (S.faults store.new) result (λ files. compiled_in files kind file.now) }
+    ensures named { Names (S.files store.old) result (λ files. compiled_in files kind file.now) }
     ensures compiles { IfOk result (λ compiled. Compiles compiled.spec compiled.table) }
 {
     let text = read_file(alloc, store, file)?;

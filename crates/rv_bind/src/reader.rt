@@ -2,7 +2,7 @@
 ghost use Rattle.std.specs.Prelude.{◌≡◌, ◌≤◌, IfOk, OnOk, option_copied};
 ghost use Rattle.rv_text.specs.TextLines.{line_text};
 ghost use Rattle.rv_bind.specs.LineReads.{Reads};
-ghost use Rattle.rv_bind.specs.Outcomes.{Comes};
+ghost use Rattle.rv_bind.specs.Outcomes.{Comes, Names};
 ghost use Rattle.rv_bind.specs.Bound.{bound_of, line_bound, form_in, form_bound, monitor_bound};
 ghost use Rattle.rv_bind.specs.BoundViews.{bound_value};
 ghost use Rattle.rv_bind.specs.FormViews.{form_value};
@@ -19,11 +19,13 @@ use rv_text::{Cursor, TextLine};
 use std::alloc::{AllocError, Global};
 
 /// Reads the bindings, and each specification as its line is reached.
+#[tactic(auto, using(crate::proofs::ReachedLemmas::bindings_named, crate::proofs::ReachedLemmas::lines_begin, crate::proofs::ReachedLemmas::rest_named))]
 pub fn read_bindings<S: Store>(alloc: Global, store: &mut S, name: &str) -> Result<Bound, BindFault>
     ensures kept { S.files store.new ≡ S.files store.old }
     ensures later { S.faults store.old ≤ S.faults store.new }
     ensures formed { IfOk result (λ bound. IsWellFormed (bound_value bound)) }
     ensures bound { Comes bound_value (S.files store.old) (S.faults store.old) (S.faults store.new) result (λ files. bound_of files name.now) }
+    ensures named { Names (S.files store.old) result (λ files. bound_of files name.now) }
 {
     let text = read_file(alloc, store, name)?;
     let mut bound = Bound::new(alloc);
@@ -45,7 +47,7 @@ fn form_in<'a>(alloc: Global, line: &TextLine<'a>) -> Result<Form<'a>, LineFault
 }
 
 /// Adds what the line says.
-#[tactic(auto, using(crate::proofs::OutcomeLemmas::line_fault, crate::proofs::OutcomeLemmas::line_goes_on))]
+#[tactic(auto, using(crate::proofs::OutcomeLemmas::line_fault, crate::proofs::OutcomeLemmas::line_goes_on, crate::proofs::ReachedLemmas::line_named, crate::proofs::ReachedLemmas::goes_on_named))]
 fn bind_line<S: Store>(
     alloc: Global,
     store: &mut S,
@@ -58,6 +60,7 @@ fn bind_line<S: Store>(
     ensures kept { S.files store.new ≡ S.files store.old }
     ensures later { S.faults store.old ≤ S.faults store.new }
     ensures bound { Comes (λ done. bound_value bound.new) (S.files store.old) (S.faults store.old) (S.faults store.new) result (λ files. line_bound files here.now (bound_value bound.old) (line_text line.now)) }
+    ensures named { Names (S.files store.old) result (λ files. line_bound files here.now (bound_value bound.old) (line_text line.now)) }
 {
     match form_in(alloc, line) {
         Ok(form) => bind_form(alloc, store, here, line.number, bound, form),
@@ -66,7 +69,7 @@ fn bind_line<S: Store>(
 }
 
 /// Adds what a form says.
-#[tactic(auto, using(crate::proofs::OutcomeLemmas::line_comes, crate::proofs::OutcomeLemmas::line_done))]
+#[tactic(auto, using(crate::proofs::OutcomeLemmas::line_comes, crate::proofs::OutcomeLemmas::line_done, crate::proofs::ReachedLemmas::line_named))]
 fn bind_form<S: Store>(
     alloc: Global,
     store: &mut S,
@@ -80,6 +83,7 @@ fn bind_form<S: Store>(
     ensures kept { S.files store.new ≡ S.files store.old }
     ensures later { S.faults store.old ≤ S.faults store.new }
     ensures bound { Comes (λ done. bound_value bound.new) (S.files store.old) (S.faults store.old) (S.faults store.new) result (λ files. form_bound files here.now line (bound_value bound.old) (form_value form.entry)) }
+    ensures named { Names (S.files store.old) result (λ files. form_bound files here.now line (bound_value bound.old) (form_value form.entry)) }
 {
     match form {
         Form::Skipped => Ok(()),
@@ -98,7 +102,7 @@ fn bind_form<S: Store>(
 }
 
 /// Adds a monitor, whose specification is read where there is room for it.
-#[tactic(auto, using(crate::proofs::OutcomeLemmas::line_fault))]
+#[tactic(auto, using(crate::proofs::OutcomeLemmas::line_fault, crate::proofs::ReachedLemmas::line_named, crate::proofs::ReachedLemmas::monitor_named))]
 fn bind_monitor<S: Store>(
     alloc: Global,
     store: &mut S,
@@ -112,6 +116,7 @@ fn bind_monitor<S: Store>(
     ensures kept { S.files store.new ≡ S.files store.old }
     ensures later { S.faults store.old ≤ S.faults store.new }
     ensures bound { Comes (λ done. bound_value bound.new) (S.files store.old) (S.faults store.old) (S.faults store.new) result (λ files. monitor_bound files here.now line (bound_value bound.old) form.entry.name.now form.entry.scope form.entry.kind form.entry.file.now (option_copied form.entry.holder)) }
+    ensures named { Names (S.files store.old) result (λ files. monitor_bound files here.now line (bound_value bound.old) form.entry.name.now form.entry.scope form.entry.kind form.entry.file.now (option_copied form.entry.holder)) }
 {
     let container = match bound.place_for(form.name, form.holder) {
         Ok(container) => container,

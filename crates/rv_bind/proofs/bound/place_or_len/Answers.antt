@@ -1,5 +1,4 @@
-use Rattle.std.proofs.Common.{◌≡◌, ℕ, ◌+◌, ◌<◌, ◌≤◌, false, true, inl, inr, arith, rules, sym, ◌∙◌}
-use Rattle.std.specs.Prelude.{bytes_eq, [], length}
+use Rattle.std.proofs.Common.{rules}
 use Rattle.rv_bind.proofs.BoundLemmas.{found_at, none_below, not_found}
 use Rattle.rv_bind.proofs.bound.place_or_len.Goals as goal
 

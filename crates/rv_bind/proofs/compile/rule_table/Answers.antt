@@ -1,4 +1,4 @@
-use Rattle.std.proofs.Common.{◌≡◌, Ok, length, sym, refl, ap, ◌∙◌, subst, rules}
+use Rattle.std.proofs.Common.{◌≡◌, Ok, length, sym, ap, ◌∙◌, subst}
 use Rattle.rv_model.specs.Formulas.{RuleValue, IsRule, ltl}
 use Rattle.rv_nnf.specs.NormalForm.{normal_of}
 use Rattle.rv_tableau.proofs.AtomsBelow.{atoms_within}

@@ -1,4 +1,4 @@
-use Rattle.std.proofs.Common.{◌≡◌, true, rules, sym, ◌∙◌}
+use Rattle.std.proofs.Common.{◌≡◌, true, rules}
 use Rattle.std.specs.Prelude.{bytes_eq, codes}
 use Rattle.rv_bind.proofs.TestLemmas.{tests_more}
 use Rattle.rv_bind.proofs.forms.tests.Goals as goal

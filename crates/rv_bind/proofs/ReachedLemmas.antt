@@ -1,0 +1,195 @@
+-- Without a file the reading goes the same way up to that file, so an unread file that a part names is reached in the whole.
+use Rattle.std.proofs.Common.{◌≡◌, ℕ, Bool, true, false, List, [], ◌∷◌, refl, ap, ◌∙◌, ◌⊎◌, inl, inr}
+use Rattle.std.specs.Prelude.{Option, Some, None, Result, Ok, Err, bytes_eq, option_map, IsErrAnd, if◌then◌else◌}
+use Rattle.std.proofs.lemmas.Slice.Eq.{bytes_eq-Decides}
+use Rattle.rv_text.specs.declared.refusals.Refusal.{Refusal}
+use Rattle.rv_text.specs.TextLines.{LineText, lines_of}
+use Rattle.rv_io.specs.Files.{Files, front_read}
+use Rattle.rv_model.specs.declared.work.Scope.{Scope}
+use Rattle.rv_bind.specs.declared.forms.SpecKind.{SpecKind}
+use Rattle.rv_bind.specs.declared.fault.LineFault.{LineFault}
+use Rattle.rv_bind.specs.declared.fault.LineFault.TheVariants as lines
+use Rattle.rv_bind.specs.declared.fault.BindFault.{BindFault}
+use Rattle.rv_bind.specs.declared.fault.BindFault.TheVariants as faults
+use Rattle.rv_bind.specs.Values.{BoundValue}
+use Rattle.rv_bind.specs.Forms.{FormValue, skipped, container, monitor, on, react, off, begin}
+use Rattle.rv_bind.specs.Compiling.{compiled_of}
+use Rattle.rv_bind.specs.Bound.{nothing_bound, place_for, with_monitor, compiled_in, monitor_bound, form_bound, form_in, line_bound, lines_bound, bound_of}
+use Rattle.rv_bind.specs.Outcomes.{Outcome, accepted, refused, missing, reading, of_file, of_line, of_text, of_name, without, IsReached, Names, IsFaultOf, InLine}
+use Rattle.rv_bind.proofs.OutcomeLemmas.{of_name-reading}
+
+-- ---- an outcome without a file is that it is missing, or what it is with the file
+
+abbrev pub IsLocal : {Y : Type 0} → (Files → Outcome Y) → Type 0
+IsLocal outcome = (files : Files) → (file : List ℕ) → IsReached outcome files file ⊎ (outcome (without file files) ≡ outcome files)
+
+pub reading-local : {X Y : Type 0} (step : Files → Outcome X) (next : Files → X → Outcome Y) → IsLocal step → ((x : X) → IsLocal (λ files. next files x)) → IsLocal (λ files. reading (step files) (next files))
+reading-local {X} {Y} step next step_is next_is files file = go (step_is files file)
+  where
+    Whole : Outcome X → Outcome X → Type 0
+    Whole less all = (reading less (next (without file files)) ≡ missing file) ⊎ (reading less (next (without file files)) ≡ reading all (next files))
+
+    same : (o less : Outcome X) → less ≡ o → Whole less o
+    same (accepted x) less is = rw is (next_is x files file)
+    same (refused name refusal) less is = rw is (inr refl)
+    same (missing name) less is = rw is (inr refl)
+
+    go : IsReached step files file ⊎ (step (without file files) ≡ step files) → Whole (step (without file files)) (step files)
+    go (inl reached) = inl (ap (λ o. reading o (next (without file files))) reached)
+    go (inr is) = same (step files) (step (without file files)) is
+
+pub of_name-local : {X : Type 0} (name : List ℕ) (read : Files → List ℕ → Outcome X) → ((text : List ℕ) → IsLocal (λ files. read files text)) → IsLocal (λ files. of_name files name (read files))
+of_name-local {X} name read each files file = go (bytes_eq name file) refl
+  where
+    Whole : Option (List ℕ) → Option (List ℕ) → Type 0
+    Whole less all =
+        (of_text name (option_map front_read less) (read (without file files)) ≡ missing file)
+        ⊎ (of_text name (option_map front_read less) (read (without file files)) ≡ of_text name (option_map front_read all) (read files))
+
+    same : (text : Option (List ℕ)) → Whole text text
+    same None = inr refl
+    same (Some text) = each (front_read text) files file
+
+    go : (b : Bool) → bytes_eq name file ≡ b → Whole (if b then None else files name) (files name)
+    go true is = inl (ap (λ (f : List ℕ). missing f) ((bytes_eq-Decides name file).0 is))
+    go false is = same (files name)
+
+-- a text is read wherever its file is
+pub text-local : (name : List ℕ) → IsLocal (λ files. of_name files name accepted)
+text-local name = of_name-local name (λ files. accepted) (λ text files file. inr refl)
+
+spec-local : (kind : SpecKind) (name : List ℕ) → IsLocal (λ files. compiled_in files kind name)
+spec-local kind name = of_name-local name (λ files text. of_file name (compiled_of kind text)) (λ text files file. inr refl)
+
+monitor-local : (here : List ℕ) (line : ℕ) (bound : BoundValue) (name : List ℕ) (scope : Scope) (kind : SpecKind) (file : List ℕ) (holder : Option (List ℕ)) → IsLocal (λ files. monitor_bound files here line bound name scope kind file holder)
+monitor-local here line bound name scope kind file holder =
+    reading-local (λ files. of_line here line (place_for bound name holder)) (λ files place. reading (compiled_in files kind file) (λ compiled. accepted (with_monitor bound name place scope file compiled))) (λ files f. inr refl)
+    (λ place. reading-local (λ files. compiled_in files kind file) (λ files compiled. accepted (with_monitor bound name place scope file compiled)) (spec-local kind file) (λ compiled files f. inr refl))
+
+form-local : (here : List ℕ) (line : ℕ) (bound : BoundValue) (form : FormValue) → IsLocal (λ files. form_bound files here line bound form)
+form-local here line bound skipped = λ files file. inr refl
+form-local here line bound (container name) = λ files file. inr refl
+form-local here line bound (monitor name scope kind spec holder) = monitor-local here line bound name scope kind spec holder
+form-local here line bound (on name event by tests mode words) = λ files file. inr refl
+form-local here line bound (react name reactor) = λ files file. inr refl
+form-local here line bound (off name) = λ files file. inr refl
+form-local here line bound (begin name atom) = λ files file. inr refl
+
+pub line-local : (here : List ℕ) (bound : BoundValue) (line : LineText) → IsLocal (λ files. line_bound files here bound line)
+line-local here bound line =
+    reading-local (λ files. of_line here line.number (form_in line)) (λ files form. form_bound files here line.number bound form) (λ files file. inr refl) (λ form. form-local here line.number bound form)
+
+lines-local : (here : List ℕ) (lines : List LineText) (bound : BoundValue) → IsLocal (λ files. lines_bound files here bound lines)
+lines-local here [] bound = λ files file. inr refl
+lines-local here (line ∷ lines) bound =
+    reading-local (λ files. line_bound files here bound line) (λ files next. lines_bound files here next lines) (line-local here bound line) (λ next. lines-local here lines next)
+
+-- the bindings
+pub bound-local : (here : List ℕ) → IsLocal (λ files. bound_of files here)
+bound-local here = of_name-local here (λ files text. lines_bound files here nothing_bound (lines_of text)) (λ text. lines-local here (lines_of text) nothing_bound)
+
+-- ---- what a part names, the whole names
+
+-- a step's unread file is the whole's
+pub step_named : {Y W : Type 0} (X Z : Type 0) (told : Option Files) (fault : BindFault) (step : Files → Outcome Y) (next : Files → Y → Outcome W) (whole : Files → Outcome W)
+    → ((files : Files) → whole files ≡ reading (step files) (next files)) → Names {X = X} told (Err fault) step → Names {X = Z} told (Err fault) whole
+step_named X Z told faults.Memory step next whole is named = tt
+step_named X Z told (faults.Refused file refusal) step next whole is named = tt
+step_named X Z told (faults.Unread file) step next whole is named = λ files known. is (without file files) ∙ ap (λ o. reading o (next (without file files))) (named files known)
+
+-- where a step was read, an unread file behind it is the whole's
+pub behind_named : {Y W : Type 0} (X Z : Type 0) (told : Option Files) (fault : BindFault) (step : Files → Outcome Y) (y : Y) (next : Files → Y → Outcome W) → IsLocal step → ((files : Files) → told ≡ Some files → step files ≡ accepted y)
+    → Names {X = X} told (Err fault) (λ files. next files y) → Names {X = Z} told (Err fault) (λ files. reading (step files) (next files))
+behind_named X Z told faults.Memory step y next is read named = tt
+behind_named X Z told (faults.Refused file refusal) step y next is read named = tt
+behind_named X Z told (faults.Unread file) step y next is read named = λ files known. elim (is files file) [
+  | inl reached ↦ ap (λ o. reading o (next (without file files))) reached
+  | inr same ↦ ap (λ o. reading o (next (without file files))) (same ∙ read files known) ∙ named files known
+]
+
+module _ (told : Option Files) where
+  -- the file itself
+  pub unread_named : (X : Type 0) (name : List ℕ) (fault : BindFault) → (fault ≡ faults.Unread name) ⊎ (fault ≡ faults.Memory) → Names {X = X} told (Err fault) (λ files. of_name files name accepted)
+  unread_named X name fault (inl is) = rw is (λ files known. reached files)
+    where
+      reached : (files : Files) → of_name (without name files) name accepted ≡ missing name
+      reached files = let same : bytes_eq name name ≡ true = (bytes_eq-Decides name name).1 refl in rw same refl
+  unread_named X name fault (inr is) = rw is tt
+
+  -- a refusal names no unread file
+  pub refused_named : {Y : Type 0} (X : Type 0) (file : List ℕ) (refusal : Refusal) (fault : BindFault) (outcome : Files → Outcome Y) → IsFaultOf fault file refusal → Names {X = X} told (Err fault) outcome
+  refused_named X file refusal faults.Memory outcome is = tt
+  refused_named X file refusal (faults.Refused named given) outcome is = tt
+  refused_named X file refusal (faults.Unread named) outcome is = absurd is
+
+  -- nor does a line's fault
+  pub line_named : {Y : Type 0} (file : List ℕ) (line : ℕ) (done : Result Unit LineFault) (result : Result Unit BindFault) (outcome : Files → Outcome Y) → InLine file line done result → Names told result outcome
+  line_named file line (Ok done) result outcome is = rw is tt
+  line_named file line (Err lines.Memory) result outcome is = rw is tt
+  line_named {Y} file line (Err (lines.Number number)) result outcome is = go result is
+    where
+      go : (r : Result Unit BindFault) → IsErrAnd r (λ fault. IsFaultOf fault file (record { number = number; line = line })) → Names told r outcome
+      go (Ok done) h = absurd h
+      go (Err fault) h = refused_named Unit file (record { number = number; line = line }) fault outcome h
+
+  -- an unread specification is read by its file
+  pub spec_named : (X Z : Type 0) (kind : SpecKind) (file : List ℕ) (fault : BindFault) → Names {X = X} told (Err fault) (λ files. of_name files file accepted) → Names {X = Z} told (Err fault) (λ files. compiled_in files kind file)
+  spec_named X Z kind file fault = step_named X Z told fault (λ files. of_name files file accepted) (λ files text. of_file file (compiled_of kind text)) (λ files. compiled_in files kind file) (λ files. of_name-reading files file (λ text. of_file file (compiled_of kind text)))
+
+  -- a monitor's specification is reached where there is room for the monitor
+  pub monitor_named : (X Z : Type 0) (here : List ℕ) (line : ℕ) (bound : BoundValue) (name : List ℕ) (scope : Scope) (kind : SpecKind) (file : List ℕ) (holder : Option (List ℕ)) (place : Option ℕ) (fault : BindFault)
+      → place_for bound name holder ≡ Ok place → Names {X = X} told (Err fault) (λ files. compiled_in files kind file) → Names {X = Z} told (Err fault) (λ files. monitor_bound files here line bound name scope kind file holder)
+  monitor_named X Z here line bound name scope kind file holder place fault is named =
+      rw is (step_named X Z told fault (λ files. compiled_in files kind file) (λ files compiled. accepted (with_monitor bound name place scope file compiled)) (λ files. reading (compiled_in files kind file) (λ compiled. accepted (with_monitor bound name place scope file compiled))) (λ files. refl) named)
+
+  -- where a line's form was read, the whole names what it names
+  pub goes_on_named : {X Y Z : Type 0} (file : List ℕ) (line : ℕ) (result : Result Z BindFault) (read : Result X ℕ) (x : X) (next : Files → X → Outcome Y) → read ≡ Ok x → Names told result (λ files. next files x)
+      → Names told result (λ files. reading (of_line file line read) (next files))
+  goes_on_named file line result read x next is named = rw is named
+
+  -- unread bindings
+  pub bindings_named : (X Z : Type 0) (here : List ℕ) (fault : BindFault) → Names {X = X} told (Err fault) (λ files. of_name files here accepted) → Names {X = Z} told (Err fault) (λ files. bound_of files here)
+  bindings_named X Z here fault =
+      step_named X Z told fault (λ files. of_name files here accepted) (λ files text. lines_bound files here nothing_bound (lines_of text)) (λ files. bound_of files here) (λ files. of_name-reading files here (λ text. lines_bound files here nothing_bound (lines_of text)))
+
+  -- ---- line by line
+
+  -- without any file the whole comes to that file, or goes on at these lines
+  abbrev pub Leads : List ℕ → BoundValue → List LineText → Type 0
+  Leads here bound lines = (files : Files) → (file : List ℕ) → told ≡ Some files → IsReached (λ files. bound_of files here) files file ⊎ (bound_of (without file files) here ≡ lines_bound (without file files) here bound lines)
+
+  -- the bindings that were read lead to all their lines
+  pub lines_begin : (here text : List ℕ) → ((files : Files) → told ≡ Some files → of_name files here accepted ≡ accepted text) → Leads here nothing_bound (lines_of text)
+  lines_begin here text read files file known = elim (text-local here files file) [
+    | inl reached ↦ inl (whole ∙ ap (λ o. reading o next) reached)
+    | inr same ↦ inr (whole ∙ ap (λ o. reading o next) (same ∙ read files known))
+  ]
+    where
+      next : List ℕ → Outcome BoundValue
+      next text = lines_bound (without file files) here nothing_bound (lines_of text)
+
+      whole : bound_of (without file files) here ≡ reading (of_name (without file files) here accepted) next
+      whole = of_name-reading (without file files) here next
+
+  module _ (here : List ℕ) (bound : BoundValue) (line : LineText) (rest : List LineText) (leads : Leads here bound (line ∷ rest)) where
+    -- where a line was read, they lead to the lines behind it
+    pub lines_lead : (new : BoundValue) → ((files : Files) → told ≡ Some files → line_bound files here bound line ≡ accepted new) → Leads here new rest
+    lines_lead new read files file known = elim (leads files file known) [
+      | inl reached ↦ inl reached
+      | inr goes ↦ elim (line-local here bound line files file) [
+        | inl reached ↦ inl (goes ∙ ap (λ o. reading o next) reached)
+        | inr same ↦ inr (goes ∙ ap (λ o. reading o next) (same ∙ read files known))
+      ]
+    ]
+      where
+        next : BoundValue → Outcome BoundValue
+        next b = lines_bound (without file files) here b rest
+
+    -- what the line names, the whole names
+    pub rest_named : (X Z : Type 0) (fault : BindFault) → Names {X = X} told (Err fault) (λ files. line_bound files here bound line) → Names {X = Z} told (Err fault) (λ files. bound_of files here)
+    rest_named X Z faults.Memory named = tt
+    rest_named X Z (faults.Refused file refusal) named = tt
+    rest_named X Z (faults.Unread file) named = λ files known. elim (leads files file known) [
+      | inl reached ↦ reached
+      | inr goes ↦ goes ∙ ap (λ o. reading o (λ b. lines_bound (without file files) here b rest)) (named files known)
+    ]
