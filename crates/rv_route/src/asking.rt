@@ -1,14 +1,17 @@
 //! What a rule asks for on a line: a condition on that line alone.
-ghost use Rattle.std.specs.Prelude.{◌≡◌, ◌≤◌, length, option_copied};
+ghost use Rattle.std.specs.Prelude.{◌≡◌, ◌≤◌, ◌<◌, length, None, IfOk, IfSome, IsTrue, option_copied, slice_index_or};
 ghost use Rattle.std.specs.List.{list_all};
-ghost use Rattle.rv_trace.specs.Fields.{field_of};
-ghost use Rattle.rv_route.specs.Asking.{pid_at, ask_of, fires, holds, value_of};
+ghost use Rattle.rv_route.specs.Asking.{text_at, pid_at, pid_of, ask_on, holds, value_of};
 ghost use Rattle.rv_route.specs.Lines.{IsRoutable};
+ghost use Rattle.rv_route.specs.Sharing.{names_of, firsts_of, passes, values_of, shown};
 
+use crate::sharing::{Sharing, name_of, sharing_of};
 use rv_bind::{Monitor, On, Test};
 use rv_model::Scope;
 use rv_text::decimal;
 use rv_trace::{TraceLine, field};
+use std::alloc::{AllocError, Global};
+use std::marker::Model;
 
 /// What a rule asks for.
 #[derive(Clone, Copy, Debug, Drop, PartialEq, Eq)]
@@ -23,6 +26,52 @@ pub(crate) enum Ask {
     NoPid,
 }
 
+/// A line with its pieces, which each rule looks at.
+#[derive(Clone, Copy, Drop)]
+pub(crate) struct Seen<'a> {
+    pub(crate) line: TraceLine,
+    pub(crate) event: &'a [u8],
+    pub(crate) fields: &'a [u8],
+}
+
+/// The line with its pieces.
+pub(crate) fn pieces_of<'a>(text: &'a [u8], line: &TraceLine) -> Seen<'a>
+    requires { IsRoutable text.now line.now }
+    ensures line { result.line ≡ line.now }
+    ensures event { result.event.now ≡ text_at text.now line.now.name }
+    ensures fields { result.fields.now ≡ text_at text.now line.now.fields }
+    ensures cpu { result.line.cpu < 64 }
+    ensures small { length result.fields.now ≤ 4294967295 }
+{
+    Seen {
+        line: *line,
+        event: &text[line.name.from as usize..line.name.to as usize],
+        fields: &text[line.fields.from as usize..line.fields.to as usize],
+    }
+}
+
+/// A rule, ready to be asked on many lines. Contracts see the rule.
+#[derive(Drop)]
+pub(crate) struct Asker<'a> {
+    rule: &'a On,
+    /// The name of the rule's event.
+    event: &'a [u8],
+    sharing: Sharing,
+}
+
+impl<'a> Model for Asker<'a> {
+    ghost use Rattle.std.specs.Prelude.{◌≡◌};
+    ghost use Rattle.rv_bind.specs.RuleValues.{OnValue};
+    ghost use Rattle.rv_route.specs.Lines.{IsRoutable};
+    ghost use Rattle.rv_route.specs.Sharing.{IsSharing};
+
+    ghost Value = { OnValue };
+
+    ghost view = { λ a. a.rule.now };
+
+    ghost invariant = { λ a. (a.event.now ≡ a.rule.now.event) × IsSharing a.rule.now a.sharing.firsts.items a.sharing.by };
+}
+
 /// The value of a field.
 fn value<'a>(fields: &'a [u8], name: &[u8]) -> Option<&'a [u8]>
     requires { length fields.now ≤ 4294967295 }
@@ -34,43 +83,68 @@ fn value<'a>(fields: &'a [u8], name: &[u8]) -> Option<&'a [u8]>
     }
 }
 
-/// Whether a test holds.
-fn holds(fields: &[u8], test: &Test) -> bool
-    requires { length fields.now ≤ 4294967295 }
-    ensures { result ≡ holds fields.now test.now }
+/// The value of a field that may have been found at a place already.
+fn known<'a>(
+    fields: &'a [u8],
+    name: &[u8],
+    found: &[Option<&'a [u8]>],
+    place: usize,
+) -> Option<&'a [u8]>
+    requires small { length fields.now ≤ 4294967295 }
+    requires kept { place < length found.now → slice_index_or (shown found.now) place None ≡ value_of fields.now name.now }
+    ensures { option_copied result ≡ value_of fields.now name.now }
 {
-    match test {
-        Test::Is {
-            field,
-            value: wanted,
-        } => match value(fields, field.bytes()) {
-            Some(found) => found == wanted.bytes(),
-            None => false,
-        },
-        Test::IsNot {
-            field,
-            value: wanted,
-        } => match value(fields, field.bytes()) {
-            Some(found) => !(found == wanted.bytes()),
-            None => false,
-        },
+    if place < found.len() {
+        return found[place];
+    }
+    value(fields, name)
+}
+
+/// Whether a test holds of what its field has.
+fn passes(test: &Test, found: Option<&[u8]>) -> bool
+    ensures { result ≡ passes test.now (option_copied found) }
+{
+    match (test, found) {
+        (_, None) => false,
+        (Test::Is { value, .. }, Some(found)) => found == value.bytes(),
+        (Test::IsNot { value, .. }, Some(found)) => !(found == value.bytes()),
     }
 }
 
-/// Whether all tests hold.
-fn all_hold(fields: &[u8], tests: &[Test]) -> bool
-    requires { length fields.now ≤ 4294967295 }
-    ensures { result ≡ list_all (holds fields.now) tests.now }
+/// Whether all tests hold, from the first on. What their fields have is found once for each.
+fn all_hold<'a>(
+    fields: &'a [u8],
+    tests: &[Test],
+    firsts: &[usize],
+    found: &mut Vec<Option<&'a [u8]>>,
+) -> Result<bool, AllocError>
+    requires small { length fields.now ≤ 4294967295 }
+    requires firsts { firsts.now ≡ firsts_of (names_of tests.now) }
+    ensures hold { IfOk result (λ hold. hold ≡ list_all (holds fields.now) tests.now) }
+    ensures found { IfOk result (λ hold. IsTrue hold → shown found.new.items ≡ values_of fields.now tests.now) }
 {
-    tests.iter().all(|test| holds(fields, test))
+    found.clear();
+    for place in 0..tests.len() {
+        let test = &tests[place];
+        let value = known(
+            fields,
+            name_of(test).bytes(),
+            found.as_slice(),
+            firsts[place],
+        );
+        if !passes(test, value) {
+            return Ok(false);
+        }
+        found.push(value)?;
+    }
+    Ok(true)
 }
 
-/// The pid in the fields.
-fn pid_in(fields: &[u8], name: &[u8]) -> Ask
-    requires { length fields.now ≤ 4294967295 }
-    ensures { result ≡ pid_at (value_of fields.now name.now) }
+/// The pid that a field's value is.
+fn pid_at(value: Option<&[u8]>) -> Ask
+    ensures { result ≡ pid_at (option_copied value) }
 {
-    let Some(value) = value(fields, name) else {
+    let Some(value) = value else {
         return Ask::NoPid;
     };
     match decimal(value) {
@@ -79,34 +153,67 @@ fn pid_in(fields: &[u8], name: &[u8]) -> Ask
     }
 }
 
-/// Whether the rule fires on a line of this event and these fields.
-fn fires(event: &[u8], fields: &[u8], rule: &On) -> bool
-    requires { length fields.now ≤ 4294967295 }
-    ensures { result ≡ fires event.now fields.now rule.now }
-{
-    event == rule.event.bytes() && all_hold(fields, rule.tests.as_slice())
-}
-
-/// What the rule asks for on the line.
-#[tactic(auto, unfolding(crate::specs::Asking::ask_of))]
-pub(crate) fn asked(text: &[u8], line: &TraceLine, monitors: &[Monitor], rule: &On) -> Ask
-    requires { IsRoutable text.now line.now }
-    ensures { result ≡ ask_of text.now line.now monitors.now rule.now }
-{
-    let event = &text[line.name.from as usize..line.name.to as usize];
-    let fields = &text[line.fields.from as usize..line.fields.to as usize];
-    if !fires(event, fields, rule) {
-        return Ask::Quiet;
+impl<'a> Asker<'a> {
+    /// The rule with the places of its fields.
+    pub(crate) fn new(alloc: Global, rule: &'a On) -> Result<Asker<'a>, AllocError>
+        ensures { IfOk result (λ asker. asker ≡ rule.now) }
+    {
+        let sharing = sharing_of(alloc, rule)?;
+        Ok(Asker {
+            rule,
+            event: rule.event.bytes(),
+            sharing,
+        })
     }
-    let Some(monitor) = monitors.get(rule.monitor as usize) else {
-        return Ask::Quiet;
-    };
-    match monitor.scope {
-        Scope::Global => Ask::Instance(0),
-        Scope::Cpu => Ask::Instance(line.cpu as u32),
-        Scope::Task => match &rule.by {
-            None => Ask::Pid(line.pid),
-            Some(name) => pid_in(fields, name.bytes()),
-        },
+
+    /// The rule.
+    pub(crate) fn rule(&self) -> &'a On
+        ensures { result.now ≡ self.now }
+    {
+        self.rule
+    }
+
+    /// The pid in the rule's field, or else the line's. All tests have found their fields.
+    fn pid<'b>(&self, seen: &Seen<'b>, found: &[Option<&'b [u8]>]) -> Ask
+        requires small { length seen.now.fields.now ≤ 4294967295 }
+        requires found { shown found.now ≡ values_of seen.now.fields.now self.now.tests }
+        ensures { result ≡ pid_of seen.now.fields.now seen.now.line self.now.by }
+    {
+        let rule = self.rule;
+        match &rule.by {
+            None => Ask::Pid(seen.line.pid),
+            Some(name) => {
+                let place = self.sharing.by.unwrap_or(found.len());
+                pid_at(known(seen.fields, name.bytes(), found, place))
+            }
+        }
+    }
+
+    /// What the rule asks for on the line. What its fields have is left in `found`.
+    pub(crate) fn ask<'b>(
+        &self,
+        monitors: &[Monitor],
+        seen: &Seen<'b>,
+        found: &mut Vec<Option<&'b [u8]>>,
+    ) -> Result<Ask, AllocError>
+        requires { length seen.now.fields.now ≤ 4294967295 }
+        ensures { IfOk result (λ ask. ask ≡ ask_on seen.now.event.now seen.now.fields.now seen.now.line monitors.now self.now) }
+    {
+        if !(seen.event == self.event) {
+            return Ok(Ask::Quiet);
+        }
+        let rule = self.rule;
+        let firsts = self.sharing.firsts.as_slice();
+        if !all_hold(seen.fields, rule.tests.as_slice(), firsts, found)? {
+            return Ok(Ask::Quiet);
+        }
+        let Some(monitor) = monitors.get(rule.monitor as usize) else {
+            return Ok(Ask::Quiet);
+        };
+        match monitor.scope {
+            Scope::Global => Ok(Ask::Instance(0)),
+            Scope::Cpu => Ok(Ask::Instance(seen.line.cpu as u32)),
+            Scope::Task => Ok(self.pid(seen, found.as_slice())),
+        }
     }
 }

@@ -5,6 +5,9 @@ mod asking;
 mod firing;
 mod lanes;
 mod router;
+mod sharing;
+#[cfg(test)]
+mod tests;
 
 pub use firing::{Routed, route};
 pub use router::MAX_DELIVERIES;
