@@ -1,17 +1,14 @@
-//! What a rule asks for on a line: a condition on that line alone.
-ghost use Rattle.std.specs.Prelude.{◌≡◌, ◌≤◌, ◌<◌, length, None, IfOk, IfSome, IsTrue, option_copied, slice_index_or};
+//! What a rule finds on a line: a condition on that line alone.
+ghost use Rattle.std.specs.Prelude.{◌≡◌, ◌≤◌, ◌<◌, length, None, IfOk, IsTrue, option_copied, slice_index_or};
 ghost use Rattle.std.specs.List.{list_all};
-ghost use Rattle.rv_route.specs.Asking.{text_at, pid_at, pid_of, ask_on, holds, value_of};
-ghost use Rattle.rv_route.specs.Lines.{IsRoutable};
+ghost use Rattle.rv_route.specs.Asking.{pid_at, holds, value_of, is_same, differs};
 ghost use Rattle.rv_route.specs.Sharing.{names_of, firsts_of, passes, values_of, shown};
 
-use crate::sharing::{Sharing, name_of, sharing_of};
-use rv_bind::{Monitor, On, Test};
-use rv_model::Scope;
+use crate::sharing::name_of;
+use rv_bind::Test;
 use rv_text::decimal;
-use rv_trace::{TraceLine, field};
-use std::alloc::{AllocError, Global};
-use std::marker::Model;
+use rv_trace::field;
+use std::alloc::AllocError;
 
 /// What a rule asks for.
 #[derive(Clone, Copy, Debug, Drop, PartialEq, Eq)]
@@ -26,52 +23,6 @@ pub(crate) enum Ask {
     NoPid,
 }
 
-/// A line with its pieces, which each rule looks at.
-#[derive(Clone, Copy, Drop)]
-pub(crate) struct Seen<'a> {
-    pub(crate) line: TraceLine,
-    pub(crate) event: &'a [u8],
-    pub(crate) fields: &'a [u8],
-}
-
-/// The line with its pieces.
-pub(crate) fn pieces_of<'a>(text: &'a [u8], line: &TraceLine) -> Seen<'a>
-    requires { IsRoutable text.now line.now }
-    ensures line { result.line ≡ line.now }
-    ensures event { result.event.now ≡ text_at text.now line.now.name }
-    ensures fields { result.fields.now ≡ text_at text.now line.now.fields }
-    ensures cpu { result.line.cpu < 64 }
-    ensures small { length result.fields.now ≤ 4294967295 }
-{
-    Seen {
-        line: *line,
-        event: &text[line.name.from as usize..line.name.to as usize],
-        fields: &text[line.fields.from as usize..line.fields.to as usize],
-    }
-}
-
-/// A rule, ready to be asked on many lines. Contracts see the rule.
-#[derive(Drop)]
-pub(crate) struct Asker<'a> {
-    rule: &'a On,
-    /// The name of the rule's event.
-    event: &'a [u8],
-    sharing: Sharing,
-}
-
-impl<'a> Model for Asker<'a> {
-    ghost use Rattle.std.specs.Prelude.{◌≡◌};
-    ghost use Rattle.rv_bind.specs.RuleValues.{OnValue};
-    ghost use Rattle.rv_route.specs.Lines.{IsRoutable};
-    ghost use Rattle.rv_route.specs.Sharing.{IsSharing};
-
-    ghost Value = { OnValue };
-
-    ghost view = { λ a. a.rule.now };
-
-    ghost invariant = { λ a. (a.event.now ≡ a.rule.now.event) × IsSharing a.rule.now a.sharing.firsts.items a.sharing.by };
-}
-
 /// The value of a field.
 fn value<'a>(fields: &'a [u8], name: &[u8]) -> Option<&'a [u8]>
     requires { length fields.now ≤ 4294967295 }
@@ -84,7 +35,7 @@ fn value<'a>(fields: &'a [u8], name: &[u8]) -> Option<&'a [u8]>
 }
 
 /// The value of a field that may have been found at a place already.
-fn known<'a>(
+pub(crate) fn known<'a>(
     fields: &'a [u8],
     name: &[u8],
     found: &[Option<&'a [u8]>],
@@ -100,19 +51,38 @@ fn known<'a>(
     value(fields, name)
 }
 
+/// Whether the value is the one that is wanted.
+fn is_same(found: Option<&[u8]>, wanted: &[u8]) -> bool
+    ensures { result ≡ is_same wanted.now (option_copied found.entry) }
+{
+    match found {
+        Some(found) => found == wanted,
+        None => false,
+    }
+}
+
+/// Whether there is a value, and it is another than this one.
+fn differs(found: Option<&[u8]>, wanted: &[u8]) -> bool
+    ensures { result ≡ differs wanted.now (option_copied found.entry) }
+{
+    let Some(found) = found else {
+        return false;
+    };
+    !(found == wanted)
+}
+
 /// Whether a test holds of what its field has.
 fn passes(test: &Test, found: Option<&[u8]>) -> bool
-    ensures { result ≡ passes test.now (option_copied found) }
+    ensures { result ≡ passes test.now (option_copied found.entry) }
 {
-    match (test, found) {
-        (_, None) => false,
-        (Test::Is { value, .. }, Some(found)) => found == value.bytes(),
-        (Test::IsNot { value, .. }, Some(found)) => !(found == value.bytes()),
+    match test {
+        Test::Is { value, .. } => is_same(found, value.bytes()),
+        Test::IsNot { value, .. } => differs(found, value.bytes()),
     }
 }
 
 /// Whether all tests hold, from the first on. What their fields have is found once for each.
-fn all_hold<'a>(
+pub(crate) fn all_hold<'a>(
     fields: &'a [u8],
     tests: &[Test],
     firsts: &[usize],
@@ -141,8 +111,8 @@ fn all_hold<'a>(
 }
 
 /// The pid that a field's value is.
-fn pid_at(value: Option<&[u8]>) -> Ask
-    ensures { result ≡ pid_at (option_copied value) }
+pub(crate) fn pid_at(value: Option<&[u8]>) -> Ask
+    ensures { result ≡ pid_at (option_copied value.entry) }
 {
     let Some(value) = value else {
         return Ask::NoPid;
@@ -150,70 +120,5 @@ fn pid_at(value: Option<&[u8]>) -> Ask
     match decimal(value) {
         Some(pid) if pid <= 0xffff_ffff => Ask::Pid(pid as u32),
         _ => Ask::NoPid,
-    }
-}
-
-impl<'a> Asker<'a> {
-    /// The rule with the places of its fields.
-    pub(crate) fn new(alloc: Global, rule: &'a On) -> Result<Asker<'a>, AllocError>
-        ensures { IfOk result (λ asker. asker ≡ rule.now) }
-    {
-        let sharing = sharing_of(alloc, rule)?;
-        Ok(Asker {
-            rule,
-            event: rule.event.bytes(),
-            sharing,
-        })
-    }
-
-    /// The rule.
-    pub(crate) fn rule(&self) -> &'a On
-        ensures { result.now ≡ self.now }
-    {
-        self.rule
-    }
-
-    /// The pid in the rule's field, or else the line's. All tests have found their fields.
-    fn pid<'b>(&self, seen: &Seen<'b>, found: &[Option<&'b [u8]>]) -> Ask
-        requires small { length seen.now.fields.now ≤ 4294967295 }
-        requires found { shown found.now ≡ values_of seen.now.fields.now self.now.tests }
-        ensures { result ≡ pid_of seen.now.fields.now seen.now.line self.now.by }
-    {
-        let rule = self.rule;
-        match &rule.by {
-            None => Ask::Pid(seen.line.pid),
-            Some(name) => {
-                let place = self.sharing.by.unwrap_or(found.len());
-                pid_at(known(seen.fields, name.bytes(), found, place))
-            }
-        }
-    }
-
-    /// What the rule asks for on the line. What its fields have is left in `found`.
-    pub(crate) fn ask<'b>(
-        &self,
-        monitors: &[Monitor],
-        seen: &Seen<'b>,
-        found: &mut Vec<Option<&'b [u8]>>,
-    ) -> Result<Ask, AllocError>
-        requires { length seen.now.fields.now ≤ 4294967295 }
-        ensures { IfOk result (λ ask. ask ≡ ask_on seen.now.event.now seen.now.fields.now seen.now.line monitors.now self.now) }
-    {
-        if !(seen.event == self.event) {
-            return Ok(Ask::Quiet);
-        }
-        let rule = self.rule;
-        let firsts = self.sharing.firsts.as_slice();
-        if !all_hold(seen.fields, rule.tests.as_slice(), firsts, found)? {
-            return Ok(Ask::Quiet);
-        }
-        let Some(monitor) = monitors.get(rule.monitor as usize) else {
-            return Ok(Ask::Quiet);
-        };
-        match monitor.scope {
-            Scope::Global => Ok(Ask::Instance(0)),
-            Scope::Cpu => Ok(Ask::Instance(seen.line.cpu as u32)),
-            Scope::Task => Ok(self.pid(seen, found.as_slice())),
-        }
     }
 }

@@ -8,7 +8,7 @@ ghost use Rattle.rv_route.specs.Routed.{routed_value};
 ghost use Rattle.rv_route.specs.Fitting.{WorksFit, NumbersAscend};
 ghost use Rattle.rv_bind.specs.WellFormed.{FitsKind, kinds_of};
 
-use crate::asking::Asker;
+use crate::asker::Asker;
 use crate::lanes::Lane;
 use crate::router::Router;
 use rv_bind::{Bindings, Monitor, On};

@@ -1,6 +1,7 @@
 //! From trace lines to what each CPU has to do.
 #![tactic(auto)]
 
+mod asker;
 mod asking;
 mod firing;
 mod lanes;

@@ -4,7 +4,8 @@ ghost use Rattle.rv_route.specs.Asking.{ask_on};
 ghost use Rattle.rv_route.specs.Lines.{IsRoutable};
 ghost use Rattle.rv_route.specs.Routing.{Reaches, answer, deliver, line_routes, routes_of, nothing};
 
-use crate::asking::{Ask, Asker, Seen, pieces_of};
+use crate::asker::{Asker, Seen, pieces_of};
+use crate::asking::Ask;
 use crate::lanes::Lane;
 use rv_bind::{Monitor, On};
 use rv_model::Delivery;
