@@ -65,6 +65,10 @@ abbrev pub asked_of : List ℕ → TraceLine → Option (List ℕ) → Option Mo
 asked_of fields line by None = asks.Quiet
 asked_of fields line by (Some monitor) = by_scope fields line by monitor.scope
 
+-- what the rule asks for on a line of this event and these fields
+abbrev pub ask_on : List ℕ → List ℕ → TraceLine → List Monitor → OnValue → Ask
+ask_on event fields line monitors rule = if fires event fields rule then asked_of fields line rule.by (slice_get monitors rule.monitor) else asks.Quiet
+
 -- what the rule asks for
 unfoldable pub ask_of : List ℕ → TraceLine → List Monitor → OnValue → Ask
 ask_of text line monitors rule =

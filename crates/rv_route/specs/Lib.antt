@@ -4,3 +4,4 @@ pub mod Lanes
 pub mod Lines
 pub mod Routed
 pub mod Routing
+pub mod Sharing

@@ -3,11 +3,12 @@ ghost use Rattle.std.specs.Prelude.{◌≡◌, ◌++◌, length, All, IfOk, OnOk
 ghost use Rattle.rv_text.specs.Readings.{Gives};
 ghost use Rattle.rv_route.specs.Lines.{IsRoutable};
 ghost use Rattle.rv_route.specs.Lanes.{IsLane};
-ghost use Rattle.rv_route.specs.Routing.{route_of, works_of, work_in};
+ghost use Rattle.rv_route.specs.Routing.{Reaches, routes_of, route_of, works_of, work_in};
 ghost use Rattle.rv_route.specs.Routed.{routed_value};
 ghost use Rattle.rv_route.specs.Fitting.{WorksFit, NumbersAscend};
 ghost use Rattle.rv_bind.specs.WellFormed.{FitsKind, kinds_of};
 
+use crate::asker::Asker;
 use crate::lanes::Lane;
 use crate::router::Router;
 use rv_bind::{Bindings, Monitor, On};
@@ -61,9 +62,46 @@ fn route_lines(
     ensures fit { IfOk result (λ routed. WorksFit (kinds_of monitors.now) (length routed.tasks) routed.works.items) }
 {
     let mut router = Router::new(alloc)?;
-    router.lines(monitors, rules, text, lines)?;
+    fire(alloc, &mut router, monitors, rules, text, lines)?;
     let routed = end(alloc, router)?;
     Ok(routed)
+}
+
+/// Asks the rules on each line. What they look up goes into memory that is taken before the lines.
+fn fire(
+    alloc: Global,
+    router: &mut Router,
+    monitors: &[Monitor],
+    rules: &[On],
+    text: &[u8],
+    lines: &[TraceLine],
+) -> Result<(), Refused>
+    requires { All (IsRoutable text.now) lines.now }
+    ensures { Reaches result router.new (routes_of text.now monitors.now rules.now lines.now router.old) }
+{
+    let askers = askers_of(alloc, rules)?;
+    let mut found = Vec::with_capacity(alloc, most_tests(rules))?;
+    router.lines(monitors, askers.as_slice(), text, lines, &mut found)
+}
+
+/// The rules, ready to be asked.
+fn askers_of<'a>(alloc: Global, rules: &'a [On]) -> Result<Vec<Asker<'a>>, AllocError>
+    ensures { IfOk result (λ askers. askers.items ≡ rules.now) }
+{
+    let mut askers = Vec::with_capacity(alloc, rules.len())?;
+    for rule in rules {
+        askers.push(Asker::new(alloc, rule)?)?;
+    }
+    Ok(askers)
+}
+
+/// The most tests of a rule.
+fn most_tests(rules: &[On]) -> usize {
+    let mut most = 0;
+    for rule in rules {
+        most = most.max(rule.tests.len());
+    }
+    most
 }
 
 /// What was routed.

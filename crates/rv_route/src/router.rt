@@ -1,9 +1,11 @@
 //! Takes one line after the other.
 ghost use Rattle.std.specs.Prelude.{◌≡◌, ◌≤◌, ◌<◌, length, All, IfOk};
+ghost use Rattle.rv_route.specs.Asking.{ask_on};
 ghost use Rattle.rv_route.specs.Lines.{IsRoutable};
 ghost use Rattle.rv_route.specs.Routing.{Reaches, answer, deliver, line_routes, routes_of, nothing};
 
-use crate::asking::{Ask, asked};
+use crate::asker::{Asker, Seen, pieces_of};
+use crate::asking::Ask;
 use crate::lanes::Lane;
 use rv_bind::{Monitor, On};
 use rv_model::Delivery;
@@ -82,37 +84,55 @@ impl Router {
         }
     }
 
-    /// Routes one line: the rules in order, up to the first refusal.
-    fn line(
+    /// Does what one rule asks for on the line.
+    fn rule<'a>(
         &mut self,
         monitors: &[Monitor],
-        rules: &[On],
-        text: &[u8],
+        asker: &Asker<'_>,
+        seen: &Seen<'a>,
+        found: &mut Vec<Option<&'a [u8]>>,
+    ) -> Result<(), Refused>
+        requires cpu { seen.now.line.cpu < 64 }
+        requires small { length seen.now.fields.now ≤ 4294967295 }
+        ensures { Reaches result self.new (answer self.old seen.now.line asker.now (ask_on seen.now.event.now seen.now.fields.now seen.now.line monitors.now asker.now)) }
+    {
+        let ask = asker.ask(monitors, seen, found)?;
+        self.answer(&seen.line, asker.rule(), ask)
+    }
+
+    /// Routes one line: the rules in order, up to the first refusal.
+    fn line<'a>(
+        &mut self,
+        monitors: &[Monitor],
+        askers: &[Asker<'_>],
+        text: &'a [u8],
         line: &TraceLine,
+        found: &mut Vec<Option<&'a [u8]>>,
     ) -> Result<(), Refused>
         requires { IsRoutable text.now line.now }
-        ensures { Reaches result self.new (line_routes text.now line.now monitors.now rules.now self.old) }
+        ensures { Reaches result self.new (line_routes text.now line.now monitors.now askers.now self.old) }
     {
-        for rule in rules {
-            let ask = asked(text, line, monitors, rule);
-            self.answer(line, rule, ask)?;
+        let seen = pieces_of(text, line);
+        for asker in askers {
+            self.rule(monitors, asker, &seen, found)?;
         }
         Ok(())
     }
 
     /// Routes the lines in order, up to the first refusal.
-    pub(crate) fn lines(
+    pub(crate) fn lines<'a>(
         &mut self,
         monitors: &[Monitor],
-        rules: &[On],
-        text: &[u8],
+        askers: &[Asker<'_>],
+        text: &'a [u8],
         lines: &[TraceLine],
+        found: &mut Vec<Option<&'a [u8]>>,
     ) -> Result<(), Refused>
         requires { All (IsRoutable text.now) lines.now }
-        ensures { Reaches result self.new (routes_of text.now monitors.now rules.now lines.now self.old) }
+        ensures { Reaches result self.new (routes_of text.now monitors.now askers.now lines.now self.old) }
     {
         for line in lines {
-            self.line(monitors, rules, text, line)?;
+            self.line(monitors, askers, text, line, found)?;
         }
         Ok(())
     }

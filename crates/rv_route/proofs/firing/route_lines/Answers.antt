@@ -7,17 +7,17 @@ use Rattle.rv_route.proofs.RoutingLemmas.{route-refused, route-done}
 use Rattle.rv_route.proofs.firing.route_lines.Goals as goal
 
 pub end-requires : goal.end-requires
-end-requires c = lanes_routed c.args.text.now c.args.monitors.now c.args.rules.now c.args.lines.now _ _ c.in_ok-router.ensures c.in_ok-lines.ensures
+end-requires c = lanes_routed c.args.text.now c.args.monitors.now c.args.rules.now c.args.lines.now _ _ c.in_ok-router.ensures c.in_ok-fire.ensures
 
-pub returns-in_err-lines-clause-value : goal.returns-in_err-lines-clause-value
-returns-in_err-lines-clause-value c =
-    let given = err_from_is_err_and c.from_residual-in_err-lines.result c.from_residual-in_err-lines.ensures.1 in
-    rw (given.1, given.2) (route-refused c.args.text.now c.args.monitors.now c.args.rules.now c.args.lines.now _ c.in_err-lines.field-0.0 c.in_ok-router.ensures c.in_err-lines.ensures)
+pub returns-in_err-fire-clause-value : goal.returns-in_err-fire-clause-value
+returns-in_err-fire-clause-value c =
+    let given = err_from_is_err_and c.from_residual-in_err-fire.result c.from_residual-in_err-fire.ensures.1 in
+    rw (given.1, given.2) (route-refused c.args.text.now c.args.monitors.now c.args.rules.now c.args.lines.now _ c.in_err-fire.field-0.0 c.in_ok-router.ensures c.in_err-fire.ensures)
 
 pub returns-clause-value : goal.returns-clause-value
-returns-clause-value c = route-done c.args.text.now c.args.monitors.now c.args.rules.now c.args.lines.now _ _ _ _ c.in_ok-router.ensures c.in_ok-lines.ensures (ap (λ (r : RoutedValue). r.tasks) c.in_ok-routed.ensures) (ap (λ (r : RoutedValue). r.works) c.in_ok-routed.ensures)
+returns-clause-value c = route-done c.args.text.now c.args.monitors.now c.args.rules.now c.args.lines.now _ _ _ _ c.in_ok-router.ensures c.in_ok-fire.ensures (ap (λ (r : RoutedValue). r.tasks) c.in_ok-routed.ensures) (ap (λ (r : RoutedValue). r.works) c.in_ok-routed.ensures)
 
 pub returns-clause-fit : goal.returns-clause-fit
 returns-clause-fit c =
-    works_fit c.args.text.now c.args.monitors.now c.args.rules.now c.args.lines.now _ _ _ _ c.requires.lines c.requires.ascend c.requires.rules c.in_ok-router.ensures c.in_ok-lines.ensures
+    works_fit c.args.text.now c.args.monitors.now c.args.rules.now c.args.lines.now _ _ _ _ c.requires.lines c.requires.ascend c.requires.rules c.in_ok-router.ensures c.in_ok-fire.ensures
     (ap (λ (r : RoutedValue). r.tasks) c.in_ok-routed.ensures) (ap (λ (r : RoutedValue). r.works) c.in_ok-routed.ensures)
