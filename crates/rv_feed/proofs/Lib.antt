@@ -1,6 +1,7 @@
 pub mod DoneLemmas
 pub mod EntryLemmas
 pub mod LaneLemmas
+pub mod LineLemmas
 pub mod OneLemmas
 pub mod RunLemmas
 pub mod StayLemmas
