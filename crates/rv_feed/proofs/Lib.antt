@@ -2,6 +2,7 @@ pub mod DoneLemmas
 pub mod EntryLemmas
 pub mod LaneLemmas
 pub mod LineLemmas
+pub mod MergeLemmas
 pub mod OneLemmas
 pub mod RunLemmas
 pub mod StayLemmas
