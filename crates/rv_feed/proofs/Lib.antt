@@ -1,6 +1,8 @@
 pub mod DoneLemmas
 pub mod EntryLemmas
 pub mod LaneLemmas
+pub mod LineLemmas
+pub mod MergeLemmas
 pub mod OneLemmas
 pub mod RunLemmas
 pub mod StayLemmas

@@ -1,4 +1,5 @@
 pub mod Lane
+pub mod Merging
 pub mod One
 pub mod Order
 pub mod SoFar

@@ -27,6 +27,17 @@ IsPending places lane = place_of places lane < length lane.work.turns
 abbrev pub next_line : List ℕ → LaneValue → ℕ
 next_line places lane = slice_index (map (λ t. t.line) lane.work.turns) (place_of places lane)
 
+-- the line of the lane's next turn, and 2 ^ 32 where it has none
+pub record HasLine (places : List ℕ) (lane : LaneValue) (line : ℕ) : Type 0 where
+  pub line_is : IsPending places lane → line ≡ next_line places lane
+  pub range : IsPending places lane → line < 2 ^ 32
+  pub few : line ≤ 2 ^ 32
+  pub pending : line < 2 ^ 32 → IsPending places lane
+
+-- each lane's, at the place of its CPU
+abbrev pub HasLines : List ℕ → List ℕ → List LaneValue → Type 0
+HasLines places lines lanes = All (λ l. HasLine places l (slice_index lines l.work.cpu)) lanes
+
 -- no pending lane has a smaller line
 pub record IsLeast (places : List ℕ) (lanes : List LaneValue) (next : Next) : Type 0 where
   pub least : All (λ l. IsPending places l → (next.line ≤ next_line places l) × (next_line places l < 2 ^ 32)) lanes

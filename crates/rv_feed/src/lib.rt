@@ -2,6 +2,7 @@
 #![tactic(auto)]
 
 mod lane;
+mod merge;
 mod one;
 mod order;
 mod records;

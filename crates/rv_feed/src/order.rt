@@ -1,9 +1,9 @@
 //! All scripts on one thread. The lane whose next turn has the least line goes on.
 ghost use Rattle.rv_model.specs.declared.work.Turn.{Turn};
-ghost use Rattle.std.specs.Prelude.{◌≡◌, ◌^◌, ◌<◌, ◌≤◌, length, All, slice_index_or};
+ghost use Rattle.std.specs.Prelude.{◌≡◌, ◌≢◌, ℕ, ◌^◌, ◌<◌, ◌≤◌, List, length, replicate, All, AllPairs, slice_index_or};
 ghost use Rattle.rv_feed.specs.Lane.{FitLanes, FitsDelivery, panics_of};
 ghost use Rattle.rv_feed.specs.Order.{Ran};
-ghost use Rattle.rv_feed.specs.SoFar.{IsPending, next_line, IsLeast, PlaysNext};
+ghost use Rattle.rv_feed.specs.SoFar.{IsPending, next_line, HasLines, IsLeast, PlaysNext};
 
 use crate::lane::{Lane, known, seat_of, turn_at, turn_count};
 use crate::turn::play_turn;
@@ -36,19 +36,36 @@ fn line_of(lane: &Lane, places: &[usize; 64]) -> u64
     }
 }
 
-/// The lane whose next turn has the least line.
-fn least(lanes: &[Lane], places: &[usize; 64]) -> Next
+/// The line of each lane's first turn, at the place of its CPU.
+fn first_lines(lanes: &[Lane]) -> [u64; 64]
+    requires cpu { All (λ l. l.work.cpu < 64) lanes.now }
+    requires cpus { AllPairs (λ l m. l.work.cpu ≢ m.work.cpu) lanes.now }
+    ensures { HasLines (replicate 64 0) result lanes.now }
+{
+    let places: [usize; 64] = [0; 64];
+    let mut lines: [u64; 64] = [NO_LINE; 64];
+    for at in 0..lanes.len() {
+        let lane = &lanes[at];
+        let cpu = seat_of(lane) as usize - 2;
+        lines[cpu] = line_of(lane, &places);
+    }
+    lines
+}
+
+/// The lane whose next turn has the least line. The lines are by CPU.
+fn least(lanes: &[Lane], lines: &[u64; 64]) -> Next
     requires { All (λ l. l.work.cpu < 64) lanes.now }
-    ensures { IsLeast places.now lanes.now result }
+    ensures { (places : List ℕ) → HasLines places lines.now lanes.now → IsLeast places lanes.now result }
 {
     let mut best = Next {
         lane: 0,
         line: NO_LINE,
     };
-    for lane in 0..lanes.len() {
-        let line = line_of(&lanes[lane], places);
+    for at in 0..lanes.len() {
+        let lane = &lanes[at];
+        let line = lines[seat_of(lane) as usize - 2];
         if line < best.line {
-            best = Next { lane, line };
+            best = Next { lane: at, line };
         }
     }
     best
@@ -78,15 +95,17 @@ pub fn run_in_order(core: &mut Core, reactors: &[Reactor], lanes: &mut [Lane])
     ensures { Ran (panics_of reactors.now) core.old core.new lanes.old lanes.new }
 {
     let mut places: [usize; 64] = [0; 64];
+    let mut lines = first_lines(lanes);
     let mut from: u64 = 0;
     loop {
-        let next = least(lanes, &places);
+        let next = least(lanes, &lines);
         if next.line == NO_LINE {
             return;
         }
         let lane = &mut lanes[next.lane];
         let cpu = seat_of(lane) as usize - 2;
         places[cpu] = play_next(core, reactors, lane, places[cpu]);
+        lines[cpu] = line_of(lane, &places);
         from = next.line + 1;
     }
 }
