@@ -7,7 +7,7 @@ use Rattle.rv_model.specs.declared.entry.Entry.{Entry}
 use Rattle.rv_io.specs.Files.{Files}
 use Rattle.rv_bind.specs.declared.fault.BindFault.{BindFault}
 use Rattle.rv_bind.specs.declared.fault.BindFault.TheVariants as faults
-use Rattle.rv_bind.specs.Outcomes.{Outcome, accepted, refused, missing, Comes}
+use Rattle.rv_bind.specs.Outcomes.{Outcome, accepted, refused, missing, Comes, Names}
 use Rattle.rv_tool.specs.declared.input.Ready.{Ready}
 use Rattle.rv_tool.specs.declared.replaying.Done.{Done}
 use Rattle.rv_tool.specs.Inputs.{InputValue, replay_input}
@@ -30,16 +30,16 @@ module _ (old new : Option (List ℕ)) (before now status : ℕ) (h : List Entry
   gives_up (missing file) up = inr up
 
   pub run_answers : (told : Option Files) (first last : ℕ) (bindings trace : List ℕ) (read : Result Ready BindFault)
-      → Comes ready_value told first last read (λ files. replay_input files bindings trace) → Runs read old new before now status h
+      → Comes ready_value told first last read (λ files. replay_input files bindings trace) → Names told read (λ files. replay_input files bindings trace) → Runs read old new before now status h
       → (files : Files) → told ≡ Some files → Answers (Some (replay bindings trace)) files first last old new before now status h
-  run_answers told first last bindings trace (Ok ready) comes runs files known = inl (subst (λ (o : Outcome InputValue). Ends o old new before now status h) (sym (comes files known)) runs)
-  run_answers told first last bindings trace (Err faults.Memory) comes runs files known = inl (gives_up (replay_input files bindings trace) runs)
-  run_answers told first last bindings trace (Err (faults.Refused file refusal)) comes runs files known = inl (subst (λ (o : Outcome InputValue). Ends o old new before now status h) (sym (comes files known)) runs)
-  run_answers told first last bindings trace (Err (faults.Unread file)) (inl lacks) runs files known =
+  run_answers told first last bindings trace (Ok ready) comes named runs files known = inl (subst (λ (o : Outcome InputValue). Ends o old new before now status h) (sym (comes files known)) runs)
+  run_answers told first last bindings trace (Err faults.Memory) comes named runs files known = inl (gives_up (replay_input files bindings trace) runs)
+  run_answers told first last bindings trace (Err (faults.Refused file refusal)) comes named runs files known = inl (subst (λ (o : Outcome InputValue). Ends o old new before now status h) (sym (comes files known)) runs)
+  run_answers told first last bindings trace (Err (faults.Unread file)) (inl lacks) named runs files known =
       let both : Some lacks.0 ≡ Some files = sym lacks.1 ∙ known in
       let same : lacks.0 ≡ files = cc in
       inl (subst (λ (o : Outcome InputValue). Ends o old new before now status h) (sym (ap (λ (fs : Files). replay_input fs bindings trace) (sym same) ∙ lacks.2)) runs)
-  run_answers told first last bindings trace (Err (faults.Unread file)) (inr rose) runs files known = inr (rose, file, runs)
+  run_answers told first last bindings trace (Err (faults.Unread file)) (inr rose) named runs files known = inr (rose, file, named files known, runs)
 
   -- a refusal that was said
   pub refused_fails : (fault : BindFault) (file told : List ℕ) (refusal : Refusal) → fault ≡ faults.Refused file refusal → told ≡ file → Says old new before now (refusal_text (Some told) refusal) 2 status h → Fails fault old new before now status h

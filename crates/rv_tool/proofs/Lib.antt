@@ -1,6 +1,7 @@
 pub mod AnswerLemmas
 pub mod ComesLemmas
 pub mod GrowingTexts
+pub mod NamedLemmas
 pub mod ReadyLemmas
 pub mod ReplayedLemmas
 pub mod SaysLemmas

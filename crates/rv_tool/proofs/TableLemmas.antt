@@ -13,7 +13,7 @@ use Rattle.rv_tableau.specs.Nodes.{nodes_of}
 use Rattle.rv_tableau.specs.Rows.{rows_of, tableau_of}
 use Rattle.rv_bind.specs.declared.fault.BindFault.{BindFault}
 use Rattle.rv_bind.specs.declared.fault.BindFault.TheVariants as faults
-use Rattle.rv_bind.specs.Outcomes.{Outcome, accepted, refused, missing, reading, of_file, of_name, Comes}
+use Rattle.rv_bind.specs.Outcomes.{Outcome, accepted, refused, missing, reading, of_file, of_name, Comes, Names}
 use Rattle.rv_bind.proofs.OutcomeLemmas.{of_name-reading}
 use Rattle.rv_tool.specs.declared.words.Kind.{Kind}
 use Rattle.rv_tool.specs.Faults.{Tells}
@@ -56,13 +56,13 @@ module _ (old new : Option (List ℕ)) (before now status : ℕ) (h : List Entry
   no_print (missing file) up = inr up
 
   pub table_answers : (told : Option Files) (first last : ℕ) (kind : Kind) (file : List ℕ) (read : Result (Vec ℕ Global) BindFault)
-      → Comes (λ text. text.items) told first last read (λ files. table_in files kind file) → PrintsRead read old new before now status h
+      → Comes (λ text. text.items) told first last read (λ files. table_in files kind file) → Names told read (λ files. table_in files kind file) → PrintsRead read old new before now status h
       → (files : Files) → told ≡ Some files → Answers (Some (table kind file)) files first last old new before now status h
-  table_answers told first last kind file (Ok text) comes prints files known = inl (subst (λ (o : Outcome (List ℕ)). Prints o old new before now status h) (sym (comes files known)) prints)
-  table_answers told first last kind file (Err faults.Memory) comes prints files known = inl (no_print (table_in files kind file) prints)
-  table_answers told first last kind file (Err (faults.Refused named refusal)) comes prints files known = inl (subst (λ (o : Outcome (List ℕ)). Prints o old new before now status h) (sym (comes files known)) prints)
-  table_answers told first last kind file (Err (faults.Unread named)) (inl lacks) prints files known =
+  table_answers told first last kind file (Ok text) comes reached prints files known = inl (subst (λ (o : Outcome (List ℕ)). Prints o old new before now status h) (sym (comes files known)) prints)
+  table_answers told first last kind file (Err faults.Memory) comes reached prints files known = inl (no_print (table_in files kind file) prints)
+  table_answers told first last kind file (Err (faults.Refused named refusal)) comes reached prints files known = inl (subst (λ (o : Outcome (List ℕ)). Prints o old new before now status h) (sym (comes files known)) prints)
+  table_answers told first last kind file (Err (faults.Unread named)) (inl lacks) reached prints files known =
       let both : Some lacks.0 ≡ Some files = sym lacks.1 ∙ known in
       let same : lacks.0 ≡ files = cc in
       inl (subst (λ (o : Outcome (List ℕ)). Prints o old new before now status h) (sym (ap (λ (fs : Files). table_in fs kind file) (sym same) ∙ lacks.2)) prints)
-  table_answers told first last kind file (Err (faults.Unread named)) (inr rose) prints files known = inr (rose, named, prints)
+  table_answers told first last kind file (Err (faults.Unread named)) (inr rose) reached prints files known = inr (rose, named, reached files known, prints)

@@ -7,6 +7,7 @@ use Rattle.rv_model.specs.declared.entry.Entry.{Entry}
 use Rattle.rv_io.specs.Files.{Files, Rose}
 use Rattle.rv_bind.specs.declared.fault.BindFault.{BindFault}
 use Rattle.rv_bind.specs.declared.fault.BindFault.TheVariants as faults
+use Rattle.rv_bind.specs.Outcomes.{Outcome, IsReached}
 use Rattle.rv_tool.specs.declared.input.Ready.{Ready}
 use Rattle.rv_tool.specs.declared.replaying.Done.{Done}
 use Rattle.rv_tool.specs.Inputs.{replay_input}
@@ -37,13 +38,15 @@ abbrev pub PrintsRead : Result (Vec ℕ Global) BindFault → Option (List ℕ) 
 PrintsRead (Ok text) old new before now status h = Says old new before now text.items 0 status h
 PrintsRead (Err fault) old new before now status h = Fails fault old new before now status h
 
--- where the store's count of faults rose, a file may be called unread
-abbrev pub MayBlame : ℕ → ℕ → Option (List ℕ) → Option (List ℕ) → ℕ → ℕ → ℕ → List Entry → Type 0
-MayBlame first last old new before now status h = Rose first last × (file : List ℕ) × Says old new before now (missing_text file) 3 status h
+-- where the store's count of faults rose, a file may be called unread that the order of the reading comes to
+abbrev pub MayBlame : {Y : Type 0} → (Files → Outcome Y) → Files → ℕ → ℕ → Option (List ℕ) → Option (List ℕ) → ℕ → ℕ → ℕ → List Entry → Type 0
+MayBlame outcome files first last old new before now status h =
+    Rose first last × (file : List ℕ) × IsReached outcome files file × Says old new before now (missing_text file) 3 status h
 
 -- by what the words ask for, on a store that tells its files
 abbrev pub Answers : Option CommandValue → Files → ℕ → ℕ → Option (List ℕ) → Option (List ℕ) → ℕ → ℕ → ℕ → List Entry → Type 0
 Answers None files first last old new before now status h = Says old new before now (refusal_text None (record { number = USAGE; line = 0 })) 2 status h
 Answers (Some (replay bindings trace)) files first last old new before now status h =
-    Ends (replay_input files bindings trace) old new before now status h ⊎ MayBlame first last old new before now status h
-Answers (Some (table kind file)) files first last old new before now status h = Prints (table_in files kind file) old new before now status h ⊎ MayBlame first last old new before now status h
+    Ends (replay_input files bindings trace) old new before now status h ⊎ MayBlame (λ files. replay_input files bindings trace) files first last old new before now status h
+Answers (Some (table kind file)) files first last old new before now status h =
+    Prints (table_in files kind file) old new before now status h ⊎ MayBlame (λ files. table_in files kind file) files first last old new before now status h

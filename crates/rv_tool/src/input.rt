@@ -1,6 +1,6 @@
 //! From the files to what a run begins with.
 ghost use Rattle.std.specs.Prelude.{◌≡◌, ◌≤◌, ◌<◌, ◌^◌, length, map, All, IfOk};
-ghost use Rattle.rv_bind.specs.Outcomes.{Comes};
+ghost use Rattle.rv_bind.specs.Outcomes.{Comes, Names};
 ghost use Rattle.rv_bind.specs.BoundViews.{bound_value};
 ghost use Rattle.rv_bind.specs.WellFormed.{HaveTables, kinds_of, IsWellFormed};
 ghost use Rattle.rv_route.specs.Routed.{routed_value};
@@ -34,6 +34,7 @@ pub(crate) struct Ready {
 const SWITCHED_ON: u64 = 12_884_901_888;
 
 /// Reads the bindings and the trace.
+#[tactic(auto, using(crate::proofs::NamedLemmas::input_named, crate::proofs::NamedLemmas::input_behind_named))]
 pub(crate) fn read_input<S: Store>(
     alloc: Global,
     store: &mut S,
@@ -44,6 +45,7 @@ pub(crate) fn read_input<S: Store>(
     ensures later { S.faults store.old ≤ S.faults store.new }
     ensures ready { IfOk result IsReady }
     ensures value { Comes ready_value (S.files store.old) (S.faults store.old) (S.faults store.new) result (λ files. replay_input files bindings.now trace.now) }
+    ensures named { Names (S.files store.old) result (λ files. replay_input files bindings.now trace.now) }
 {
     let bound = read_bindings(alloc, store, bindings)?;
     let routed = read_routed(alloc, store, trace, &bound)?;

@@ -1,7 +1,7 @@
 //! From a specification's file to its printed table.
 ghost use Rattle.std.specs.Prelude.{◌≡◌, ◌≤◌};
 ghost use Rattle.rv_text.specs.Readings.{Gives};
-ghost use Rattle.rv_bind.specs.Outcomes.{Comes, of_file};
+ghost use Rattle.rv_bind.specs.Outcomes.{Comes, Names, of_file};
 ghost use Rattle.rv_tool.specs.Faults.{Tells};
 ghost use Rattle.rv_tool.specs.Tables.{rule_text, table_text, table_in};
 
@@ -65,6 +65,7 @@ fn named_text(alloc: Global, kind: Kind, name: &str, bytes: &[u8]) -> Result<Vec
 }
 
 /// The table of a file.
+#[tactic(auto, using(crate::proofs::NamedLemmas::table_named, crate::proofs::NamedLemmas::tells_named))]
 pub(crate) fn read_table<S: Store>(
     alloc: Global,
     store: &mut S,
@@ -74,6 +75,7 @@ pub(crate) fn read_table<S: Store>(
     ensures kept { S.files store.new ≡ S.files store.old }
     ensures later { S.faults store.old ≤ S.faults store.new }
     ensures value { Comes (λ text. text.items) (S.files store.old) (S.faults store.old) (S.faults store.new) result (λ files. table_in files kind name.now) }
+    ensures named { Names (S.files store.old) result (λ files. table_in files kind name.now) }
 {
     let bytes = read_text(alloc, store, name)?;
     named_text(alloc, kind, name, bytes.as_slice())

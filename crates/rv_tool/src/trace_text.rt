@@ -1,7 +1,7 @@
 //! From the trace's file to what each CPU has to do.
 ghost use Rattle.std.specs.Prelude.{◌≡◌, ◌≤◌, ◌⊎◌, length, All, IfOk};
 ghost use Rattle.rv_trace.specs.Traces.{trace_of};
-ghost use Rattle.rv_bind.specs.Outcomes.{Comes, of_name, of_file, accepted};
+ghost use Rattle.rv_bind.specs.Outcomes.{Comes, Names, of_name, of_file, accepted};
 ghost use Rattle.rv_bind.specs.BoundViews.{bound_value};
 ghost use Rattle.rv_bind.specs.WellFormed.{IsWellFormed, kinds_of};
 ghost use Rattle.rv_bind.specs.declared.fault.BindFault.TheVariants as faults;
@@ -21,6 +21,7 @@ use rv_trace::{TraceLine, read_trace};
 use std::alloc::Global;
 
 /// The bytes of the trace.
+#[tactic(auto, using(rv_bind::proofs::ReachedLemmas::unread_named))]
 pub(crate) fn read_text<S: Store>(
     alloc: Global,
     store: &mut S,
@@ -29,6 +30,7 @@ pub(crate) fn read_text<S: Store>(
     ensures kept { S.files store.new ≡ S.files store.old }
     ensures later { S.faults store.old ≤ S.faults store.new }
     ensures text { Comes (λ text. text.items) (S.files store.old) (S.faults store.old) (S.faults store.new) result (λ files. of_name files name.now accepted) }
+    ensures named { Names (S.files store.old) result (λ files. of_name files name.now accepted) }
 {
     match store.read(alloc, name) {
         Ok(text) => Ok(text),
@@ -73,6 +75,7 @@ fn front(bytes: &[u8], most: usize) -> &[u8]
 }
 
 /// Reads the trace and routes it. A store that does not tell its files may give more than one read does.
+#[tactic(auto, using(crate::proofs::NamedLemmas::trace_named, crate::proofs::NamedLemmas::tells_named))]
 pub(crate) fn read_routed<S: Store>(
     alloc: Global,
     store: &mut S,
@@ -84,6 +87,7 @@ pub(crate) fn read_routed<S: Store>(
     ensures later { S.faults store.old ≤ S.faults store.new }
     ensures fit { IfOk result (λ routed. WorksFit (kinds_of bound.now.bindings.monitors.items) (length routed.tasks) routed.works.items) }
     ensures value { Comes routed_value (S.files store.old) (S.faults store.old) (S.faults store.new) result (λ files. routed_in files trace.now (bound_value bound.now)) }
+    ensures named { Names (S.files store.old) result (λ files. routed_in files trace.now (bound_value bound.now)) }
 {
     let text = read_text(alloc, store, trace)?;
     route_text(alloc, trace, bound, front(text.as_slice(), READ_LIMIT))

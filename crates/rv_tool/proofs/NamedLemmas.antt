@@ -1,0 +1,49 @@
+-- The unread file that a part of a reading names is reached in the whole.
+use Rattle.std.proofs.Common.{◌≡◌, ℕ, List, refl}
+use Rattle.std.specs.Prelude.{Option, Some, None, Result, Ok, Err}
+use Rattle.rv_io.specs.Files.{Files}
+use Rattle.rv_bind.specs.declared.fault.BindFault.{BindFault}
+use Rattle.rv_bind.specs.declared.fault.BindFault.TheVariants as faults
+use Rattle.rv_bind.specs.Values.{BoundValue}
+use Rattle.rv_bind.specs.Bound.{bound_of}
+use Rattle.rv_bind.specs.Outcomes.{Outcome, accepted, reading, of_file, of_name, Names}
+use Rattle.rv_bind.proofs.OutcomeLemmas.{of_name-reading}
+use Rattle.rv_bind.proofs.ReachedLemmas.{bound-local, step_named, behind_named}
+use Rattle.rv_route.specs.Routing.{RoutedValue}
+use Rattle.rv_tool.specs.declared.words.Kind.{Kind}
+use Rattle.rv_tool.specs.Faults.{Tells}
+use Rattle.rv_tool.specs.Inputs.{InputValue, routed_text, routed_in, replay_input}
+use Rattle.rv_tool.specs.Tables.{table_text, table_in}
+
+module _ (told : Option Files) where
+  -- what a text comes to names no unread file
+  pub tells_named : {X Y W : Type 0} (view : X → Y) (result : Result X BindFault) (text : Outcome Y) (outcome : Files → Outcome W) → Tells view result text → Names told result outcome
+  tells_named view (Ok x) text outcome tells = tt
+  tells_named view (Err faults.Memory) text outcome tells = tt
+  tells_named view (Err (faults.Refused file refusal)) text outcome tells = tt
+  tells_named view (Err (faults.Unread file)) text outcome tells = absurd tells
+
+  -- an unread trace is read by its file
+  pub trace_named : (X Z : Type 0) (trace : List ℕ) (bound : BoundValue) (fault : BindFault) → Names {X = X} told (Err fault) (λ files. of_name files trace accepted) → Names {X = Z} told (Err fault) (λ files. routed_in files trace bound)
+  trace_named X Z trace bound fault =
+      step_named X Z told fault (λ files. of_name files trace accepted) (λ files text. routed_text trace bound text) (λ files. routed_in files trace bound) (λ files. of_name-reading files trace (routed_text trace bound))
+
+  -- a specification whose table is asked for is read by its file
+  pub table_named : (X Z : Type 0) (kind : Kind) (file : List ℕ) (fault : BindFault) → Names {X = X} told (Err fault) (λ files. of_name files file accepted) → Names {X = Z} told (Err fault) (λ files. table_in files kind file)
+  table_named X Z kind file fault =
+      step_named X Z told fault (λ files. of_name files file accepted) (λ files text. of_file file (table_text kind text)) (λ files. table_in files kind file) (λ files. of_name-reading files file (λ text. of_file file (table_text kind text)))
+
+  -- what the bindings name, the run names
+  pub input_named : (X Z : Type 0) (bindings trace : List ℕ) (fault : BindFault) → Names {X = X} told (Err fault) (λ files. bound_of files bindings) → Names {X = Z} told (Err fault) (λ files. replay_input files bindings trace)
+  input_named X Z bindings trace fault =
+      step_named X Z told fault (λ files. bound_of files bindings) (λ files bound. reading (routed_in files trace bound) (λ routed. accepted (record { bound = bound; routed = routed }))) (λ files. replay_input files bindings trace) (λ files. refl)
+
+  -- where the bindings were read, the run names what the trace names
+  pub input_behind_named : (X Z : Type 0) (bindings trace : List ℕ) (bound : BoundValue) (fault : BindFault) → ((files : Files) → told ≡ Some files → bound_of files bindings ≡ accepted bound)
+      → Names {X = X} told (Err fault) (λ files. routed_in files trace bound) → Names {X = Z} told (Err fault) (λ files. replay_input files bindings trace)
+  input_behind_named X Z bindings trace bound fault read named =
+      behind_named X Z told fault (λ files. bound_of files bindings) bound next (bound-local bindings) read
+      (step_named X X told fault (λ files. routed_in files trace bound) (λ files routed. accepted (record { bound = bound; routed = routed })) (λ files. next files bound) (λ files. refl) named)
+    where
+      next : Files → BoundValue → Outcome InputValue
+      next files bound = reading (routed_in files trace bound) (λ routed. accepted (record { bound = bound; routed = routed }))
