@@ -1,5 +1,7 @@
+pub mod AddLemmas
 pub mod DoneLemmas
 pub mod EntryLemmas
+pub mod FeedLemmas
 pub mod LaneLemmas
 pub mod OneLemmas
 pub mod RunLemmas

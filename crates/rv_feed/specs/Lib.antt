@@ -1,3 +1,4 @@
+pub mod Feeding
 pub mod Lane
 pub mod One
 pub mod Order

@@ -1,12 +1,14 @@
-//! The scripts of several CPUs on one thread, in the order of the trace.
+//! The scripts of several CPUs: on one thread in the order of the trace, or all at once on a board.
 #![tactic(auto)]
 
+mod feeder;
 mod lane;
 mod one;
 mod order;
 mod records;
 mod turn;
 
+pub use feeder::Feeder;
 pub use lane::Lane;
 pub use one::replay;
 pub use order::run_in_order;
