@@ -1,9 +1,9 @@
 -- A turn of a feeder, delivery by delivery, and a script, turn by turn.
-use Rattle.std.proofs.Common.{◌≡◌, ℕ, ◌+◌, ◌-◌, ◌<◌, ◌≤◌, ◌^◌, Bool, true, false, ◌&&◌, List, [], ◌∷◌, ◌++◌, length, arith, refl, sym, ap, ◌∙◌, subst, append_assoc, append-nil, take, drop, get_or, length-append}
+use Rattle.std.proofs.Common.{◌≡◌, ℕ, ◌+◌, ◌-◌, ◌<◌, ◌≤◌, ◌^◌, Bool, true, false, ◌&&◌, List, [], ◌∷◌, ◌++◌, length, arith, refl, sym, ap, ◌∙◌, subst, append-nil, take, drop, get_or, length-append}
 use Rattle.std.specs.Prelude.{filter, slice_range}
 use Rattle.std.proofs.lemmas.List.{take_more, take_all, take-append-drop, get_or_default}
 use Rattle.std.proofs.lemmas.List.Elements.{filter-append}
-use Rattle.rv_model.specs.declared.entry.Act.TheVariants.{Look, Raise}
+use Rattle.rv_model.specs.declared.entry.Act.TheVariants.{Raise}
 use Rattle.rv_model.specs.declared.entry.Answer.TheVariants.{Looked, Switched}
 use Rattle.rv_model.specs.declared.record.Delivered.{Delivered}
 use Rattle.rv_model.specs.declared.record.Record.{Record}
@@ -19,7 +19,7 @@ use Rattle.rv_model.specs.Works.{Work, IsWork}
 use Rattle.rv_model.proofs.ScriptPartLemmas.{part-nothing, part-join, last-join, part-one, last-one, turn-goes, turn-ends, turn-halted, goes-nothing, goes-join, goes-end, goes-whole}
 use Rattle.rv_core.specs.Setup.{judges_of}
 use Rattle.rv_board.specs.Seats.{BoardId, SeatValue, Looks, Does}
-use Rattle.rv_feed.specs.Lane.{LaneValue, AddsRecords, IsNewLane}
+use Rattle.rv_feed.specs.Lane.{LaneValue, AddsRecords}
 use Rattle.rv_feed.specs.Feeding.{Adds, Serves, FeedsDelivery, FeedsPart, FeedsTurn, CanFeed, FedSoFar, Feeds}
 use Rattle.rv_feed.proofs.AddLemmas.{adds-none, adds-then, adds-look, adds-raise}
 use Rattle.rv_feed.proofs.LaneLemmas.{names-in, names-next}

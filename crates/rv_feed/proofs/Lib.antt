@@ -1,6 +1,9 @@
 pub mod AddLemmas
+pub mod ChangeLemmas
+pub mod ClearLemmas
 pub mod DoneLemmas
 pub mod EntryLemmas
+pub mod FeederLemmas
 pub mod FeedLemmas
 pub mod LaneLemmas
 pub mod OneLemmas

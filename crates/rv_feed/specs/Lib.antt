@@ -1,3 +1,5 @@
+pub mod Changes
+pub mod Feeders
 pub mod Feeding
 pub mod Lane
 pub mod One

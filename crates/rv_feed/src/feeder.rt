@@ -3,6 +3,7 @@ ghost use Rattle.std.specs.Prelude.{◌≡◌, ◌&&◌, ◌<◌, ◌≤◌, len
 ghost use Rattle.rv_model.specs.Numbers.{has_bit};
 ghost use Rattle.rv_model.specs.Records.{failed_outcome};
 ghost use Rattle.rv_feed.specs.Lane.{FitsDelivery, panics_of};
+ghost use Rattle.rv_feed.specs.Feeders.{FitsFeeder, RunsFeeder};
 ghost use Rattle.rv_feed.specs.Feeding.{Serves, FeedsDelivery, FeedsTurn, CanFeed, Feeds};
 
 use crate::lane::{Lane, cpu_of, delivery_at, keep, known, turn_at, turn_count};
@@ -103,7 +104,9 @@ fn play_turn<G: Gate>(
     for place in turn.from..turn.to {
         let delivery = delivery_at(lane, place);
         if is_shown(word, &delivery) {
-            if deliver(board, seat, reactors, word, turn.line, &delivery, lane, gate) {
+            if deliver(
+                board, seat, reactors, word, turn.line, &delivery, lane, gate,
+            ) {
                 return true;
             }
         }
@@ -136,10 +139,9 @@ fn play<G: Gate>(
 }
 
 /// The feeder's script.
-pub(crate) fn feed<G: Gate>(board: &Board, reactors: &[Reactor], feeder: &mut Feeder<G>)
-    requires board { feeder.old.seat.board ≡ board.now }
-    requires lane { CanFeed board.now feeder.old.lane }
-    ensures { Feeds (panics_of reactors.now) feeder.old.seat feeder.new.seat feeder.old.lane feeder.new.lane }
+pub(crate) fn run_feeder<G: Gate>(board: &Board, reactors: &[Reactor], feeder: &mut Feeder<G>)
+    requires { FitsFeeder board.now feeder.old }
+    ensures { RunsFeeder (panics_of reactors.now) feeder.old feeder.new }
 {
     play(
         board,

@@ -1,8 +1,6 @@
 -- A delivery and its record, and a halt where the script ends.
-use Rattle.std.proofs.Common.{Bool, List, [], ◌∷◌, sym, ◌∙◌, subst}
-use Rattle.rv_feed.specs.Feeding.{FeedsDelivery}
+use Rattle.std.proofs.Common.{Bool, [], ◌∷◌, sym, ◌∙◌, subst}
 use Rattle.rv_feed.specs.Lane.{panics_of, AddsRecords}
-use Rattle.rv_model.specs.declared.record.Record.{Record}
 use Rattle.rv_feed.proofs.FeedLemmas.{delivery-goes, delivery-ends}
 use Rattle.rv_feed.proofs.feeder.deliver.Goals as goal
 

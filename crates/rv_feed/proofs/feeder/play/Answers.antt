@@ -1,7 +1,6 @@
 -- A turn after turns.
 use Rattle.std.proofs.Common.{◌≡◌, ◌<◌, ◌≤◌, length, Bool, get_or, sym, ap, ◌∙◌, subst, arith}
 use Rattle.rv_model.specs.declared.work.Turn.{Turn}
-use Rattle.rv_model.specs.Setups.{Setup}
 use Rattle.rv_model.specs.Works.{Work}
 use Rattle.rv_board.specs.Seats.{BoardId}
 use Rattle.rv_feed.specs.Feeding.{FeedsTurn, CanFeed}

@@ -1,5 +1,5 @@
 -- A look, and the deliveries that it shows on.
-use Rattle.std.proofs.Common.{◌≡◌, ◌+◌, ◌<◌, ◌≤◌, length, ℕ, Bool, true, false, get_or, sym, ap, ◌∙◌, subst, arith, length-append}
+use Rattle.std.proofs.Common.{◌≡◌, ◌+◌, ◌<◌, length, ℕ, Bool, true, false, get_or, sym, ap, ◌∙◌, subst, arith, length-append}
 use Rattle.std.proofs.lemmas.List.Elements.{All-get_or}
 use Rattle.rv_model.specs.declared.work.Delivery.{Delivery}
 use Rattle.rv_model.specs.Numbers.{has_bit}
