@@ -41,7 +41,7 @@ others_before p b e passes eq =
     (same_from_push (filter p b) [] e e (ap (λ (z : List Entry). filter p b ++ z) (sym last) ∙ sym (filter-append p b (e ∷ [])) ∙ eq)).0
 
 -- a seat that is known has no entry there
-none_known : (known : ℕ → Bool) (seat : ℕ) (b : List Entry) → known seat ≡ true → entries_by known b ≡ [] → NoneOf seat b
+pub none_known : (known : ℕ → Bool) (seat : ℕ) (b : List Entry) → known seat ≡ true → entries_by known b ≡ [] → NoneOf seat b
 none_known known seat [] has none = tt
 none_known known seat (x ∷ b) has none = go (known x.seat) refl (none_known known seat b has)
   where

@@ -5,6 +5,7 @@ pub mod DoneLemmas
 pub mod EntryLemmas
 pub mod FeederLemmas
 pub mod FeedLemmas
+pub mod JoinedLemmas
 pub mod LaneLemmas
 pub mod OneLemmas
 pub mod RunLemmas

@@ -8,6 +8,8 @@ mod lane;
 mod one;
 mod order;
 mod records;
+#[cfg(test)]
+mod tests;
 mod turn;
 
 pub use changer::Changer;
