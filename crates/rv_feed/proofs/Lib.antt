@@ -1,5 +1,11 @@
+pub mod AddLemmas
+pub mod ChangeLemmas
+pub mod ClearLemmas
 pub mod DoneLemmas
 pub mod EntryLemmas
+pub mod FeederLemmas
+pub mod FeedLemmas
+pub mod JoinedLemmas
 pub mod LaneLemmas
 pub mod LineLemmas
 pub mod MergeLemmas

@@ -27,16 +27,16 @@ slice-more ds from place d le lt =
     ∙ ap (λ (x : Delivery). take (place - from) (drop from ds) ++ x ∷ []) (get_or-drop from ds (place - from) d ∙ ap (λ (k : ℕ). get_or ds k d) back)
 
 -- the places before one, and the rest
-slice-split : (ds : List Delivery) (from place to : ℕ) → place ≤ to → slice_range ds from to ≡ slice_range ds from place ++ drop (place - from) (slice_range ds from to)
+pub slice-split : (ds : List Delivery) (from place to : ℕ) → place ≤ to → slice_range ds from to ≡ slice_range ds from place ++ drop (place - from) (slice_range ds from to)
 slice-split ds from place to le =
     sym (take-append-drop (place - from) (take (to - from) (drop from ds))) ∙ ap (λ (z : List Delivery). z ++ drop (place - from) (take (to - from) (drop from ds))) (take-take (place - from) (to - from) (drop from ds) (omega arith))
 
 -- a delivery that is shown
-filter-one : (word : ℕ) (d : Delivery) → is_shown word d ≡ true → filter (is_shown word) (d ∷ []) ≡ d ∷ []
+pub filter-one : (word : ℕ) (d : Delivery) → is_shown word d ≡ true → filter (is_shown word) (d ∷ []) ≡ d ∷ []
 filter-one word d shown = rw shown refl
 
 -- a delivery that is not
-filter-none : (word : ℕ) (d : Delivery) → is_shown word d ≡ false → filter (is_shown word) (d ∷ []) ≡ []
+pub filter-none : (word : ℕ) (d : Delivery) → is_shown word d ≡ false → filter (is_shown word) (d ∷ []) ≡ []
 filter-none word d hidden = rw hidden refl
 
 -- no record

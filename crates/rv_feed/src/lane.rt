@@ -69,6 +69,13 @@ pub(crate) fn seat_of(lane: &Lane) -> u32
     2 + lane.work.cpu as u32
 }
 
+/// The lane's CPU.
+pub(crate) fn cpu_of(lane: &Lane) -> u32
+    ensures { result ≡ lane.now.work.cpu }
+{
+    lane.work.cpu as u32
+}
+
 /// The delivery at this place.
 pub(crate) fn delivery_at(lane: &Lane, place: u32) -> Delivery
     requires { place < length lane.now.work.deliveries }

@@ -1,13 +1,21 @@
-//! The scripts of several CPUs on one thread, in the order of the trace.
+//! The scripts of several CPUs: on one thread in the order of the trace, or all at once on a board.
 #![tactic(auto)]
 
+mod changer;
+mod feeder;
+mod feeders;
 mod lane;
 mod merge;
 mod one;
 mod order;
 mod records;
+#[cfg(test)]
+mod tests;
 mod turn;
 
+pub use changer::Changer;
+pub use feeder::Feeder;
+pub use feeders::run_feeders;
 pub use lane::Lane;
 pub use one::replay;
 pub use order::run_in_order;

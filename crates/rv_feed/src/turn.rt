@@ -10,14 +10,14 @@ use rv_core::Core;
 use rv_model::{Act, Answer, Delivered, Delivery, Reactor, Record, Turn};
 
 /// Whether the word has this bit.
-fn has_switch(word: u64, bit: u8) -> bool
+pub(crate) fn has_switch(word: u64, bit: u8) -> bool
     ensures { result ≡ has_bit word bit }
 {
     bit < 64 && (word >> bit) & 1 == 1
 }
 
 /// Whether a look shows the delivery on.
-fn is_shown(word: u64, delivery: &Delivery) -> bool
+pub(crate) fn is_shown(word: u64, delivery: &Delivery) -> bool
     ensures { result ≡ is_shown word delivery.now }
 {
     has_switch(word, 32) && has_switch(word, delivery.monitor)
@@ -31,7 +31,7 @@ fn fails(answer: Answer) -> bool
 }
 
 /// Whether a delivery with this answer ends its script.
-fn halts(reactors: &[Reactor], word: u64, monitor: u8, answer: Answer) -> bool
+pub(crate) fn halts(reactors: &[Reactor], word: u64, monitor: u8, answer: Answer) -> bool
     ensures { result ≡ (fails answer && (panics_of reactors.now monitor && has_bit word 33)) }
 {
     fails(answer) && (is_panic(reactors, monitor) && has_switch(word, 33))

@@ -1,0 +1,242 @@
+-- A turn of a feeder, delivery by delivery, and a script, turn by turn.
+use Rattle.std.proofs.Common.{◌≡◌, ℕ, ◌+◌, ◌-◌, ◌<◌, ◌≤◌, ◌^◌, Bool, true, false, ◌&&◌, List, [], ◌∷◌, ◌++◌, length, arith, refl, sym, ap, ◌∙◌, subst, append-nil, take, drop, get_or, length-append}
+use Rattle.std.specs.Prelude.{filter, slice_range}
+use Rattle.std.proofs.lemmas.List.{take_more, take_all, take-append-drop, get_or_default}
+use Rattle.std.proofs.lemmas.List.Elements.{filter-append}
+use Rattle.rv_model.specs.declared.entry.Act.TheVariants.{Raise}
+use Rattle.rv_model.specs.declared.entry.Answer.TheVariants.{Looked, Switched}
+use Rattle.rv_model.specs.declared.record.Delivered.{Delivered}
+use Rattle.rv_model.specs.declared.record.Record.{Record}
+use Rattle.rv_model.specs.declared.work.Delivery.{Delivery}
+use Rattle.rv_model.specs.declared.work.Turn.{Turn}
+use Rattle.rv_model.specs.Histories.{IsSound}
+use Rattle.rv_model.specs.Numbers.{has_bit}
+use Rattle.rv_model.specs.Records.{failed_outcome, record_of, script_records}
+use Rattle.rv_model.specs.ScriptParts.{Part, LastPart, turn_lists, GoesOn, Ends}
+use Rattle.rv_model.specs.Scripts.{Played, is_shown, fails, PlaysTurns}
+use Rattle.rv_model.specs.Setups.{Setup}
+use Rattle.rv_model.specs.Works.{Work, IsWork}
+use Rattle.rv_model.proofs.ScriptPartLemmas.{part-nothing, part-join, last-join, part-one, last-one, turn-goes, turn-ends, turn-halted, goes-nothing, goes-join, goes-end, goes-whole}
+use Rattle.rv_core.specs.Setup.{judges_of}
+use Rattle.rv_board.specs.Seats.{BoardId, SeatValue, Looks, Does}
+use Rattle.rv_feed.specs.Lane.{LaneValue, AddsRecords}
+use Rattle.rv_feed.specs.Feeding.{Adds, Serves, FeedsDelivery, FeedsPart, FeedsTurn, CanFeed, FedSoFar, Feeds}
+use Rattle.rv_feed.proofs.AddLemmas.{adds-none, adds-then, adds-look, adds-raise}
+use Rattle.rv_feed.proofs.LaneLemmas.{names-in, names-next}
+use Rattle.rv_feed.proofs.TurnLemmas.{slice-more, slice-split, filter-one, filter-none, adds-nothing, adds-join}
+
+-- a seat stays on its board
+pub same-setup : (a b : SeatValue) (ps : List Played) → Adds a b ps → b.board.setup ≡ a.board.setup
+same-setup a b ps adds = ap (λ (z : BoardId). z.setup) adds.grows.board
+
+-- the record of a delivery
+abbrev pub record-for : ℕ → ℕ → Delivery → Delivered → Record
+record-for line look d outcome = record { order = d.order; line = line; monitor = d.monitor; instance = d.instance; hit = d.hit; outcome = outcome; reacting = has_bit look 33 }
+
+-- ---- a delivery
+
+module _ (panics : ℕ → Bool) (look line : ℕ) (d : Delivery) (outcome : Delivered) (old mid : SeatValue) (lane lane' : LaneValue) (v : Serves old mid d outcome) (kept : AddsRecords lane lane' (record-for line look d outcome ∷ [])) where
+  made-is : record_of line look (d, (v.entry, v.answer)) ≡ record-for line look d outcome
+  made-is = ap (record-for line look d) v.outcome_is
+
+  same-test : (fails v.answer && (panics d.monitor && has_bit look 33)) ≡ (failed_outcome outcome && (panics d.monitor && has_bit look 33))
+  same-test = ap (λ (b : Bool). b && (panics d.monitor && has_bit look 33)) v.fails_is
+
+  -- after which the script goes on
+  pub delivery-goes : (failed_outcome outcome && (panics d.monitor && has_bit look 33)) ≡ false → FeedsDelivery old mid panics look line d lane lane' false
+  delivery-goes on = record {
+    first = (v.entry, v.answer);
+    more = [];
+    made = record-for line look d outcome;
+    adds = v.adds;
+    part = part-one old.board.setup panics look line d v.entry v.answer v.makes (record-for line look d outcome) made-is (same-test ∙ on);
+    kept = kept;
+  }
+
+  -- after which the run halts
+  pub delivery-ends : (new : SeatValue) → (failed_outcome outcome && (panics d.monitor && has_bit look 33)) ≡ true → (h : Does mid new (Raise (2 ^ 34))) → FeedsDelivery old new panics look line d lane lane' true
+  delivery-ends new off h = record {
+    first = (v.entry, v.answer);
+    more = (h.0, Switched) ∷ [];
+    made = record-for line look d outcome;
+    adds = adds-then old mid new ((v.entry, v.answer) ∷ []) (h.0, Switched) [] v.adds (adds-raise mid new (2 ^ 34) h);
+    part = last-one old.board.setup panics look line d v.entry v.answer v.makes (record-for line look d outcome) made-is (same-test ∙ off) h.0 Switched h.1.act_is;
+    kept = kept;
+  }
+
+-- ---- a turn
+
+module _ (panics : ℕ → Bool) (word : ℕ) (turn : Turn) (lane : LaneValue) where
+  abbrev ds : List Delivery
+  ds = lane.work.deliveries
+
+  -- right after the look
+  pub part-start : (old mid : SeatValue) → Looks old mid word → FeedsPart old mid panics word turn lane lane turn.from
+  part-start old mid l =
+      let z : turn.from - turn.from ≡ 0 = omega arith in
+      record {
+        look = l.entry;
+        look_is = l.acts.act_is;
+        ps = [];
+        rs = [];
+        adds = adds-look old mid word l;
+        part = rw z (part-nothing old.board.setup panics word turn.line);
+        kept = adds-nothing lane;
+        few = omega arith;
+      }
+
+  -- the look shows a halt
+  pub turn-off : (old mid : SeatValue) → Looks old mid word → has_bit word 34 ≡ true → FeedsTurn old mid panics turn lane lane true
+  turn-off old mid l off = record {
+    first = (l.entry, Looked word);
+    more = [];
+    rs = [];
+    adds = adds-look old mid word l;
+    script = turn-halted old.board.setup panics ds turn l.entry l.acts.act_is word off;
+    kept = adds-nothing lane;
+    few = omega arith;
+  }
+
+  module _ (old cur : SeatValue) (lane' : LaneValue) (place : ℕ) (done : FeedsPart old cur panics word turn lane lane' place)
+      (d : Delivery) (d_is : d ≡ get_or ds place d) (le : turn.from ≤ place) (lt : place < length ds) where
+    front : List Delivery
+    front = filter (is_shown word) (slice_range ds turn.from place)
+
+    so_far : filter (is_shown word) (slice_range ds turn.from (place + 1)) ≡ filter (is_shown word) (slice_range ds turn.from place) ++ filter (is_shown word) (d ∷ [])
+    so_far = ap (filter (is_shown word)) (slice-more ds turn.from place d le lt ∙ ap (λ (x : Delivery). slice_range ds turn.from place ++ x ∷ []) (sym d_is)) ∙ filter-append (is_shown word) (slice_range ds turn.from place) (d ∷ [])
+
+    shown-so_far : is_shown word d ≡ true → filter (is_shown word) (slice_range ds turn.from (place + 1)) ≡ filter (is_shown word) (slice_range ds turn.from place) ++ d ∷ []
+    shown-so_far shown = so_far ∙ ap (λ (z : List Delivery). filter (is_shown word) (slice_range ds turn.from place) ++ z) (filter-one word d shown)
+
+    -- the look does not show the delivery on
+    pub part-hidden : is_shown word d ≡ false → FeedsPart old cur panics word turn lane lane' (place + 1)
+    part-hidden hidden = record {
+      look = done.look;
+      look_is = done.look_is;
+      ps = done.ps;
+      rs = done.rs;
+      adds = done.adds;
+      part = subst (λ (z : List Delivery). Part old.board.setup panics word turn.line z done.ps done.rs) (sym (so_far ∙ ap (λ (z : List Delivery). filter (is_shown word) (slice_range ds turn.from place) ++ z) (filter-none word d hidden) ∙ append-nil (filter (is_shown word) (slice_range ds turn.from place)))) done.part;
+      kept = done.kept;
+      few = let f = done.few in omega arith;
+    }
+
+    -- it is made, and the script goes on
+    pub part-shown : (new : SeatValue) (lane'' : LaneValue) → is_shown word d ≡ true → FeedsDelivery cur new panics word turn.line d lane' lane'' false → FeedsPart old new panics word turn lane lane'' (place + 1)
+    part-shown new lane'' shown v =
+        let ps : List Played = v.first ∷ v.more in
+        let part = subst (λ (s : Setup). Part s panics word turn.line (d ∷ []) ps (v.made ∷ [])) (same-setup old cur ((done.look, Looked word) ∷ done.ps) done.adds) v.part in
+        record {
+          look = done.look;
+          look_is = done.look_is;
+          ps = done.ps ++ ps;
+          rs = done.rs ++ v.made ∷ [];
+          adds = adds-then old cur new ((done.look, Looked word) ∷ done.ps) v.first v.more done.adds v.adds;
+          part = subst (λ (z : List Delivery). Part old.board.setup panics word turn.line z (done.ps ++ ps) (done.rs ++ v.made ∷ [])) (sym (shown-so_far shown))
+              (part-join old.board.setup panics word turn.line (filter (is_shown word) (slice_range ds turn.from place)) (d ∷ []) done.ps ps done.rs (v.made ∷ []) done.part part);
+          kept = adds-join lane lane' lane'' done.rs (v.made ∷ []) done.kept v.kept;
+          few = let f = done.few in let l = length-append done.rs (v.made ∷ []) in omega arith;
+        }
+
+    -- it is made, and the script ends
+    pub part-ends : (new : SeatValue) (lane'' : LaneValue) → has_bit word 34 ≡ false → place < turn.to → is_shown word d ≡ true → FeedsDelivery cur new panics word turn.line d lane' lane'' true → FeedsTurn old new panics turn lane lane'' true
+    part-ends new lane'' on before shown v =
+        let s : Setup = old.board.setup in
+        let ps : List Played = v.first ∷ v.more in
+        let front : List Delivery = filter (is_shown word) (slice_range ds turn.from place) in
+        let rest : List Delivery = filter (is_shown word) (drop ((place + 1) - turn.from) (slice_range ds turn.from turn.to)) in
+        let split : filter (is_shown word) (slice_range ds turn.from turn.to) ≡ (front ++ d ∷ []) ++ rest =
+        ap (filter (is_shown word)) (slice-split ds turn.from (place + 1) turn.to (omega arith))
+        ∙ filter-append (is_shown word) (slice_range ds turn.from (place + 1)) (drop ((place + 1) - turn.from) (slice_range ds turn.from turn.to))
+        ∙ ap (λ (z : List Delivery). z ++ rest) (shown-so_far shown) in
+        let part = subst (λ (s : Setup). LastPart s panics word turn.line (d ∷ []) ps (v.made ∷ [])) (same-setup old cur ((done.look, Looked word) ∷ done.ps) done.adds) v.part in
+        let last = last-join s panics word turn.line front (d ∷ []) done.ps ps done.rs (v.made ∷ []) done.part part in
+        record {
+          first = (done.look, Looked word);
+          more = done.ps ++ ps;
+          rs = done.rs ++ v.made ∷ [];
+          adds = adds-then old cur new ((done.look, Looked word) ∷ done.ps) v.first v.more done.adds v.adds;
+          script = turn-ends s panics ds turn done.look done.look_is word on (front ++ d ∷ []) rest (done.ps ++ ps) (done.rs ++ v.made ∷ []) split last;
+          kept = adds-join lane lane' lane'' done.rs (v.made ∷ []) done.kept v.kept;
+          few = let f = done.few in let l = length-append done.rs (v.made ∷ []) in omega arith;
+        }
+
+  -- all deliveries
+  pub part-all : (old cur : SeatValue) (lane' : LaneValue) → has_bit word 34 ≡ false → FeedsPart old cur panics word turn lane lane' turn.to → FeedsTurn old cur panics turn lane lane' false
+  part-all old cur lane' on done = record {
+    first = (done.look, Looked word);
+    more = done.ps;
+    rs = done.rs;
+    adds = done.adds;
+    script = turn-goes old.board.setup panics ds turn done.look done.look_is word on done.ps done.rs done.part;
+    kept = done.kept;
+    few = done.few;
+  }
+
+-- ---- a script
+
+-- before the first turn
+pub fed-none : (panics : ℕ → Bool) (a : SeatValue) (lane : LaneValue) → IsSound a.board.setup (judges_of a.board.setup) a.part.seen → CanFeed a.board lane → FedSoFar panics a a lane lane 0
+fed-none panics a lane sound can =
+    let none : lane.records ≡ [] = can.new_lane.no_records in
+    record {
+      ps = [];
+      adds = adds-none a sound;
+      goes = subst (λ (rs : List Record). GoesOn a.board.setup panics lane.work.deliveries [] [] rs) (sym none) (goes-nothing a.board.setup panics lane.work.deliveries);
+      work_is = refl;
+      kept = λ t lt. let l : length lane.records ≡ 0 = rw none refl in omega arith;
+      room = can.new_lane.room;
+    }
+
+module _ (panics : ℕ → Bool) (old cur new : SeatValue) (lane lane' lane'' : LaneValue) (place : ℕ) (so_far : FedSoFar panics old cur lane lane' place) (turn : Turn) (turn_is : turn ≡ get_or lane.work.turns place turn) (lt : place < length lane.work.turns) where
+  abbrev s : Setup
+  s = old.board.setup
+
+  abbrev turns : List Turn
+  turns = lane.work.turns
+
+  one-more : take (place + 1) turns ≡ take place turns ++ turn ∷ []
+  one-more = take_more turns place turn lt ∙ ap (λ (t : Turn). take place turns ++ t ∷ []) (sym turn_is)
+
+  -- a turn after which the script goes on
+  pub fed-more : IsWork lane.work → FeedsTurn cur new panics turn lane' lane'' false → FedSoFar panics old new lane lane'' (place + 1)
+  fed-more is_work v =
+      let goes = subst (λ (w : Work). GoesOn s panics w.deliveries (turn ∷ []) (v.first ∷ v.more) v.rs) so_far.work_is (subst (λ (z : Setup). GoesOn z panics lane'.work.deliveries (turn ∷ []) (v.first ∷ v.more) v.rs) (same-setup old cur so_far.ps so_far.adds) v.script) in
+      record {
+        ps = so_far.ps ++ v.first ∷ v.more;
+        adds = adds-then old cur new so_far.ps v.first v.more so_far.adds v.adds;
+        goes = subst (λ (ts : List Turn). GoesOn s panics lane.work.deliveries ts (so_far.ps ++ v.first ∷ v.more) lane''.records) (sym one-more)
+            (subst (λ (rs : List Record). GoesOn s panics lane.work.deliveries (take place turns ++ turn ∷ []) (so_far.ps ++ v.first ∷ v.more) rs) (sym v.kept.records_are)
+            (goes-join s panics lane.work.deliveries (take place turns) (turn ∷ []) so_far.ps (v.first ∷ v.more) lane'.records v.rs so_far.goes goes));
+        work_is = v.kept.work_is ∙ so_far.work_is;
+        kept = λ t later.
+            let next = names-next 0 turns (length lane.work.deliveries) is_work place t later in
+            let order = (names-in 0 turns (length lane.work.deliveries) is_work place t lt).0 in
+            let k = so_far.kept t lt in
+            let same : turn ≡ get_or turns place t = turn_is ∙ get_or_default turns place turn t lt in
+            let few : length v.rs ≤ (get_or turns place t).to - (get_or turns place t).from = subst (λ (x : Turn). length v.rs ≤ x.to - x.from) same v.few in
+            let many : length lane''.records ≡ length lane'.records + length v.rs = ap length v.kept.records_are ∙ length-append lane'.records v.rs in
+            omega arith;
+        room = let a = so_far.room in let b = v.kept.room in omega arith;
+      }
+
+  -- a turn with which it ends
+  pub fed-last : FeedsTurn cur new panics turn lane' lane'' true → Feeds panics old new lane lane''
+  fed-last v =
+      let ends = subst (λ (w : Work). Ends s panics w.deliveries (turn ∷ []) (v.first ∷ v.more) v.rs) so_far.work_is (subst (λ (z : Setup). Ends z panics lane'.work.deliveries (turn ∷ []) (v.first ∷ v.more) v.rs) (same-setup old cur so_far.ps so_far.adds) v.script) in
+      let whole = goes-end s panics lane.work.deliveries (take place turns) (turn ∷ []) so_far.ps (v.first ∷ v.more) lane'.records v.rs so_far.goes ends in
+      let all : (take place turns ++ turn ∷ []) ++ drop (place + 1) turns ≡ turns = ap (λ (ts : List Turn). ts ++ drop (place + 1) turns) (sym one-more) ∙ take-append-drop (place + 1) turns in
+      record {
+        script = so_far.ps ++ v.first ∷ v.more;
+        adds = adds-then old cur new so_far.ps v.first v.more so_far.adds v.adds;
+        plays = subst (λ (ts : List Turn). PlaysTurns s panics (turn_lists lane.work.deliveries ts) (so_far.ps ++ v.first ∷ v.more)) all (whole.plays (drop (place + 1) turns));
+        records = ap (λ (ts : List Turn). script_records lane.work.deliveries ts (so_far.ps ++ v.first ∷ v.more)) (sym all) ∙ whole.records (drop (place + 1) turns) ∙ sym v.kept.records_are;
+        work_is = v.kept.work_is ∙ so_far.work_is;
+      }
+
+-- after the last turn
+pub fed-all : (panics : ℕ → Bool) (old cur : SeatValue) (lane lane' : LaneValue) (place : ℕ) → FedSoFar panics old cur lane lane' place → length lane.work.turns ≤ place → Feeds panics old cur lane lane'
+fed-all panics old cur lane lane' place so_far all =
+    let goes = subst (λ (ts : List Turn). GoesOn old.board.setup panics lane.work.deliveries ts so_far.ps lane'.records) (take_all place lane.work.turns all) so_far.goes in
+    let whole = goes-whole old.board.setup panics lane.work.deliveries lane.work.turns so_far.ps lane'.records goes in
+    record { script = so_far.ps; adds = so_far.adds; plays = whole.0; records = whole.1; work_is = so_far.work_is }

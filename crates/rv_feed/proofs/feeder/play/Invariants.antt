@@ -1,0 +1,7 @@
+-- The turns so far are a script that goes on.
+use Rattle.rv_feed.specs.Feeding.{FedSoFar}
+use Rattle.rv_feed.specs.Lane.{panics_of}
+use Rattle.rv_feed.proofs.feeder.play.Given as goal
+
+abbrev pub invariant-loop-place : goal.invariant-loop-place
+invariant-loop-place g l = FedSoFar (panics_of l.reactors) l.fn.seat l.seat l.fn.lane l.lane l.place

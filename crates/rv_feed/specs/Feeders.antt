@@ -1,0 +1,38 @@
+-- What a run of all scripts at once begins with, and what it comes to.
+use Rattle.std.specs.Prelude.{◌≡◌, ℕ, ◌+◌, Bool, All, Option, None, Some}
+use Rattle.std.proofs.Common.{◌⊎◌, inl, inr}
+use denote.MutBor.{MutBor}
+use Rattle.rv_model.specs.Scripts.{control_acts}
+use Rattle.rv_board.specs.Seats.{BoardId}
+use Rattle.rv_feed.specs.declared.changer.Changer.{Changer}
+use Rattle.rv_feed.specs.declared.feeder.Feeder.{Feeder}
+use Rattle.rv_feed.specs.Changes.{CanChange, IsBelowHalt, DoesAll}
+use Rattle.rv_feed.specs.Feeding.{CanFeed, Feeds}
+
+module _ {G : Type 0} where
+  -- the seat is the CPU's on this board, and the lane is new and fits the board
+  pub record FitsFeeder (board : BoardId) (f : Feeder G) : Type 0 where
+    pub board_is : f.seat.board ≡ board
+    pub seat_is : f.seat.part.number ≡ 2 + f.lane.work.cpu
+    pub lane_fits : CanFeed board f.lane
+
+  -- the feeder played the script of its work
+  abbrev pub RunsFeeder : (ℕ → Bool) → Feeder G → Feeder G → Type 0
+  RunsFeeder panics old new = Feeds panics old.seat new.seat old.lane new.lane
+
+  -- the seat is the control actor's on this board, and no change names the halted bit
+  pub record FitsChanger (board : BoardId) (c : Changer G) : Type 0 where
+    pub seat_is : CanChange board c.seat
+    pub below_halt : All IsBelowHalt c.changes.items
+
+  -- the changer made its changes, which are as before
+  pub record RunsChanger (old new : Changer G) : Type 0 where
+    pub does : DoesAll old.seat new.seat (control_acts old.seat.board.setup.shape old.changes.items)
+    pub same : new.changes ≡ old.changes
+
+-- where there is a value, the fact holds of it before and after
+abbrev pub IfLent : {T : Type 0} → (T → T → Type 0) → Option (MutBor T) → Unit {0} ⊎ ((MutBor T × Unit {0}) ⊎ ⊥) → Type 0
+IfLent R None after = Unit {0}
+IfLent R (Some x) (inl u) = ⊥
+IfLent R (Some x) (inr (inl y)) = R x.now y.0.now
+IfLent R (Some x) (inr (inr z)) = ⊥

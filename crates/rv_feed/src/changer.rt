@@ -1,0 +1,97 @@
+//! The control actor's changes on a board.
+ghost use Rattle.std.specs.Prelude.{◌<◌, ◌^◌, All};
+ghost use Rattle.rv_model.specs.declared.entry.Act.TheVariants.{Lower, Raise};
+ghost use Rattle.rv_model.specs.Scripts.{bits_act, clears, change_acts, control_acts};
+ghost use Rattle.rv_feed.specs.Changes.{DoesAll, CanChange, IsBelowHalt};
+ghost use Rattle.rv_feed.specs.Feeders.{FitsChanger, RunsChanger};
+
+use crate::turn::has_switch;
+use rv_board::{Board, Seat};
+use rv_io::Gate;
+use rv_model::Change;
+
+/// The number of the control actor at its gate.
+const CONTROL: u32 = 64;
+
+/// The control actor's seat, its changes, and the gate that it passes.
+#[derive(Drop)]
+pub struct Changer<G> {
+    pub seat: Seat,
+    pub changes: Vec<Change>,
+    pub gate: G,
+}
+
+/// These switches go off, if there are any.
+fn lower(board: &Board, seat: &mut Seat, bits: u64)
+    requires seat { CanChange board.now seat.old }
+    requires bits { bits < 2 ^ 34 }
+    ensures { DoesAll seat.old seat.new (bits_act Lower bits) }
+{
+    seat.number();
+    if bits != 0 {
+        board.lower(seat, bits);
+    }
+}
+
+/// These switches go on, if there are any.
+fn raise(board: &Board, seat: &mut Seat, bits: u64)
+    requires seat { CanChange board.now seat.old }
+    requires bits { bits < 2 ^ 34 }
+    ensures { DoesAll seat.old seat.new (bits_act Raise bits) }
+{
+    seat.number();
+    if bits != 0 {
+        board.raise(seat, bits);
+    }
+}
+
+/// The slots of these monitors wait again.
+fn clear(board: &Board, seat: &mut Seat, set: u32)
+    requires { CanChange board.now seat.old }
+    ensures { DoesAll seat.old seat.new (clears board.now.setup.shape set) }
+{
+    seat.number();
+    for slot in 0..board.shape().slots() {
+        let monitor = board.shape().place(slot).monitor;
+        if has_switch(set as u64, monitor) {
+            board.clear(seat, slot);
+        }
+    }
+}
+
+/// One change: what it lowers, what it clears, and what it raises.
+fn make(board: &Board, seat: &mut Seat, change: &Change)
+    requires seat { CanChange board.now seat.old }
+    requires bits { IsBelowHalt change.now }
+    ensures { DoesAll seat.old seat.new (change_acts board.now.setup.shape change.now) }
+{
+    lower(board, seat, change.lower);
+    clear(board, seat, change.clear);
+    raise(board, seat, change.raise);
+}
+
+/// All changes.
+fn make_all<G: Gate>(board: &Board, seat: &mut Seat, changes: &[Change], gate: &mut G)
+    requires seat { CanChange board.now seat.old }
+    requires bits { All IsBelowHalt changes.now }
+    ensures { DoesAll seat.old seat.new (control_acts board.now.setup.shape changes.now) }
+{
+    seat.number();
+    for place in 0..changes.len() {
+        gate.pass(CONTROL, place as u64);
+        make(board, seat, &changes[place]);
+    }
+}
+
+/// The changer's changes.
+pub(crate) fn run_changer<G: Gate>(board: &Board, changer: &mut Changer<G>)
+    requires { FitsChanger board.now changer.old }
+    ensures { RunsChanger changer.old changer.new }
+{
+    make_all(
+        board,
+        &mut changer.seat,
+        changer.changes.as_slice(),
+        &mut changer.gate,
+    );
+}

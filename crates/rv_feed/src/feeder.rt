@@ -1,0 +1,153 @@
+//! One CPU's script on a board.
+ghost use Rattle.std.specs.Prelude.{◌≡◌, ◌&&◌, ◌<◌, ◌≤◌, length, All};
+ghost use Rattle.rv_model.specs.Numbers.{has_bit};
+ghost use Rattle.rv_model.specs.Records.{failed_outcome};
+ghost use Rattle.rv_feed.specs.Lane.{FitsDelivery, panics_of};
+ghost use Rattle.rv_feed.specs.Feeders.{FitsFeeder, RunsFeeder};
+ghost use Rattle.rv_feed.specs.Feeding.{Serves, FeedsDelivery, FeedsTurn, CanFeed, Feeds};
+
+use crate::lane::{Lane, cpu_of, delivery_at, keep, known, turn_at, turn_count};
+use crate::turn::{halts, has_switch, is_shown};
+use rv_board::{Board, Seat};
+use rv_io::Gate;
+use rv_model::{Delivered, Delivery, Reactor, Record, Turn};
+
+/// A CPU's seat, its lane, and the gate that it passes.
+#[derive(Drop)]
+pub struct Feeder<G> {
+    pub seat: Seat,
+    pub lane: Lane,
+    pub gate: G,
+}
+
+/// Whether a delivery with this outcome ends its script.
+fn ends(reactors: &[Reactor], word: u64, monitor: u8, outcome: Delivered) -> bool
+    ensures { result ≡ (failed_outcome outcome && (panics_of reactors.now monitor && has_bit word 33)) }
+{
+    match outcome {
+        Delivered::Done(answer) => halts(reactors, word, monitor, answer),
+        Delivered::Racing => false,
+    }
+}
+
+/// A delivery to its slot.
+fn serve<G: Gate>(
+    board: &Board,
+    seat: &mut Seat,
+    cpu: u32,
+    delivery: &Delivery,
+    gate: &mut G,
+) -> Delivered
+    requires board { seat.old.board ≡ board.now }
+    requires fits { FitsDelivery board.now.setup delivery.now }
+    ensures { Serves seat.old seat.new delivery.now result }
+{
+    let slot = board.shape().slot(delivery.monitor, delivery.instance);
+    board.deliver(seat, cpu, slot, &delivery.hit, gate)
+}
+
+/// A delivery that a look shows on, and its record. True where the script ends here.
+fn deliver<G: Gate>(
+    board: &Board,
+    seat: &mut Seat,
+    reactors: &[Reactor],
+    word: u64,
+    line: u32,
+    delivery: &Delivery,
+    lane: &mut Lane,
+    gate: &mut G,
+) -> bool
+    requires board { seat.old.board ≡ board.now }
+    requires fits { FitsDelivery board.now.setup delivery.now }
+    requires room { length lane.old.records < lane.old.room }
+    ensures { FeedsDelivery seat.old seat.new (panics_of reactors.now) word line delivery.now lane.old lane.new result }
+{
+    let outcome = serve(board, seat, cpu_of(lane), delivery, gate);
+    let record = Record {
+        order: delivery.order,
+        line,
+        monitor: delivery.monitor,
+        instance: delivery.instance,
+        hit: delivery.hit,
+        outcome,
+        reacting: has_switch(word, 33),
+    };
+    keep(lane, record);
+    let ends = ends(reactors, word, delivery.monitor, outcome);
+    if ends {
+        board.halt(seat);
+    }
+    ends
+}
+
+/// One turn: a look, and the deliveries that it shows on. True where the script ends here.
+fn play_turn<G: Gate>(
+    board: &Board,
+    seat: &mut Seat,
+    reactors: &[Reactor],
+    turn: &Turn,
+    lane: &mut Lane,
+    gate: &mut G,
+) -> bool
+    requires board { seat.old.board ≡ board.now }
+    requires fit { All (FitsDelivery board.now.setup) lane.old.work.deliveries }
+    requires order { turn.now.from ≤ turn.now.to }
+    requires in_list { turn.now.to ≤ length lane.old.work.deliveries }
+    requires kept { length lane.old.records ≤ turn.now.from }
+    requires room { length lane.old.work.deliveries ≤ lane.old.room }
+    ensures { FeedsTurn seat.old seat.new (panics_of reactors.now) turn.now lane.old lane.new result }
+{
+    let word = board.look(seat);
+    if has_switch(word, 34) {
+        return true;
+    }
+    for place in turn.from..turn.to {
+        let delivery = delivery_at(lane, place);
+        if is_shown(word, &delivery) {
+            if deliver(
+                board, seat, reactors, word, turn.line, &delivery, lane, gate,
+            ) {
+                return true;
+            }
+        }
+    }
+    false
+}
+
+/// All turns, or as many as come before the script ends.
+fn play<G: Gate>(
+    board: &Board,
+    seat: &mut Seat,
+    reactors: &[Reactor],
+    lane: &mut Lane,
+    gate: &mut G,
+)
+    requires board { seat.old.board ≡ board.now }
+    requires lane { CanFeed board.now lane.old }
+    ensures { Feeds (panics_of reactors.now) seat.old seat.new lane.old lane.new }
+{
+    known(lane);
+    seat.number();
+    let cpu = cpu_of(lane);
+    for place in 0..turn_count(lane) {
+        gate.pass(cpu, place as u64);
+        let turn = turn_at(lane, place);
+        if play_turn(board, seat, reactors, &turn, lane, gate) {
+            return;
+        }
+    }
+}
+
+/// The feeder's script.
+pub(crate) fn run_feeder<G: Gate>(board: &Board, reactors: &[Reactor], feeder: &mut Feeder<G>)
+    requires { FitsFeeder board.now feeder.old }
+    ensures { RunsFeeder (panics_of reactors.now) feeder.old feeder.new }
+{
+    play(
+        board,
+        &mut feeder.seat,
+        reactors,
+        &mut feeder.lane,
+        &mut feeder.gate,
+    );
+}

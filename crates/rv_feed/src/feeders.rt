@@ -1,0 +1,104 @@
+//! All scripts at once: a thread for each CPU, and one for the control actor.
+ghost use Rattle.std.specs.Prelude.{◌≡◌, ◌<◌, length, All, IfSome};
+ghost use Rattle.std.specs.List.{AllZip};
+ghost use Rattle.std.specs.Thread.{IsSync, IsSend};
+ghost use Rattle.rv_feed.specs.Lane.{panics_of};
+ghost use Rattle.rv_feed.specs.Feeders.{FitsFeeder, RunsFeeder, FitsChanger, RunsChanger, IfLent};
+
+use crate::changer::{Changer, run_changer};
+use crate::feeder::{Feeder, run_feeder};
+use rv_board::Board;
+use rv_io::Gate;
+use rv_model::Reactor;
+use std::thread::{Threads, join_mut};
+
+/// The feeders' scripts, each half in a thread of its own.
+#[cycle(halves)]
+fn run_halves<R: Threads + Sync, G: Gate + Send>(
+    rt: &R,
+    board: &Board,
+    reactors: &[Reactor],
+    feeders: &mut [Feeder<G>],
+)
+    requires { All (FitsFeeder board.now) feeders.old }
+    ensures { AllZip (RunsFeeder (panics_of reactors.now)) feeders.old feeders.new }
+{
+    if feeders.len() == 0 {
+        return;
+    }
+    if feeders.len() == 1 {
+        run_feeder(board, reactors, &mut feeders[0]);
+        return;
+    }
+    let (low, high) = feeders.split_at_mut(feeders.len() / 2);
+    run_both(rt, board, reactors, low, high);
+}
+
+/// Two halves at once.
+#[cycle(halves)]
+fn run_both<R: Threads + Sync, G: Gate + Send>(
+    rt: &R,
+    board: &Board,
+    reactors: &[Reactor],
+    low: &mut [Feeder<G>],
+    high: &mut [Feeder<G>],
+)
+    requires some { (0 < length low.old) × (0 < length high.old) }
+    requires low { All (FitsFeeder board.now) low.old }
+    requires high { All (FitsFeeder board.now) high.old }
+    ensures low { AllZip (RunsFeeder (panics_of reactors.now)) low.old low.new }
+    ensures high { AllZip (RunsFeeder (panics_of reactors.now)) high.old high.new }
+{
+    let mut left = ||
+        requires { IsSync R.row × IsSend G.row × All (FitsFeeder board.now) low.now }
+        ensures { AllZip (RunsFeeder (panics_of reactors.entry.now)) low.entry.now low.exit.now }
+    { run_halves(rt, board, reactors, low) };
+    let mut right = ||
+        requires { IsSync R.row × IsSend G.row × All (FitsFeeder board.now) high.now }
+        ensures { AllZip (RunsFeeder (panics_of reactors.entry.now)) high.entry.now high.exit.now }
+    { run_halves(rt, board, reactors, high) };
+    join_mut(rt, &mut left, &mut right);
+}
+
+/// The control actor beside the feeders.
+fn run_beside<R: Threads + Sync, G: Gate + Send>(
+    rt: &R,
+    board: &Board,
+    reactors: &[Reactor],
+    changer: &mut Changer<G>,
+    feeders: &mut [Feeder<G>],
+)
+    requires feeders { All (FitsFeeder board.now) feeders.old }
+    requires changer { FitsChanger board.now changer.old }
+    ensures feeders { AllZip (RunsFeeder (panics_of reactors.now)) feeders.old feeders.new }
+    ensures changer { RunsChanger changer.old changer.new }
+{
+    let mut left = ||
+        requires { FitsChanger board.now changer.now }
+        ensures { RunsChanger changer.entry.now changer.exit.now }
+    { run_changer(board, changer) };
+    let mut right = ||
+        requires { IsSync R.row × IsSend G.row × All (FitsFeeder board.now) feeders.now }
+        ensures { AllZip (RunsFeeder (panics_of reactors.entry.now)) feeders.entry.now feeders.exit.now }
+    { run_halves(rt, board, reactors, feeders) };
+    join_mut(rt, &mut left, &mut right);
+}
+
+/// All scripts at once, with the control actor beside them where there is one.
+pub fn run_feeders<R: Threads + Sync, G: Gate + Send>(
+    rt: &R,
+    board: &Board,
+    reactors: &[Reactor],
+    feeders: &mut [Feeder<G>],
+    control: Option<&mut Changer<G>>,
+)
+    requires feeders { All (FitsFeeder board.now) feeders.old }
+    requires control { IfSome control (λ changer. FitsChanger board.now changer.now) }
+    ensures feeders { AllZip (RunsFeeder (panics_of reactors.now)) feeders.old feeders.new }
+    ensures control { IfLent RunsChanger control.entry control.exit }
+{
+    match control {
+        Some(changer) => run_beside(rt, board, reactors, changer, feeders),
+        None => run_halves(rt, board, reactors, feeders),
+    }
+}
