@@ -1,1 +1,5 @@
+pub mod JoinedLemmas
+pub mod PieceLemmas
 pub mod ScriptLemmas
+pub mod SetLemmas
+pub mod TextLemmas
