@@ -1,4 +1,5 @@
 pub mod JoinedLemmas
+pub mod OrderLemmas
 pub mod PieceLemmas
 pub mod ScriptLemmas
 pub mod SetLemmas

@@ -1,6 +1,8 @@
 -- Lists that grow by one.
-use Rattle.std.proofs.Common.{◌≡◌, ℕ, suc, ◌+◌, Bool, true, false, List, [], ◌∷◌, ◌++◌, refl, sym, ap, ◌∙◌, add-one, append_assoc, append-nil, arith, if◌then◌else◌}
-use Rattle.std.specs.Prelude.{slice_get}
+use Rattle.std.proofs.Common.{◌≡◌, ℕ, suc, ◌+◌, ◌<◌, ◌≤◌, length, take, get_or, Bool, true, false, List, [], ◌∷◌, ◌++◌, refl, sym, ap, ◌∙◌, add-one, append_assoc, append-nil, arith, if◌then◌else◌}
+use Rattle.std.specs.Prelude.{slice_get, flat_map}
+use Rattle.std.proofs.lemmas.List.{take_all, take_more}
+use Rattle.std.proofs.lemmas.List.Concat.{flat_map-append}
 use Rattle.rv_control.specs.declared.item.Item.{Item}
 use Rattle.rv_control.specs.declared.item.Item.TheVariants as items
 use Rattle.rv_control.specs.Trees.{Tree, is_in}
@@ -23,3 +25,15 @@ module _ (tree : Tree) (container n : ℕ) (old listed : List Item) where
   -- one that is not
   pub held-no : is_in container (slice_get tree.monitors n) ≡ false → listed ≡ old ++ held tree container n → listed ≡ old ++ held tree container (n + 1)
   held-no is so_far = so_far ∙ ap (λ (z : List Item). old ++ z) (sym (held_more false is ∙ append-nil _))
+
+module _ {X Y : Type 0} (f : X → List Y) (xs : List X) where
+  -- what is made of the first items, and of one item more
+  pub grown-more : (i : ℕ) (d : X) (old : List Y) → i < length xs → old ≡ flat_map f (take i xs) → old ++ f (get_or xs i d) ≡ flat_map f (take (i + 1) xs)
+  grown-more i d old inside so_far =
+      ap (λ (z : List Y). z ++ f (get_or xs i d)) so_far
+      ∙ ap (λ (z : List Y). flat_map f (take i xs) ++ z) (sym (append-nil (f (get_or xs i d))))
+      ∙ sym (flat_map-append f (take i xs) (get_or xs i d ∷ [])) ∙ ap (flat_map f) (sym (take_more xs i d inside))
+
+  -- what is made of all
+  pub grown-all : (i : ℕ) → length xs ≤ i → flat_map f (take i xs) ≡ flat_map f xs
+  grown-all i past = ap (flat_map f) (take_all i xs past)

@@ -1,5 +1,7 @@
 //! What a text written to the file of enabled monitors asks.
-ghost use Rattle.std.specs.Prelude.{◌≡◌, option_and_then};
+ghost use Rattle.std.specs.Prelude.{◌≡◌, option_map, option_and_then};
+ghost use Rattle.rv_control.specs.declared.orders.Order.TheVariants as orders;
+ghost use Rattle.rv_control.specs.Paths.{item_named};
 ghost use Rattle.rv_control.specs.Effects.{order_of, enabling, disabling, disabling_all, turning, replacing, appending, ordering};
 
 use crate::control::Control;
@@ -17,6 +19,20 @@ pub(crate) enum Order {
 }
 
 impl Control {
+    /// The order that enables what has this name.
+    fn enable(&self, name: &[u8]) -> Option<Order>
+        ensures { result ≡ option_map orders.Enable (item_named self.now name.now) }
+    {
+        Some(Order::Enable(self.item_named(name)?))
+    }
+
+    /// The order that disables what has this name.
+    fn disable(&self, name: &[u8]) -> Option<Order>
+        ensures { result ≡ option_map orders.Disable (item_named self.now name.now) }
+    {
+        Some(Order::Disable(self.item_named(name)?))
+    }
+
     /// The order that a text spells.
     fn order_of(&self, text: &[u8]) -> Option<Order>
         ensures { result ≡ order_of self.now text.now }
@@ -25,9 +41,9 @@ impl Control {
             [] => Some(Order::Nothing),
             [first, name @ ..] => {
                 if *first == b'!' {
-                    Some(Order::Disable(self.item_named(name)?))
+                    self.disable(name)
                 } else {
-                    Some(Order::Enable(self.item_named(text)?))
+                    self.enable(text)
                 }
             }
         }
