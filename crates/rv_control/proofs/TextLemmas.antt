@@ -1,8 +1,7 @@
 -- Lists that grow by one.
 use Rattle.std.proofs.Common.{◌≡◌, ℕ, suc, ◌+◌, ◌<◌, ◌≤◌, length, take, get_or, Bool, true, false, List, [], ◌∷◌, ◌++◌, refl, sym, ap, ◌∙◌, add-one, append_assoc, append-nil, arith, if◌then◌else◌}
 use Rattle.std.specs.Prelude.{slice_get, flat_map}
-use Rattle.std.proofs.lemmas.List.{take_all, take_more}
-use Rattle.std.proofs.lemmas.List.Concat.{flat_map-append}
+use Rattle.std.proofs.lemmas.List.{take_all, take_more, flat_map_more}
 use Rattle.rv_control.specs.declared.item.Item.{Item}
 use Rattle.rv_control.specs.declared.item.Item.TheVariants as items
 use Rattle.rv_control.specs.Trees.{Tree, is_in}
@@ -27,12 +26,11 @@ module _ (tree : Tree) (container n : ℕ) (old listed : List Item) where
   held-no is so_far = so_far ∙ ap (λ (z : List Item). old ++ z) (sym (held_more false is ∙ append-nil _))
 
 module _ {X Y : Type 0} (f : X → List Y) (xs : List X) where
-  -- what is made of the first items, and of one item more
-  pub grown-more : (i : ℕ) (d : X) (old : List Y) → i < length xs → old ≡ flat_map f (take i xs) → old ++ f (get_or xs i d) ≡ flat_map f (take (i + 1) xs)
-  grown-more i d old inside so_far =
-      ap (λ (z : List Y). z ++ f (get_or xs i d)) so_far
-      ∙ ap (λ (z : List Y). flat_map f (take i xs) ++ z) (sym (append-nil (f (get_or xs i d))))
-      ∙ sym (flat_map-append f (take i xs) (get_or xs i d ∷ [])) ∙ ap (flat_map f) (sym (take_more xs i d inside))
+  -- what is made of the first items, behind a text, and of one item more
+  pub grown-more : (front old : List Y) (i : ℕ) (d : X) → i < length xs → old ≡ front ++ flat_map f (take i xs) → old ++ f (get_or xs i d) ≡ front ++ flat_map f (take (i + 1) xs)
+  grown-more front old i d inside so_far =
+      ap (λ (z : List Y). z ++ f (get_or xs i d)) so_far ∙ flat_map_more f front (take i xs) (get_or xs i d)
+      ∙ ap (λ (z : List X). front ++ flat_map f z) (sym (take_more xs i d inside))
 
   -- what is made of all
   pub grown-all : (i : ℕ) → length xs ≤ i → flat_map f (take i xs) ≡ flat_map f xs

@@ -1,4 +1,4 @@
-use Rattle.std.proofs.Common.{ap, sym, ◌∙◌, arith}
+use Rattle.std.proofs.Common.{[], ap, sym, ◌∙◌, arith}
 use Rattle.std.specs.Prelude.{flat_map}
 use Rattle.rv_control.specs.Trees.{Tree}
 use Rattle.rv_control.specs.FileTexts.{with_held}
@@ -10,7 +10,7 @@ loop-item-init c = c.new-listed.ensures.items
 
 pub loop-item-preserved : goal.loop-item-preserved
 loop-item-preserved c =
-    c.in_ok-list.ensures ∙ grown-more (with_held c.args.self.now) c.deref-item-items.result.now c.loop-item.item-index _ c.loop-item.listed.items c.loop-item-test.true c.loop-item.invariant
+    c.in_ok-list.ensures ∙ grown-more (with_held c.args.self.now) c.deref-item-items.result.now [] c.loop-item.listed.items c.loop-item.item-index _ c.loop-item-test.true c.loop-item.invariant
 
 pub returns : goal.returns
 returns c =
