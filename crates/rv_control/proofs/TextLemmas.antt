@@ -1,9 +1,10 @@
 -- Lists that grow by one.
 use Rattle.std.proofs.Common.{◌≡◌, ℕ, suc, ◌+◌, ◌<◌, ◌≤◌, length, take, get_or, Bool, true, false, List, [], ◌∷◌, ◌++◌, refl, sym, ap, ◌∙◌, add-one, append_assoc, append-nil, arith, if◌then◌else◌}
-use Rattle.std.specs.Prelude.{slice_get, flat_map}
+use Rattle.std.specs.Prelude.{slice_get, flat_map, Some}
+use Rattle.std.proofs.lemmas.Option.{get_or_from_slice_get, slice_get_within}
 use Rattle.std.proofs.lemmas.List.{take_all, take_more, flat_map_more}
-use Rattle.rv_control.specs.declared.item.Item.{Item}
-use Rattle.rv_control.specs.declared.item.Item.TheVariants as items
+use Rattle.rv_bind.specs.declared.bindings.Item.{Item}
+use Rattle.rv_bind.specs.declared.bindings.Item.TheVariants as items
 use Rattle.rv_control.specs.Trees.{Tree, is_in}
 use Rattle.rv_control.specs.FileTexts.{held}
 
@@ -35,3 +36,8 @@ module _ {X Y : Type 0} (f : X → List Y) (xs : List X) where
   -- what is made of all
   pub grown-all : (i : ℕ) → length xs ≤ i → flat_map f (take i xs) ≡ flat_map f xs
   grown-all i past = ap (flat_map f) (take_all i xs past)
+
+-- one name more
+pub taken-more : (names : List (List ℕ)) (i : ℕ) (name : List ℕ) → slice_get names i ≡ Some name → take i names ++ name ∷ [] ≡ take (i + 1) names
+taken-more names i name is =
+    ap (λ (n : List ℕ). take i names ++ n ∷ []) (sym (get_or_from_slice_get names i name [] is)) ∙ sym (take_more names i [] (slice_get_within names i name is))

@@ -10,8 +10,8 @@ use Rattle.rv_model.specs.declared.work.Scope.{Scope}
 use Rattle.rv_model.specs.declared.work.Scope.TheVariants.{Global, Cpu, Task}
 use Rattle.rv_model.specs.Numbers.{has_bit}
 use Rattle.rv_model.specs.Reports.{line_end}
-use Rattle.rv_control.specs.declared.item.Item.{Item}
-use Rattle.rv_control.specs.declared.item.Item.TheVariants as items
+use Rattle.rv_bind.specs.declared.bindings.Item.{Item}
+use Rattle.rv_bind.specs.declared.bindings.Item.TheVariants as items
 use Rattle.rv_control.specs.declared.watched.Kind.{Kind}
 use Rattle.rv_control.specs.declared.watched.Kind.TheVariants.{Da, Ltl}
 use Rattle.rv_control.specs.declared.watched.Watched.{Watched}

@@ -1,6 +1,6 @@
 pub mod Effects
 pub mod FileTexts
-pub mod ReactorNames
+pub mod Opening
 pub mod Paths
 pub mod Scripts
 pub mod Sets

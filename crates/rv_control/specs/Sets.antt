@@ -1,7 +1,7 @@
 -- Sets of monitors, the bit of each being its place.
 use Rattle.std.specs.Prelude.{ℕ, Bool, true, false, not, ◌&&◌, ◌==◌, length, Option, Some, None}
 use Rattle.rv_model.specs.Numbers.{has_bit, number_of}
-use Rattle.rv_control.specs.declared.item.Item.{Item}
+use Rattle.rv_bind.specs.declared.bindings.Item.{Item}
 use Rattle.rv_control.specs.declared.sets.Those.{Those}
 use Rattle.rv_control.specs.declared.sets.Those.TheVariants as those
 use Rattle.rv_control.specs.Trees.{Tree, is_of}

@@ -1,8 +1,8 @@
 -- What the control files are about (Linux, Documentation/trace/rv, "User interface"; containers: kernels after 6.12).
 use Rattle.std.specs.Prelude.{◌≡◌, ◌≤◌, ℕ, Bool, false, ◌==◌, List, [], ◌++◌, length, Option, Some, None, slice_get, slice_index_or, codes}
 use Rattle.rv_model.specs.declared.reactor.Reactor.{Reactor}
-use Rattle.rv_control.specs.declared.item.Item.{Item}
-use Rattle.rv_control.specs.declared.item.Item.TheVariants as items
+use Rattle.rv_bind.specs.declared.bindings.Item.{Item}
+use Rattle.rv_bind.specs.declared.bindings.Item.TheVariants as items
 use Rattle.rv_control.specs.declared.watched.Watched.{Watched}
 
 -- the switches, a reactor for each monitor, the containers' names, the monitors, and the items of the bindings

@@ -4,7 +4,7 @@ ghost use Rattle.rv_model.specs.Numbers.{has_bit};
 ghost use Rattle.rv_control.specs.Trees.{is_holder, is_in, is_of};
 
 use crate::watched::Watched;
-use crate::item::Item;
+use rv_bind::Item;
 use rv_model::{Name, Reactor};
 use std::marker::Model;
 

@@ -2,12 +2,14 @@
 #![tactic(auto)]
 
 mod control;
-mod item;
+mod opening;
 mod orders;
 mod paths;
 mod pieces;
 mod script;
 mod sets;
+#[cfg(test)]
+mod tests;
 mod texts;
 mod watched;
 mod writes;

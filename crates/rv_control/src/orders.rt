@@ -6,7 +6,7 @@ ghost use Rattle.rv_control.specs.Effects.{order_of, enabling, disabling, disabl
 
 use crate::control::Control;
 use crate::sets::Those;
-use crate::item::Item;
+use rv_bind::Item;
 use rv_model::Change;
 
 /// What is asked of the monitors.

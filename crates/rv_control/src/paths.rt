@@ -6,7 +6,7 @@ ghost use Rattle.rv_control.specs.Paths.{container_named, is_same, is_called, mo
 use crate::control::Control;
 use crate::pieces::Pieces;
 use crate::watched::Watched;
-use crate::item::Item;
+use rv_bind::Item;
 use rv_model::Name;
 
 /// A control file.

@@ -3,7 +3,7 @@ ghost use Rattle.std.specs.Prelude.{◌≡◌, ◌<◌, ◌≤◌, ◌^◌, leng
 ghost use Rattle.rv_control.specs.Sets.{is_chosen, set_of, is_enabled};
 
 use crate::control::Control;
-use crate::item::Item;
+use rv_bind::Item;
 
 /// Which of some monitors are meant.
 #[derive(Clone, Copy, Debug, Drop, PartialEq, Eq)]

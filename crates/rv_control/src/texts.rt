@@ -7,7 +7,7 @@ ghost use Rattle.rv_control.specs.FileTexts.{held, with_held, listed, is_listed,
 use crate::control::Control;
 use crate::paths::Path;
 use crate::watched::{Kind, Watched};
-use crate::item::Item;
+use rv_bind::Item;
 use rv_model::{Reactor, Scope};
 use rv_text::{Line, NO_SUCH_FILE, Refusal, Refused};
 use std::alloc::{AllocError, Global};
