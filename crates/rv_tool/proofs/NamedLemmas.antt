@@ -1,6 +1,6 @@
 -- The unread file that a part of a reading names is reached in the whole.
 use Rattle.std.proofs.Common.{◌≡◌, ℕ, List, refl}
-use Rattle.std.specs.Prelude.{Option, Some, None, Result, Ok, Err}
+use Rattle.std.specs.Prelude.{Option, Some, Result, Ok, Err}
 use Rattle.rv_io.specs.Files.{Files}
 use Rattle.rv_bind.specs.declared.fault.BindFault.{BindFault}
 use Rattle.rv_bind.specs.declared.fault.BindFault.TheVariants as faults
@@ -9,7 +9,6 @@ use Rattle.rv_bind.specs.Bound.{bound_of}
 use Rattle.rv_bind.specs.Outcomes.{Outcome, accepted, reading, of_file, of_name, Names}
 use Rattle.rv_bind.proofs.OutcomeLemmas.{of_name-reading}
 use Rattle.rv_bind.proofs.ReachedLemmas.{bound-local, step_named, behind_named}
-use Rattle.rv_route.specs.Routing.{RoutedValue}
 use Rattle.rv_tool.specs.declared.words.Kind.{Kind}
 use Rattle.rv_tool.specs.Faults.{Tells}
 use Rattle.rv_tool.specs.Inputs.{InputValue, routed_text, routed_in, replay_input}

@@ -15,5 +15,5 @@ returns-in_err-routed-clause-named g c =
     let fault = c.in_err-routed.field-0.0 in
     let given = err_from_is_err_and c.from_residual-in_err-routed.result c.from_residual-in_err-routed.ensures.1 in
     let named : Names {X = Unit} told (Err fault) (λ files. routed_in files c.args.trace.now bound) =
-        subst (λ (t : Option Files). Names {X = Unit} t (Err fault) (λ files. routed_in files c.args.trace.now bound)) c.read_bindings.ensures.kept c.in_err-routed.ensures.named in
+    subst (λ (t : Option Files). Names {X = Unit} t (Err fault) (λ files. routed_in files c.args.trace.now bound)) c.read_bindings.ensures.kept c.in_err-routed.ensures.named in
     rw (given.1, given.2) (input_behind_named told Unit Unit c.args.bindings.now c.args.trace.now bound fault c.in_ok-bound.ensures.bound named)

@@ -1,0 +1,6 @@
+pub mod JoinedLemmas
+pub mod OrderLemmas
+pub mod PieceLemmas
+pub mod ScriptLemmas
+pub mod SetLemmas
+pub mod TextLemmas

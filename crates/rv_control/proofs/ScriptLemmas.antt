@@ -1,0 +1,36 @@
+-- From one line of a script to the next.
+use Rattle.std.proofs.Common.{◌≡◌, List, [], ◌∷◌, ◌++◌, Result, Ok, Err, refl, ap, ◌∙◌, append_assoc, append-nil, sym}
+use Rattle.rv_text.specs.Readings.{Refuses, and_then}
+use Rattle.rv_text.specs.TextLines.{LineText}
+use Rattle.rv_text.specs.declared.refusals.Refusal.{Refusal}
+use Rattle.rv_text.specs.declared.refusals.Refused.{Refused}
+use Rattle.rv_text.specs.declared.refusals.Refused.TheVariants as refuseds
+use Rattle.rv_control.specs.declared.script.Numbered.{Numbered}
+use Rattle.rv_control.specs.Scripts.{line_said, onto, all_said}
+
+-- what a line adds comes to the commands so far
+pub onto-onto : (commands more : List Numbered) (later : Result (List Numbered) Refusal) → onto commands (onto more later) ≡ onto (commands ++ more) later
+onto-onto commands more (Err refusal) = refl
+onto-onto commands more (Ok later) = ap Ok (sym (append_assoc commands more later))
+
+-- nothing in front changes nothing
+pub onto-none : (later : Result (List Numbered) Refusal) → later ≡ onto [] later
+onto-none (Err refusal) = refl
+onto-none (Ok later) = refl
+
+-- nothing behind changes nothing
+pub all_said-none : (commands : List Numbered) → onto commands (all_said []) ≡ Ok commands
+unfolding all_said
+all_said-none commands = ap Ok (append-nil commands)
+
+module _ (line : LineText) (later : List LineText) (so_far : List Numbered) where
+  -- a line that was read, before the others
+  pub all_said-ok : (commands : List Numbered) → line_said line ≡ Ok commands → onto so_far (all_said (line ∷ later)) ≡ onto (so_far ++ commands) (all_said later)
+  unfolding all_said
+  all_said-ok commands is = ap (λ r. onto so_far (and_then r (λ more. onto more (all_said later)))) is ∙ onto-onto so_far commands (all_said later)
+
+  -- a line that is refused, before the others
+  pub all_said-refused : (refused : Refused) → Refuses refused (line_said line) → Refuses refused (onto so_far (all_said (line ∷ later)))
+  unfolding all_said
+  all_said-refused refuseds.Memory is = tt
+  all_said-refused (refuseds.Because refusal) is = ap (λ r. onto so_far (and_then r (λ more. onto more (all_said later)))) is

@@ -1,0 +1,95 @@
+-- What the control files say (this project's choice after Linux, Documentation/trace/rv: docs/FORMATS.md, "Control files").
+use Rattle.std.specs.Prelude.{ℕ, zero, suc, Bool, true, false, List, [], ◌∷◌, ◌++◌, length, flat_map, Option, Some, None, slice_get, Result, Ok, if◌then◌else◌, codes}
+use Rattle.std.specs.Option.{ok_or}
+use Rattle.rv_text.specs.Readings.{and_then}
+use Rattle.rv_text.specs.declared.numbers.TheConstants.{NO_SUCH_FILE}
+use Rattle.rv_text.specs.declared.refusals.Refusal.{Refusal}
+use Rattle.rv_model.specs.declared.reactor.Reactor.{Reactor}
+use Rattle.rv_model.specs.declared.reactor.Reactor.TheVariants.{Nop, Panic, Printk}
+use Rattle.rv_model.specs.declared.work.Scope.{Scope}
+use Rattle.rv_model.specs.declared.work.Scope.TheVariants.{Global, Cpu, Task}
+use Rattle.rv_model.specs.Numbers.{has_bit}
+use Rattle.rv_model.specs.Reports.{line_end}
+use Rattle.rv_bind.specs.declared.bindings.Item.{Item}
+use Rattle.rv_bind.specs.declared.bindings.Item.TheVariants as items
+use Rattle.rv_control.specs.declared.watched.Kind.{Kind}
+use Rattle.rv_control.specs.declared.watched.Kind.TheVariants.{Da, Ltl}
+use Rattle.rv_control.specs.declared.watched.Watched.{Watched}
+use Rattle.rv_control.specs.declared.paths.Path.{Path}
+use Rattle.rv_control.specs.declared.paths.Path.TheVariants.{AvailableMonitors, AvailableReactors, EnabledMonitors, MonitoringOn, ReactingOn, Desc, Enable, Reactors}
+use Rattle.rv_control.specs.Trees.{Tree, shown, is_in}
+use Rattle.rv_control.specs.Sets.{is_enabled}
+use Rattle.rv_control.specs.Paths.{path_of}
+
+-- ---- lists of monitors
+
+-- of the first n monitors those in the container
+unfoldable pub held : Tree → ℕ → ℕ → List Item
+held tree container zero = []
+held tree container (suc n) = held tree container n ++ (if is_in container (slice_get tree.monitors n) then items.Monitor n ∷ [] else [])
+
+-- a container stands before its monitors
+abbrev pub with_held : Tree → Item → List Item
+with_held tree (items.Container place) = items.Container place ∷ held tree place (length tree.monitors)
+with_held tree (items.Monitor place) = items.Monitor place ∷ []
+
+-- all containers and monitors, in the order of the items
+abbrev pub listed : Tree → List Item
+listed tree = flat_map (with_held tree) tree.items
+
+-- the lines are of all, or of those that are enabled
+abbrev pub is_listed : Tree → Bool → Item → Bool
+is_listed tree true item = is_enabled tree item
+is_listed tree false item = true
+
+abbrev pub name_line : Tree → Bool → Item → List ℕ
+name_line tree enabled item = if is_listed tree enabled item then shown tree item ++ line_end else []
+
+abbrev pub names_text : Tree → Bool → List ℕ
+names_text tree enabled = flat_map (name_line tree enabled) (listed tree)
+
+-- ---- single files
+
+-- whether it is on
+abbrev pub flag_text : Bool → List ℕ
+flag_text on = (if on then codes "1" else codes "0") ++ line_end
+
+abbrev pub kind_text : Kind → List ℕ
+kind_text Da = codes "da"
+kind_text Ltl = codes "ltl"
+
+abbrev pub scope_text : Scope → List ℕ
+scope_text Global = codes "global"
+scope_text Cpu = codes "cpu"
+scope_text Task = codes "task"
+
+-- how a monitor is specified
+abbrev pub watched_text : Option Watched → List ℕ
+watched_text None = []
+watched_text (Some m) = kind_text m.kind ++ codes " " ++ scope_text m.scope ++ codes " " ++ m.file ++ line_end
+
+abbrev pub desc_text : Tree → Item → List ℕ
+desc_text tree (items.Container place) = codes "container" ++ line_end
+desc_text tree (items.Monitor place) = watched_text (slice_get tree.monitors place)
+
+-- the reactors, of which the chosen one is marked
+abbrev pub reactors_text : Option Reactor → List ℕ
+reactors_text None = codes "nop\npanic\nprintk\n"
+reactors_text (Some Nop) = codes "[nop]\npanic\nprintk\n"
+reactors_text (Some Panic) = codes "nop\n[panic]\nprintk\n"
+reactors_text (Some Printk) = codes "nop\npanic\n[printk]\n"
+
+-- the text of a file
+abbrev pub text_of : Tree → Path → List ℕ
+text_of tree AvailableMonitors = names_text tree false
+text_of tree AvailableReactors = reactors_text None
+text_of tree EnabledMonitors = names_text tree true
+text_of tree MonitoringOn = flag_text (has_bit tree.switches 32)
+text_of tree ReactingOn = flag_text (has_bit tree.switches 33)
+text_of tree (Desc item) = desc_text tree item
+text_of tree (Enable item) = flag_text (is_enabled tree item)
+text_of tree (Reactors place) = reactors_text (slice_get tree.reactors place)
+
+-- the text at a path, or that there is no such file
+abbrev pub file_text : Tree → List ℕ → Result (List ℕ) Refusal
+file_text tree path = and_then (ok_or (path_of tree path) (record { number = NO_SUCH_FILE; line = 0 })) (λ file. Ok (text_of tree file))

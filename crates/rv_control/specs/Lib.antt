@@ -1,0 +1,7 @@
+pub mod Effects
+pub mod FileTexts
+pub mod Opening
+pub mod Paths
+pub mod Scripts
+pub mod Sets
+pub mod Trees

@@ -1,0 +1,104 @@
+-- The paths of the control files (this project's choice after Linux, Documentation/trace/rv: docs/FORMATS.md, "Control files").
+use Rattle.std.specs.Prelude.{ℕ, Bool, true, false, ◌&&◌, ◌==◌, bytes_eq, position, List, [], ◌∷◌, Option, Some, None, option_map, option_and_then, if◌then◌else◌, codes}
+use Rattle.rv_bind.specs.declared.bindings.Item.{Item}
+use Rattle.rv_bind.specs.declared.bindings.Item.TheVariants as items
+use Rattle.rv_control.specs.declared.watched.Watched.{Watched}
+use Rattle.rv_control.specs.declared.paths.Path.{Path}
+use Rattle.rv_control.specs.declared.paths.Path.TheVariants.{AvailableMonitors, AvailableReactors, EnabledMonitors, MonitoringOn, ReactingOn, Desc, Enable, Reactors}
+use Rattle.rv_control.specs.Trees.{Tree, shown_in}
+
+-- a byte in front of the first piece
+abbrev pub begin_with : ℕ → List (List ℕ) → List (List ℕ)
+begin_with byte [] = (byte ∷ []) ∷ []
+begin_with byte (piece ∷ pieces) = (byte ∷ piece) ∷ pieces
+
+-- the pieces of a path between its slashes
+unfoldable pub pieces_of : List ℕ → List (List ℕ)
+pieces_of [] = [] ∷ []
+pieces_of (byte ∷ bytes) = if byte == 47 then [] ∷ pieces_of bytes else begin_with byte (pieces_of bytes)
+
+-- the pieces of what is left of a path
+abbrev pub pieces_left : Option (List ℕ) → List (List ℕ)
+pieces_left None = []
+pieces_left (Some text) = pieces_of text
+
+-- ---- names
+
+-- the container of this name
+abbrev pub container_named : Tree → List ℕ → Option ℕ
+container_named tree name = position (λ other. bytes_eq other name) tree.containers
+
+abbrev pub is_same : Option ℕ → Option ℕ → Bool
+is_same None None = true
+is_same None (Some other) = false
+is_same (Some place) None = false
+is_same (Some place) (Some other) = place == other
+
+-- the monitor has this name, and is in this container, or in none
+abbrev pub is_called : Option ℕ → List ℕ → Watched → Bool
+is_called holder name m = is_same m.container holder && bytes_eq m.name name
+
+-- the monitor of this name in this container, or in none
+abbrev pub monitor_named : Tree → Option ℕ → List ℕ → Option Item
+monitor_named tree holder name = option_map items.Monitor (position (is_called holder name) tree.monitors)
+
+-- the first where there is one, or else the second
+abbrev pub item_or : Option ℕ → Option Item → Option Item
+item_or None other = other
+item_or (Some container) other = Some (items.Container container)
+
+-- a container, or a monitor outside containers
+abbrev pub outer_named : Tree → List ℕ → Option Item
+outer_named tree name = item_or (container_named tree name) (monitor_named tree None name)
+
+-- a monitor in a container
+abbrev pub inner_named : Tree → List ℕ → List ℕ → Option Item
+inner_named tree container name = option_and_then (λ place. monitor_named tree (Some place) name) (container_named tree container)
+
+-- the monitor's shown name is this one
+abbrev pub is_shown : Tree → List ℕ → Watched → Bool
+is_shown tree name m = bytes_eq (shown_in tree.containers m.container m.name) name
+
+-- a container, or a monitor by its shown name
+abbrev pub item_named : Tree → List ℕ → Option Item
+item_named tree name = item_or (container_named tree name) (option_map items.Monitor (position (is_shown tree name) tree.monitors))
+
+-- ---- files
+
+-- the files beside `monitors`
+abbrev pub top_file : List ℕ → Option Path
+top_file name =
+    if bytes_eq name (codes "available_monitors") then Some AvailableMonitors
+    else if bytes_eq name (codes "available_reactors") then Some AvailableReactors
+    else if bytes_eq name (codes "enabled_monitors") then Some EnabledMonitors
+    else if bytes_eq name (codes "monitoring_on") then Some MonitoringOn
+    else if bytes_eq name (codes "reacting_on") then Some ReactingOn else None
+
+-- a container has no reactors
+abbrev pub reactors_file : Item → Option Path
+reactors_file (items.Container place) = None
+reactors_file (items.Monitor place) = Some (Reactors place)
+
+-- the files of a container or a monitor
+abbrev pub item_file : List ℕ → Item → Option Path
+item_file name item =
+    if bytes_eq name (codes "desc") then Some (Desc item)
+    else if bytes_eq name (codes "enable") then Some (Enable item)
+    else if bytes_eq name (codes "reactors") then reactors_file item else None
+
+-- a file below `monitors`, of a container or a monitor that there is
+abbrev pub file_below : List ℕ → Option Item → List ℕ → Option Path
+file_below top item name = if bytes_eq top (codes "monitors") then option_and_then (item_file name) item else None
+
+-- the file of these pieces
+abbrev pub file_by : Tree → List (List ℕ) → Option Path
+file_by tree [] = None
+file_by tree (name ∷ []) = top_file name
+file_by tree (top ∷ name ∷ []) = None
+file_by tree (top ∷ item ∷ name ∷ []) = file_below top (outer_named tree item) name
+file_by tree (top ∷ container ∷ monitor ∷ name ∷ []) = file_below top (inner_named tree container monitor) name
+file_by tree (top ∷ container ∷ monitor ∷ name ∷ more ∷ pieces) = None
+
+-- the file of a path
+abbrev pub path_of : Tree → List ℕ → Option Path
+path_of tree path = file_by tree (pieces_of path)

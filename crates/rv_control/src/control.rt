@@ -1,0 +1,77 @@
+//! The control files as one value.
+ghost use Rattle.std.specs.Prelude.{◌≡◌, ◌<◌, ◌≤◌, length, slice_get, option_copied, Some};
+ghost use Rattle.rv_model.specs.Numbers.{has_bit};
+ghost use Rattle.rv_control.specs.Trees.{is_holder, is_in, is_of};
+
+use crate::watched::Watched;
+use rv_bind::Item;
+use rv_model::{Name, Reactor};
+use std::marker::Model;
+
+/// The switches, reactors and monitors that the control files show and change.
+#[derive(Debug, Drop)]
+pub struct Control {
+    pub(crate) switches: u64,
+    pub(crate) reactors: Vec<Reactor>,
+    pub(crate) containers: Vec<Name>,
+    pub(crate) monitors: Vec<Watched>,
+    pub(crate) items: Vec<Item>,
+}
+
+impl Model for Control {
+    ghost use Rattle.rv_control.specs.Trees.{Tree, IsTree};
+
+    ghost Value = { Tree };
+
+    ghost view = { λ c. record { switches = c.switches; reactors = c.reactors.items; containers = c.containers.items; monitors = c.monitors.items; items = c.items.items } };
+
+    ghost invariant = { λ c. IsTree (record { switches = c.switches; reactors = c.reactors.items; containers = c.containers.items; monitors = c.monitors.items; items = c.items.items }) };
+}
+
+impl Control {
+    /// A bit for each monitor that is enabled, by its place; bit 32 for monitoring, 33 for reacting, 34 for halted.
+    pub fn switches(&self) -> u64
+        ensures { result ≡ self.now.switches }
+    {
+        self.switches
+    }
+
+    /// The reactor of the monitor at this place.
+    pub fn reactor(&self, monitor: u8) -> Reactor
+        requires { monitor < length self.now.monitors }
+        ensures { slice_get self.now.reactors monitor ≡ Some result }
+    {
+        self.reactors[monitor as usize]
+    }
+
+    /// Whether the switch of this bit is on.
+    pub(crate) fn has_switch(&self, bit: usize) -> bool
+        requires { bit < 64 }
+        ensures { result ≡ has_bit self.now.switches bit }
+    {
+        (self.switches >> bit) & 1 == 1
+    }
+
+    /// Whether the monitor of this place is in the container, or is the monitor itself.
+    pub(crate) fn is_of(&self, item: Item, place: usize) -> bool
+        ensures { result ≡ is_of self.now item place }
+    {
+        match item {
+            Item::Container(container) => is_in(container, self.monitors.as_slice().get(place)),
+            Item::Monitor(monitor) => monitor as usize == place,
+        }
+    }
+}
+
+/// Whether the monitor, where there is one, is in the container.
+fn is_in(container: u8, monitor: Option<&Watched>) -> bool
+    ensures { result ≡ is_in container (option_copied monitor.entry) }
+{
+    match monitor {
+        Some(monitor) => match monitor.container {
+            Some(place) => place == container,
+            None => false,
+        },
+        None => false,
+    }
+}

@@ -1,0 +1,18 @@
+//! The control files of a run (Linux, Documentation/trace/rv, "User interface"), and scripts that read and write them.
+#![tactic(auto)]
+
+mod control;
+mod opening;
+mod orders;
+mod paths;
+mod pieces;
+mod script;
+mod sets;
+#[cfg(test)]
+mod tests;
+mod texts;
+mod watched;
+mod writes;
+
+pub use control::Control;
+pub use script::{Command, Numbered, SCRIPT_LIMIT, read_script};

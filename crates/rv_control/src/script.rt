@@ -1,0 +1,136 @@
+//! Scripts of control commands, a line each.
+ghost use Rattle.std.specs.Prelude.{◌≡◌, ◌∷◌, ◌++◌, [], Option, List, option_copied, option_to_list, IfOk, OnOk, OnErr};
+ghost use Rattle.rv_text.specs.Readings.{Gives};
+ghost use Rattle.rv_text.specs.TextLines.{line_text};
+ghost use Rattle.rv_control.specs.Scripts.{command_with, command_of, line_said, said, script_of};
+
+use rv_model::Name;
+use rv_text::{CONTROL_SYNTAX, Cursor, Refusal, Refused, TextLine, Words};
+use std::alloc::{AllocError, Global};
+
+/// The last byte at which a line of a script may end.
+pub const SCRIPT_LIMIT: usize = 1_048_576;
+
+/// What is done with a control file.
+#[derive(Debug, Drop)]
+pub enum Command {
+    /// Its text is printed.
+    Read { path: Name },
+    /// The text is written to it, in place of what it holds or behind it.
+    Write {
+        path: Name,
+        text: Name,
+        append: bool,
+    },
+}
+
+/// A command, and the line that it stands on.
+#[derive(Debug, Drop)]
+pub struct Numbered {
+    /// Counted from 1, skipped lines too.
+    pub line: u32,
+    pub command: Command,
+}
+
+/// A write of this text, or of none.
+fn write(
+    alloc: Global,
+    path: &[u8],
+    text: &[u8],
+    append: bool,
+) -> Result<Option<Command>, AllocError>
+    ensures { IfOk result (λ command. command ≡ Some (Command.Write path.now text.now append)) }
+{
+    let path = Name::new(alloc, path)?;
+    let text = Name::new(alloc, text)?;
+    Ok(Some(Command::Write { path, text, append }))
+}
+
+/// The command of a verb, a path, and a text where one is written.
+fn spelled(
+    alloc: Global,
+    verb: &[u8],
+    path: &[u8],
+    text: Option<&[u8]>,
+) -> Result<Option<Command>, AllocError>
+    ensures { IfOk result (λ command. command ≡ command_with verb.now path.now (option_copied text.entry)) }
+{
+    match text {
+        None if verb == b"read".as_slice() => Ok(Some(Command::Read {
+            path: Name::new(alloc, path)?,
+        })),
+        None if verb == b"write".as_slice() => write(alloc, path, b"", false),
+        None if verb == b"append".as_slice() => write(alloc, path, b"", true),
+        Some(text) if verb == b"write".as_slice() => write(alloc, path, text, false),
+        Some(text) if verb == b"append".as_slice() => write(alloc, path, text, true),
+        _ => Ok(None),
+    }
+}
+
+/// The command of a line, whose first word was taken.
+fn read_command(
+    alloc: Global,
+    verb: &[u8],
+    words: &mut Words<'_>,
+) -> Result<Option<Command>, AllocError>
+    ensures { IfOk result (λ command. command ≡ command_of (verb.now ∷ words.old)) }
+{
+    let Some(path) = words.next_word() else {
+        return Ok(None);
+    };
+    let Some(text) = words.next_word() else {
+        return spelled(alloc, verb, path, None);
+    };
+    match words.next_word() {
+        Some(_) => Ok(None),
+        None => spelled(alloc, verb, path, Some(text)),
+    }
+}
+
+/// The command of a line, where it is not skipped.
+fn read_line(alloc: Global, line: &TextLine<'_>) -> Result<Option<Numbered>, Refused>
+    ensures { Gives option_to_list result (line_said (line_text line.now)) }
+{
+    let number = line.number;
+    let refused = Refused::Because(Refusal::at(CONTROL_SYNTAX, number));
+    if line.end > SCRIPT_LIMIT {
+        return Err(refused);
+    }
+    let mut words = Words::new(line.bytes);
+    let Some(first) = words.next_word() else {
+        return Ok(None);
+    };
+    if first.starts_with("#".as_bytes()) {
+        return Ok(None);
+    }
+    match read_command(alloc, first, &mut words)? {
+        Some(command) => Ok(Some(Numbered {
+            line: number,
+            command,
+        })),
+        None => Err(refused),
+    }
+}
+
+/// Appends the command, where there is one.
+fn keep(commands: &mut Vec<Numbered>, read: Option<Numbered>) -> Result<(), AllocError>
+    ensures { OnOk result (commands.new.items ≡ commands.old.items ++ option_to_list read) }
+{
+    if let Some(command) = read {
+        commands.push(command)?;
+    }
+    Ok(())
+}
+
+/// The commands of a script in order, or the first line that has none of the forms.
+pub fn read_script(alloc: Global, bytes: &[u8]) -> Result<Vec<Numbered>, Refused>
+    ensures { Gives (λ commands. commands.items) result (script_of bytes.now) }
+{
+    let mut commands = Vec::new(alloc);
+    let mut lines = Cursor::new(bytes);
+    while let Some(line) = lines.next_line() {
+        let read = read_line(alloc, &line)?;
+        keep(&mut commands, read)?;
+    }
+    Ok(commands)
+}
