@@ -1,6 +1,6 @@
 -- From a specification's file to its printed table.
-use Rattle.std.proofs.Common.{◌≡◌, ℕ, ◌+◌, ◌<◌, List, sym, ap, ◌∙◌, inl, inr, subst, arith}
-use Rattle.std.specs.Prelude.{Option, Some, None, Result, Ok, Err, Vec}
+use Rattle.std.proofs.Common.{◌≡◌, ℕ, List, sym, ap, ◌∙◌, inl, inr, subst, arith}
+use Rattle.std.specs.Prelude.{Option, Some, Result, Ok, Err, Vec}
 use Rattle.std.specs.declared.alloc.Global.{Global}
 use Rattle.rv_text.specs.declared.refusals.Refusal.{Refusal}
 use Rattle.rv_text.specs.Readings.{and_then}
@@ -20,8 +20,8 @@ use Rattle.rv_tool.specs.Faults.{Tells}
 use Rattle.rv_tool.specs.FormulaTexts.{IsFormulaTable}
 use Rattle.rv_tool.specs.Tables.{table_text, table_in, Prints}
 use Rattle.rv_tool.specs.Headline.{GivesUp}
-use Rattle.rv_tool.specs.Words.{CommandValue, table}
-use Rattle.rv_tool.specs.Runs.{Fails, PrintsRead, Answers}
+use Rattle.rv_tool.specs.Words.{table}
+use Rattle.rv_tool.specs.Runs.{PrintsRead, Answers}
 
 -- a tableau's table is a formula's
 pub tableau_is_formula : (parts : List Piece) (t : Table) → tableau_of parts ≡ Ok t → IsFormulaTable t
