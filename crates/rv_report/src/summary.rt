@@ -11,27 +11,40 @@ use rv_slots::Tasks;
 use rv_text::Line;
 use std::alloc::{AllocError, Global};
 
-/// How many records a monitor has, and how many of each kind that the summary tells apart.
+/// How many instances of a monitor have a record, how many records it has, and how many of each kind that the summary tells apart.
 #[derive(Clone, Copy, Drop)]
 struct Tally {
+    instances: usize,
     deliveries: usize,
     failures: usize,
     stopped: usize,
 }
 
-/// The counts of the monitor at this place.
-fn tally_of(records: &[Record], place: usize) -> Tally
-    ensures deliveries { result.deliveries ≡ count_by (is_of place) records.now }
-    ensures failures { result.failures ≡ count_by (λ r. is_of place r && is_failure r) records.now }
-    ensures stopped { result.stopped ≡ count_by (λ r. is_of place r && is_stopped r) records.now }
+/// The counts of the monitor at this place, of which the first `count` instances may have records.
+fn tally_of(
+    alloc: Global,
+    records: &[Record],
+    place: usize,
+    count: usize,
+) -> Result<Tally, AllocError>
+    ensures instances { IfOk result (λ t. t.instances ≡ instance_count place records.now count) }
+    ensures deliveries { IfOk result (λ t. t.deliveries ≡ count_by (is_of place) records.now) }
+    ensures failures { IfOk result (λ t. t.failures ≡ count_by (λ r. is_of place r && is_failure r) records.now) }
+    ensures stopped { IfOk result (λ t. t.stopped ≡ count_by (λ r. is_of place r && is_stopped r) records.now) }
 {
+    let mut seen = vec![in alloc; false; count]?;
     let mut tally = Tally {
+        instances: 0,
         deliveries: 0,
         failures: 0,
         stopped: 0,
     };
     for record in records {
         if record.monitor as usize == place {
+            let instance = record.instance as usize;
+            if instance < count {
+                seen[instance] = true;
+            }
             tally.deliveries += 1;
             match record.outcome {
                 Delivered::Done(Answer::Failed(_)) => tally.failures += 1,
@@ -40,7 +53,14 @@ fn tally_of(records: &[Record], place: usize) -> Tally
             }
         }
     }
-    tally
+    let mut number: usize = 0;
+    for instance in 0..count {
+        if seen[instance] {
+            number += 1;
+        }
+    }
+    tally.instances = number;
+    Ok(tally)
 }
 
 /// How many instances a monitor of this scope has.
@@ -54,44 +74,18 @@ fn instances_in(tasks: &Tasks, scope: Scope) -> usize
     }
 }
 
-/// How many of the first `count` instances of the monitor at this place have a record.
-fn instance_count(
-    alloc: Global,
-    records: &[Record],
-    place: usize,
-    count: usize,
-) -> Result<usize, AllocError>
-    ensures { IfOk result (λ n. n ≡ instance_count place records.now count) }
-{
-    let mut seen = vec![in alloc; false; count]?;
-    for record in records {
-        let instance = record.instance as usize;
-        if record.monitor as usize == place && instance < count {
-            seen[instance] = true;
-        }
-    }
-    let mut number: usize = 0;
-    for instance in 0..count {
-        if seen[instance] {
-            number += 1;
-        }
-    }
-    Ok(number)
-}
-
 /// Appends a monitor's line.
 fn count_line(
     out: &mut Line,
     containers: &Names,
     monitor: &Monitor,
-    instances: usize,
     tally: Tally,
 ) -> Result<(), AllocError>
-    ensures { OnOk result (out.new ≡ out.old ++ count_text (shown_by containers.now monitor.now.container monitor.now.name) instances tally.deliveries tally.failures tally.stopped) }
+    ensures { OnOk result (out.new ≡ out.old ++ count_text (shown_by containers.now monitor.now.container monitor.now.name) tally.instances tally.deliveries tally.failures tally.stopped) }
 {
     shown(out, containers, monitor.container, &monitor.name)?;
     out.text(b": instances ")?;
-    out.number(instances as u64)?;
+    out.number(tally.instances as u64)?;
     out.text(b", deliveries ")?;
     out.number(tally.deliveries as u64)?;
     out.text(b", failures ")?;
@@ -113,8 +107,7 @@ pub(crate) fn summary(
 ) -> Result<(), AllocError>
     ensures { OnOk result (out.new ≡ out.old ++ summary_text tasks.now records.now place (reported containers.now monitor.now)) }
 {
-    let tally = tally_of(records, place);
     let count = instances_in(tasks, monitor.scope);
-    let instances = instance_count(alloc, records, place, count)?;
-    count_line(out, containers, monitor, instances, tally)
+    let tally = tally_of(alloc, records, place, count)?;
+    count_line(out, containers, monitor, tally)
 }

@@ -9,6 +9,6 @@ returns c =
     let m = c.args.monitor.now in
     let t = c.args.tally in
     on_ok_weaker c.text-5.result
-    (λ last. count-is c.args.out.now (shown_by c.args.containers.now m.container m.name) c.args.instances t.deliveries t.failures t.stopped c.in_ok-shown.ensures c.in_ok-text.ensures.ok c.in_ok-number.ensures.ok c.in_ok-text-2.ensures.ok c.in_ok-number-2.ensures.ok
+    (λ last. count-is c.args.out.now (shown_by c.args.containers.now m.container m.name) t.instances t.deliveries t.failures t.stopped c.in_ok-shown.ensures c.in_ok-text.ensures.ok c.in_ok-number.ensures.ok c.in_ok-text-2.ensures.ok c.in_ok-number-2.ensures.ok
     c.in_ok-text-3.ensures.ok c.in_ok-number-3.ensures.ok c.in_ok-text-4.ensures.ok c.in_ok-number-4.ensures.ok last)
     c.text-5.ensures.ok

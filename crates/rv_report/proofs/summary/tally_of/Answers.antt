@@ -4,8 +4,8 @@ use Rattle.std.proofs.lemmas.List.{take_all, get_or_default}
 use Rattle.std.specs.List.{list_any}
 use Rattle.rv_model.specs.Reports.{is_at}
 use Rattle.rv_report.proofs.CountLemmas.{count-none, count-yes, count-no, count-le}
-use Rattle.rv_report.proofs.summary.instance_count.Goals as goal
-use Rattle.rv_report.proofs.summary.instance_count.Goals.{then-index, else-index}
+use Rattle.rv_report.proofs.summary.tally_of.Goals as goal
+use Rattle.rv_report.proofs.summary.tally_of.Goals.{then-index, else-index}
 
 pub loop-instance-init : goal.loop-instance-init
 loop-instance-init c = sym (count-none (λ k. list_any (is_at c.args.place k) c.args.records.now))
