@@ -15,7 +15,9 @@ pub const SCRIPT_LIMIT: usize = 1_048_576;
 #[derive(Debug, Drop)]
 pub enum Command {
     /// Its text is printed.
-    Read { path: Name },
+    Read {
+        path: Name,
+    },
     /// The text is written to it, in place of what it holds or behind it.
     Write {
         path: Name,

@@ -104,15 +104,9 @@ const SCRIPT: [(&str, &str); 13] = [
     ("append enabled_monitors !sched:snep", "1 0 0"),
     ("read enabled_monitors", ""),
     ("append enabled_monitors sched", "0 3 3"),
-    (
-        "read enabled_monitors",
-        "sched\nsched:snep\nsched:sco\n",
-    ),
+    ("read enabled_monitors", "sched\nsched:snep\nsched:sco\n"),
     ("append enabled_monitors nope", "refused 33 at 0"),
-    (
-        "read enabled_monitors",
-        "sched\nsched:snep\nsched:sco\n",
-    ),
+    ("read enabled_monitors", "sched\nsched:snep\nsched:sco\n"),
     ("write enabled_monitors", "3 0 0"),
     ("read enabled_monitors", ""),
     (

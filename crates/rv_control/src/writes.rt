@@ -73,10 +73,8 @@ impl Control {
             Path::ReactingOn => Some(self.switching(REACTING, flag_of(text)?)),
             Path::EnabledMonitors => self.ordering(text, append),
             Path::Enable(item) => Some(self.turning(item, flag_of(text)?)),
-            Path::AvailableMonitors
-            | Path::AvailableReactors
-            | Path::Desc(_)
-            | Path::Reactors(_) => None,
+            Path::AvailableMonitors | Path::AvailableReactors | Path::Desc(_) | Path::Reactors(_) =>
+                None,
         }
     }
 
