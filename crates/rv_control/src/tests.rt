@@ -125,11 +125,11 @@ fn a_script_reads_and_writes_in_turn(rt: HostRuntime) -> Result<(), Fail> {
     let commands = read_script(rt.alloc(), &script)?;
     assert_eq!(rt; commands.len(), SCRIPT.len());
     let mut control = control_of(rt.alloc(), NEST)?;
-    let mut number = 0;
+    let mut number: u32 = 0;
     for numbered in &commands {
-        let (line, wanted) = SCRIPT[number % 13];
-        number += 1;
-        assert_eq!(rt; numbered.line as usize, number);
+        let (line, wanted) = SCRIPT[number as usize % 13];
+        number = number.saturating_add(1);
+        assert_eq!(rt; numbered.line, number);
         let mut out = Line::new(rt.alloc());
         run(rt.alloc(), &mut out, &mut control, &numbered.command)?;
         assert_eq!(rt; out.bytes(), wanted.as_bytes(), "at {line}");
