@@ -1,0 +1,10 @@
+//! A large input that is always the same: two monitors, and a trace of as many blocks as are asked for.
+#![tactic(auto)]
+
+mod automata;
+mod files;
+#[cfg(test)]
+mod tests;
+mod trace;
+
+pub use files::{Generated, MAX_BLOCKS, generate};
