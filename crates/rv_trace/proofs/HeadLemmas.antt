@@ -1,12 +1,10 @@
 -- The head of the first dash that has one ends first.
-use Rattle.std.proofs.Common.{◌≡◌, ℕ, zero, suc, ◌+◌, ◌-◌, ◌<◌, ◌≤◌, inl, inr, Bool, true, false, cond, eqb, List, length, get_or, Option, Some, None, refl, sym, ◌∙◌, ap, arith}
+use Rattle.std.proofs.Common.{◌≡◌, ℕ, zero, suc, ◌+◌, ◌-◌, ◌<◌, ◌≤◌, inl, inr, Bool, true, false, cond, eqb, List, length, get_or, Option, Some, None, refl, sym, ◌∙◌, ap, subst, arith}
 use Rattle.std.proofs.lemmas.Bool.{false≢true, and_parts, and_from, and_left, and_right, ltb-true, eqb-true, eq-eqb, ne_eqb, cases_lt, cases_order}
 use Rattle.std.proofs.lemmas.List.{get_or_past}
-use Rattle.std.specs.List.{slice_range}
-use Rattle.rv_text.specs.Places.{is_digit, is_blank}
+use Rattle.rv_text.specs.Places.{is_digit, is_blank, least}
 use Rattle.rv_text.specs.declared.runs.Kind.TheVariants as kinds
-use Rattle.rv_text.proofs.LeastLemmas.{run_end-each}
-use Rattle.rv_text.proofs.TextLineLemmas.{rest-reads}
+use Rattle.rv_text.proofs.LeastLemmas.{run_end-each, least-is, least-before, least-at}
 use Rattle.rv_trace.specs.declared.head.Head.{Head}
 use Rattle.rv_trace.specs.Heads.{first_some, some_or, head_at, head_of, is_head, head_ending, IsHead}
 
@@ -129,12 +127,28 @@ pub not_chosen : {X : Type 0} (b : Bool) (y : X) → None ≡ cond b (Some y) No
 not_chosen true y e = absurd cc
 not_chosen false y e = refl
 
+-- the test that a dash stands at a place
+abbrev pub is_dash : List ℕ → ℕ → Bool
+is_dash text place = eqb (get_or text place 0) 45
+
 -- there is no head before the first dash of the rest
-pub before_dash : (text : List ℕ) (from offset : ℕ) → from + offset ≤ length text → ((d : ℕ) → d < from → is_head text (head_at text d) ≡ false) → ((k : ℕ) → 0 ≤ k → k < offset → ¬ (eqb (get_or (slice_range text from (length text)) k 0) 45 ≡ true)) → (d : ℕ) → d < from + offset → is_head text (head_at text d) ≡ false
-before_dash text from offset inside none other d below =
+pub before_dash : (text : List ℕ) (from count : ℕ) → ((d : ℕ) → d < from → is_head text (head_at text d) ≡ false) → (d : ℕ) → d < least (is_dash text) from count → is_head text (head_at text d) ≡ false
+before_dash text from count none d below =
     elim (cases_lt d from) [
       | inl front ↦ none d front
-      | inr rest ↦ not_head text d (λ dash.
-          let here : from + (d - from) ≡ d = omega arith in
-          other (d - from) (omega arith) (omega arith) (eq-eqb _ _ (rest-reads text from (d - from) (omega arith) ∙ ap (λ n. get_or text n 0) here ∙ dash)))
+      | inr rest ↦ not_head text d (λ dash. false≢true (sym (least-before (is_dash text) from count d rest below) ∙ eq-eqb _ _ dash))
     ]
+
+-- the first dash, by what holds of it
+pub dash-is : (text : List ℕ) (from place : ℕ) → from ≤ place → place ≤ length text → ((k : ℕ) → from ≤ k → k < place → is_dash text k ≡ false) → (place < length text → is_dash text place ≡ true) → place ≡ least (is_dash text) from (length text - from)
+dash-is text from place low high none at = sym (least-is (is_dash text) from (length text - from) place low (omega arith) none (λ h. at (omega arith)))
+
+-- what is known at the first dash of the rest
+pub next_dash : (text : List ℕ) (from place : ℕ) → from ≤ length text → place ≡ least (is_dash text) from (length text - from) → place ≤ length text
+    → ((d : ℕ) → d < from → is_head text (head_at text d) ≡ false)
+    → (place ≤ length text) × (place < length text → get_or text place 0 ≡ 45) × ((d : ℕ) → d < place → is_head text (head_at text d) ≡ false)
+next_dash text from place inside is within none = (
+  within,
+  λ before. subst (λ (n : ℕ). get_or text n 0 ≡ 45) (sym is) (eqb-true _ _ (least-at (is_dash text) from (length text - from) (omega arith))),
+  λ d h. before_dash text from (length text - from) none d (omega arith),
+)

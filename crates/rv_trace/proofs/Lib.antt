@@ -1,5 +1,6 @@
 pub mod FieldLemmas
 pub mod HeadLemmas
+pub mod LaneLemmas
 pub mod LiesLemmas
 pub mod LineLemmas
 pub mod MoveLemmas

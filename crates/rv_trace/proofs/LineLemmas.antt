@@ -1,49 +1,54 @@
--- The numbers of a head, and the cases of a line's reading.
-use Rattle.std.proofs.Common.{◌≡◌, ℕ, ◌+◌, ◌-◌, ◌^◌, ◌<◌, ◌≤◌, Bool, true, false, cond, inl, inr, List, length, get_or, drop, Some, None, sym, ◌∙◌, ap, subst, arith}
-use Rattle.std.proofs.lemmas.Bool.{cases_lt, le-leb, lt-leb}
-use Rattle.std.proofs.lemmas.List.{get_or-take, get_or-drop}
-use Rattle.std.proofs.lemmas.List.Edits.{length-between}
-use Rattle.rv_text.specs.Places.{is_digit, between}
-use Rattle.rv_text.specs.Decimal.{all_digits, number_of, decimal_of}
-use Rattle.rv_text.proofs.DecimalLemmas.{all_digits-each, decimal-some}
-use Rattle.rv_trace.specs.Lines.{number_up_to}
+-- What a line says, by the numbers that stand for those of its head.
+use Rattle.std.proofs.Common.{◌≡◌, ℕ, ◌<◌, ◌≤◌, inl, inr, cond, List, Option, Some, None, Ok, Err, Result, refl, sym, ◌∙◌, ap, ap₂, arith}
+use Rattle.std.specs.Option.{ok_or}
+use Rattle.std.proofs.lemmas.Bool.{le-leb, lt-leb}
+use Rattle.rv_text.specs.Decimal.{number_of}
+use Rattle.rv_text.specs.Readings.{and_then}
+use Rattle.rv_text.specs.declared.numbers.TheConstants.{TRACE_SYNTAX, TOO_MANY_CPUS}
+use Rattle.rv_text.specs.declared.refusals.Refusal.{Refusal}
+use Rattle.rv_trace.specs.declared.line.TraceLine.{TraceLine}
+use Rattle.rv_trace.specs.declared.parts.Parts.{Parts}
+use Rattle.rv_trace.specs.Runs.{CountsAs}
+use Rattle.rv_trace.specs.Lines.{number_up_to, pid_of, cpu_of, line_with, said}
 
--- a piece of digits is one or more digits
-pub digits-between : (text : List ℕ) (i j : ℕ) → j ≤ length text → ((k : ℕ) → i ≤ k → k < j → is_digit (get_or text k 0) ≡ true) → all_digits (between text i j) ≡ true
-digits-between text i j inside each =
-    all_digits-each (between text i j) (λ k h.
-    let here : i + k < j = omega (arith, length-between text i j inside) in
-    subst (λ (byte : ℕ). is_digit byte ≡ true) (sym (get_or-take (j - i) (drop i text) k 0 (omega arith) ∙ get_or-drop i text k 0)) (each (i + k) (omega arith) here))
-
--- nothing is not something
-none_some : (n : ℕ) → None ≡ Some n → ⊥
-none_some n e = cc
-
--- a decimal number is the number of its digits
-chosen_number : (b : Bool) (n m : ℕ) → Some n ≡ cond b (Some m) None → n ≡ m
-chosen_number true n m is = cc
-chosen_number false n m is = absurd cc
-
-pub decimal-is : (text : List ℕ) (n : ℕ) → Some n ≡ decimal_of text → n ≡ number_of text
-unfolding decimal_of
-decimal-is text n is = chosen_number _ n (number_of text) is
-
-module _ (digits : List ℕ) (limit : ℕ) where
-  -- a number that is too large for 64 bits is above the limit
-  pub up_to-none : 0 < length digits → all_digits digits ≡ true → limit < 2 ^ 64 → None ≡ decimal_of digits → None ≡ number_up_to digits limit
+module _ (digits : List ℕ) (n limit : ℕ) (is : CountsAs n (number_of digits)) (small : limit ≤ 4294967295) where
+  -- a number up to the limit is the number
+  pub up_to-within : n ≤ limit → Some n ≡ number_up_to digits limit
   unfolding number_up_to
-  up_to-none some all fits none =
-      elim (cases_lt (number_of digits) (2 ^ 64)) [
-        | inl small ↦ absurd (none_some _ (none ∙ sym (decimal-some digits some all small)))
-        | inr large ↦ sym (ap (λ b. cond b (Some (number_of digits)) None) (lt-leb (number_of digits) limit (omega arith)))
-      ]
+  up_to-within within =
+      let same : n ≡ number_of digits = elim is [ inl same ↦ same | inr large ↦ absurd (omega (arith, large.0)) ] in
+      ap Some same ∙ sym (ap (λ b. cond b (Some (number_of digits)) None) (le-leb (number_of digits) limit (omega arith)))
 
   -- a number above the limit is none
-  pub up_to-above : (n : ℕ) → Some n ≡ decimal_of digits → limit < n → None ≡ number_up_to digits limit
+  pub up_to-above : limit < n → None ≡ number_up_to digits limit
   unfolding number_up_to
-  up_to-above n is above = sym (ap (λ b. cond b (Some (number_of digits)) None) (lt-leb (number_of digits) limit (omega (arith, decimal-is digits n is))))
+  up_to-above above =
+      let past : limit < number_of digits = elim is [ inl same ↦ omega arith | inr large ↦ omega (arith, large.1) ] in
+      sym (ap (λ b. cond b (Some (number_of digits)) None) (lt-leb (number_of digits) limit past))
 
-  -- a number up to the limit is the number
-  pub up_to-some : (n : ℕ) → Some n ≡ decimal_of digits → n ≤ limit → Some n ≡ number_up_to digits limit
-  unfolding number_up_to
-  up_to-some n is below = ap Some (decimal-is digits n is) ∙ sym (ap (λ b. cond b (Some (number_of digits)) None) (le-leb (number_of digits) limit (omega (arith, decimal-is digits n is))))
+-- what is read of a line whose numbers may be missing
+abbrev pub read_with : List ℕ → ℕ → ℕ → Parts → Option ℕ → Option ℕ → Result (Option TraceLine) Refusal
+read_with text from number parts pid cpu =
+    and_then (and_then (ok_or pid (record { number = TRACE_SYNTAX; line = number })) (λ p.
+    and_then (ok_or cpu (record { number = TOO_MANY_CPUS; line = number })) (λ c. Ok (line_with text from number parts.name p c)))) (λ line. Ok (Some line))
+
+module _ (text : List ℕ) (from number : ℕ) (parts : Parts) where
+  -- what a line with these parts says
+  abbrev pub read : Result (Option TraceLine) Refusal
+  read = and_then (said text from number parts) (λ line. Ok (Some line))
+
+  read-with : (pid cpu : Option ℕ) → pid ≡ pid_of text parts.head → cpu ≡ cpu_of text parts.head → read_with text from number parts pid cpu ≡ read
+  unfolding said
+  read-with pid cpu is has = ap₂ (read_with text from number parts) is has
+
+  -- no PID stands in the head
+  pub read-no_pid : (refusal : Refusal) → refusal ≡ record { number = TRACE_SYNTAX; line = number } → None ≡ pid_of text parts.head → Err refusal ≡ read
+  read-no_pid refusal same none = ap Err same ∙ read-with None (cpu_of text parts.head) none refl
+
+  -- no CPU does
+  pub read-no_cpu : (refusal : Refusal) (pid : ℕ) → refusal ≡ record { number = TOO_MANY_CPUS; line = number } → Some pid ≡ pid_of text parts.head → None ≡ cpu_of text parts.head → Err refusal ≡ read
+  read-no_cpu refusal pid same is none = ap Err same ∙ read-with (Some pid) None is none
+
+  -- both stand there
+  pub read-line : (pid cpu : ℕ) → Some pid ≡ pid_of text parts.head → Some cpu ≡ cpu_of text parts.head → Ok (Some (line_with text from number parts.name pid cpu)) ≡ read
+  read-line pid cpu is has = read-with (Some pid) (Some cpu) is has

@@ -1,13 +1,31 @@
 -- A run goes on from any of its places.
-use Rattle.std.proofs.Common.{◌≡◌, ℕ, ◌<◌, ◌≤◌, inl, inr, true, List, length, get_or, arith}
-use Rattle.std.proofs.lemmas.Bool.{cases_lt}
-use Rattle.rv_text.specs.Places.{is_of, run_end}
+use Rattle.std.proofs.Common.{◌≡◌, ℕ, ◌+◌, ◌-◌, ◌*◌, ◌<◌, ◌≤◌, inl, inr, true, false, List, length, get_or, take, drop, sym, ◌∙◌, ap, subst, arith, take-take}
+use Rattle.std.proofs.lemmas.Bool.{cases_lt, false≢true, and_parts, leb-true}
+use Rattle.std.proofs.lemmas.List.{get_or_past, get_or-drop, length-drop}
+use Rattle.rv_text.specs.Places.{is_digit, is_of, run_end, between}
+use Rattle.rv_text.specs.Decimal.{number_of}
 use Rattle.rv_text.specs.declared.runs.Kind.{Kind}
+use Rattle.rv_text.specs.declared.runs.Kind.TheVariants as kinds
+use Rattle.rv_text.proofs.DecimalLemmas.{number-more, number-front}
 use Rattle.rv_text.proofs.LeastLemmas.{run_end-is, run_end-low, run_end-high, run_end-each, run_end-stop}
 
 -- the bytes from one place up to another are of the kind
 abbrev pub AreOf : Kind → List ℕ → ℕ → ℕ → Type 0
 AreOf kind text from to = (k : ℕ) → from ≤ k → k < to → is_of kind (get_or text k 0) ≡ true
+
+-- and from there on
+pub AreOf-then : (kind : Kind) (text : List ℕ) (from place to : ℕ) → AreOf kind text from place → AreOf kind text place to → AreOf kind text from to
+AreOf-then kind text from place to front back k low high =
+    elim (cases_lt k place) [
+      | inl before ↦ front k low before
+      | inr on ↦ back k on high
+    ]
+
+-- and one more
+pub AreOf-more : (kind : Kind) (text : List ℕ) (from place : ℕ) → AreOf kind text from place → is_of kind (get_or text place 0) ≡ true → AreOf kind text from (place + 1)
+AreOf-more kind text from place front one =
+    AreOf-then kind text from place (place + 1) front (λ k low high.
+    subst (λ (n : ℕ). is_of kind (get_or text n 0) ≡ true) (let e : place ≡ k = omega arith in e) one)
 
 -- a run ends where it ends from one of its places on
 pub run_end-on : (kind : Kind) (text : List ℕ) (from place : ℕ) → from ≤ place → place ≤ length text → AreOf kind text from place → run_end kind text from ≡ run_end kind text place
@@ -17,3 +35,45 @@ run_end-on kind text from place low high each =
       | inl before ↦ each k l before
       | inr on ↦ run_end-each kind text place k on h
     ]) (λ h. run_end-stop kind text place high h)
+
+-- a run that has a byte goes on
+pub run_end-past : (kind : Kind) (text : List ℕ) (from : ℕ) → from < length text → is_of kind (get_or text from 0) ≡ true → from < run_end kind text from
+run_end-past kind text from inside one =
+    elim (cases_lt from (run_end kind text from)) [
+      | inl past ↦ past
+      | inr here ↦ (let same : run_end kind text from ≡ from = omega (arith, run_end-low kind text from) in
+          absurd (false≢true (sym (run_end-stop kind text from (omega arith) (omega (arith, same))) ∙ ap (λ n. is_of kind (get_or text n 0)) same ∙ one)))
+    ]
+
+-- one blank is a run of blanks
+pub blank_one : (text : List ℕ) (from : ℕ) → from ≤ length text → is_of kinds.Blank (get_or text from 0) ≡ true → is_of kinds.Blank (get_or text (from + 1) 0) ≡ false → run_end kinds.Blank text from ≡ from + 1
+blank_one text from inside blank other =
+    elim (cases_lt from (length text)) [
+      | inl within ↦ run_end-is kinds.Blank text from (from + 1) (omega arith) (omega arith)
+          (λ k l h. subst (λ (n : ℕ). is_of kinds.Blank (get_or text n 0) ≡ true) (let e : from ≡ k = omega arith in e) blank) (λ _. other)
+      | inr past ↦ absurd (false≢true (ap (is_of kinds.Blank) (sym (get_or_past text from 0 past)) ∙ blank))
+    ]
+
+-- the largest digit is 9
+pub digit-most : (byte : ℕ) → is_digit byte ≡ true → byte ≤ 57
+digit-most byte is = leb-true byte 57 (and_parts _ _ is).1
+
+-- no digits spell 0
+pub number-start : (text : List ℕ) (from : ℕ) → number_of (between text from from) ≡ 0
+unfolding number_of
+number-start text from = let none : from - from ≡ 0 = omega arith in ap (λ n. number_of (take n (drop from text))) none
+
+-- one more digit
+pub number-on : (text : List ℕ) (from end : ℕ) → from ≤ end → end < length text → number_of (between text from (end + 1)) ≡ number_of (between text from end) * 10 + (get_or text end 0 - 48)
+number-on text from end low inside =
+    let more : end + 1 - from ≡ end - from + 1 = omega arith in
+    let here : from + (end - from) ≡ end = omega arith in
+    ap (λ n. number_of (take n (drop from text))) more
+    ∙ number-more (drop from text) (end - from) (omega (arith, length-drop from text))
+    ∙ ap (λ b. number_of (take (end - from) (drop from text)) * 10 + (b - 48)) (get_or-drop from text (end - from) 0 ∙ ap (λ n. get_or text n 0) here)
+
+-- more digits do not make a number smaller
+pub number-longer : (text : List ℕ) (from end to : ℕ) → end ≤ to → number_of (between text from end) ≤ number_of (between text from to)
+number-longer text from end to more =
+    let front : take (end - from) (take (to - from) (drop from text)) ≡ take (end - from) (drop from text) = take-take (end - from) (to - from) (drop from text) (omega arith) in
+    omega (arith, ap number_of front, number-front (between text from to) (end - from))

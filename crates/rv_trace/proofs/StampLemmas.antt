@@ -1,12 +1,12 @@
 -- A timestamp by its places, in both directions.
-use Rattle.std.proofs.Common.{◌≡◌, ℕ, suc, ◌+◌, ◌<◌, ◌≤◌, ◌||◌, ◌==◌, inl, inr, true, false, not, cond, List, length, get_or, Option, Some, None, refl, sym, ◌∙◌, ap, subst, arith}
+use Rattle.std.proofs.Common.{◌≡◌, ℕ, suc, ◌+◌, ◌<◌, ◌≤◌, ◌||◌, ◌==◌, inl, inr, true, false, not, cond, List, length, get_or, Some, None, refl, sym, ◌∙◌, ap, subst, arith}
 use Rattle.std.proofs.lemmas.Bool.{false≢true, not-false, and_parts, and_from, or_cases, or_left, or_right, ltb-true, eqb-true, eq-eqb, ne_eqb, lt-ltb, cases_lt, cases_order}
 use Rattle.std.proofs.lemmas.List.{get_or_past}
 use Rattle.rv_text.specs.Places.{is_digit, is_blank, is_of, run_end}
 use Rattle.rv_text.specs.declared.runs.Kind.TheVariants as kinds
 use Rattle.rv_text.proofs.LeastLemmas.{run_end-is, run_end-each, run_end-stop}
 use Rattle.rv_trace.specs.declared.parts.Part.{Part}
-use Rattle.rv_trace.specs.Lines.{is_stamp, word_from, word_at, stamp_end}
+use Rattle.rv_trace.specs.Lines.{is_stamp, word_from, word_at, end_from, stamp_end}
 use Rattle.rv_trace.specs.Stamps.{AreDigits, IsStampTo, IsStamp}
 
 -- a run of digits that has one is digits
@@ -145,10 +145,6 @@ module _ (text : List ℕ) (from end : ℕ) (within : end ≤ length text) where
   pub stamp-is_not : from ≤ length text → stands → (end == length text || is_blank (get_or text end 0)) ≡ false → None ≡ cond (is_stamp text (word_from text from)) (Some (run_end kinds.Word text from)) None
   stamp-is_not inside_text is behind =
       sym (ap (λ b. cond b (Some (run_end kinds.Word text from)) None) (is (run_end kinds.Word text from) ∙ ne_eqb _ _ (goes_on inside_text behind)))
-
--- the end of the word that begins here, where it is a timestamp
-abbrev pub end_from : List ℕ → ℕ → Option ℕ
-end_from text from = cond (is_stamp text (word_from text from)) (Some (run_end kinds.Word text from)) None
 
 module _ (text : List ℕ) (place : ℕ) where
   abbrev pub first : ℕ

@@ -16,6 +16,7 @@ use Rattle.rv_trace.specs.declared.line.TheConstants.{LAST_PID, LAST_CPU}
 use Rattle.rv_trace.specs.declared.line.Span.{Span}
 use Rattle.rv_trace.specs.declared.line.TraceLine.{TraceLine}
 use Rattle.rv_trace.specs.Heads.{head_of}
+use Rattle.rv_trace.specs.Runs.{CountsAs}
 
 -- the first word from a place on
 unfoldable pub word_at : List ℕ → ℕ → Part
@@ -38,6 +39,10 @@ is_stamp text word =
     nat_lt word.from whole
     && (slice_index text whole == 58 && whole + 1 == word.to
     || slice_index text whole == 46 && nat_lt (whole + 1) part && slice_index text part == 58 && part + 1 == word.to)
+
+-- the end of the word that begins at a place, where it is a timestamp
+abbrev pub end_from : List ℕ → ℕ → Option ℕ
+end_from text from = if is_stamp text (word_from text from) then Some (run_end kinds.Word text from) else None
 
 -- the end of the timestamp: the first word from a place on, or else the second
 unfoldable pub stamp_end : List ℕ → ℕ → Option ℕ
@@ -80,6 +85,11 @@ pid_of text head = number_up_to (between text (head.dash + 1) head.digits) LAST_
 -- the CPU that stands in a head
 abbrev pub cpu_of : List ℕ → Head → Option ℕ
 cpu_of text head = number_up_to (between text (head.bracket + 1) head.close) LAST_CPU
+
+-- these stand for the numbers of a head
+pub record Tells (text : List ℕ) (head : Head) (pid cpu : ℕ) : Type 0 where
+  pub tells_pid : CountsAs pid (number_of (between text (head.dash + 1) head.digits))
+  pub tells_cpu : CountsAs cpu (number_of (between text (head.bracket + 1) head.close))
 
 -- a line's number, its two numbers and the places of its pieces, counted from the line's own place in the text
 abbrev pub line_with : List ℕ → ℕ → ℕ → Part → ℕ → ℕ → TraceLine

@@ -1,13 +1,11 @@
 //! One line of trace text.
-ghost use Rattle.std.specs.Prelude.{◌≡◌, ◌<◌, ◌≤◌, ◌+◌, ◌^◌, length, slice_index, slice_range, EachIndex, ◌≢◌, true, IfSome};
-ghost use Rattle.rv_text.specs.Decimal.{all_digits};
-ghost use Rattle.rv_trace.specs.Heads.{IsHead};
-ghost use Rattle.rv_trace.specs.Lines.{is_skipped, is_lost, number_up_to, said, line_of};
+ghost use Rattle.std.specs.Prelude.{◌≡◌, ◌<◌, ◌≤◌, ◌+◌, ◌^◌, length, slice_index, slice_range, EachIndex, ◌≢◌, Ok, Some};
+ghost use Rattle.rv_text.specs.Readings.{and_then};
+ghost use Rattle.rv_trace.specs.Lines.{Tells, is_skipped, is_lost, said, line_of};
 
-use crate::head::byte_at;
-use crate::parts::{Parts, parts_of};
-use crate::runs::blanks_end;
-use rv_text::{LOST_EVENTS, Refusal, TOO_MANY_CPUS, TRACE_SYNTAX, decimal};
+use crate::parts::{Found, parts_of};
+use crate::runs::{blanks_end, byte_at};
+use rv_text::{LOST_EVENTS, Refusal, TOO_MANY_CPUS, TRACE_SYNTAX};
 
 /// The largest PID that there may be.
 pub const LAST_PID: u32 = 4_294_967_295;
@@ -49,53 +47,42 @@ fn is_skipped(text: &[u8]) -> bool
 fn is_lost(text: &[u8]) -> bool
     ensures { result ≡ is_lost text.now }
 {
-    text.starts_with(b"CPU:") && text.ends_with(b"EVENTS]")
-}
-
-/// The number that digits spell, where it is at most the limit.
-fn number_up_to(digits: &[u8], limit: u64) -> Option<u64>
-    requires some { 0 < length digits.now }
-    requires digits { all_digits digits.now ≡ true }
-    ensures value { result ≡ number_up_to digits.now limit }
-    ensures fits { IfSome result (λ number. number ≤ limit) }
-{
-    match decimal(digits) {
-        Some(number) if number <= limit => Some(number),
-        _ => None,
-    }
+    byte_at(text, 0) == b'C' && text.starts_with(b"CPU:") && text.ends_with(b"EVENTS]")
 }
 
 /// What the parts say of a line that stands at a place of a text.
-#[tactic(auto, unfolding(crate::specs::Lines::said))]
-fn said(text: &[u8], from: u32, number: u32, parts: Parts) -> Result<TraceLine, Refusal>
-    requires head { IsHead text.now parts.head }
-    requires inside { parts.head.close + 2 ≤ length text.now }
-    requires order { parts.name.from ≤ parts.name.to }
-    requires within { parts.name.to < length text.now }
+#[inline(always)]
+fn said(text: &[u8], from: u32, number: u32, found: Found) -> Result<Option<TraceLine>, Refusal>
+    requires numbers { Tells text.now found.parts.head found.pid found.cpu }
+    requires order { found.parts.name.from ≤ found.parts.name.to }
+    requires within { found.parts.name.to < length text.now }
     requires fits { from + length text.now < 2 ^ 32 }
-    ensures { result ≡ said text.now from number parts }
+    ensures { result ≡ and_then (said text.now from number found.parts) (λ line. Ok (Some line)) }
 {
-    let head = parts.head;
-    let digits = &text[head.dash + 1..head.digits];
-    let pid = number_up_to(digits, LAST_PID as u64).ok_or(Refusal::at(TRACE_SYNTAX, number))?;
-    let digits = &text[head.bracket + 1..head.close];
-    let cpu = number_up_to(digits, LAST_CPU as u64).ok_or(Refusal::at(TOO_MANY_CPUS, number))?;
-    Ok(TraceLine {
+    if found.pid > LAST_PID as u64 {
+        return Err(Refusal::at(TRACE_SYNTAX, number));
+    }
+    if found.cpu > LAST_CPU as u64 {
+        return Err(Refusal::at(TOO_MANY_CPUS, number));
+    }
+    let name = found.parts.name;
+    Ok(Some(TraceLine {
         number,
-        pid: pid as u32,
-        cpu: cpu as u8,
+        pid: found.pid as u32,
+        cpu: found.cpu as u8,
         name: Span {
-            from: from + parts.name.from as u32,
-            to: from + parts.name.to as u32,
+            from: from + name.from as u32,
+            to: from + name.to as u32,
         },
         fields: Span {
-            from: from + (parts.name.to as u32 + 1),
+            from: from + (name.to as u32 + 1),
             to: from + text.len() as u32,
         },
-    })
+    }))
 }
 
 /// Reads a line that stands at a place of a text.
+#[inline(always)]
 #[tactic(auto, unfolding(crate::specs::Lines::line_of))]
 pub fn read_text(text: &[u8], from: u32, number: u32) -> Result<Option<TraceLine>, Refusal>
     requires { from + length text.now < 2 ^ 32 }
@@ -107,9 +94,10 @@ pub fn read_text(text: &[u8], from: u32, number: u32) -> Result<Option<TraceLine
     if is_lost(text) {
         return Err(Refusal::at(LOST_EVENTS, number));
     }
-    let parts = parts_of(text).ok_or(Refusal::at(TRACE_SYNTAX, number))?;
-    let line = said(text, from, number, parts)?;
-    Ok(Some(line))
+    match parts_of(text) {
+        Some(found) => said(text, from, number, found),
+        None => Err(Refusal::at(TRACE_SYNTAX, number)),
+    }
 }
 
 /// Reads the line that stands from one place of the text up to another. It is None where it is skipped.

@@ -1,12 +1,11 @@
 //! The parts of a trace line: behind its head stand a timestamp, the name of an event, and the fields.
-ghost use Rattle.std.specs.Prelude.{◌≡◌, ◌<◌, ◌≤◌, ◌+◌, ◌||◌, ◌==◌, ℕ, length, slice_index, IfSome, Some, None, if◌then◌else◌};
+ghost use Rattle.std.specs.Prelude.{◌≡◌, ◌<◌, ◌≤◌, ◌+◌, ◌||◌, ◌==◌, ℕ, length, slice_index, IfSome, option_map};
 ghost use Rattle.rv_text.specs.Places.{is_blank, run_end};
 ghost use Rattle.rv_text.specs.declared.runs.Kind.TheVariants as kinds;
-ghost use Rattle.rv_trace.specs.Heads.{IsHead};
-ghost use Rattle.rv_trace.specs.Lines.{is_end, word_from, word_at, is_stamp, stamp_end, event_at, parts_of};
+ghost use Rattle.rv_trace.specs.Lines.{Tells, is_end, end_from, word_at, is_stamp, stamp_end, event_at, parts_of};
 
-use crate::head::{Head, byte_at, find_head};
-use crate::runs::{blanks_end, digits_end, word_end};
+use crate::head::{Head, find_head};
+use crate::runs::{blanks_end, byte_at, digits_end, word_end};
 use rv_text::Kind;
 
 /// A piece of the line, by its places.
@@ -23,7 +22,18 @@ pub struct Parts {
     pub name: Part,
 }
 
+/// The parts of a line, with the numbers of its head.
+#[derive(Clone, Copy, Debug, Drop, PartialEq, Eq)]
+pub struct Found {
+    pub parts: Parts,
+    /// The PID, where it is one.
+    pub pid: u64,
+    /// The CPU, where it is one.
+    pub cpu: u64,
+}
+
 /// The first word from a place on.
+#[inline(always)]
 #[tactic(auto, unfolding(crate::specs::Lines::word_at))]
 fn word_at(text: &[u8], place: usize) -> Part
     requires { place ≤ length text.now }
@@ -38,6 +48,7 @@ fn word_at(text: &[u8], place: usize) -> Part
 }
 
 /// The place behind the timestamp that begins here, whatever stands there.
+#[inline(always)]
 #[tactic(auto, unfolding(crate::specs::Lines::is_stamp))]
 fn behind_stamp(text: &[u8], from: usize) -> Option<usize>
     requires { from ≤ length text.now }
@@ -71,9 +82,10 @@ fn is_word_end(text: &[u8], place: usize) -> bool
 }
 
 /// Where the timestamp ends that is the word that begins here.
+#[inline(always)]
 fn stamp_from(text: &[u8], from: usize) -> Option<usize>
     requires { from ≤ length text.now }
-    ensures value { result ≡ (if is_stamp text.now (word_from text.now from) then Some (run_end kinds.Word text.now from) else None) }
+    ensures value { result ≡ end_from text.now from }
     ensures high { IfSome result (λ end. end ≤ length text.now) }
 {
     let end = behind_stamp(text, from)?;
@@ -85,6 +97,7 @@ fn stamp_from(text: &[u8], from: usize) -> Option<usize>
 }
 
 /// Where the timestamp ends.
+#[inline(always)]
 #[tactic(auto, unfolding(crate::specs::Lines::stamp_end))]
 fn stamp_end(text: &[u8], place: usize) -> Option<usize>
     requires { place ≤ length text.now }
@@ -95,11 +108,22 @@ fn stamp_end(text: &[u8], place: usize) -> Option<usize>
     if let Some(end) = stamp_from(text, first) {
         return Some(end);
     }
+    second_stamp(text, first)
+}
+
+/// Where the timestamp ends that is the word behind the one that begins here.
+#[inline(never)]
+fn second_stamp(text: &[u8], first: usize) -> Option<usize>
+    requires { first ≤ length text.now }
+    ensures value { result ≡ end_from text.now (run_end kinds.Blank text.now (run_end kinds.Word text.now first)) }
+    ensures high { IfSome result (λ end. end ≤ length text.now) }
+{
     let second = blanks_end(text, word_end(text, first));
     stamp_from(text, second)
 }
 
 /// The name of the event.
+#[inline(always)]
 #[tactic(auto, unfolding(crate::specs::Lines::event_at))]
 fn event_at(text: &[u8], place: usize) -> Option<Part>
     requires { place ≤ length text.now }
@@ -119,16 +143,23 @@ fn event_at(text: &[u8], place: usize) -> Option<Part>
 }
 
 /// The parts of the line.
+#[inline(always)]
 #[tactic(auto, unfolding(crate::specs::Lines::parts_of))]
-pub fn parts_of(text: &[u8]) -> Option<Parts>
-    ensures value { result ≡ parts_of text.now }
-    ensures order { IfSome result (λ parts. parts.name.from ≤ parts.name.to) }
-    ensures high { IfSome result (λ parts. parts.name.to < length text.now) }
-    ensures head { IfSome result (λ parts. IsHead text.now parts.head) }
-    ensures inside { IfSome result (λ parts. parts.head.close + 2 ≤ length text.now) }
+pub fn parts_of(text: &[u8]) -> Option<Found>
+    ensures value { option_map (λ found. found.parts) result ≡ parts_of text.now }
+    ensures numbers { IfSome result (λ found. Tells text.now found.parts.head found.pid found.cpu) }
+    ensures order { IfSome result (λ found. found.parts.name.from ≤ found.parts.name.to) }
+    ensures high { IfSome result (λ found. found.parts.name.to < length text.now) }
 {
-    let head = find_head(text)?;
-    let place = stamp_end(text, head.close + 2)?;
+    let told = find_head(text)?;
+    let place = stamp_end(text, told.head.close + 2)?;
     let name = event_at(text, place)?;
-    Some(Parts { head, name })
+    Some(Found {
+        parts: Parts {
+            head: told.head,
+            name,
+        },
+        pid: told.pid,
+        cpu: told.cpu,
+    })
 }

@@ -1,54 +1,160 @@
-//! Where words, blanks and digits end. A trace has a hundred bytes a line, and a word takes most of them.
-ghost use Rattle.std.specs.Prelude.{◌≡◌, ◌<◌, ◌≤◌, ◌+◌, length, slice_index, IsTrue, true};
-ghost use Rattle.rv_text.specs.Places.{is_of, run_end};
+//! Where runs of bytes end in a line. Sixteen bytes are looked at together, as long as so many are left.
+ghost use Rattle.std.specs.Prelude.{◌≡◌, ◌<◌, ◌≤◌, ◌+◌, ◌-◌, ◌==◌, not, length, slice_index};
+ghost use Rattle.rv_text.specs.Decimal.{number_of};
+ghost use Rattle.rv_text.specs.Places.{is_of, least, run_end, between};
 ghost use Rattle.rv_text.specs.declared.runs.Kind.TheVariants as kinds;
+ghost use Rattle.rv_trace.specs.Runs.{CountsAs, IsRunIn, first_set};
 
 use rv_text::{Kind, run_end};
+use std::simd::prelude::*;
 
-/// Whether four bytes stand here, none of which can be a blank.
+/// How many bytes are looked at together.
+const LANES: usize = 16;
+/// A number is too large for any use of a trace where another digit follows a larger one than this.
+const LAST_TENTH: u64 = 429_496_729;
+/// A number that is too large for any use of a trace.
+const TOO_LARGE: u64 = 4_294_967_296;
+
+/// A run of digits.
+#[derive(Clone, Copy, Debug, Drop, PartialEq, Eq)]
+pub(crate) struct Digits {
+    /// Where it ends.
+    pub end: usize,
+    /// The number that it spells, or one that is too large too.
+    pub number: u64,
+}
+
+/// The byte at a place, or 0 past the end.
 #[inline(always)]
-fn is_plain(text: &[u8], place: usize) -> bool
-    requires { place ≤ length text.now }
-    ensures inside { IsTrue result → place + 4 ≤ length text.now }
-    ensures first { IsTrue result → is_of kinds.Word (slice_index text.now place) ≡ true }
-    ensures second { IsTrue result → is_of kinds.Word (slice_index text.now (place + 1)) ≡ true }
-    ensures third { IsTrue result → is_of kinds.Word (slice_index text.now (place + 2)) ≡ true }
-    ensures fourth { IsTrue result → is_of kinds.Word (slice_index text.now (place + 3)) ≡ true }
+pub fn byte_at(text: &[u8], place: usize) -> u8
+    ensures value { result ≡ slice_index text.now place }
+    ensures inside { 0 < result → place < length text.now }
 {
-    text.len() - place >= 4
-        && text[place] > b' '
-        && text[place + 1] > b' '
-        && text[place + 2] > b' '
-        && text[place + 3] > b' '
+    if place < text.len() { text[place] } else { 0 }
+}
+
+/// The place of the lowest bit that is set, or the number of lanes.
+#[inline(always)]
+fn first_set(mask: u64) -> usize
+    ensures { result ≡ first_set mask LANES }
+{
+    if mask == 0 {
+        LANES
+    } else {
+        mask.trailing_zeros() as usize
+    }
+}
+
+/// How many of the next bytes are of the kind, from the first on.
+#[inline(always)]
+fn run_in(kind: Kind, text: &[u8], place: usize) -> usize
+    requires { place + LANES ≤ length text.now }
+    ensures { IsRunIn (is_of kind) text.now place LANES result }
+{
+    match kind {
+        Kind::Digit => digits_in(text, place),
+        Kind::Blank => blanks_in(text, place),
+        Kind::Word => word_in(text, place),
+    }
+}
+
+/// How many of the next bytes are digits.
+#[inline(always)]
+fn digits_in(text: &[u8], place: usize) -> usize
+    requires { place + LANES ≤ length text.now }
+    ensures { IsRunIn (is_of kinds.Digit) text.now place LANES result }
+{
+    let bytes = u8x16::from_slice(&text[place..]);
+    let stops = bytes.simd_lt(u8x16::splat(b'0')) | bytes.simd_gt(u8x16::splat(b'9'));
+    first_set(stops.to_bitmask())
+}
+
+/// How many of the next bytes are blanks.
+#[inline(always)]
+fn blanks_in(text: &[u8], place: usize) -> usize
+    requires { place + LANES ≤ length text.now }
+    ensures { IsRunIn (is_of kinds.Blank) text.now place LANES result }
+{
+    let bytes = u8x16::from_slice(&text[place..]);
+    let stops = bytes.simd_ne(u8x16::splat(b' ')) & bytes.simd_ne(u8x16::splat(b'\t'));
+    first_set(stops.to_bitmask())
+}
+
+/// How many of the next bytes are no blanks.
+#[inline(always)]
+fn word_in(text: &[u8], place: usize) -> usize
+    requires { place + LANES ≤ length text.now }
+    ensures { IsRunIn (is_of kinds.Word) text.now place LANES result }
+{
+    let bytes = u8x16::from_slice(&text[place..]);
+    let stops = bytes.simd_eq(u8x16::splat(b' ')) | bytes.simd_eq(u8x16::splat(b'\t'));
+    first_set(stops.to_bitmask())
+}
+
+/// How many of the next bytes are no dashes.
+#[inline(always)]
+fn undashed_in(text: &[u8], place: usize) -> usize
+    requires { place + LANES ≤ length text.now }
+    ensures { IsRunIn (λ byte. not (byte == 45)) text.now place LANES result }
+{
+    let bytes = u8x16::from_slice(&text[place..]);
+    let stops = bytes.simd_eq(u8x16::splat(b'-'));
+    first_set(stops.to_bitmask())
+}
+
+/// The first byte from `from` on that is not of the kind, or the end.
+#[inline(always)]
+fn wide_end(kind: Kind, text: &[u8], from: usize) -> usize
+    requires { from ≤ length text.now }
+    ensures value { result ≡ run_end kind text.now from }
+    ensures low { from ≤ result }
+    ensures high { result ≤ length text.now }
+{
+    let mut place = from;
+    while text.len() - place >= LANES {
+        let run = run_in(kind, text, place);
+        place += run;
+        if run < LANES {
+            return place;
+        }
+    }
+    run_end(kind, text, place)
 }
 
 /// The first blank from `from` on, or the end.
-#[inline(never)]
+#[inline(always)]
 pub(crate) fn word_end(text: &[u8], from: usize) -> usize
     requires { from ≤ length text.now }
     ensures value { result ≡ run_end kinds.Word text.now from }
     ensures low { from ≤ result }
     ensures high { result ≤ length text.now }
 {
-    let mut place = from;
-    while is_plain(text, place) {
-        place += 4;
-    }
-    run_end(Kind::Word, text, place)
+    wide_end(Kind::Word, text, from)
 }
 
 /// The first byte from `from` on that is no digit, or the end.
-#[inline(never)]
+#[inline(always)]
 pub(crate) fn digits_end(text: &[u8], from: usize) -> usize
     requires { from ≤ length text.now }
     ensures value { result ≡ run_end kinds.Digit text.now from }
     ensures low { from ≤ result }
     ensures high { result ≤ length text.now }
 {
-    run_end(Kind::Digit, text, from)
+    wide_end(Kind::Digit, text, from)
 }
 
-/// The first byte from `from` on that is no blank, or the end.
+/// The same, at more than one blank.
+#[inline(never)]
+fn far_blanks_end(text: &[u8], from: usize) -> usize
+    requires { from ≤ length text.now }
+    ensures value { result ≡ run_end kinds.Blank text.now from }
+    ensures low { from ≤ result }
+    ensures high { result ≤ length text.now }
+{
+    wide_end(Kind::Blank, text, from)
+}
+
+/// The first byte from `from` on that is no blank, or the end. Mostly one blank stands there.
 #[inline(always)]
 pub(crate) fn blanks_end(text: &[u8], from: usize) -> usize
     requires { from ≤ length text.now }
@@ -56,5 +162,69 @@ pub(crate) fn blanks_end(text: &[u8], from: usize) -> usize
     ensures low { from ≤ result }
     ensures high { result ≤ length text.now }
 {
-    run_end(Kind::Blank, text, from)
+    if !Kind::Blank.has(byte_at(text, from)) {
+        return from;
+    }
+    if !Kind::Blank.has(byte_at(text, from + 1)) {
+        return from + 1;
+    }
+    far_blanks_end(text, from)
+}
+
+/// The first dash from `from` on, or the end.
+#[inline(always)]
+pub(crate) fn dash_from(text: &[u8], from: usize) -> usize
+    requires { from ≤ length text.now }
+    ensures value { result ≡ least (λ place. slice_index text.now place == 45) from (length text.now - from) }
+    ensures low { from ≤ result }
+    ensures high { result ≤ length text.now }
+{
+    let mut place = from;
+    while text.len() - place >= LANES {
+        let run = undashed_in(text, place);
+        place += run;
+        if run < LANES {
+            return place;
+        }
+    }
+    while place < text.len() && text[place] != b'-' {
+        place += 1;
+    }
+    place
+}
+
+/// The same digits, of which those before `end` spell a number that is too large with another one.
+#[inline(never)]
+fn too_large(text: &[u8], end: usize) -> Digits
+    requires { end ≤ length text.now }
+    ensures end { result.end ≡ run_end kinds.Digit text.now end }
+    ensures low { end ≤ result.end }
+    ensures high { result.end ≤ length text.now }
+    ensures number { result.number ≡ TOO_LARGE }
+{
+    Digits {
+        end: digits_end(text, end),
+        number: TOO_LARGE,
+    }
+}
+
+/// The digits from `from` on.
+#[inline(always)]
+pub(crate) fn digits_from(text: &[u8], from: usize) -> Digits
+    requires { from ≤ length text.now }
+    ensures end { result.end ≡ run_end kinds.Digit text.now from }
+    ensures low { from ≤ result.end }
+    ensures high { result.end ≤ length text.now }
+    ensures number { CountsAs result.number (number_of (between text.now from result.end)) }
+{
+    let mut end = from;
+    let mut number = 0;
+    while end < text.len() && Kind::Digit.has(text[end]) {
+        if number > LAST_TENTH {
+            return too_large(text, end);
+        }
+        number = number * 10 + (text[end] - b'0') as u64;
+        end += 1;
+    }
+    Digits { end, number }
 }

@@ -1,7 +1,8 @@
 use Rattle.std.proofs.Common.{◌∙◌, ap}
 use Rattle.rv_text.specs.Places.{run_end}
 use Rattle.rv_text.specs.declared.runs.Kind.TheVariants as kinds
-use Rattle.rv_trace.proofs.StampLemmas.{end_from, first-end, second-end}
+use Rattle.rv_trace.specs.Lines.{end_from}
+use Rattle.rv_trace.proofs.StampLemmas.{first-end, second-end}
 use Rattle.rv_trace.proofs.parts.stamp_end.Goals as goal
 
 pub returns-in-Some-clause-value : goal.returns-in-Some-clause-value
@@ -12,5 +13,5 @@ pub returns-clause-value : goal.returns-clause-value
 returns-clause-value c =
     let text = c.args.text.now in
     let first = c.blanks_end-first.ensures.value in
-    let second = c.blanks_end-second.ensures.value ∙ ap (run_end kinds.Blank c.args.text.now) (c.word_end.ensures.value ∙ ap (run_end kinds.Word c.args.text.now) first) in
-    c.stamp_from-2.ensures.value ∙ ap (end_from c.args.text.now) second ∙ second-end c.args.text.now c.args.place (c.in_default.ensures.value ∙ ap (end_from c.args.text.now) first)
+    c.second_stamp.ensures.value ∙ ap (λ n. end_from c.args.text.now (run_end kinds.Blank c.args.text.now (run_end kinds.Word c.args.text.now n))) first
+    ∙ second-end c.args.text.now c.args.place (c.in_default.ensures.value ∙ ap (end_from c.args.text.now) first)

@@ -1,0 +1,17 @@
+-- A run of bytes within one load: the bytes of a load are looked at together, from the first one on.
+use Rattle.std.specs.Prelude.{◌≡◌, ◌≤◌, ◌<◌, ◌⊎◌, ℕ, ◌+◌, Bool, true, false, ◌==◌, List, slice_index, if◌then◌else◌}
+use Rattle.std.specs.Int.{trailing_zeros, w64}
+
+-- so many of the `count` bytes from a place on pass the test, one after the other, and the next of them does not
+pub record IsRunIn (test : ℕ → Bool) (text : List ℕ) (from count run : ℕ) : Type 0 where
+  pub most : run ≤ count
+  pub each : (k : ℕ) → from ≤ k → k < from + run → test (slice_index text k) ≡ true
+  pub stop : run < count → test (slice_index text (from + run)) ≡ false
+
+-- the place of the lowest bit that is set, or the number of bits
+abbrev pub first_set : ℕ → ℕ → ℕ
+first_set mask count = if mask == 0 then count else trailing_zeros w64 mask
+
+-- a number stands for another one: it is the same, or both are larger than each number that a trace may have
+abbrev pub CountsAs : ℕ → ℕ → Type 0
+CountsAs number other = (number ≡ other) ⊎ ((4294967295 < number) × (4294967295 < other))
