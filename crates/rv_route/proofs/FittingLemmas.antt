@@ -18,7 +18,7 @@ use Rattle.rv_slots.specs.declared.tasks.TheConstants.{MAX_TASKS}
 use Rattle.rv_bind.specs.declared.bindings.Monitor.{Monitor}
 use Rattle.rv_bind.specs.RuleValues.{OnValue}
 use Rattle.rv_bind.specs.WellFormed.{Kind, kind_of, kinds_of, FitsKind}
-use Rattle.rv_route.specs.declared.router.TheConstants.{MAX_DELIVERIES}
+use Rattle.rv_route.specs.declared.deliveries.TheConstants.{MAX_DELIVERIES}
 use Rattle.rv_route.specs.declared.asking.Ask.{Ask}
 use Rattle.rv_route.specs.declared.asking.Ask.TheVariants as asks
 use Rattle.rv_route.specs.Asking.{text_at, value_of, fires, pid_from, pid_at, pid_of, by_scope, asked_of, ask_of}

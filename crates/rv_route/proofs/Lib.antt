@@ -1,7 +1,9 @@
+pub mod AskingLemmas
+pub mod EventLemmas
 pub mod FittingLemmas
+pub mod IndexLemmas
 pub mod LaneLemmas
 pub mod RoutedLemmas
 pub mod RoutingLemmas
-pub mod SharingLemmas
 pub mod TurnLemmas
 pub mod WorksLemmas

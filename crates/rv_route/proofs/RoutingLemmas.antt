@@ -1,5 +1,5 @@
 -- One more rule, and one more line.
-use Rattle.std.proofs.Common.{◌≡◌, ℕ, ◌+◌, ◌<◌, ◌≤◌, List, ◌∷◌, ◌++◌, arith, length, get_or, drop, Result, Ok, refl, sym, ◌∙◌, ap, drop-cons, add-one}
+use Rattle.std.proofs.Common.{◌≡◌, ℕ, ◌+◌, ◌<◌, ◌≤◌, List, ◌∷◌, ◌++◌, arith, length, get_or, drop, Result, Ok, sym, ◌∙◌, ap, drop-cons, add-one}
 use Rattle.std.specs.Prelude.{All}
 use Rattle.std.proofs.lemmas.List.{drop_all, append_assoc}
 use Rattle.std.proofs.lemmas.List.Elements.{All-rest}
@@ -11,7 +11,7 @@ use Rattle.rv_text.specs.Readings.{Refuses}
 use Rattle.rv_trace.specs.declared.line.TraceLine.{TraceLine}
 use Rattle.rv_bind.specs.declared.bindings.Monitor.{Monitor}
 use Rattle.rv_bind.specs.RuleValues.{OnValue}
-use Rattle.rv_route.specs.Asking.{text_at, ask_on, ask_of}
+use Rattle.rv_route.specs.Asking.{ask_of}
 use Rattle.rv_model.specs.declared.record.Task.{Task}
 use Rattle.rv_model.specs.Works.{Work}
 use Rattle.rv_text.specs.Readings.{and_then}
@@ -26,12 +26,6 @@ pub rule-more : (text : List ℕ) (line : TraceLine) (monitors : List Monitor) (
     line_routes text line monitors (drop i rules) routes ≡ and_then (answer routes line rule (ask_of text line monitors rule)) (line_routes text line monitors (drop (i + 1) rules))
 unfolding line_routes
 rule-more text line monitors rules i rule routes inside is = ap (λ rest. line_routes text line monitors rest routes) (rest-first rules i rule inside is)
-
--- what the rule asks for on the line's pieces
-pub answer-on : (text : List ℕ) (line same : TraceLine) (event fields : List ℕ) (monitors : List Monitor) (rule : OnValue) (routes : Routes) → same ≡ line → event ≡ text_at text line.name → fields ≡ text_at text line.fields
-    → answer routes line rule (ask_of text line monitors rule) ≡ answer routes same rule (ask_on event fields same monitors rule)
-unfolding ask_of
-answer-on text line same event fields monitors rule routes line_is event_is fields_is = rw (line_is, event_is, fields_is) refl
 
 -- no rule is left
 pub rules-end : (text : List ℕ) (line : TraceLine) (monitors : List Monitor) (rules : List OnValue) (i : ℕ) (routes : Routes) → length rules ≤ i → line_routes text line monitors (drop i rules) routes ≡ Ok routes

@@ -36,6 +36,11 @@ abbrev pub holds : List ℕ → Test → Bool
 holds fields (Is field wanted) = is_same wanted (value_of fields field)
 holds fields (IsNot field wanted) = differs wanted (value_of fields field)
 
+-- whether a test holds of what its field has
+abbrev pub passes : Test → Option (List ℕ) → Bool
+passes (Is field wanted) found = is_same wanted found
+passes (IsNot field wanted) found = differs wanted found
+
 -- a rule fires on its event where all its tests hold
 abbrev pub fires : List ℕ → List ℕ → OnValue → Bool
 fires event fields rule = bytes_eq event rule.event && list_all (holds fields) rule.tests
@@ -65,9 +70,14 @@ abbrev pub asked_of : List ℕ → TraceLine → Option (List ℕ) → Option Mo
 asked_of fields line by None = asks.Quiet
 asked_of fields line by (Some monitor) = by_scope fields line by monitor.scope
 
--- what the rule asks for on a line of this event and these fields
-abbrev pub ask_on : List ℕ → List ℕ → TraceLine → List Monitor → OnValue → Ask
-ask_on event fields line monitors rule = if fires event fields rule then asked_of fields line rule.by (slice_get monitors rule.monitor) else asks.Quiet
+-- what the rule asks for on a line of its event with these fields
+abbrev pub ask_on : List ℕ → TraceLine → List Monitor → OnValue → Ask
+ask_on fields line monitors rule = if list_all (holds fields) rule.tests then asked_of fields line rule.by (slice_get monitors rule.monitor) else asks.Quiet
+
+-- the pid of a field that was looked up, or else the line's
+abbrev pub pid_found : List ℕ → TraceLine → Option (Option Span) → Ask
+pid_found fields line None = asks.Pid line.pid
+pid_found fields line (Some found) = pid_at (option_map (text_at fields) found)
 
 -- what the rule asks for
 unfoldable pub ask_of : List ℕ → TraceLine → List Monitor → OnValue → Ask

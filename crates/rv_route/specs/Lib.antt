@@ -1,7 +1,7 @@
 pub mod Asking
+pub mod Events
 pub mod Fitting
 pub mod Lanes
 pub mod Lines
 pub mod Routed
 pub mod Routing
-pub mod Sharing

@@ -11,7 +11,7 @@ use Rattle.rv_slots.specs.Tasks.{task_of, is_held, with_task, number_of}
 use Rattle.rv_slots.specs.declared.tasks.TheConstants.{MAX_TASKS}
 use Rattle.rv_bind.specs.declared.bindings.Monitor.{Monitor}
 use Rattle.rv_bind.specs.RuleValues.{OnValue}
-use Rattle.rv_route.specs.declared.router.TheConstants.{MAX_DELIVERIES}
+use Rattle.rv_route.specs.declared.deliveries.TheConstants.{MAX_DELIVERIES}
 use Rattle.rv_route.specs.declared.asking.Ask.{Ask}
 use Rattle.rv_route.specs.declared.asking.Ask.TheVariants as asks
 use Rattle.rv_route.specs.Asking.{ask_of}

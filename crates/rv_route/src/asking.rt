@@ -1,13 +1,15 @@
 //! What a rule finds on a line: a condition on that line alone.
-ghost use Rattle.std.specs.Prelude.{◌≡◌, ◌≤◌, ◌<◌, length, None, IfOk, IsTrue, option_copied, slice_index_or};
+ghost use Rattle.std.specs.Prelude.{◌≡◌, ◌≤◌, length, map, All, OnOk, bytes_eq, option_map, option_copied};
 ghost use Rattle.std.specs.List.{list_all};
-ghost use Rattle.rv_route.specs.Asking.{pid_at, holds, value_of, is_same, differs};
-ghost use Rattle.rv_route.specs.Sharing.{names_of, firsts_of, passes, values_of, shown};
+ghost use Rattle.rv_trace.specs.Fields.{field_of};
+ghost use Rattle.rv_route.specs.Asking.{text_at, is_same, differs, passes, holds, pid_at, pid_found, ask_on};
+ghost use Rattle.rv_route.specs.Events.{names_of, IsInside, found_at, HasFound};
 
-use crate::sharing::name_of;
-use rv_bind::Test;
+use crate::event::Asked;
+use rv_bind::{Monitor, On, Test};
+use rv_model::{Name, Scope};
 use rv_text::decimal;
-use rv_trace::field;
+use rv_trace::{Span, TraceLine, field};
 use std::alloc::AllocError;
 
 /// What a rule asks for.
@@ -23,95 +25,102 @@ pub(crate) enum Ask {
     NoPid,
 }
 
-/// The value of a field.
-fn value<'a>(fields: &'a [u8], name: &[u8]) -> Option<&'a [u8]>
+/// Looks the names up on a line, each once.
+pub(crate) fn look_up(
+    fields: &[u8],
+    names: &[Name],
+    found: &mut Vec<Option<Span>>,
+) -> Result<(), AllocError>
     requires { length fields.now ≤ 4294967295 }
-    ensures { option_copied result ≡ value_of fields.now name.now }
+    ensures found { OnOk result (found.new.items ≡ map (field_of fields.now) names.now) }
+    ensures inside { OnOk result (All (IsInside fields.now) found.new.items) }
 {
-    match field(fields, name) {
+    found.clear();
+    for name in names {
+        found.push(field(fields, name.bytes()))?;
+    }
+    Ok(())
+}
+
+/// What the field has that was looked up at this place.
+#[inline(always)]
+fn value_at<'a>(fields: &'a [u8], found: &[Option<Span>], place: usize) -> Option<&'a [u8]>
+    requires { All (IsInside fields.now) found.now }
+    ensures { option_copied result ≡ option_map (text_at fields.now) (found_at found.now place) }
+{
+    if place >= found.len() {
+        return None;
+    }
+    match found[place] {
         Some(span) => Some(&fields[span.from as usize..span.to as usize]),
         None => None,
     }
 }
 
-/// The value of a field that may have been found at a place already.
-pub(crate) fn known<'a>(
-    fields: &'a [u8],
-    name: &[u8],
-    found: &[Option<&'a [u8]>],
-    place: usize,
-) -> Option<&'a [u8]>
-    requires small { length fields.now ≤ 4294967295 }
-    requires kept { place < length found.now → slice_index_or (shown found.now) place None ≡ value_of fields.now name.now }
-    ensures { option_copied result ≡ value_of fields.now name.now }
+/// Whether the two are the same bytes. Most differ in length or in the first byte.
+#[inline(always)]
+pub(crate) fn is_same(one: &[u8], other: &[u8]) -> bool
+    ensures { result ≡ bytes_eq one.now other.now }
 {
-    if place < found.len() {
-        return found[place];
+    if one.len() != other.len() {
+        return false;
     }
-    value(fields, name)
+    if one.is_empty() {
+        return true;
+    }
+    one[0] == other[0] && (one.len() == 1 || one == other)
 }
 
 /// Whether the value is the one that is wanted.
-fn is_same(found: Option<&[u8]>, wanted: &[u8]) -> bool
+#[inline(always)]
+fn is_wanted(found: Option<&[u8]>, wanted: &[u8]) -> bool
     ensures { result ≡ is_same wanted.now (option_copied found.entry) }
 {
     match found {
-        Some(found) => found == wanted,
+        Some(found) => is_same(found, wanted),
         None => false,
     }
 }
 
 /// Whether there is a value, and it is another than this one.
+#[inline(always)]
 fn differs(found: Option<&[u8]>, wanted: &[u8]) -> bool
     ensures { result ≡ differs wanted.now (option_copied found.entry) }
 {
     let Some(found) = found else {
         return false;
     };
-    !(found == wanted)
+    !is_same(found, wanted)
 }
 
 /// Whether a test holds of what its field has.
+#[inline(always)]
 fn passes(test: &Test, found: Option<&[u8]>) -> bool
     ensures { result ≡ passes test.now (option_copied found.entry) }
 {
     match test {
-        Test::Is { value, .. } => is_same(found, value.bytes()),
+        Test::Is { value, .. } => is_wanted(found, value.bytes()),
         Test::IsNot { value, .. } => differs(found, value.bytes()),
     }
 }
 
-/// Whether all tests hold, from the first on. What their fields have is found once for each.
-pub(crate) fn all_hold<'a>(
-    fields: &'a [u8],
-    tests: &[Test],
-    firsts: &[usize],
-    found: &mut Vec<Option<&'a [u8]>>,
-) -> Result<bool, AllocError>
-    requires small { length fields.now ≤ 4294967295 }
-    requires firsts { firsts.now ≡ firsts_of (names_of tests.now) }
-    ensures hold { IfOk result (λ hold. hold ≡ list_all (holds fields.now) tests.now) }
-    ensures found { IfOk result (λ hold. IsTrue hold → shown found.new.items ≡ values_of fields.now tests.now) }
+/// Whether all tests hold, whose fields were looked up at these places.
+fn all_hold(fields: &[u8], tests: &[Test], places: &[usize], found: &[Option<Span>]) -> bool
+    requires found { map (found_at found.now) places.now ≡ map (field_of fields.now) (names_of tests.now) }
+    requires inside { All (IsInside fields.now) found.now }
+    ensures { result ≡ list_all (holds fields.now) tests.now }
 {
-    found.clear();
-    for place in 0..tests.len() {
-        let test = &tests[place];
-        let value = known(
-            fields,
-            name_of(test).bytes(),
-            found.as_slice(),
-            firsts[place],
-        );
-        if !passes(test, value) {
-            return Ok(false);
+    for test in 0..tests.len() {
+        let value = value_at(fields, found, places[test]);
+        if !passes(&tests[test], value) {
+            return false;
         }
-        found.push(value)?;
     }
-    Ok(true)
+    true
 }
 
 /// The pid that a field's value is.
-pub(crate) fn pid_at(value: Option<&[u8]>) -> Ask
+fn pid_at(value: Option<&[u8]>) -> Ask
     ensures { result ≡ pid_at (option_copied value.entry) }
 {
     let Some(value) = value else {
@@ -120,5 +129,42 @@ pub(crate) fn pid_at(value: Option<&[u8]>) -> Ask
     match decimal(value) {
         Some(pid) if pid <= 0xffff_ffff => Ask::Pid(pid as u32),
         _ => Ask::NoPid,
+    }
+}
+
+/// The pid in the rule's field, or else the line's.
+fn pid_of(fields: &[u8], line: &TraceLine, by: Option<usize>, found: &[Option<Span>]) -> Ask
+    requires { All (IsInside fields.now) found.now }
+    ensures { result ≡ pid_found fields.now line.now (option_map (found_at found.now) by) }
+{
+    match by {
+        Some(place) => pid_at(value_at(fields, found, place)),
+        None => Ask::Pid(line.pid),
+    }
+}
+
+/// What a rule asks for on a line of its event, whose fields were looked up.
+pub(crate) fn ask_for(
+    monitors: &[Monitor],
+    rule: &On,
+    asked: &Asked,
+    line: &TraceLine,
+    fields: &[u8],
+    found: &[Option<Span>],
+) -> Ask
+    requires found { HasFound fields.now found.now asked.now rule.now }
+    requires inside { All (IsInside fields.now) found.now }
+    ensures { result ≡ ask_on fields.now line.now monitors.now rule.now }
+{
+    if !all_hold(fields, rule.tests.as_slice(), asked.tests.as_slice(), found) {
+        return Ask::Quiet;
+    }
+    let Some(monitor) = monitors.get(rule.monitor as usize) else {
+        return Ask::Quiet;
+    };
+    match monitor.scope {
+        Scope::Global => Ask::Instance(0),
+        Scope::Cpu => Ask::Instance(line.cpu as u32),
+        Scope::Task => pid_of(fields, line, asked.by, found),
     }
 }

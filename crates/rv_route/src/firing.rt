@@ -2,16 +2,18 @@
 ghost use Rattle.std.specs.Prelude.{◌≡◌, ◌++◌, length, All, IfOk, OnOk};
 ghost use Rattle.rv_text.specs.Readings.{Gives};
 ghost use Rattle.rv_route.specs.Lines.{IsRoutable};
+ghost use Rattle.rv_route.specs.Events.{IsIndexOf};
 ghost use Rattle.rv_route.specs.Lanes.{IsLane};
 ghost use Rattle.rv_route.specs.Routing.{Reaches, routes_of, route_of, works_of, work_in};
 ghost use Rattle.rv_route.specs.Routed.{routed_value};
 ghost use Rattle.rv_route.specs.Fitting.{WorksFit, NumbersAscend};
 ghost use Rattle.rv_bind.specs.WellFormed.{FitsKind, kinds_of};
 
-use crate::asker::Asker;
+use crate::deliveries::Deliveries;
+use crate::index::{Bucket, index_of};
 use crate::lanes::Lane;
-use crate::router::Router;
-use rv_bind::{Bindings, Monitor, On};
+use crate::router::take;
+use rv_bind::Bindings;
 use rv_model::CpuWork;
 use rv_slots::Tasks;
 use rv_text::Refused;
@@ -38,78 +40,46 @@ pub fn route(
     ensures value { Gives routed_value result (route_of bindings.now.monitors.items bindings.now.rules.items text.now lines.now) }
     ensures fit { IfOk result (λ routed. WorksFit (kinds_of bindings.now.monitors.items) (length routed.tasks) routed.works.items) }
 {
-    route_lines(
+    let index = index_of(alloc, bindings.rules.as_slice())?;
+    let mut deliveries = Deliveries::new(alloc)?;
+    take_all(
         alloc,
-        bindings.monitors.as_slice(),
-        bindings.rules.as_slice(),
+        &mut deliveries,
+        bindings,
+        index.as_slice(),
         text,
         lines,
-    )
-}
-
-/// The same over the monitors and the rules alone.
-fn route_lines(
-    alloc: Global,
-    monitors: &[Monitor],
-    rules: &[On],
-    text: &[u8],
-    lines: &[TraceLine],
-) -> Result<Routed, Refused>
-    requires lines { All (IsRoutable text.now) lines.now }
-    requires ascend { NumbersAscend lines.now }
-    requires rules { All (FitsKind (kinds_of monitors.now)) rules.now }
-    ensures value { Gives routed_value result (route_of monitors.now rules.now text.now lines.now) }
-    ensures fit { IfOk result (λ routed. WorksFit (kinds_of monitors.now) (length routed.tasks) routed.works.items) }
-{
-    let mut router = Router::new(alloc)?;
-    fire(alloc, &mut router, monitors, rules, text, lines)?;
-    let routed = end(alloc, router)?;
+    )?;
+    let routed = end(alloc, deliveries)?;
     Ok(routed)
 }
 
-/// Asks the rules on each line. What they look up goes into memory that is taken before the lines.
-fn fire(
+/// Routes the lines in order, up to the first refusal. What is looked up goes into memory that is taken before the lines.
+fn take_all(
     alloc: Global,
-    router: &mut Router,
-    monitors: &[Monitor],
-    rules: &[On],
+    deliveries: &mut Deliveries,
+    bindings: &Bindings,
+    index: &[Bucket],
     text: &[u8],
     lines: &[TraceLine],
 ) -> Result<(), Refused>
-    requires { All (IsRoutable text.now) lines.now }
-    ensures { Reaches result router.new (routes_of text.now monitors.now rules.now lines.now router.old) }
+    requires lines { All (IsRoutable text.now) lines.now }
+    requires index { IsIndexOf bindings.now.rules.items index.now }
+    ensures { Reaches result deliveries.new (routes_of text.now bindings.now.monitors.items bindings.now.rules.items lines.now deliveries.old) }
 {
-    let askers = askers_of(alloc, rules)?;
-    let mut found = Vec::with_capacity(alloc, most_tests(rules))?;
-    router.lines(monitors, askers.as_slice(), text, lines, &mut found)
-}
-
-/// The rules, ready to be asked.
-fn askers_of<'a>(alloc: Global, rules: &'a [On]) -> Result<Vec<Asker<'a>>, AllocError>
-    ensures { IfOk result (λ askers. askers.items ≡ rules.now) }
-{
-    let mut askers = Vec::with_capacity(alloc, rules.len())?;
-    for rule in rules {
-        askers.push(Asker::new(alloc, rule)?)?;
+    let mut found = Vec::new(alloc);
+    for line in lines {
+        take(deliveries, bindings, index, text, line, &mut found)?;
     }
-    Ok(askers)
-}
-
-/// The most tests of a rule.
-fn most_tests(rules: &[On]) -> usize {
-    let mut most = 0;
-    for rule in rules {
-        most = most.max(rule.tests.len());
-    }
-    most
+    Ok(())
 }
 
 /// What was routed.
-fn end(alloc: Global, router: Router) -> Result<Routed, AllocError>
-    requires { All IsLane router.lanes }
-    ensures { IfOk result (λ routed. routed_value routed ≡ record { tasks = router.tasks; works = works_of router.lanes }) }
+fn end(alloc: Global, deliveries: Deliveries) -> Result<Routed, AllocError>
+    requires { All IsLane deliveries.lanes }
+    ensures { IfOk result (λ routed. routed_value routed ≡ record { tasks = deliveries.tasks; works = works_of deliveries.lanes }) }
 {
-    let Router { tasks, lanes, .. } = router;
+    let Deliveries { tasks, lanes, .. } = deliveries;
     let works = works(alloc, lanes)?;
     Ok(Routed { tasks, works })
 }

@@ -1,14 +1,15 @@
 //! From trace lines to what each CPU has to do.
 #![tactic(auto)]
 
-mod asker;
 mod asking;
+mod deliveries;
+mod event;
 mod firing;
+mod index;
 mod lanes;
 mod router;
-mod sharing;
 #[cfg(test)]
 mod tests;
 
+pub use deliveries::MAX_DELIVERIES;
 pub use firing::{Routed, route};
-pub use router::MAX_DELIVERIES;

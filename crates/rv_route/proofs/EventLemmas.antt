@@ -1,0 +1,155 @@
+-- Rules keep their places while names come in, and a line's rules are those of its event.
+use Rattle.std.proofs.Common.{◌≡◌, ℕ, zero, suc, ◌+◌, ◌<◌, Bool, true, false, cond, List, [], ◌∷◌, ◌++◌, length, get_or, take, map, Option, Some, None, refl, sym, ap, ap₂, ◌∙◌, subst, arith}
+use Rattle.std.specs.Prelude.{filter, option_map, bytes_eq, slice_get, if◌then◌else◌}
+use Rattle.std.specs.List.{AllZip}
+use Rattle.std.specs.Borrow.{Bor}
+use Rattle.std.proofs.lemmas.List.{map-append, map_push, take_more}
+use Rattle.std.proofs.lemmas.List.Elements.{filter_more}
+use Rattle.std.proofs.lemmas.Option.{slice_get-map, get_or_from_slice_get}
+use Rattle.std.proofs.lemmas.Slice.Eq.{bytes_eq-Decides}
+use Rattle.rv_trace.specs.Fields.{field_of}
+use Rattle.rv_trace.specs.declared.line.Span.{Span}
+use Rattle.rv_bind.specs.declared.bindings.Test.{Test}
+use Rattle.rv_bind.specs.RuleValues.{OnValue}
+use Rattle.rv_route.specs.declared.event.Asked.{Asked}
+use Rattle.rv_route.specs.Events.{Extends, HasFields, IsAsked, name_of, names_of, found_at, HasFound, is_on}
+
+-- equal bytes are equal
+pub same_bytes : (a b : List ℕ) → bytes_eq a b ≡ true → a ≡ b
+same_bytes a b is = (bytes_eq-Decides a b).0 is
+
+pub itself : (a : List ℕ) → bytes_eq a a ≡ true
+itself a = (bytes_eq-Decides a a).1 refl
+
+-- ---- names that come in
+
+get-append : {X : Type 0} (xs ys : List X) (i : ℕ) (x : X) → slice_get xs i ≡ Some x → slice_get (xs ++ ys) i ≡ Some x
+get-append [] ys i x is = cc
+get-append (y ∷ xs) ys zero x is = is
+get-append (y ∷ xs) ys (suc i) x is = get-append xs ys i x is
+
+-- one more key, unless it is there
+pub extends-insert : (there : Bool) (keys more : List (Bor (List ℕ))) (key : Bor (List ℕ)) → more ≡ (if there then keys else keys ++ key ∷ []) → Extends (map (λ (k : Bor (List ℕ)). k.now) keys) (map (λ (k : Bor (List ℕ)). k.now) more)
+extends-insert true keys more key grown place name is = ap (λ (ks : List (Bor (List ℕ))). slice_get (map (λ (k : Bor (List ℕ)). k.now) ks) place) grown ∙ is
+extends-insert false keys more key grown place name is =
+    ap (λ (ks : List (Bor (List ℕ))). slice_get (map (λ (k : Bor (List ℕ)). k.now) ks) place) grown
+    ∙ ap (λ (names : List (List ℕ)). slice_get names place) (map-append (λ (k : Bor (List ℕ)). k.now) keys (key ∷ []))
+    ∙ get-append (map (λ (k : Bor (List ℕ)). k.now) keys) (map (λ (k : Bor (List ℕ)). k.now) (key ∷ [])) place name is
+
+-- the key that a set has for a name stands where it is said to
+pub stands : (keys : List (Bor (List ℕ))) (place : ℕ) (key : Bor (List ℕ)) (name : List ℕ) → slice_get keys place ≡ Some key → bytes_eq name key.now ≡ true → slice_get (map (λ (k : Bor (List ℕ)). k.now) keys) place ≡ Some name
+stands keys place key name there same =
+    slice_get-map (λ (k : Bor (List ℕ)). k.now) keys place ∙ ap (option_map (λ (k : Bor (List ℕ)). k.now)) there ∙ ap Some (sym (same_bytes name key.now same))
+
+pub extends-then : (a b c : List (List ℕ)) → Extends a b → Extends b c → Extends a c
+extends-then a b c first next place name is = next place name (first place name is)
+
+module _ (old new : List (List ℕ)) (grown : Extends old new) where
+  pub places-grown : (places : List ℕ) (names : List (List ℕ)) → map (slice_get old) places ≡ map Some names → map (slice_get new) places ≡ map Some names
+  places-grown [] [] is = refl
+  places-grown [] (name ∷ names) is = cc
+  places-grown (place ∷ places) [] is = cc
+  places-grown (place ∷ places) (name ∷ names) is =
+      let first : slice_get old place ≡ Some name = cc in
+      let rest : map (slice_get old) places ≡ map Some names = cc in
+      ap₂ (λ (o : Option (List ℕ)) (os : List (Option (List ℕ))). o ∷ os) (grown place name first) (places-grown places names rest)
+
+  pub by-grown : (by : Option ℕ) (name : Option (List ℕ)) → option_map (slice_get old) by ≡ option_map Some name → option_map (slice_get new) by ≡ option_map Some name
+  by-grown None None is = refl
+  by-grown None (Some name) is = cc
+  by-grown (Some place) None is = cc
+  by-grown (Some place) (Some name) is = let there : slice_get old place ≡ Some name = cc in ap Some (grown place name there)
+
+  -- a rule keeps its places
+  pub asked-grown : (rules : List OnValue) (asked : Asked) (rule : OnValue) → IsAsked rules old asked rule → IsAsked rules new asked rule
+  asked-grown rules asked rule is = record {
+    there = is.there;
+    fields = record { tests = places-grown asked.tests.items (names_of rule.tests) is.fields.tests; by = by-grown asked.by rule.by is.fields.by };
+  }
+
+  pub all-grown : (all : List OnValue) (list : List Asked) (rules : List OnValue) → AllZip (IsAsked all old) list rules → AllZip (IsAsked all new) list rules
+  all-grown all [] [] are = tt
+  all-grown all [] (rule ∷ rules) are = are
+  all-grown all (asked ∷ list) [] are = are
+  all-grown all (asked ∷ list) (rule ∷ rules) are = (asked-grown all asked rule are.0, all-grown all list rules are.1)
+
+  -- one more test
+  pub places-more : (places : List ℕ) (names : List (List ℕ)) (place : ℕ) (name : List ℕ) → map (slice_get old) places ≡ map Some names → slice_get new place ≡ Some name → map (slice_get new) (places ++ place ∷ []) ≡ map Some (names ++ name ∷ [])
+  places-more [] [] place name is there = ap (λ (o : Option (List ℕ)). o ∷ []) there
+  places-more [] (n ∷ names) place name is there = cc
+  places-more (p ∷ places) [] place name is there = cc
+  places-more (p ∷ places) (n ∷ names) place name is there =
+      let first : slice_get old p ≡ Some n = cc in
+      let rest : map (slice_get old) places ≡ map Some names = cc in
+      ap₂ (λ (o : Option (List ℕ)) (os : List (Option (List ℕ))). o ∷ os) (grown p n first) (places-more places names place name rest there)
+
+-- ---- rules that are asked
+
+zip-push : {A B : Type 0} (R : A → B → Type 0) (xs : List A) (ys : List B) (x : A) (y : B) → AllZip R xs ys → R x y → AllZip R (xs ++ x ∷ []) (ys ++ y ∷ [])
+zip-push R [] [] x y all one = (one, tt)
+zip-push R [] (b ∷ ys) x y all one = absurd all
+zip-push R (a ∷ xs) [] x y all one = absurd all
+zip-push R (a ∷ xs) (b ∷ ys) x y all one = (all.0, zip-push R xs ys x y all.1 one)
+
+-- one more rule on the event
+pub asked-more : (all : List OnValue) (old new : List (List ℕ)) (list : List Asked) (rules : List OnValue) (asked : Asked) (rule : OnValue) → Extends old new → AllZip (IsAsked all old) list rules → IsAsked all new asked rule → AllZip (IsAsked all new) (list ++ asked ∷ []) (rules ++ rule ∷ [])
+asked-more all old new list rules asked rule grown are is = zip-push (IsAsked all new) list rules asked rule (all-grown old new grown all list rules are) is
+
+-- a rule that is asked, at its place
+pub record At (all : List OnValue) (names : List (List ℕ)) (rules : List OnValue) (place : ℕ) (asked : Asked) : Type 0 where
+  pub rule : OnValue
+  pub inside : place < length rules
+  pub is : rule ≡ get_or rules place rule
+  pub asks : IsAsked all names asked rule
+
+pub asked_at : (all : List OnValue) (names : List (List ℕ)) (list : List Asked) (rules : List OnValue) (place : ℕ) (asked : Asked) → AllZip (IsAsked all names) list rules → place < length list → asked ≡ get_or list place asked → At all names rules place asked
+asked_at all names [] rules place asked are inside is = absurd (omega arith)
+asked_at all names (a ∷ list) [] place asked are inside is = absurd are
+asked_at all names (a ∷ list) (rule ∷ rules) zero asked are inside is = record { rule = rule; inside = omega arith; is = refl; asks = subst (λ (b : Asked). IsAsked all names b rule) (sym is) are.0 }
+asked_at all names (a ∷ list) (rule ∷ rules) (suc place) asked are inside is =
+    let at = asked_at all names list rules place asked are.1 (omega arith) is in record { rule = at.rule; inside = let i = at.inside in omega arith; is = at.is; asks = at.asks }
+
+-- as many rules are asked as there are
+pub asked-many : (all : List OnValue) (names : List (List ℕ)) (list : List Asked) (rules : List OnValue) → AllZip (IsAsked all names) list rules → length list ≡ length rules
+asked-many all names [] [] are = refl
+asked-many all names [] (rule ∷ rules) are = absurd are
+asked-many all names (asked ∷ list) [] are = absurd are
+asked-many all names (asked ∷ list) (rule ∷ rules) are = let rest = asked-many all names list rules are.1 in omega arith
+
+-- ---- fields that were looked up
+
+module _ (fields : List ℕ) (names : List (List ℕ)) where
+  found-name : (place : ℕ) (name : List ℕ) → slice_get names place ≡ Some name → found_at (map (field_of fields) names) place ≡ field_of fields name
+  found-name place name there = get_or_from_slice_get (map (field_of fields) names) place (field_of fields name) None (slice_get-map (field_of fields) names place ∙ ap (option_map (field_of fields)) there)
+
+  found-tests : (places : List ℕ) (wanted : List (List ℕ)) → map (slice_get names) places ≡ map Some wanted → map (found_at (map (field_of fields) names)) places ≡ map (field_of fields) wanted
+  found-tests [] [] is = refl
+  found-tests [] (name ∷ wanted) is = cc
+  found-tests (place ∷ places) [] is = cc
+  found-tests (place ∷ places) (name ∷ wanted) is =
+      let first : slice_get names place ≡ Some name = cc in
+      let rest : map (slice_get names) places ≡ map Some wanted = cc in
+      ap₂ (λ (o : Option Span) (os : List (Option Span)). o ∷ os) (found-name place name first) (found-tests places wanted rest)
+
+  found-by : (by : Option ℕ) (name : Option (List ℕ)) → option_map (slice_get names) by ≡ option_map Some name → option_map (found_at (map (field_of fields) names)) by ≡ option_map (field_of fields) name
+  found-by None None is = refl
+  found-by None (Some name) is = cc
+  found-by (Some place) None is = cc
+  found-by (Some place) (Some name) is = let there : slice_get names place ≡ Some name = cc in ap Some (found-name place name there)
+
+  -- the fields of a rule are found where its names stand
+  pub has_found : (found : List (Option Span)) (asked : Asked) (rule : OnValue) → found ≡ map (field_of fields) names → HasFields names asked rule → HasFound fields found asked rule
+  has_found found asked rule are is =
+      subst (λ (f : List (Option Span)). HasFound fields f asked rule) (sym are) (record { tests = found-tests asked.tests.items (names_of rule.tests) is.tests; by = found-by asked.by rule.by is.by })
+
+-- the field of one more test
+pub names-more : (tests : List Test) (i : ℕ) (test : Test) (name : List ℕ) → i < length tests → test ≡ get_or tests i test → name ≡ name_of test → names_of (take (i + 1) tests) ≡ names_of (take i tests) ++ name ∷ []
+names-more tests i test name inside is named =
+    ap names_of (take_more tests i test inside) ∙ map_push name_of (take i tests) (get_or tests i test) ∙ ap (λ (n : List ℕ). names_of (take i tests) ++ n ∷ []) (sym (named ∙ ap name_of is))
+
+-- one more rule is on the event, or is not
+pub on-more : (all : List OnValue) (event name : List ℕ) (i : ℕ) (rule : OnValue) (on : Bool) → i < length all → rule ≡ get_or all i rule → name ≡ rule.event → on ≡ bytes_eq event name
+    → filter (is_on event) (take (i + 1) all) ≡ filter (is_on event) (take i all) ++ cond on (rule ∷ []) []
+on-more all event name i rule on inside is named on_is =
+    let here : is_on event rule ≡ on = sym (on_is ∙ ap (bytes_eq event) named) in
+    filter_more (is_on event) all i rule inside ∙ ap (λ (r : OnValue). filter (is_on event) (take i all) ++ cond (is_on event r) (r ∷ []) []) (sym is) ∙ ap (λ (b : Bool). filter (is_on event) (take i all) ++ cond b (rule ∷ []) []) here

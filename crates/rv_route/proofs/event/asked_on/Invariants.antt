@@ -1,0 +1,8 @@
+use Rattle.std.proofs.Common.{take}
+use Rattle.std.specs.Prelude.{filter}
+use Rattle.std.specs.List.{AllZip}
+use Rattle.rv_route.specs.Events.{shown, IsAsked, is_on}
+use Rattle.rv_route.proofs.event.asked_on.Given as goal
+
+abbrev pub invariant-loop-place : goal.invariant-loop-place
+invariant-loop-place l = AllZip (IsAsked l.rules (shown l.names)) l.list.items (filter (is_on l.event) (take l.place l.rules))
