@@ -13,7 +13,7 @@ use Rattle.rv_feed.specs.One.{lane_records}
 use Rattle.rv_report.specs.declared.found.Found.{Found}
 use Rattle.rv_report.specs.Shown.{is_printed}
 use Rattle.rv_report.specs.Tallies.{AreTallies, IsFound}
-use Rattle.rv_report.proofs.SortedLemmas.{filter-sort}
+use Rattle.rv_feed.proofs.SortedLemmas.{filter-sort}
 use Rattle.rv_report.proofs.TallyLemmas.{tallies-sort}
 
 module _ (monitors : List Reported) (tasks : List Task) (rs : List Record) (f f' : Found) where

@@ -3,7 +3,6 @@ pub mod CountLemmas
 pub mod ExitLemmas
 pub mod FoundLemmas
 pub mod PrintedLemmas
-pub mod SortedLemmas
 pub mod StateLemmas
 pub mod SummaryLemmas
 pub mod TallyLemmas
