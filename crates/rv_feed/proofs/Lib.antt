@@ -8,9 +8,9 @@ pub mod FeedLemmas
 pub mod JoinedLemmas
 pub mod LaneLemmas
 pub mod LineLemmas
-pub mod MergeLemmas
 pub mod OneLemmas
 pub mod RunLemmas
+pub mod SortedLemmas
 pub mod StayLemmas
 pub mod StepLemmas
 pub mod TurnLemmas

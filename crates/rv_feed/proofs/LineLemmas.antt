@@ -1,11 +1,12 @@
 -- The lines of the lanes' next turns, at the places of their CPUs.
-use Rattle.std.proofs.Common.{◌≡◌, ◌≢◌, ℕ, ◌+◌, ◌^◌, ◌<◌, ◌≤◌, List, ◌⊎◌, length, map, inl, inr, arith, refl, sym, ap, ◌∙◌, subst, get_or, get_or-set_same, get_or-set_other, set, length-set}
+use Rattle.std.proofs.Common.{◌≡◌, ◌≢◌, ℕ, ◌+◌, ◌^◌, ◌<◌, ◌≤◌, List, ◌⊎◌, length, map, inl, inr, arith, refl, sym, ap, ◌∙◌, subst, get_or, get_or-set_same, get_or-set_other, set, length-set, All}
 use Rattle.std.specs.Prelude.{AllPairs, slice_index}
 use Rattle.std.proofs.lemmas.List.{get_or_default}
 use Rattle.rv_model.specs.declared.work.Turn.{Turn}
 use Rattle.rv_model.specs.Works.{Work}
+use Rattle.rv_feed.specs.declared.order.Next.{Next}
 use Rattle.rv_feed.specs.Lane.{LaneValue}
-use Rattle.rv_feed.specs.SoFar.{place_of, IsPending, next_line, HasLine, HasLines}
+use Rattle.rv_feed.specs.SoFar.{place_of, IsPending, next_line, HasLine, HasLines, IsLeast}
 use Rattle.rv_feed.proofs.LaneLemmas.{same_or_not, same-lane}
 
 -- a line stays while the lane's place does
@@ -67,3 +68,25 @@ module _ (lines : List ℕ) (lanes : List LaneValue) (apart : AllPairs (λ l m. 
 pub record IsBest (places : List ℕ) (lanes : List LaneValue) (best line count : ℕ) : Type 0 where
   pub least : (j : ℕ) (d : LaneValue) → j < count → j < length lanes → IsPending places (get_or lanes j d) → (line ≤ next_line places (get_or lanes j d)) × (next_line places (get_or lanes j d) < 2 ^ 32)
   pub found : (line ≡ 2 ^ 32) ⊎ ((best < count) × (best < length lanes) × ((d : LaneValue) → IsPending places (get_or lanes best d) × (next_line places (get_or lanes best d) ≡ line)))
+
+-- the next line of a lane is the least, where no next turn has a line below it
+pub least-from : (places lines : List ℕ) (lanes : List LaneValue) (next : Next) → HasLines places lines lanes → All (λ l. IsPending places l → next.line ≤ next_line places l) lanes → next.line ≤ 2 ^ 32
+    → next.lane < length lanes → ((d : LaneValue) → slice_index lines (get_or lanes next.lane d).work.cpu ≡ next.line) → IsLeast places lanes next
+least-from places lines lanes next has later few inside at = record {
+  least = λ k d lt pending. let h = has k d lt in let is = h.line_is pending in let range = h.range pending in (later k d lt pending, omega arith);
+  found = go (below next.line few);
+}
+  where
+    below : (n : ℕ) → n ≤ 2 ^ 32 → (n ≡ 2 ^ 32) ⊎ (n < 2 ^ 32)
+    below n le = grind arith
+
+    go : (next.line ≡ 2 ^ 32) ⊎ (next.line < 2 ^ 32) → (next.line ≡ 2 ^ 32) ⊎ ((next.lane < length lanes) × ((d : LaneValue) → IsPending places (get_or lanes next.lane d) × (next_line places (get_or lanes next.lane d) ≡ next.line)))
+    go (inl none) = inl none
+    go (inr some) =
+        inr (
+          inside,
+          λ d.
+              let h = has next.lane d inside in
+              let pending : IsPending places (get_or lanes next.lane d) = h.pending (let is = at d in omega arith) in
+              (pending, sym (h.line_is pending) ∙ at d),
+        )

@@ -1,7 +1,6 @@
 -- A run of a fresh machine is legal, in order and without changes.
-use Rattle.std.proofs.Common.{◌≡◌, ◌≢◌, ℕ, ◌+◌, ◌<◌, Bool, true, false, ◌||◌, ◌==◌, List, [], ◌∷◌, ◌++◌, ◌⊎◌, length, inr, reverse, arith, refl, sym, ap, ◌∙◌, subst, get_or, All}
-use Rattle.std.specs.Prelude.{Any, flat_map, nat_le, if◌then◌else◌}
-use Rattle.std.specs.List.{list_any}
+use Rattle.std.proofs.Common.{◌≡◌, ◌≢◌, ℕ, ◌+◌, ◌<◌, Bool, false, ◌==◌, List, [], ◌∷◌, ◌++◌, ◌⊎◌, length, inr, reverse, arith, refl, sym, ap, ◌∙◌, subst, get_or, All}
+use Rattle.std.specs.Prelude.{Any, flat_map}
 use Rattle.std.proofs.lemmas.List.{get_or-map, length-map}
 use Rattle.std.proofs.lemmas.List.Elements.{All-get_or, All-head, All-tail}
 use Rattle.rv_model.specs.declared.entry.Act.{Act}
@@ -14,7 +13,7 @@ use Rattle.rv_model.specs.declared.formula.Spec.{Spec}
 use Rattle.rv_model.specs.Setups.{Setup}
 use Rattle.rv_model.specs.Scripts.{played, Plays}
 use Rattle.rv_model.specs.Histories.{Input, AreJudges, IsEarnedBy, IsNoStop, Replays, IsInOrder, acts_of}
-use Rattle.rv_model.specs.Records.{records_of, sort_records, insert_record, script_records, status_of, is_failure, is_stopped}
+use Rattle.rv_model.specs.Records.{records_of, sort_records, script_records, status_of, is_failure, is_stopped}
 use Rattle.rv_model.specs.Works.{Work}
 use Rattle.rv_model.proofs.CutLemmas.{at_each-weaker}
 use Rattle.rv_core.specs.Core.{CoreValue}
@@ -22,6 +21,7 @@ use Rattle.rv_core.specs.Setup.{judges_of}
 use Rattle.rv_feed.specs.Lane.{LaneValue, works_of}
 use Rattle.rv_feed.specs.One.{input_of, lane_records, IsOneOf}
 use Rattle.rv_feed.specs.Order.{Whole, Ran}
+use Rattle.rv_feed.proofs.SortedLemmas.{any-sort}
 
 -- nothing is asked of what is no stop
 earned-free : (before : List Entry) (seat : ℕ) (act : Act) → IsNoStop act → IsEarnedBy act seat before
@@ -42,29 +42,9 @@ acts-none seat (e ∷ h) none =
 
 -- ---- records
 
--- a record that is put into its place
-sorted-any : (p : Record → Bool) (r : Record) (rs : List Record) → list_any p (insert_record r rs) ≡ (p r || list_any p rs)
-sorted-any p r [] = refl
-sorted-any p r (x ∷ rs) = go (nat_le r.order x.order) (sorted-any p r rs)
-  where
-    swap : (a b c : Bool) → (b || (a || c)) ≡ (a || (b || c))
-    swap true true c = refl
-    swap true false c = refl
-    swap false true c = refl
-    swap false false c = refl
-
-    go : (b : Bool) → list_any p (insert_record r rs) ≡ (p r || list_any p rs) → list_any p (if b then r ∷ x ∷ rs else x ∷ insert_record r rs) ≡ (p r || (p x || list_any p rs))
-    go true rest = refl
-    go false rest = ap (λ (b : Bool). p x || b) rest ∙ swap (p r) (p x) (list_any p rs)
-
--- a sort keeps what some record is
-sort-any : (p : Record → Bool) (rs : List Record) → list_any p (sort_records rs) ≡ list_any p rs
-sort-any p [] = refl
-sort-any p (r ∷ rs) = sorted-any p r (sort_records rs) ∙ ap (λ (b : Bool). p r || b) (sort-any p rs)
-
--- and so the status
+-- a sort keeps the status
 pub status-sorted : (rs : List Record) → status_of (sort_records rs) ≡ status_of rs
-status-sorted rs = rw (sort-any is_failure rs, sort-any is_stopped rs) refl
+status-sorted rs = rw (any-sort is_failure rs, any-sort is_stopped rs) refl
 
 -- the scripts' records are the lanes'
 lane-records : (s : Setup) (panics : ℕ → Bool) (h : List Entry) (lanes : List LaneValue) → All (Whole s panics [] h) lanes

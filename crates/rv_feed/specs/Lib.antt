@@ -2,7 +2,6 @@ pub mod Changes
 pub mod Feeders
 pub mod Feeding
 pub mod Lane
-pub mod Merging
 pub mod One
 pub mod Order
 pub mod SoFar

@@ -5,10 +5,8 @@ mod changer;
 mod feeder;
 mod feeders;
 mod lane;
-mod merge;
 mod one;
 mod order;
-mod records;
 #[cfg(test)]
 mod tests;
 mod turn;
@@ -19,5 +17,4 @@ pub use feeders::run_feeders;
 pub use lane::Lane;
 pub use one::replay;
 pub use order::run_in_order;
-pub use records::records_of;
 pub use rv_model::{Delivered, Record};

@@ -1,7 +1,7 @@
 //! All scripts on one thread. The lane whose next turn has the least line goes on.
 ghost use Rattle.rv_model.specs.declared.work.Turn.{Turn};
-ghost use Rattle.std.specs.Prelude.{◌≡◌, ◌≢◌, ℕ, ◌^◌, ◌<◌, ◌≤◌, List, length, replicate, All, AllPairs, slice_index_or};
-ghost use Rattle.rv_feed.specs.Lane.{FitLanes, FitsDelivery, panics_of};
+ghost use Rattle.std.specs.Prelude.{◌≡◌, ◌≢◌, ℕ, ◌^◌, ◌<◌, ◌≤◌, true, List, length, replicate, All, AllPairs, slice_index, slice_index_or};
+ghost use Rattle.rv_feed.specs.Lane.{LaneValue, FitLanes, FitsDelivery, panics_of};
 ghost use Rattle.rv_feed.specs.Order.{Ran};
 ghost use Rattle.rv_feed.specs.SoFar.{IsPending, next_line, HasLines, IsLeast, PlaysNext};
 
@@ -71,6 +71,44 @@ fn least(lanes: &[Lane], lines: &[u64; 64]) -> Next
     best
 }
 
+/// Whether there is a lane at this place, and the line is its next turn's. The lines are by CPU.
+fn goes_on(lanes: &[Lane], lines: &[u64; 64], at: usize, line: u64) -> bool
+    requires { All (λ l. l.work.cpu < 64) lanes.now }
+    ensures within { result ≡ true → at < length lanes.now }
+    ensures line { (d : LaneValue) → result ≡ true → slice_index lines.now (slice_index_or lanes.now at d).work.cpu ≡ line }
+{
+    if at < lanes.len() {
+        let lane = &lanes[at];
+        lines[seat_of(lane) as usize - 2] == line
+    } else {
+        false
+    }
+}
+
+/// The lane whose next turn has the least line, where no next turn has a line below `from`.
+/// Mostly `from` is the next line of the lane that played last, or of the lane behind it.
+fn next_lane(lanes: &[Lane], lines: &[u64; 64], last: usize, from: u64) -> Next
+    requires cpu { All (λ l. l.work.cpu < 64) lanes.now }
+    requires few { from ≤ 2 ^ 32 }
+    ensures { (places : List ℕ) → HasLines places lines.now lanes.now → All (λ l. IsPending places l → from ≤ next_line places l) lanes.now → IsLeast places lanes.now result }
+{
+    if goes_on(lanes, lines, last, from) {
+        return Next {
+            lane: last,
+            line: from,
+        };
+    }
+    let behind = last.saturating_add(1);
+    let other = if behind < lanes.len() { behind } else { 0 };
+    if goes_on(lanes, lines, other, from) {
+        return Next {
+            lane: other,
+            line: from,
+        };
+    }
+    least(lanes, lines)
+}
+
 /// The lane's turn at this place, and then its next place.
 fn play_next(core: &mut Core, reactors: &[Reactor], lane: &mut Lane, place: usize) -> usize
     requires place { place < length lane.old.work.turns }
@@ -97,8 +135,9 @@ pub fn run_in_order(core: &mut Core, reactors: &[Reactor], lanes: &mut [Lane])
     let mut places: [usize; 64] = [0; 64];
     let mut lines = first_lines(lanes);
     let mut from: u64 = 0;
+    let mut last: usize = 0;
     loop {
-        let next = least(lanes, &lines);
+        let next = next_lane(lanes, &lines, last, from);
         if next.line == NO_LINE {
             return;
         }
@@ -107,5 +146,6 @@ pub fn run_in_order(core: &mut Core, reactors: &[Reactor], lanes: &mut [Lane])
         places[cpu] = play_next(core, reactors, lane, places[cpu]);
         lines[cpu] = line_of(lane, &places);
         from = next.line + 1;
+        last = next.lane;
     }
 }

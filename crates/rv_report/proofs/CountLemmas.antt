@@ -1,9 +1,8 @@
 -- Counts of the first numbers that pass a test.
-use Rattle.std.proofs.Common.{◌≡◌, ℕ, suc, ◌+◌, ◌≤◌, Bool, true, false, [], ◌∷◌, ◌++◌, arith, refl, ap, ◌∙◌}
+use Rattle.std.proofs.Common.{◌≡◌, ℕ, suc, ◌+◌, Bool, true, false, [], ◌∷◌, ◌++◌, arith, refl, ap, ◌∙◌}
 use Rattle.std.specs.Prelude.{count_by, if◌then◌else◌}
-use Rattle.std.proofs.lemmas.List.Sums.{count_by-le-length, sum_by-append}
+use Rattle.std.proofs.lemmas.List.Sums.{sum_by-append}
 use Rattle.rv_model.specs.Numbers.{list_of}
-use Rattle.rv_model.proofs.MeansLemmas.{length-list_of}
 
 list-more : (n : ℕ) → list_of (λ k. k) (suc n) ≡ list_of (λ k. k) n ++ n ∷ []
 unfolding list_of
@@ -28,7 +27,3 @@ count-yes p n m is so_far = let more : count_by p (list_of (λ k. k) (n + 1)) �
 -- one number more that does not
 pub count-no : (p : ℕ → Bool) (n m : ℕ) → p n ≡ false → m ≡ count_by p (list_of (λ k. k) n) → m ≡ count_by p (list_of (λ k. k) (n + 1))
 count-no p n m is so_far = let more : count_by p (list_of (λ k. k) (n + 1)) ≡ count_by p (list_of (λ k. k) n) + (0 + 0) = count-more p n false is in omega arith
-
--- no more than there are
-pub count-le : (p : ℕ → Bool) (n : ℕ) → count_by p (list_of (λ k. k) n) ≤ n
-count-le p n = let le = count_by-le-length p (list_of (λ k. k) n) in let l = length-list_of (λ k. k) n in omega arith

@@ -1,8 +1,11 @@
 //! The exit status of a run.
-ghost use Rattle.std.specs.Prelude.{◌≡◌, ◌↔◌, Any};
+ghost use Rattle.std.specs.Prelude.{◌≡◌, ◌↔◌, ◌++◌, List, Any};
+ghost use Rattle.rv_model.specs.declared.record.Record.{Record};
 ghost use Rattle.rv_model.specs.Records.{status_of};
+ghost use Rattle.rv_feed.specs.One.{lane_records};
 ghost use Rattle.rv_report.specs.Exit.{HasFailed, WasStopped};
 
+use rv_feed::Lane;
 use rv_model::{Answer, Delivered, Record};
 
 /// Nothing failed, and no instance was stopped.
@@ -30,4 +33,26 @@ pub fn status(records: &[Record]) -> u8
         }
     }
     if stopped { STOPPED_SOME } else { CLEAN }
+}
+
+/// What two lists of records come to together.
+fn worse(first: u8, second: u8) -> u8
+    ensures { (rs us : List Record) → first ≡ status_of rs → second ≡ status_of us → result ≡ status_of (rs ++ us) }
+{
+    if first == FAILURE || second == CLEAN {
+        first
+    } else {
+        second
+    }
+}
+
+/// What the records of all lanes come to.
+pub fn lanes_status(lanes: &[Lane]) -> u8
+    ensures { result ≡ status_of (lane_records lanes.now) }
+{
+    let mut worst = CLEAN;
+    for lane in lanes {
+        worst = worse(worst, status(lane.records.as_slice()));
+    }
+    worst
 }

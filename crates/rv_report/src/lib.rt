@@ -2,10 +2,12 @@
 #![tactic(auto)]
 
 mod exit;
+mod found;
 mod instances;
 mod lines;
 mod reactions;
 mod summary;
+mod tally;
 
-pub use exit::status;
-pub use lines::report;
+pub use exit::{lanes_status, status};
+pub use lines::{report, report_lanes};

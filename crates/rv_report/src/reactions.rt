@@ -3,11 +3,11 @@ ghost use Rattle.std.specs.Prelude.{◌≡◌, ◌++◌, [], OnOk, IfOk, slice_g
 ghost use Rattle.rv_model.specs.Numbers.{has_bit};
 ghost use Rattle.rv_model.specs.Reports.{event_text, state_text, fault_text, instance_text, reaction_text, record_text};
 ghost use Rattle.rv_react.specs.Reactions.{shown_fault};
-ghost use Rattle.rv_report.specs.Shown.{failed_set, reported, reported_of};
+ghost use Rattle.rv_report.specs.Shown.{failed_set, is_loud, is_printed, reported, reported_of};
 
 use crate::instances::{place, shown};
 use rv_bind::{Bindings, Monitor};
-use rv_model::{Answer, Delivered, Name, Names, Record, Spec, What};
+use rv_model::{Answer, Delivered, Name, Names, Reactor, Record, Spec, What};
 use rv_react::{Fault, reaction};
 use rv_slots::Tasks;
 use rv_text::Line;
@@ -84,6 +84,26 @@ fn failed_set(made: &Record) -> Option<u32>
     match made.outcome {
         Delivered::Done(Answer::Failed(set)) if made.reacting => Some(set),
         _ => None,
+    }
+}
+
+/// Whether the reactor prints.
+fn is_loud(reactor: Reactor) -> bool
+    ensures { result ≡ is_loud reactor }
+{
+    !matches!(reactor, Reactor::Nop)
+}
+
+/// Whether the record has a reaction that is printed.
+pub(crate) fn is_printed(bindings: &Bindings, made: &Record) -> bool
+    ensures { result ≡ is_printed (reported_of bindings.now) made.now }
+{
+    match (
+        failed_set(made),
+        bindings.monitors.get(made.monitor as usize),
+    ) {
+        (Some(_), Some(monitor)) => is_loud(monitor.reactor),
+        _ => false,
     }
 }
 

@@ -1,27 +1,22 @@
--- One more monitor.
-use Rattle.std.proofs.Common.{◌≡◌, ℕ, ◌<◌, List, ◌++◌, take, length, get_or, arith, sym, ap, ◌∙◌, append_assoc}
-use Rattle.std.specs.Prelude.{flat_map, slice_get}
-use Rattle.std.proofs.lemmas.List.{length-map, get_or-map}
-use Rattle.rv_model.specs.Reports.{Reported, record_text, summary_text, summaries_text}
-use Rattle.rv_bind.specs.declared.bindings.Monitor.{Monitor}
+-- All records are found.
+use Rattle.std.proofs.Common.{◌≡◌, List, [], ◌∙◌, length}
+use Rattle.std.proofs.lemmas.List.{length-map}
+use Rattle.std.proofs.lemmas.Result.{IfOk-weaker}
+use Rattle.rv_model.specs.declared.record.Record.{Record}
+use Rattle.rv_model.specs.Reports.{report_text}
 use Rattle.rv_report.specs.Shown.{reported, reported_of}
-use Rattle.rv_report.proofs.SummaryLemmas.{summaries-more}
+use Rattle.rv_report.specs.Tallies.{IsFound}
 use Rattle.rv_report.proofs.lines.report.Goals as goal
 
-pub loop-place-preserved : goal.loop-place-preserved
-loop-place-preserved c =
+pub text_of-requires : goal.text_of-requires
+text_of-requires c =
     let b = c.args.bindings.now in
-    let tasks = c.args.tasks.now in
-    let records = c.args.records.now in
-    let all : List Reported = reported_of b in
-    let place : ℕ = c.loop-place.place in
-    let monitor : Monitor = c.index-monitor.result.now in
-    let m : Reported = reported b.containers monitor in
-    let items : List Monitor = b.monitors.items in
-    let inside : place < length items = let x = c.loop-place-test.true in let y = c.len-place-end.ensures in omega arith in
-    let below : place < length all = let l = length-map items (reported b.containers) in omega arith in
-    let is : get_or all place m ≡ m = get_or-map (reported b.containers) items place monitor m inside ∙ ap (reported b.containers) (sym c.index-monitor.ensures) in
-    let reactions : List ℕ = flat_map (λ r. record_text (slice_get all r.monitor) tasks r) records in
-    c.in_ok-summary.ensures ∙ ap (λ (z : List ℕ). z ++ summary_text tasks records place m) c.loop-place.invariant
-    ∙ append_assoc reactions (summaries_text tasks records 0 (take place all)) (summary_text tasks records place m)
-    ∙ ap (λ (z : List ℕ). reactions ++ z) (sym (summaries-more tasks records all place m below is))
+    let found : IsFound (reported_of b) c.args.tasks.now c.args.records.now c.add_all.new.self = c.in_ok-add_all.ensures c.args.tasks.now [] c.in_ok-found.ensures in
+    found.tallies.many ∙ length-map b.monitors.items (reported b.containers)
+
+pub returns : goal.returns
+returns c =
+    let b = c.args.bindings.now in
+    let found : IsFound (reported_of b) c.args.tasks.now c.args.records.now c.add_all.new.self = c.in_ok-add_all.ensures c.args.tasks.now [] c.in_ok-found.ensures in
+    IfOk-weaker c.text_of.result (λ text. (rs : List Record) → IsFound (reported_of b) c.args.tasks.now rs c.add_all.new.self → text.items ≡ report_text (reported_of b) c.args.tasks.now rs)
+    (λ text. text.items ≡ report_text (reported_of b) c.args.tasks.now c.args.records.now) (λ text is. is c.args.records.now found) c.text_of.ensures

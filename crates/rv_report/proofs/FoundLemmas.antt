@@ -1,0 +1,57 @@
+-- What one record more, one lane more and a sort make of what was found.
+use Rattle.std.proofs.Common.{◌≡◌, ℕ, ◌+◌, ◌<◌, Bool, true, false, List, [], ◌∷◌, ◌++◌, length, take, get_or, refl, sym, ap, ◌∙◌, subst, append-nil, append_assoc}
+use Rattle.std.specs.Prelude.{filter}
+use Rattle.std.proofs.lemmas.Grind.{flat_map-append}
+use Rattle.std.proofs.lemmas.List.{take_more}
+use Rattle.std.proofs.lemmas.List.Elements.{filter-append}
+use Rattle.rv_model.specs.declared.record.Record.{Record}
+use Rattle.rv_model.specs.declared.record.Task.{Task}
+use Rattle.rv_model.specs.Records.{sort_records}
+use Rattle.rv_model.specs.Reports.{Reported}
+use Rattle.rv_feed.specs.Lane.{LaneValue}
+use Rattle.rv_feed.specs.One.{lane_records}
+use Rattle.rv_report.specs.declared.found.Found.{Found}
+use Rattle.rv_report.specs.Shown.{is_printed}
+use Rattle.rv_report.specs.Tallies.{AreTallies, IsFound}
+use Rattle.rv_feed.proofs.SortedLemmas.{filter-sort}
+use Rattle.rv_report.proofs.TallyLemmas.{tallies-sort}
+
+module _ (monitors : List Reported) (tasks : List Task) (rs : List Record) (f f' : Found) where
+  -- a record whose reaction is printed
+  pub found-printed : (r : Record) → is_printed monitors r ≡ true → f'.printed.items ≡ f.printed.items ++ r ∷ [] → (AreTallies monitors tasks rs f.tallies.items → AreTallies monitors tasks (rs ++ r ∷ []) f'.tallies.items)
+      → IsFound monitors tasks rs f → IsFound monitors tasks (rs ++ r ∷ []) f'
+  found-printed r printed more tallies was =
+      let one : filter (is_printed monitors) (r ∷ []) ≡ r ∷ [] = rw printed refl in
+      record {
+        tallies = tallies was.tallies;
+        printed = more ∙ ap (λ (us : List Record). us ++ r ∷ []) was.printed ∙ ap (λ (us : List Record). filter (is_printed monitors) rs ++ us) (sym one) ∙ sym (filter-append (is_printed monitors) rs (r ∷ []));
+      }
+
+  -- a record whose reaction is not printed
+  pub found-quiet : (r : Record) → is_printed monitors r ≡ false → f'.printed.items ≡ f.printed.items → (AreTallies monitors tasks rs f.tallies.items → AreTallies monitors tasks (rs ++ r ∷ []) f'.tallies.items)
+      → IsFound monitors tasks rs f → IsFound monitors tasks (rs ++ r ∷ []) f'
+  found-quiet r quiet same tallies was =
+      let none : filter (is_printed monitors) (r ∷ []) ≡ [] = rw quiet refl in
+      record {
+        tallies = tallies was.tallies;
+        printed = same ∙ was.printed ∙ sym (append-nil (filter (is_printed monitors) rs)) ∙ ap (λ (us : List Record). filter (is_printed monitors) rs ++ us) (sym none) ∙ sym (filter-append (is_printed monitors) rs (r ∷ []));
+      }
+
+  -- the records in their order
+  pub found-sort : f'.printed.items ≡ sort_records f.printed.items → f'.tallies.items ≡ f.tallies.items → IsFound monitors tasks rs f → IsFound monitors tasks (sort_records rs) f'
+  found-sort sorted same was = record {
+    tallies = subst (AreTallies monitors tasks (sort_records rs)) (sym same) (tallies-sort monitors tasks rs f.tallies.items was.tallies);
+    printed = sorted ∙ ap sort_records was.printed ∙ sym (filter-sort (is_printed monitors) rs);
+  }
+
+-- the records of one lane more
+pub lanes-more : (lanes : List LaneValue) (i : ℕ) (lane : LaneValue) → i < length lanes → lane ≡ get_or lanes i lane → lane_records (take (i + 1) lanes) ≡ lane_records (take i lanes) ++ lane.records
+lanes-more lanes i lane lt is =
+    ap lane_records (take_more lanes i lane lt ∙ ap (λ (l : LaneValue). take i lanes ++ l ∷ []) (sym is)) ∙ flat_map-append (λ (l : LaneValue). l.records) (take i lanes) (lane ∷ [])
+    ∙ ap (λ (rs : List Record). lane_records (take i lanes) ++ rs) (append-nil lane.records)
+
+-- one record more
+pub records-more : (monitors : List Reported) (tasks : List Task) (rs records : List Record) (i : ℕ) (d : Record) (f : Found) → i < length records → IsFound monitors tasks ((rs ++ take i records) ++ get_or records i d ∷ []) f
+    → IsFound monitors tasks (rs ++ take (i + 1) records) f
+records-more monitors tasks rs records i d f lt is =
+    subst (λ (us : List Record). IsFound monitors tasks us f) (append_assoc rs (take i records) (get_or records i d ∷ []) ∙ ap (λ (us : List Record). rs ++ us) (sym (take_more records i d lt))) is

@@ -1,0 +1,42 @@
+-- One lane more, and the records of all lanes in their order.
+use Rattle.std.proofs.Common.{◌≡◌, List, [], ◌∷◌, ◌++◌, ◌∙◌, ap, sym, subst, take, length, get_or, append-nil}
+use Rattle.std.specs.Prelude.{flat_map}
+use Rattle.std.proofs.lemmas.List.{length-map, take_more, take_all}
+use Rattle.std.proofs.lemmas.Grind.{flat_map-append}
+use Rattle.std.proofs.lemmas.Result.{IfOk-weaker}
+use Rattle.rv_model.specs.declared.record.Record.{Record}
+use Rattle.rv_model.specs.Records.{sort_records}
+use Rattle.rv_model.specs.Reports.{report_text}
+use Rattle.rv_feed.specs.Lane.{LaneValue}
+use Rattle.rv_feed.specs.One.{lane_records}
+use Rattle.rv_report.specs.Shown.{reported, reported_of}
+use Rattle.rv_report.specs.Tallies.{IsFound}
+use Rattle.rv_report.proofs.FoundLemmas.{lanes-more}
+use Rattle.rv_report.proofs.lines.report_lanes.Goals as goal
+
+pub loop-lane-preserved : goal.loop-lane-preserved
+loop-lane-preserved c =
+    let b = c.args.bindings.now in
+    let lanes : List LaneValue = c.args.lanes.now in
+    let i = c.loop-lane.lane-index in
+    let lane : LaneValue = c.lane-item.result in
+    let row : c.as_slice.result.now ≡ lane.records = c.as_slice.ensures.value ∙ ap (λ (l : LaneValue). l.records) c.lane.view_is in
+    let more = c.in_ok-add_all.ensures c.args.tasks.now (lane_records (take i lanes)) c.loop-lane.invariant in
+    subst (λ (rs : List Record). IsFound (reported_of b) c.args.tasks.now rs c.add_all.new.self)
+    (ap (λ (rs : List Record). lane_records (take i lanes) ++ rs) row ∙ sym (lanes-more lanes i lane c.loop-lane-test.true c.lane-item.is)) more
+
+pub text_of-requires : goal.text_of-requires
+text_of-requires c =
+    let b = c.args.bindings.now in
+    (c.in_ok-sort.ensures (reported_of b) c.args.tasks.now _ c.loop-lane.invariant).tallies.many ∙ length-map b.monitors.items (reported b.containers)
+
+pub returns : goal.returns
+returns c =
+    let b = c.args.bindings.now in
+    let lanes : List LaneValue = c.args.lanes.now in
+    let rs : List Record = sort_records (lane_records lanes) in
+    let found : IsFound (reported_of b) c.args.tasks.now rs c.sort.new.self =
+    c.in_ok-sort.ensures (reported_of b) c.args.tasks.now (lane_records lanes)
+    (subst (λ (ls : List LaneValue). IsFound (reported_of b) c.args.tasks.now (lane_records ls) c.loop-lane.found) (take_all c.loop-lane.lane-index lanes c.loop-lane-test.false) c.loop-lane.invariant) in
+    IfOk-weaker c.text_of.result (λ text. (us : List Record) → IsFound (reported_of b) c.args.tasks.now us c.sort.new.self → text.items ≡ report_text (reported_of b) c.args.tasks.now us)
+    (λ text. text.items ≡ report_text (reported_of b) c.args.tasks.now rs) (λ text is. is rs found) c.text_of.ensures
