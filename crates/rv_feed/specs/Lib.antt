@@ -1,3 +1,4 @@
+pub mod AtOnce
 pub mod Changes
 pub mod Feeders
 pub mod Feeding
@@ -5,5 +6,6 @@ pub mod Lane
 pub mod Merging
 pub mod One
 pub mod Order
+pub mod Runs
 pub mod SoFar
 pub mod Turns
