@@ -1,8 +1,10 @@
+pub mod AtOnce
 pub mod Changes
 pub mod Feeders
 pub mod Feeding
 pub mod Lane
 pub mod One
 pub mod Order
+pub mod Runs
 pub mod SoFar
 pub mod Turns

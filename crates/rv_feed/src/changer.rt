@@ -11,7 +11,7 @@ use rv_io::Gate;
 use rv_model::Change;
 
 /// The number of the control actor at its gate.
-const CONTROL: u32 = 64;
+pub(crate) const CONTROL: u32 = 64;
 
 /// The control actor's seat, its changes, and the gate that it passes.
 #[derive(Drop)]

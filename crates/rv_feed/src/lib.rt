@@ -1,6 +1,7 @@
 //! The scripts of several CPUs: on one thread in the order of the trace, or all at once on a board.
 #![tactic(auto)]
 
+mod at_once;
 mod changer;
 mod feeder;
 mod feeders;
@@ -11,6 +12,7 @@ mod order;
 mod tests;
 mod turn;
 
+pub use at_once::{Fed, feed};
 pub use changer::Changer;
 pub use feeder::Feeder;
 pub use feeders::run_feeders;

@@ -31,7 +31,7 @@ module _ (i : InputValue) (setup : Setup) (reactors : List Reactor) (lanes : Lis
       record {
         judges = o.judges;
         are_judges = o.are_judges;
-        one = o.one;
+        one = o.history;
         text_is = text_is ∙ ap (report_text (map (reported i.bound.containers) i.bound.monitors) i.routed.tasks) (sym o.records_are);
         status_is = status_is ∙ sym o.status_is;
       }

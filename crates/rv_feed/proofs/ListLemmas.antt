@@ -1,0 +1,76 @@
+-- What holds of each and of some element: of a list from its end, of what was made of each, and of two lists side by side.
+use Rattle.std.proofs.Common.{◌≡◌, ◌-◌, List, [], ◌∷◌, ◌++◌, length, map, reverse, arith, refl, sym, ap, ◌∙◌, subst}
+use Rattle.std.specs.Prelude.{All, Any, Contains}
+use Rattle.std.specs.List.{AllZip}
+use Rattle.std.proofs.lemmas.List.{reverse-append, reverse-reverse, get_or-reverse, get_or-map, length-map, length-reverse, map-append}
+use Rattle.std.proofs.lemmas.List.Elements.{All-nil, All-cons, All-head, All-tail, All-contains, All-contains_itself, Contains-append_left}
+
+-- ---- from the end
+
+-- what was made of each, from the end
+pub map-reverse : {X Y : Type 0} (f : X → Y) (xs : List X) → map f (reverse xs) ≡ reverse (map f xs)
+map-reverse f [] = refl
+map-reverse f (x ∷ xs) = ap (map f) (reverse-append (x ∷ []) xs) ∙ map-append f (reverse xs) (x ∷ []) ∙ ap (λ (z : List _). z ++ f x ∷ []) (map-reverse f xs) ∙ sym (reverse-append (f x ∷ []) (map f xs))
+
+module _ {X : Type 0} (P : X → Type 0) where
+  -- what holds of each holds of each from the end
+  pub All-reverse : (xs : List X) → All P xs → All P (reverse xs)
+  All-reverse xs all k d lt =
+      let n = length-reverse xs in
+      subst P (sym (get_or-reverse xs k d (omega arith))) (all (length xs - 1 - k) d (omega arith))
+
+  -- and so for one
+  pub Any-reverse : (xs : List X) → Any P xs → Any P (reverse xs)
+  Any-reverse xs (k, x, lt, at, p) =
+      let each : All (Contains (reverse xs)) xs = subst (All (Contains (reverse xs))) (reverse-reverse xs) (contained (reverse xs)) in
+      let c = All-contains (Contains (reverse xs)) xs x each (k, lt, at) in
+      (c.0, x, c.1, c.2, p)
+    where
+      contained : (ys : List X) → All (Contains ys) (reverse ys)
+      contained ys k d lt = let n = length-reverse ys in subst (Contains ys) (sym (get_or-reverse ys k d (omega arith))) (All-contains_itself ys (length ys - 1 - k) d (omega arith))
+
+  -- one of the front
+  pub Any-front : (xs ys : List X) → Any P xs → Any P (xs ++ ys)
+  Any-front xs ys (k, x, lt, at, p) = let c = Contains-append_left xs ys x (k, lt, at) in (c.0, x, c.1, c.2, p)
+
+  -- one of which it follows
+  pub Any-implied : (Q : X → Type 0) (xs : List X) → All (λ x. P x → Q x) xs → Any P xs → Any Q xs
+  Any-implied Q xs all (k, x, lt, at, p) = (k, x, lt, at, All-contains (λ x. P x → Q x) xs x all (k, lt, at) p)
+
+-- one of which something was made
+pub Any-map : {X Y : Type 0} (P : Y → Type 0) (f : X → Y) (xs : List X) → Any (λ x. P (f x)) xs → Any P (map f xs)
+Any-map P f xs (k, x, lt, at, p) =
+    let many = length-map xs f in
+    (k, f x, omega arith, get_or-map f xs k x (f x) lt ∙ ap f at, p)
+
+-- ---- side by side
+
+module _ {X : Type 0} (R : X → X → Type 0) where
+  -- what holds of each two, with what holds of each on either side
+  pub zip-with : (A B : X → Type 0) (C : X → X → Type 0) → ((x y : X) → R x y → A x → B y → C x y) → (xs ys : List X) → AllZip R xs ys → All A xs → All B ys → AllZip C xs ys
+  zip-with A B C f [] [] zip a b = tt
+  zip-with A B C f [] (y ∷ ys) zip a b = absurd zip
+  zip-with A B C f (x ∷ xs) [] zip a b = absurd zip
+  zip-with A B C f (x ∷ xs) (y ∷ ys) zip a b =
+      (f x y zip.0 (All-head A x xs a) (All-head B y ys b), zip-with A B C f xs ys zip.1 (All-tail A x xs a) (All-tail B y ys b))
+
+  -- of the left list
+  pub zip-left : (A : X → Type 0) → ((x y : X) → R x y → A x) → (xs ys : List X) → AllZip R xs ys → All A xs
+  zip-left A f [] [] zip = All-nil A
+  zip-left A f [] (y ∷ ys) zip = absurd zip
+  zip-left A f (x ∷ xs) [] zip = absurd zip
+  zip-left A f (x ∷ xs) (y ∷ ys) zip = All-cons A x xs (f x y zip.0) (zip-left A f xs ys zip.1)
+
+  -- of the right list
+  pub zip-right : (B : X → Type 0) → ((x y : X) → R x y → B y) → (xs ys : List X) → AllZip R xs ys → All B ys
+  zip-right B f [] [] zip = All-nil B
+  zip-right B f [] (y ∷ ys) zip = absurd zip
+  zip-right B f (x ∷ xs) [] zip = absurd zip
+  zip-right B f (x ∷ xs) (y ∷ ys) zip = All-cons B y ys (f x y zip.0) (zip-right B f xs ys zip.1)
+
+  -- where the same is made of each two
+  pub zip-map : {Y : Type 0} (f : X → Y) → ((x y : X) → R x y → f y ≡ f x) → (xs ys : List X) → AllZip R xs ys → map f ys ≡ map f xs
+  zip-map f same [] [] zip = refl
+  zip-map f same [] (y ∷ ys) zip = absurd zip
+  zip-map f same (x ∷ xs) [] zip = absurd zip
+  zip-map f same (x ∷ xs) (y ∷ ys) zip = λ i. same x y zip.0 i ∷ zip-map f same xs ys zip.1 i

@@ -1,0 +1,123 @@
+-- Seats are split off from the first one, lane by lane from the last to the first.
+use Rattle.std.proofs.Common.{◌≡◌, ◌⊎◌, inl, inr, ℕ, ◌+◌, ◌<◌, Bool, true, false, List, [], ◌∷◌, ◌++◌, length, map, reverse, get_or, arith, refl, sym, ap, ◌∙◌, subst, append_assoc, append-nil}
+use Rattle.std.specs.Prelude.{All, AllPairs, nat_lt}
+use Rattle.std.proofs.lemmas.Bool.Decides.{nat_tests}
+use Rattle.std.proofs.lemmas.List.{reverse-append, map-append, get_or_at, get_or_append_left, length-append}
+use Rattle.std.proofs.lemmas.List.Elements.{All-nil, All-head, All-push}
+use Rattle.std.proofs.lemmas.List.Quantifiers.{Any-push}
+use Rattle.rv_model.specs.Seats.{is_in, is_among, known_of}
+use Rattle.rv_model.specs.Setups.{Setup}
+use Rattle.rv_board.specs.Known.{known_by, part}
+use Rattle.rv_board.specs.Seats.{BoardId, SeatValue, seat_value}
+use Rattle.rv_board.proofs.Knowing.{known_is}
+use Rattle.rv_feed.specs.declared.feeder.Feeder.{Feeder}
+use Rattle.rv_feed.specs.AtOnce.{IsSeated, lanes_of, AreSeated}
+use Rattle.rv_feed.specs.Feeding.{CanFeed}
+use Rattle.rv_feed.specs.Lane.{LaneValue, FitsLane}
+use Rattle.rv_feed.proofs.FeederLemmas.{All-front, All-back}
+use Rattle.rv_feed.proofs.ListLemmas.{Any-front}
+
+-- ---- numbers
+
+-- the first seat of a board has all numbers
+all_known : (n : ℕ) → n < 67 → known_by 0 67 [] n ≡ true
+unfolding known_by is_in is_among
+all_known n lt = grind (arith, nat_tests)
+
+-- what is known is on one of the two sides of a cut
+cut_known : (number at end : ℕ) (gone : List ℕ) (n : ℕ) → known_by number end gone n ≡ true → (known_by number at gone n ≡ true) ⊎ (known_by at end [] n ≡ true)
+unfolding known_by is_in is_among
+cut_known number at end gone n t = go (is_among gone n) (nat_lt n at) refl refl
+  where
+    go : (a b : Bool) → is_among gone n ≡ a → nat_lt n at ≡ b → (known_by number at gone n ≡ true) ⊎ (known_by at end [] n ≡ true)
+    go true b ga lt = inl (grind (arith, nat_tests))
+    go false true ga lt = inl (grind (arith, nat_tests))
+    go false false ga lt = inr (grind (arith, nat_tests))
+
+-- of seats
+pub split_known : (old left right : SeatValue) (at n : ℕ) → left.part ≡ part old.part.number at old.part.gone old.part.seen → right.part ≡ part at old.part.end [] old.part.seen
+    → known_of old.part n ≡ true → (known_of left.part n ≡ true) ⊎ (known_of right.part n ≡ true)
+split_known old left right at n l r t =
+    elim (cut_known old.part.number at old.part.end old.part.gone n ((λ i. sym (known_is old.part) i n) ∙ t)) [
+      | inl a ↦ inl ((λ i. known_of (l i) n) ∙ (λ i. known_is (part old.part.number at old.part.gone old.part.seen) i n) ∙ a)
+      | inr b ↦ inr ((λ i. known_of (r i) n) ∙ (λ i. known_is (part at old.part.end [] old.part.seen) i n) ∙ b)
+    ]
+
+-- ---- lanes
+
+-- what is left to be seated: lanes that fit, by ascending CPUs, all below the first seat's end
+pub record CanSeat (s : Setup) (first : SeatValue) (left : List LaneValue) : Type 0 where
+  pub fit : All (FitsLane s) left
+  pub ascend : AllPairs (λ (l m : LaneValue). l.work.cpu < m.work.cpu) left
+  pub below : All (λ (l : LaneValue). 2 + l.work.cpu < first.part.end) left
+
+module _ (board : BoardId) where
+  -- no lane is seated
+  pub seated-none : {G : Type 0} (first : SeatValue) (lanes : List LaneValue) → first ≡ seat_value (part 0 67 [] []) board → AreSeated {G = G} board first lanes lanes []
+  seated-none {G} first lanes is = record {
+    is_first = record { board_is = ap (λ (s : SeatValue). s.board) is; number = ap (λ (s : SeatValue). s.part.number) is; end = let e : first.part.end ≡ 67 = ap (λ (s : SeatValue). s.part.end) is in omega arith; seen = ap (λ (s : SeatValue). s.part.seen) is };
+    seated = All-nil (IsSeated board);
+    lanes_are = sym (append-nil lanes);
+    cover = λ n lt. inl ((λ i. known_of (is i).part n) ∙ (λ i. known_is (part 0 67 [] []) i n) ∙ all_known n lt);
+  }
+
+  -- all can be
+  pub can-start : (first : SeatValue) (lanes : List LaneValue) → first ≡ seat_value (part 0 67 [] []) board → All (FitsLane board.setup) lanes → AllPairs (λ (l m : LaneValue). l.work.cpu < m.work.cpu) lanes → CanSeat board.setup first lanes
+  can-start first lanes is fit ascend = record { fit = fit; ascend = ascend; below = λ k d lt. let c = (fit k d lt).cpu in let e : first.part.end ≡ 67 = ap (λ (s : SeatValue). s.part.end) is in omega arith }
+
+  module _ (old new : SeatValue) (left : List LaneValue) (l : LaneValue) (can : CanSeat board.setup old (left ++ l ∷ [])) where
+    -- the last lane of those that are left
+    pub last-fits : FitsLane board.setup l
+    last-fits = All-head (FitsLane board.setup) l [] (All-back (FitsLane board.setup) left (l ∷ []) can.fit)
+
+    -- its number is below the first seat's end
+    pub last-below : 2 + l.work.cpu < old.part.end
+    last-below = All-head (λ (l : LaneValue). 2 + l.work.cpu < old.part.end) l [] (All-back (λ (l : LaneValue). 2 + l.work.cpu < old.part.end) left (l ∷ []) can.below)
+
+    -- the others can be seated then
+    pub can-more : new.part.end ≡ 2 + l.work.cpu → CanSeat board.setup new left
+    can-more end = record {
+      fit = All-front (FitsLane board.setup) left (l ∷ []) can.fit;
+      ascend = λ i j d lt within.
+          let many = length-append left (l ∷ []) in
+          subst (λ (p : LaneValue × LaneValue). p.0.work.cpu < p.1.work.cpu) (λ k. (get_or_append_left left (l ∷ []) d i (omega arith) k, get_or_append_left left (l ∷ []) d j within k)) (can.ascend i j d lt (omega arith));
+      below = λ k d lt.
+          let many = length-append left (l ∷ []) in
+          let less : (get_or left k d).work.cpu < l.work.cpu =
+          subst (λ (p : LaneValue × LaneValue). p.0.work.cpu < p.1.work.cpu) (λ j. (get_or_append_left left (l ∷ []) d k lt j, get_or_at left l [] d (length left) refl j)) (can.ascend k (length left) d lt (omega arith)) in
+          omega arith;
+    }
+
+    -- the lane is seated
+    pub seated-more : {G : Type 0} (all : List LaneValue) (fs : List (Feeder G)) (f : Feeder G) → AreSeated board old all (left ++ l ∷ []) fs → f.lane ≡ l → f.seat ≡ seat_value (part (2 + l.work.cpu) old.part.end [] old.part.seen) old.board
+        → new ≡ seat_value (part old.part.number (2 + l.work.cpu) old.part.gone old.part.seen) old.board → AreSeated board new all left (fs ++ f ∷ [])
+    seated-more {G} all fs f are lane seat first = record {
+      is_first = record {
+        board_is = ap (λ (s : SeatValue). s.board) first ∙ are.is_first.board_is;
+        number = ap (λ (s : SeatValue). s.part.number) first ∙ are.is_first.number;
+        end = let e : new.part.end ≡ 2 + l.work.cpu = ap (λ (s : SeatValue). s.part.end) first in omega arith;
+        seen = ap (λ (s : SeatValue). s.part.seen) first ∙ are.is_first.seen;
+      };
+      seated = All-push (IsSeated board) fs f are.seated (record {
+        fits = record {
+          board_is = ap (λ (s : SeatValue). s.board) seat ∙ are.is_first.board_is;
+          seat_is = ap (λ (s : SeatValue). s.part.number) seat ∙ ap (λ (m : LaneValue). 2 + m.work.cpu) (sym lane);
+          lane_fits = subst (CanFeed board) (sym lane) (record { new_lane = last-fits.new_lane; fit = last-fits.fit });
+        };
+        fresh = record {
+          has = let n : f.seat.part.number ≡ 2 + l.work.cpu = ap (λ (s : SeatValue). s.part.number) seat in let e : f.seat.part.end ≡ old.part.end = ap (λ (s : SeatValue). s.part.end) seat in let b = last-below in omega arith;
+          seen = ap (λ (s : SeatValue). s.part.seen) seat ∙ are.is_first.seen;
+        };
+      });
+      lanes_are = are.lanes_are ∙ append_assoc left (l ∷ []) (lanes_of fs) ∙ ap (λ (z : List LaneValue). left ++ z) (sym one);
+      cover = λ n lt. elim (are.cover n lt) [
+        | inl t ↦ elim (split_known old new f.seat (2 + l.work.cpu) n (ap (λ (s : SeatValue). s.part) first) (ap (λ (s : SeatValue). s.part) seat) t) [
+          | inl a ↦ inl a
+          | inr b ↦ inr (Any-push (λ (f : Feeder G). known_of f.seat.part n ≡ true) fs f b)
+        ]
+        | inr any ↦ inr (Any-front (λ (f : Feeder G). known_of f.seat.part n ≡ true) fs (f ∷ []) any)
+      ];
+    }
+      where
+        one : lanes_of (fs ++ f ∷ []) ≡ l ∷ lanes_of fs
+        one = ap reverse (map-append (λ (f : Feeder G). f.lane) fs (f ∷ [])) ∙ reverse-append (map (λ (f : Feeder G). f.lane) fs) (f.lane ∷ []) ∙ ap (λ (m : LaneValue). m ∷ lanes_of fs) lane

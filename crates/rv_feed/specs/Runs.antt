@@ -1,0 +1,15 @@
+-- What a run comes to, on one thread or at once.
+use Rattle.std.specs.Prelude.{◌≡◌, List}
+use Rattle.rv_model.specs.declared.entry.Entry.{Entry}
+use Rattle.rv_model.specs.declared.record.Record.{Record}
+use Rattle.rv_model.specs.Judging.{Judge}
+use Rattle.rv_model.specs.Histories.{Input, AreJudges}
+use Rattle.rv_model.specs.Records.{records_of, sort_records, status_of}
+
+-- there are judges of the specifications by which this is said of the history, and these are its records
+pub record IsRunOf (Says : Input → List Judge → List Entry → Type 0) (input : Input) (rs : List Record) (h : List Entry) : Type 0 where
+  pub judges : List Judge
+  pub are_judges : AreJudges input.specs input.setup.tables judges
+  pub history : Says input judges h
+  pub records_are : records_of input judges h ≡ sort_records rs
+  pub status_is : status_of (records_of input judges h) ≡ status_of rs

@@ -1,0 +1,147 @@
+//! A whole run at once: a thread for each CPU, and one for the control actor.
+ghost use Rattle.std.specs.Prelude.{◌≡◌, ◌+◌, ◌<◌, ◌≤◌, ◌∷◌, [], ◌++◌, List, length, All, AllPairs, IfOk};
+ghost use Rattle.rv_model.specs.declared.formula.Spec.{Spec};
+ghost use Rattle.rv_core.specs.Judged.{AllMean};
+ghost use Rattle.rv_board.specs.Known.{part};
+ghost use Rattle.rv_board.specs.Seats.{seat_value};
+ghost use Rattle.rv_feed.specs.Changes.{IsBelowHalt};
+ghost use Rattle.rv_feed.specs.Lane.{FitsLane, panics_of, works_of};
+ghost use Rattle.rv_feed.specs.One.{lane_records};
+ghost use Rattle.rv_feed.specs.AtOnce.{input_with, IsLegalOf, Holds, lanes_of, AreSeated};
+
+use crate::changer::{CONTROL, Changer};
+use crate::feeder::Feeder;
+use crate::feeders::run_feeders;
+use crate::lane::{Lane, cpu_of};
+use rv_board::{Board, BoardStart, Seat};
+use rv_core::Setup;
+use rv_io::Gate;
+use rv_model::{Change, Closed, Reactor};
+use std::alloc::{AllocError, Global};
+use std::thread::Threads;
+
+/// The number of the control actor's seat.
+const ACTOR: u32 = 1;
+
+/// What a run at once came to: the lanes as they came, with their records, and the history.
+#[derive(Drop)]
+pub struct Fed {
+    pub lanes: Vec<Lane>,
+    pub closed: Closed,
+}
+
+/// The lane's feeder, whose seat has all numbers from its own on that this one had.
+fn seat_lane<G: Gate>(board: &Board, seat: &mut Seat, lane: Lane, gate: &G) -> Feeder<G>
+    requires board { seat.old.board ≡ board.now }
+    requires range { (seat.old.part.number < 2 + lane.work.cpu) × (2 + lane.work.cpu < seat.old.part.end) }
+    ensures lane { result.lane ≡ lane }
+    ensures new { result.seat ≡ seat_value (part (2 + lane.work.cpu) seat.old.part.end [] seat.old.part.seen) seat.old.board }
+    ensures old { seat.new ≡ seat_value (part seat.old.part.number (2 + lane.work.cpu) seat.old.part.gone seat.old.part.seen) seat.old.board }
+{
+    let cpu = cpu_of(&lane);
+    let own = board.split(seat, 2 + cpu);
+    Feeder {
+        seat: own,
+        lane,
+        gate: gate.for_cpu(cpu),
+    }
+}
+
+/// A feeder for each lane, from the last lane to the first.
+fn seat_lanes<G: Gate>(
+    alloc: Global,
+    board: &Board,
+    seat: &mut Seat,
+    lanes: &mut Vec<Lane>,
+    gate: &G,
+) -> Result<Vec<Feeder<G>>, AllocError>
+    requires seat { seat.old ≡ seat_value (part 0 67 [] []) board.now }
+    requires fit { All (FitsLane board.now.setup) lanes.old.items }
+    requires ascend { AllPairs (λ l m. l.work.cpu < m.work.cpu) lanes.old.items }
+    ensures feeders { IfOk result (λ feeders. AreSeated board.now seat.new lanes.old.items [] feeders.items) }
+    ensures empty { IfOk result (λ _. lanes.new.items ≡ []) }
+    ensures room { length lanes.old.items ≤ lanes.new.cap }
+{
+    let mut feeders = Vec::with_capacity(alloc, lanes.len())?;
+    while let Some(lane) = lanes.pop() {
+        feeders.push(seat_lane(board, seat, lane, gate))?;
+    }
+    Ok(feeders)
+}
+
+/// The lane is put behind the others, for which there is room.
+fn put_back(lanes: &mut Vec<Lane>, lane: Lane)
+    requires { length lanes.old.items < lanes.old.cap }
+    ensures lanes { lanes.new.items ≡ lanes.old.items ++ lane ∷ [] }
+    ensures room { lanes.old.cap ≤ lanes.new.cap }
+{
+    match lanes.push(lane) {
+        Ok(()) => (),
+        Err(_) => unreachable!(),
+    }
+}
+
+/// The seats of all feeders are joined into this one, and their lanes come back.
+fn join_all<G: Gate>(
+    board: &Board,
+    into: &mut Seat,
+    mut feeders: Vec<Feeder<G>>,
+    lanes: &mut Vec<Lane>,
+)
+    requires into { into.old.board ≡ board.now }
+    requires seats { All (λ f. f.seat.board ≡ board.now) feeders.items }
+    requires room { length lanes.old.items + length feeders.items ≤ lanes.old.cap }
+    ensures board { into.new.board ≡ board.now }
+    ensures into { Holds into.new into.old }
+    ensures seats { All (λ f. Holds into.new f.seat) feeders.items }
+    ensures lanes { lanes.new.items ≡ lanes.old.items ++ lanes_of feeders.items }
+{
+    while let Some(feeder) = feeders.pop() {
+        let Feeder {
+            seat,
+            lane,
+            gate: _gate,
+        } = feeder;
+        board.join(into, seat);
+        put_back(lanes, lane);
+    }
+}
+
+/// A legal history of the lanes' scripts and the changes at once, whose records the lanes then have. The lanes ascend
+/// by their CPUs.
+pub fn feed<R: Threads + Sync, G: Gate + Send>(
+    rt: &R,
+    alloc: Global,
+    setup: Setup,
+    reactors: &[Reactor],
+    mut lanes: Vec<Lane>,
+    changes: Vec<Change>,
+    gate: &G,
+) -> Result<Fed, AllocError>
+    requires fit { All (FitsLane setup) lanes.items }
+    requires ascend { AllPairs (λ l m. l.work.cpu < m.work.cpu) lanes.items }
+    requires changes { All IsBelowHalt changes.items }
+    ensures legal { IfOk result (λ fed. (specs : List Spec) → AllMean specs setup.tables → IsLegalOf (input_with setup specs (panics_of reactors.now) lanes.items changes.items) (lane_records fed.lanes.items) fed.closed) }
+    ensures works { IfOk result (λ fed. works_of fed.lanes.items ≡ works_of lanes.items) }
+{
+    setup.known();
+    let BoardStart { board, mut seat } = Board::new(alloc, setup)?;
+    let mut feeders = seat_lanes(alloc, &board, &mut seat, &mut lanes, gate)?;
+    let mut changer = Changer {
+        seat: board.split(&mut seat, ACTOR),
+        changes,
+        gate: gate.for_cpu(CONTROL),
+    };
+    run_feeders(rt, &board, reactors, feeders.as_mut_slice(), &mut changer);
+    let Changer {
+        seat: actor,
+        changes: _changes,
+        gate: _gate,
+    } = changer;
+    board.join(&mut seat, actor);
+    join_all(&board, &mut seat, feeders, &mut lanes);
+    Ok(Fed {
+        lanes,
+        closed: board.close(seat),
+    })
+}
