@@ -1,5 +1,7 @@
 -- What a run of all scripts at once begins with, and what it comes to.
-use Rattle.std.specs.Prelude.{◌≡◌, ℕ, ◌+◌, Bool, All}
+use Rattle.std.specs.Prelude.{◌≡◌, ℕ, ◌+◌, Bool, All, Option, None, Some}
+use Rattle.std.proofs.Common.{◌⊎◌, inl, inr}
+use denote.MutBor.{MutBor}
 use Rattle.rv_model.specs.Scripts.{control_acts}
 use Rattle.rv_board.specs.Seats.{BoardId}
 use Rattle.rv_feed.specs.declared.changer.Changer.{Changer}
@@ -27,3 +29,10 @@ module _ {G : Type 0} where
   pub record RunsChanger (old new : Changer G) : Type 0 where
     pub does : DoesAll old.seat new.seat (control_acts old.seat.board.setup.shape old.changes.items)
     pub same : new.changes ≡ old.changes
+
+-- where there is a value, the fact holds of it before and after
+abbrev pub IfLent : {T : Type 0} → (T → T → Type 0) → Option (MutBor T) → Unit {0} ⊎ ((MutBor T × Unit {0}) ⊎ ⊥) → Type 0
+IfLent R None after = Unit {0}
+IfLent R (Some x) (inl u) = ⊥
+IfLent R (Some x) (inr (inl y)) = R x.now y.0.now
+IfLent R (Some x) (inr (inr z)) = ⊥

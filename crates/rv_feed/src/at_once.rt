@@ -11,7 +11,7 @@ ghost use Rattle.rv_feed.specs.AtOnce.{input_with, IsLegalOf, Holds, lanes_of, A
 
 use crate::changer::{CONTROL, Changer};
 use crate::feeder::Feeder;
-use crate::feeders::run_feeders;
+use crate::feeders::run_all;
 use crate::lane::{Lane, cpu_of};
 use rv_board::{Board, BoardStart, Seat};
 use rv_core::Setup;
@@ -132,7 +132,7 @@ pub fn feed<R: Threads + Sync, G: Gate + Send>(
         changes,
         gate: gate.for_cpu(CONTROL),
     };
-    run_feeders(rt, &board, reactors, feeders.as_mut_slice(), &mut changer);
+    run_all(rt, &board, reactors, feeders.as_mut_slice(), &mut changer);
     let Changer {
         seat: actor,
         changes: _changes,

@@ -1,9 +1,9 @@
 //! All scripts at once: a thread for each CPU, and one for the control actor.
-ghost use Rattle.std.specs.Prelude.{◌≡◌, ◌<◌, length, All};
+ghost use Rattle.std.specs.Prelude.{◌≡◌, ◌<◌, length, All, IfSome};
 ghost use Rattle.std.specs.List.{AllZip};
 ghost use Rattle.std.specs.Thread.{IsSync, IsSend};
 ghost use Rattle.rv_feed.specs.Lane.{panics_of};
-ghost use Rattle.rv_feed.specs.Feeders.{FitsFeeder, RunsFeeder, FitsChanger, RunsChanger};
+ghost use Rattle.rv_feed.specs.Feeders.{FitsFeeder, RunsFeeder, FitsChanger, RunsChanger, IfLent};
 
 use crate::changer::{Changer, run_changer};
 use crate::feeder::{Feeder, run_feeder};
@@ -85,7 +85,7 @@ fn run_beside<R: Threads + Sync, G: Gate + Send>(
 }
 
 /// All scripts at once, with the control actor beside them where it has changes.
-pub fn run_feeders<R: Threads + Sync, G: Gate + Send>(
+pub(crate) fn run_all<R: Threads + Sync, G: Gate + Send>(
     rt: &R,
     board: &Board,
     reactors: &[Reactor],
@@ -102,5 +102,24 @@ pub fn run_feeders<R: Threads + Sync, G: Gate + Send>(
         run_halves(rt, board, reactors, feeders);
     } else {
         run_beside(rt, board, reactors, changer, feeders);
+    }
+}
+
+/// All scripts at once, with the control actor beside them where there is one.
+pub fn run_feeders<R: Threads + Sync, G: Gate + Send>(
+    rt: &R,
+    board: &Board,
+    reactors: &[Reactor],
+    feeders: &mut [Feeder<G>],
+    control: Option<&mut Changer<G>>,
+)
+    requires feeders { All (FitsFeeder board.now) feeders.old }
+    requires control { IfSome control (λ changer. FitsChanger board.now changer.now) }
+    ensures feeders { AllZip (RunsFeeder (panics_of reactors.now)) feeders.old feeders.new }
+    ensures control { IfLent RunsChanger control.entry control.exit }
+{
+    match control {
+        Some(changer) => run_beside(rt, board, reactors, changer, feeders),
+        None => run_halves(rt, board, reactors, feeders),
     }
 }

@@ -218,7 +218,6 @@ fn two_cpus_run_at_once(rt: HostRuntime) -> Result<(), Fail> {
     let BoardStart { board, mut seat } = one_board(rt.alloc())?;
     let second = board.split(&mut seat, 3);
     let first = board.split(&mut seat, 2);
-    let actor = board.split(&mut seat, 1);
     let a = AtomicU64::new(0);
     let b = AtomicU64::new(0);
     let met = AtomicU64::new(0);
@@ -227,12 +226,7 @@ fn two_cpus_run_at_once(rt: HostRuntime) -> Result<(), Fail> {
         feeder_of(rt.alloc(), &board, first, 0, gate.for_cpu(0))?,
         feeder_of(rt.alloc(), &board, second, 1, gate.for_cpu(1))?,
     ];
-    let mut changer = Changer {
-        seat: actor,
-        changes: Vec::new(rt.alloc()),
-        gate: gate.for_cpu(64),
-    };
-    run_feeders(&rt, &board, &[Reactor::Nop], &mut feeders, &mut changer);
+    run_feeders(&rt, &board, &[Reactor::Nop], &mut feeders, None);
     assert_eq!(rt; met.load(Ordering::SeqCst), 2);
     assert!(rt;
         one_began(&feeders[0].lane, &feeders[1].lane),
@@ -262,7 +256,13 @@ fn the_control_actor_runs_beside_the_cpus(rt: HostRuntime) -> Result<(), Fail> {
         changes,
         gate: gate.for_cpu(64),
     };
-    run_feeders(&rt, &board, &[Reactor::Nop], &mut feeders, &mut changer);
+    run_feeders(
+        &rt,
+        &board,
+        &[Reactor::Nop],
+        &mut feeders,
+        Some(&mut changer),
+    );
     assert_eq!(rt; met.load(Ordering::SeqCst), 2);
     assert_eq!(rt;
         outcome_of(&feeders[0].lane),
