@@ -1,5 +1,5 @@
 -- Routed works fit their lines and their monitors.
-use Rattle.std.proofs.Common.{◌≡◌, ◌≢◌, ℕ, zero, suc, ◌+◌, ◌<◌, ◌≤◌, ◌==◌, ◌⊎◌, inl, inr, Bool, true, false, List, [], ◌∷◌, length, get_or, refl, sym, ap, ◌∙◌, subst, arith}
+use Rattle.std.proofs.Common.{◌≡◌, ℕ, zero, suc, ◌+◌, ◌<◌, ◌≤◌, ◌==◌, ◌⊎◌, inl, inr, Bool, true, false, List, [], ◌∷◌, length, get_or, refl, sym, ap, ◌∙◌, subst, arith}
 use Rattle.std.specs.Prelude.{All, AllPairs, Contains, Result, Ok, Err, replicate}
 use Rattle.std.proofs.lemmas.List.{get_or_default}
 use Rattle.std.proofs.lemmas.List.Elements.{All-nil, All-cons, All-head, All-tail, All-weaker}
@@ -67,16 +67,13 @@ module _ (all : List TraceLine) (kinds : List Kind) (tasks n : ℕ) where
 
   record OfLanes (cpu : ℕ) (lanes : List LaneValue) : Type 0 where
     works : All (OfLane cpu (length lanes)) (works_from cpu lanes)
-    apart : AllPairs (λ (w v : Work). w.cpu ≢ v.cpu) (works_from cpu lanes)
+    apart : AllPairs (λ (w v : Work). w.cpu < v.cpu) (works_from cpu lanes)
 
-  none_apart : AllPairs (λ (w v : Work). w.cpu ≢ v.cpu) []
+  none_apart : AllPairs (λ (w v : Work). w.cpu < v.cpu) []
   none_apart = λ i j d lt within. absurd (omega arith)
 
-  first_apart : (cpu : ℕ) (ws : List Work) (count : ℕ) → All (OfLane (cpu + 1) count) ws → All (λ (v : Work). cpu ≢ v.cpu) ws
-  first_apart cpu ws count all = All-weaker (OfLane (cpu + 1) count) (λ (v : Work). cpu ≢ v.cpu) (λ v o. apart v o) ws all
-    where
-      apart : (v : Work) → OfLane (cpu + 1) count v → cpu ≢ v.cpu
-      apart v o e = let l = o.low in absurd (omega arith)
+  first_apart : (cpu : ℕ) (ws : List Work) (count : ℕ) → All (OfLane (cpu + 1) count) ws → All (λ (v : Work). cpu < v.cpu) ws
+  first_apart cpu ws count all = All-weaker (OfLane (cpu + 1) count) (λ (v : Work). cpu < v.cpu) (λ v o. let l = o.low in omega arith) ws all
 
   more_lanes : (cpu : ℕ) (lane : LaneValue) (lanes : List LaneValue) (b : Bool) → (length lane.deliveries == 0) ≡ b → LaneFits all kinds tasks n cpu lane → OfLanes (cpu + 1) lanes → OfLanes cpu (lane ∷ lanes)
   more_lanes cpu lane lanes true is first rest = record {
@@ -88,7 +85,7 @@ module _ (all : List TraceLine) (kinds : List Kind) (tasks n : ℕ) where
       record {
         works = rw is (All-cons (OfLane cpu (suc (length lanes))) w (works_from (cpu + 1) lanes) (record { low = omega arith; high = omega arith; fits = record { ascends = first.ascends; of = first.of; fit = first.fit } })
             (All-weaker (OfLane (cpu + 1) (length lanes)) (OfLane cpu (suc (length lanes))) (of_wider cpu (length lanes)) (works_from (cpu + 1) lanes) rest.works));
-        apart = rw is (AllPairs-cons (λ (w v : Work). w.cpu ≢ v.cpu) w (works_from (cpu + 1) lanes) (first_apart cpu (works_from (cpu + 1) lanes) (length lanes) rest.works) rest.apart);
+        apart = rw is (AllPairs-cons (λ (w v : Work). w.cpu < v.cpu) w (works_from (cpu + 1) lanes) (first_apart cpu (works_from (cpu + 1) lanes) (length lanes) rest.works) rest.apart);
       }
 
   of_lanes : (cpu : ℕ) (lanes : List LaneValue) → ((i : ℕ) → i < length lanes → LaneFits all kinds tasks n (cpu + i) (get_or lanes i no_lane)) → OfLanes cpu lanes

@@ -1,5 +1,5 @@
 -- What routed works keep: each CPU has one work, its lines ascend, no line makes turns of two CPUs, and each delivery fits its monitor.
-use Rattle.std.specs.Prelude.{◌≡◌, ◌≢◌, ◌<◌, ℕ, List, All, AllPairs, Contains, Some, slice_get}
+use Rattle.std.specs.Prelude.{◌≡◌, ◌<◌, ℕ, List, All, AllPairs, Contains, Some, slice_get}
 use Rattle.rv_model.specs.declared.work.Delivery.{Delivery}
 use Rattle.rv_model.specs.declared.work.Turn.{Turn}
 use Rattle.rv_model.specs.Works.{Work}
@@ -28,7 +28,7 @@ NumbersAscend lines = AllPairs (λ l m. l.number < m.number) lines
 
 pub record WorksFit (kinds : List Kind) (tasks : ℕ) (works : List Work) : Type 0 where
   pub cpus_below : All (λ w. w.cpu < 64) works
-  pub cpus : AllPairs (λ w v. w.cpu ≢ v.cpu) works
+  pub cpus : AllPairs (λ w v. w.cpu < v.cpu) works
   pub lines : All (λ w. AllPairs (λ t u. t.line < u.line) w.turns) works
   pub apart : LinesApart works
   pub deliveries : All (λ w. All (FitsKindOf kinds tasks) w.deliveries) works
