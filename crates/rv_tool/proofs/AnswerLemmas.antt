@@ -10,36 +10,36 @@ use Rattle.rv_bind.specs.declared.fault.BindFault.TheVariants as faults
 use Rattle.rv_bind.specs.Outcomes.{Outcome, accepted, refused, missing, Comes, Names}
 use Rattle.rv_tool.specs.declared.input.Ready.{Ready}
 use Rattle.rv_tool.specs.declared.replaying.Done.{Done}
-use Rattle.rv_tool.specs.Inputs.{InputValue, replay_input}
+use Rattle.rv_tool.specs.Inputs.{InputValue, run_input}
 use Rattle.rv_tool.specs.Output.{refusal_text, missing_text}
-use Rattle.rv_tool.specs.Words.{CommandValue, replay}
+use Rattle.rv_tool.specs.Words.{CommandValue}
 use Rattle.rv_tool.specs.Ready.{ready_value}
-use Rattle.rv_tool.specs.Headline.{IsReplayed, GivesUp, Says, Replays, Ends}
-use Rattle.rv_tool.specs.Runs.{Ended, Fails, Runs, Answers}
+use Rattle.rv_tool.specs.Headline.{Histories, IsReported, GivesUp, Says, Reports, Ends}
+use Rattle.rv_tool.specs.Runs.{Ended, Fails, Runs, AnswersRun, Answers}
 
 module _ (old new : Option (List ℕ)) (before now status : ℕ) (h : List Entry) where
-  -- the report of a run that was replayed
-  pub ended_replays : (i : InputValue) (done : Result Done AllocError) → IfOk done (λ done. IsReplayed i done.closed done.text.items done.status) → Ended done old new before now status h → Replays i old new before now status h
-  ended_replays i (Ok done) is ended = inl (done.text.items, done.status, subst (λ (k : List Entry). IsReplayed i k done.text.items done.status) (sym ended.1) is, ended.0)
-  ended_replays i (Err fault) is ended = inr ended
+  -- the report of a run
+  pub ended_reports : (Is : Histories) (i : InputValue) (done : Result Done AllocError) → IfOk done (λ done. IsReported Is i done.closed done.text.items done.status) → Ended done old new before now status h → Reports Is i old new before now status h
+  ended_reports Is i (Ok done) is ended = inl (done.text.items, done.status, subst (λ (k : List Entry). IsReported Is i k done.text.items done.status) (sym ended.1) is, ended.0)
+  ended_reports Is i (Err fault) is ended = inr ended
 
   -- want of memory ends every command
-  pub gives_up : (o : Outcome InputValue) → GivesUp old new status h → Ends o old new before now status h
-  gives_up (accepted i) up = inr up
-  gives_up (refused file refusal) up = inr up
-  gives_up (missing file) up = inr up
+  pub gives_up : (Is : Histories) (o : Outcome InputValue) → GivesUp old new status h → Ends Is o old new before now status h
+  gives_up Is (accepted i) up = inr up
+  gives_up Is (refused file refusal) up = inr up
+  gives_up Is (missing file) up = inr up
 
-  pub run_answers : (told : Option Files) (first last : ℕ) (bindings trace : List ℕ) (read : Result Ready BindFault)
-      → Comes ready_value told first last read (λ files. replay_input files bindings trace) → Names told read (λ files. replay_input files bindings trace) → Runs read old new before now status h
-      → (files : Files) → told ≡ Some files → Answers (Some (replay bindings trace)) files first last old new before now status h
-  run_answers told first last bindings trace (Ok ready) comes named runs files known = inl (subst (λ (o : Outcome InputValue). Ends o old new before now status h) (sym (comes files known)) runs)
-  run_answers told first last bindings trace (Err faults.Memory) comes named runs files known = inl (gives_up (replay_input files bindings trace) runs)
-  run_answers told first last bindings trace (Err (faults.Refused file refusal)) comes named runs files known = inl (subst (λ (o : Outcome InputValue). Ends o old new before now status h) (sym (comes files known)) runs)
-  run_answers told first last bindings trace (Err (faults.Unread file)) (inl lacks) named runs files known =
+  pub run_answers : (Is : Histories) (told : Option Files) (first last : ℕ) (bindings trace : List ℕ) (read : Result Ready BindFault)
+      → Comes ready_value told first last read (λ files. run_input files bindings trace) → Names told read (λ files. run_input files bindings trace) → Runs Is read old new before now status h
+      → (files : Files) → told ≡ Some files → AnswersRun Is bindings trace files first last old new before now status h
+  run_answers Is told first last bindings trace (Ok ready) comes named runs files known = inl (subst (λ (o : Outcome InputValue). Ends Is o old new before now status h) (sym (comes files known)) runs)
+  run_answers Is told first last bindings trace (Err faults.Memory) comes named runs files known = inl (gives_up Is (run_input files bindings trace) runs)
+  run_answers Is told first last bindings trace (Err (faults.Refused file refusal)) comes named runs files known = inl (subst (λ (o : Outcome InputValue). Ends Is o old new before now status h) (sym (comes files known)) runs)
+  run_answers Is told first last bindings trace (Err (faults.Unread file)) (inl lacks) named runs files known =
       let both : Some lacks.0 ≡ Some files = sym lacks.1 ∙ known in
       let same : lacks.0 ≡ files = cc in
-      inl (subst (λ (o : Outcome InputValue). Ends o old new before now status h) (sym (ap (λ (fs : Files). replay_input fs bindings trace) (sym same) ∙ lacks.2)) runs)
-  run_answers told first last bindings trace (Err (faults.Unread file)) (inr rose) named runs files known = inr (rose, file, named files known, runs)
+      inl (subst (λ (o : Outcome InputValue). Ends Is o old new before now status h) (sym (ap (λ (fs : Files). run_input fs bindings trace) (sym same) ∙ lacks.2)) runs)
+  run_answers Is told first last bindings trace (Err (faults.Unread file)) (inr rose) named runs files known = inr (rose, file, named files known, runs)
 
   -- a refusal that was said
   pub refused_fails : (fault : BindFault) (file told : List ℕ) (refusal : Refusal) → fault ≡ faults.Refused file refusal → told ≡ file → Says old new before now (refusal_text (Some told) refusal) 2 status h → Fails fault old new before now status h

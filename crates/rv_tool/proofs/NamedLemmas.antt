@@ -11,7 +11,7 @@ use Rattle.rv_bind.proofs.OutcomeLemmas.{of_name-reading}
 use Rattle.rv_bind.proofs.ReachedLemmas.{bound-local, step_named, behind_named}
 use Rattle.rv_tool.specs.declared.words.Kind.{Kind}
 use Rattle.rv_tool.specs.Faults.{Tells}
-use Rattle.rv_tool.specs.Inputs.{InputValue, routed_text, routed_in, replay_input}
+use Rattle.rv_tool.specs.Inputs.{InputValue, routed_text, routed_in, run_input}
 use Rattle.rv_tool.specs.Tables.{table_text, table_in}
 
 module _ (told : Option Files) where
@@ -33,13 +33,13 @@ module _ (told : Option Files) where
       step_named X Z told fault (λ files. of_name files file accepted) (λ files text. of_file file (table_text kind text)) (λ files. table_in files kind file) (λ files. of_name-reading files file (λ text. of_file file (table_text kind text)))
 
   -- what the bindings name, the run names
-  pub input_named : (X Z : Type 0) (bindings trace : List ℕ) (fault : BindFault) → Names {X = X} told (Err fault) (λ files. bound_of files bindings) → Names {X = Z} told (Err fault) (λ files. replay_input files bindings trace)
+  pub input_named : (X Z : Type 0) (bindings trace : List ℕ) (fault : BindFault) → Names {X = X} told (Err fault) (λ files. bound_of files bindings) → Names {X = Z} told (Err fault) (λ files. run_input files bindings trace)
   input_named X Z bindings trace fault =
-      step_named X Z told fault (λ files. bound_of files bindings) (λ files bound. reading (routed_in files trace bound) (λ routed. accepted (record { bound = bound; routed = routed }))) (λ files. replay_input files bindings trace) (λ files. refl)
+      step_named X Z told fault (λ files. bound_of files bindings) (λ files bound. reading (routed_in files trace bound) (λ routed. accepted (record { bound = bound; routed = routed }))) (λ files. run_input files bindings trace) (λ files. refl)
 
   -- where the bindings were read, the run names what the trace names
   pub input_behind_named : (X Z : Type 0) (bindings trace : List ℕ) (bound : BoundValue) (fault : BindFault) → ((files : Files) → told ≡ Some files → bound_of files bindings ≡ accepted bound)
-      → Names {X = X} told (Err fault) (λ files. routed_in files trace bound) → Names {X = Z} told (Err fault) (λ files. replay_input files bindings trace)
+      → Names {X = X} told (Err fault) (λ files. routed_in files trace bound) → Names {X = Z} told (Err fault) (λ files. run_input files bindings trace)
   input_behind_named X Z bindings trace bound fault read named =
       behind_named X Z told fault (λ files. bound_of files bindings) bound next (bound-local bindings) read
       (step_named X X told fault (λ files. routed_in files trace bound) (λ files routed. accepted (record { bound = bound; routed = routed })) (λ files. next files bound) (λ files. refl) named)

@@ -10,12 +10,13 @@ use Rattle.rv_bind.specs.declared.fault.BindFault.TheVariants as faults
 use Rattle.rv_bind.specs.Outcomes.{Outcome, IsReached}
 use Rattle.rv_tool.specs.declared.input.Ready.{Ready}
 use Rattle.rv_tool.specs.declared.replaying.Done.{Done}
-use Rattle.rv_tool.specs.Inputs.{replay_input}
+use Rattle.rv_tool.specs.Inputs.{run_input}
 use Rattle.rv_tool.specs.Output.{Told, refusal_text, missing_text}
-use Rattle.rv_tool.specs.Words.{CommandValue, replay, table}
+use Rattle.rv_model.specs.Histories.{IsOneHistory, IsLegal}
+use Rattle.rv_tool.specs.Words.{CommandValue, replay, feed, table}
 use Rattle.rv_tool.specs.Ready.{ready_value}
 use Rattle.rv_tool.specs.Tables.{table_in, Prints}
-use Rattle.rv_tool.specs.Headline.{GivesUp, Says, Replays, Ends}
+use Rattle.rv_tool.specs.Headline.{Histories, GivesUp, Says, Reports, Ends}
 
 -- the report of a run that is done was put, and its history is kept
 abbrev pub Ended : Result Done AllocError → Option (List ℕ) → Option (List ℕ) → ℕ → ℕ → ℕ → List Entry → Type 0
@@ -29,9 +30,9 @@ Fails (faults.Refused file refusal) old new before now status h = Says old new b
 Fails (faults.Unread file) old new before now status h = Says old new before now (missing_text file) 3 status h
 
 -- by what was read: a run, or a text that says why there is none
-abbrev pub Runs : Result Ready BindFault → Option (List ℕ) → Option (List ℕ) → ℕ → ℕ → ℕ → List Entry → Type 0
-Runs (Ok ready) old new before now status h = Replays (ready_value ready) old new before now status h
-Runs (Err fault) old new before now status h = Fails fault old new before now status h
+abbrev pub Runs : Histories → Result Ready BindFault → Option (List ℕ) → Option (List ℕ) → ℕ → ℕ → ℕ → List Entry → Type 0
+Runs Is (Ok ready) old new before now status h = Reports Is (ready_value ready) old new before now status h
+Runs Is (Err fault) old new before now status h = Fails fault old new before now status h
 
 -- by what was read: the text, or one that says why there is none
 abbrev pub PrintsRead : Result (Vec ℕ Global) BindFault → Option (List ℕ) → Option (List ℕ) → ℕ → ℕ → ℕ → List Entry → Type 0
@@ -43,10 +44,15 @@ abbrev pub MayBlame : {Y : Type 0} → (Files → Outcome Y) → Files → ℕ �
 MayBlame outcome files first last old new before now status h =
     Rose first last × (file : List ℕ) × IsReached outcome files file × Says old new before now (missing_text file) 3 status h
 
--- by what the words ask for, on a store that tells its files
+-- what bindings and a trace come to on a store that tells its files
+abbrev pub AnswersRun : Histories → List ℕ → List ℕ → Files → ℕ → ℕ → Option (List ℕ) → Option (List ℕ) → ℕ → ℕ → ℕ → List Entry → Type 0
+AnswersRun Is bindings trace files first last old new before now status h =
+    Ends Is (run_input files bindings trace) old new before now status h ⊎ MayBlame (λ files. run_input files bindings trace) files first last old new before now status h
+
+-- by what the words ask for: on one thread there is the one history of the input, and on several a legal one
 abbrev pub Answers : Option CommandValue → Files → ℕ → ℕ → Option (List ℕ) → Option (List ℕ) → ℕ → ℕ → ℕ → List Entry → Type 0
 Answers None files first last old new before now status h = Says old new before now (refusal_text None (record { number = USAGE; line = 0 })) 2 status h
-Answers (Some (replay bindings trace)) files first last old new before now status h =
-    Ends (replay_input files bindings trace) old new before now status h ⊎ MayBlame (λ files. replay_input files bindings trace) files first last old new before now status h
+Answers (Some (replay bindings trace)) files first last old new before now status h = AnswersRun IsOneHistory bindings trace files first last old new before now status h
+Answers (Some (feed bindings trace)) files first last old new before now status h = AnswersRun IsLegal bindings trace files first last old new before now status h
 Answers (Some (table kind file)) files first last old new before now status h =
     Prints (table_in files kind file) old new before now status h ⊎ MayBlame (λ files. table_in files kind file) files first last old new before now status h

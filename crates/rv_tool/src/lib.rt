@@ -4,6 +4,7 @@
 mod automaton_text;
 #[cfg(test)]
 mod failing_tests;
+mod feeding;
 mod formula_text;
 mod input;
 mod output;

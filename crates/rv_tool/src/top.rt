@@ -1,13 +1,15 @@
 //! The top call.
 ghost use Rattle.std.specs.Prelude.{◌≡◌, [], Some, None, option_copied};
 ghost use Rattle.std.specs.Result.{ForOk};
+ghost use Rattle.rv_model.specs.Histories.{IsOneHistory, IsLegal};
 ghost use Rattle.rv_tool.specs.Output.{refusal_text, missing_text};
 ghost use Rattle.rv_io.specs.Files.{Files};
-ghost use Rattle.rv_tool.specs.Headline.{Says, IsReplayed};
+ghost use Rattle.rv_tool.specs.Headline.{Says};
 ghost use Rattle.rv_tool.specs.Runs.{Ended, Fails, Runs, PrintsRead, Answers};
 ghost use Rattle.rv_tool.specs.Words.{command_of, texts_of};
 ghost use Rattle.rv_tool.specs.Ready.{ready_value, IsReady};
 
+use crate::feeding::fed;
 use crate::input::{Ready, read_input};
 use crate::output::{missing_line, refusal_line, tell};
 use crate::replaying::{Done, replayed};
@@ -53,12 +55,17 @@ pub fn rv<R: Threads + Sync, S: Store, K: Sink, G: Gate + Send>(
     ensures kept { S.files store.new ≡ S.files store.old }
     ensures answers { (files : Files) → S.files store.old ≡ Some files → Answers (command_of (texts_of words.now)) files (S.faults store.old) (S.faults store.new) (K.taken out.old) (K.taken out.new) (K.faults out.old) (K.faults out.new) result.status result.closed }
 {
-    let _ = rt;
-    let _ = gate;
     match read_words(words) {
         Some(Command::Replay { bindings, trace }) => run(
             alloc,
             out,
+            read_input(alloc, store, bindings, trace),
+        ),
+        Some(Command::Feed { bindings, trace }) => run_at_once(
+            rt,
+            alloc,
+            out,
+            gate,
             read_input(alloc, store, bindings, trace),
         ),
         Some(Command::Table { kind, file }) => print(
@@ -78,13 +85,30 @@ pub fn rv<R: Threads + Sync, S: Store, K: Sink, G: Gate + Send>(
     }
 }
 
-/// Runs what was read, or says why there is nothing to run.
+/// Runs what was read on one thread, or says why there is nothing to run.
 fn run<K: Sink>(alloc: Global, out: &mut K, read: Result<Ready, BindFault>) -> Finished
     requires { ForOk read IsReady }
-    ensures { Runs read (K.taken out.old) (K.taken out.new) (K.faults out.old) (K.faults out.new) result.status result.closed }
+    ensures { Runs IsOneHistory read (K.taken out.old) (K.taken out.new) (K.faults out.old) (K.faults out.new) result.status result.closed }
 {
     match read {
         Ok(ready) => end(out, replayed(alloc, ready)),
+        Err(fault) => failed(alloc, out, fault),
+    }
+}
+
+/// Runs what was read, a thread for each CPU, or says why there is nothing to run.
+fn run_at_once<R: Threads + Sync, K: Sink, G: Gate + Send>(
+    rt: &R,
+    alloc: Global,
+    out: &mut K,
+    gate: &G,
+    read: Result<Ready, BindFault>,
+) -> Finished
+    requires { ForOk read IsReady }
+    ensures { Runs IsLegal read (K.taken out.old) (K.taken out.new) (K.faults out.old) (K.faults out.new) result.status result.closed }
+{
+    match read {
+        Ok(ready) => end(out, fed(rt, alloc, gate, ready)),
         Err(fault) => failed(alloc, out, fault),
     }
 }

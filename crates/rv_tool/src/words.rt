@@ -14,7 +14,11 @@ pub enum Kind {
 /// A command, and the files that it names.
 #[derive(Clone, Copy, Debug, Drop)]
 pub(crate) enum Command<'a> {
+    /// All scripts on one thread.
     Replay { bindings: &'a str, trace: &'a str },
+    /// All scripts at once.
+    Feed { bindings: &'a str, trace: &'a str },
+    /// The table of a specification.
     Table { kind: Kind, file: &'a str },
 }
 
@@ -47,6 +51,12 @@ pub(crate) fn read_words(words: &[String]) -> Option<Command<'_>>
     }
     if is(words[0].as_str(), "replay") {
         return Some(Command::Replay {
+            bindings: words[1].as_str(),
+            trace: words[2].as_str(),
+        });
+    }
+    if is(words[0].as_str(), "feed") {
+        return Some(Command::Feed {
             bindings: words[1].as_str(),
             trace: words[2].as_str(),
         });
