@@ -5,6 +5,7 @@ pub mod NamedLemmas
 pub mod ReadyLemmas
 pub mod ReplayedLemmas
 pub mod SaysLemmas
+pub mod SessionLemmas
 pub mod SwitchLemmas
 pub mod TableLemmas
 pub mod TraceTextLemmas

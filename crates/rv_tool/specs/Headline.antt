@@ -22,20 +22,24 @@ pub record IsReported (Is : Histories) (i : InputValue) (h : List Entry) (text :
   pub text_is : text ≡ report_text (map (reported i.bound.containers) i.bound.monitors) i.routed.tasks (records_of (run_of i) judges h)
   pub status_is : status ≡ status_of (records_of (run_of i) judges h)
 
+-- how a call ends: what the sink had taken before and after it, its faults before and after, the status, and the history
+abbrev pub Ending : Type 1
+Ending = Option (List ℕ) → Option (List ℕ) → ℕ → ℕ → ℕ → List Entry → Type 0
+
 -- want of memory: nothing was put, and there is no history
 abbrev pub GivesUp : Option (List ℕ) → Option (List ℕ) → ℕ → List Entry → Type 0
 GivesUp old new status h = (status ≡ 5) × (new ≡ old) × (h ≡ [])
 
 -- without a run a text goes with the status, and there is no history
-abbrev pub Says : Option (List ℕ) → Option (List ℕ) → ℕ → ℕ → List ℕ → ℕ → ℕ → List Entry → Type 0
-Says old new before now text said status h = (Told old new before now text said status × (h ≡ [])) ⊎ GivesUp old new status h
+abbrev pub Says : List ℕ → ℕ → Ending
+Says text said old new before now status h = (Told old new before now text said status × (h ≡ [])) ⊎ GivesUp old new status h
 
 -- an accepted input is run
-abbrev pub Reports : Histories → InputValue → Option (List ℕ) → Option (List ℕ) → ℕ → ℕ → ℕ → List Entry → Type 0
+abbrev pub Reports : Histories → InputValue → Ending
 Reports Is i old new before now status h = ((text : List ℕ) × (said : ℕ) × IsReported Is i h text said × Told old new before now text said status) ⊎ GivesUp old new status h
 
--- by what the words and files come to
-abbrev pub Ends : Histories → Outcome InputValue → Option (List ℕ) → Option (List ℕ) → ℕ → ℕ → ℕ → List Entry → Type 0
-Ends Is (accepted i) old new before now status h = Reports Is i old new before now status h
-Ends Is (refused file refusal) old new before now status h = Says old new before now (refusal_text (Some file) refusal) 2 status h
-Ends Is (missing file) old new before now status h = Says old new before now (missing_text file) 3 status h
+-- by what the words and files come to: what is accepted ends in its own way, and else the refusal or the missing file is said
+abbrev pub Ends : {Y : Type 0} → (Y → Ending) → Outcome Y → Ending
+Ends Accepted (accepted y) = Accepted y
+Ends Accepted (refused file refusal) = Says (refusal_text (Some file) refusal) 2
+Ends Accepted (missing file) = Says (missing_text file) 3

@@ -5,7 +5,8 @@ ghost use Rattle.rv_model.specs.Records.{sort_records};
 ghost use Rattle.rv_core.specs.Judged.{AllMean};
 ghost use Rattle.rv_feed.specs.Lane.{FitLanes, panics_of};
 ghost use Rattle.rv_feed.specs.One.{input_of, lane_records, IsOneOf};
-ghost use Rattle.rv_tool.specs.Headline.{IsReplayed};
+ghost use Rattle.rv_model.specs.Histories.{IsOneHistory};
+ghost use Rattle.rv_tool.specs.Headline.{IsReported};
 ghost use Rattle.rv_tool.specs.Ready.{ready_value, IsReady};
 
 use crate::input::Ready;
@@ -49,7 +50,7 @@ fn run_lanes(
 /// The whole run and its report.
 pub(crate) fn replayed(alloc: Global, ready: Ready) -> Result<Done, AllocError>
     requires { IsReady ready }
-    ensures { IfOk result (λ done. IsReplayed (ready_value ready) done.closed done.text.items done.status) }
+    ensures { IfOk result (λ done. IsReported IsOneHistory (ready_value ready) done.closed done.text.items done.status) }
 {
     let Ready {
         bindings,

@@ -16,8 +16,8 @@ pub enum Kind {
 pub(crate) enum Command<'a> {
     /// All scripts on one thread.
     Replay { bindings: &'a str, trace: &'a str },
-    /// All scripts at once.
-    Feed { bindings: &'a str, trace: &'a str },
+    /// A script on the control files.
+    Control { bindings: &'a str, script: &'a str },
     /// The table of a specification.
     Table { kind: Kind, file: &'a str },
 }
@@ -55,10 +55,10 @@ pub(crate) fn read_words(words: &[String]) -> Option<Command<'_>>
             trace: words[2].as_str(),
         });
     }
-    if is(words[0].as_str(), "feed") {
-        return Some(Command::Feed {
+    if is(words[0].as_str(), "control") {
+        return Some(Command::Control {
             bindings: words[1].as_str(),
-            trace: words[2].as_str(),
+            script: words[2].as_str(),
         });
     }
     if is(words[0].as_str(), "table") {
