@@ -8,46 +8,53 @@ use Rattle.rv_io.specs.Files.{Files}
 use Rattle.rv_bind.specs.declared.fault.BindFault.{BindFault}
 use Rattle.rv_bind.specs.declared.fault.BindFault.TheVariants as faults
 use Rattle.rv_bind.specs.Outcomes.{Outcome, accepted, refused, missing, Comes, Names}
-use Rattle.rv_tool.specs.declared.input.Ready.{Ready}
 use Rattle.rv_tool.specs.declared.replaying.Done.{Done}
-use Rattle.rv_tool.specs.Inputs.{InputValue, replay_input}
+use Rattle.rv_tool.specs.Inputs.{InputValue}
 use Rattle.rv_tool.specs.Output.{refusal_text, missing_text}
-use Rattle.rv_tool.specs.Words.{CommandValue, replay}
-use Rattle.rv_tool.specs.Ready.{ready_value}
-use Rattle.rv_tool.specs.Headline.{IsReplayed, GivesUp, Says, Replays, Ends}
-use Rattle.rv_tool.specs.Runs.{Ended, Fails, Runs, Answers}
+use Rattle.rv_tool.specs.Words.{CommandValue}
+use Rattle.rv_tool.specs.Headline.{Histories, IsReported, Ending, GivesUp, Says, Reports, Ends}
+use Rattle.rv_tool.specs.Runs.{Ended, Fails, EndsRead, AnswersBy, Answers}
 
 module _ (old new : Option (List ℕ)) (before now status : ℕ) (h : List Entry) where
-  -- the report of a run that was replayed
-  pub ended_replays : (i : InputValue) (done : Result Done AllocError) → IfOk done (λ done. IsReplayed i done.closed done.text.items done.status) → Ended done old new before now status h → Replays i old new before now status h
-  ended_replays i (Ok done) is ended = inl (done.text.items, done.status, subst (λ (k : List Entry). IsReplayed i k done.text.items done.status) (sym ended.1) is, ended.0)
-  ended_replays i (Err fault) is ended = inr ended
+  -- the report of a run
+  pub ended_reports : (Is : Histories) (i : InputValue) (done : Result Done AllocError) → IfOk done (λ done. IsReported Is i done.closed done.text.items done.status) → Ended done old new before now status h → Reports Is i old new before now status h
+  ended_reports Is i (Ok done) is ended = inl (done.text.items, done.status, subst (λ (k : List Entry). IsReported Is i k done.text.items done.status) (sym ended.1) is, ended.0)
+  ended_reports Is i (Err fault) is ended = inr ended
 
-  -- want of memory ends every command
-  pub gives_up : (o : Outcome InputValue) → GivesUp old new status h → Ends o old new before now status h
-  gives_up (accepted i) up = inr up
-  gives_up (refused file refusal) up = inr up
-  gives_up (missing file) up = inr up
+  -- want of memory ends a run
+  pub no_report : (Is : Histories) (i : InputValue) → GivesUp old new status h → Reports Is i old new before now status h
+  no_report Is i up = inr up
 
-  pub run_answers : (told : Option Files) (first last : ℕ) (bindings trace : List ℕ) (read : Result Ready BindFault)
-      → Comes ready_value told first last read (λ files. replay_input files bindings trace) → Names told read (λ files. replay_input files bindings trace) → Runs read old new before now status h
-      → (files : Files) → told ≡ Some files → Answers (Some (replay bindings trace)) files first last old new before now status h
-  run_answers told first last bindings trace (Ok ready) comes named runs files known = inl (subst (λ (o : Outcome InputValue). Ends o old new before now status h) (sym (comes files known)) runs)
-  run_answers told first last bindings trace (Err faults.Memory) comes named runs files known = inl (gives_up (replay_input files bindings trace) runs)
-  run_answers told first last bindings trace (Err (faults.Refused file refusal)) comes named runs files known = inl (subst (λ (o : Outcome InputValue). Ends o old new before now status h) (sym (comes files known)) runs)
-  run_answers told first last bindings trace (Err (faults.Unread file)) (inl lacks) named runs files known =
-      let both : Some lacks.0 ≡ Some files = sym lacks.1 ∙ known in
-      let same : lacks.0 ≡ files = cc in
-      inl (subst (λ (o : Outcome InputValue). Ends o old new before now status h) (sym (ap (λ (fs : Files). replay_input fs bindings trace) (sym same) ∙ lacks.2)) runs)
-  run_answers told first last bindings trace (Err (faults.Unread file)) (inr rose) named runs files known = inr (rose, file, named files known, runs)
+  -- and a text
+  pub no_text : (text : List ℕ) (said : ℕ) → GivesUp old new status h → Says text said old new before now status h
+  no_text text said up = inr up
+
+  module _ {X Y : Type 0} (view : X → Y) (Accepted : Y → Ending) (outcome : Files → Outcome Y) (no : (y : Y) → GivesUp old new status h → Accepted y old new before now status h) where
+    -- want of memory ends every command
+    gives_up : (o : Outcome Y) → GivesUp old new status h → Ends Accepted o old new before now status h
+    gives_up (accepted y) up = no y up
+    gives_up (refused file refusal) up = inr up
+    gives_up (missing file) up = inr up
+
+    -- what was read is what the files come to
+    pub read_answers : (told : Option Files) (first last : ℕ) (read : Result X BindFault) → Comes view told first last read outcome → Names told read outcome → EndsRead view Accepted read old new before now status h
+        → (files : Files) → told ≡ Some files → AnswersBy Accepted outcome files first last old new before now status h
+    read_answers told first last (Ok x) comes named ends files known = inl (subst (λ (o : Outcome Y). Ends Accepted o old new before now status h) (sym (comes files known)) ends)
+    read_answers told first last (Err faults.Memory) comes named ends files known = inl (gives_up (outcome files) ends)
+    read_answers told first last (Err (faults.Refused file refusal)) comes named ends files known = inl (subst (λ (o : Outcome Y). Ends Accepted o old new before now status h) (sym (comes files known)) ends)
+    read_answers told first last (Err (faults.Unread file)) (inl lacks) named ends files known =
+        let both : Some lacks.0 ≡ Some files = sym lacks.1 ∙ known in
+        let same : lacks.0 ≡ files = cc in
+        inl (subst (λ (o : Outcome Y). Ends Accepted o old new before now status h) (sym (ap outcome (sym same) ∙ lacks.2)) ends)
+    read_answers told first last (Err (faults.Unread file)) (inr rose) named ends files known = inr (rose, file, named files known, ends)
 
   -- a refusal that was said
-  pub refused_fails : (fault : BindFault) (file told : List ℕ) (refusal : Refusal) → fault ≡ faults.Refused file refusal → told ≡ file → Says old new before now (refusal_text (Some told) refusal) 2 status h → Fails fault old new before now status h
-  refused_fails fault file told refusal is same says = rw is (subst (λ (f : List ℕ). Says old new before now (refusal_text (Some f) refusal) 2 status h) same says)
+  pub refused_fails : (fault : BindFault) (file told : List ℕ) (refusal : Refusal) → fault ≡ faults.Refused file refusal → told ≡ file → Says (refusal_text (Some told) refusal) 2 old new before now status h → Fails fault old new before now status h
+  refused_fails fault file told refusal is same says = rw is (subst (λ (f : List ℕ). Says (refusal_text (Some f) refusal) 2 old new before now status h) same says)
 
   -- an unread file that was said
-  pub unread_fails : (fault : BindFault) (file told : List ℕ) → fault ≡ faults.Unread file → told ≡ file → Says old new before now (missing_text told) 3 status h → Fails fault old new before now status h
-  unread_fails fault file told is same says = rw is (subst (λ (f : List ℕ). Says old new before now (missing_text f) 3 status h) same says)
+  pub unread_fails : (fault : BindFault) (file told : List ℕ) → fault ≡ faults.Unread file → told ≡ file → Says (missing_text told) 3 old new before now status h → Fails fault old new before now status h
+  unread_fails fault file told is same says = rw is (subst (λ (f : List ℕ). Says (missing_text f) 3 old new before now status h) same says)
 
   -- the words ask for the command that was read
   pub words_answer : (asked : Option CommandValue) (said : Option CommandValue) (told : Option Files) (first last : ℕ) → said ≡ asked

@@ -3,8 +3,9 @@ pub mod ComesLemmas
 pub mod GrowingTexts
 pub mod NamedLemmas
 pub mod ReadyLemmas
-pub mod ReplayedLemmas
+pub mod ReportedLemmas
 pub mod SaysLemmas
+pub mod SessionLemmas
 pub mod SwitchLemmas
 pub mod TableLemmas
 pub mod TraceTextLemmas

@@ -118,11 +118,14 @@ module _ (monitors : List Monitor) (tables : List Table) (tasks : ℕ) (have : H
   works_counted [] = refl
   works_counted (lane ∷ lanes) = ap (λ n. suc n) (works_counted lanes)
 
-  pair_works : (lanes : List LaneValue) → AllPairs (λ (w v : Work). w.cpu ≢ v.cpu) (works_of lanes) → AllPairs (λ (l m : LaneValue). l.work.cpu ≢ m.work.cpu) lanes
+  pair_works : (lanes : List LaneValue) → AllPairs (λ (w v : Work). w.cpu < v.cpu) (works_of lanes) → AllPairs (λ (l m : LaneValue). l.work.cpu < m.work.cpu) lanes
   pair_works lanes pairs i j d lt within =
       let many = works_counted lanes in
-      let apart = pairs i j d.work lt (omega arith) in
-      subst (λ (w : Work). w.cpu ≢ (get_or lanes j d).work.cpu) (get_or-works lanes i d) (subst (λ (v : Work). (get_or (works_of lanes) i d.work).cpu ≢ v.cpu) (get_or-works lanes j d) apart)
+      let below = pairs i j d.work lt (omega arith) in
+      subst (λ (w : Work). w.cpu < (get_or lanes j d).work.cpu) (get_or-works lanes i d) (subst (λ (v : Work). (get_or (works_of lanes) i d.work).cpu < v.cpu) (get_or-works lanes j d) below)
+
+  lanes_apart : (lanes : List LaneValue) → AllPairs (λ (l m : LaneValue). l.work.cpu < m.work.cpu) lanes → AllPairs (λ (l m : LaneValue). l.work.cpu ≢ m.work.cpu) lanes
+  lanes_apart lanes pairs i j d lt within e = let below = pairs i j d lt within in absurd (omega arith)
 
   each_fits : (lanes : List LaneValue) → WorksFit (kinds_of monitors) tasks (works_of lanes) → All (λ (l : LaneValue). IsNewLane l.work l) lanes → All (FitsLane (opened monitors tables tasks)) lanes
   each_fits lanes f new i d within = record {
@@ -137,7 +140,7 @@ module _ (monitors : List Monitor) (tables : List Table) (tasks : ℕ) (have : H
   pub lanes_fit : (works : List Work) (lanes : List LaneValue) → WorksFit (kinds_of monitors) tasks works → works_of lanes ≡ works → All (λ (l : LaneValue). IsNewLane l.work l) lanes → FitLanes (opened monitors tables tasks) lanes
   lanes_fit works lanes fit is new =
       let f : WorksFit (kinds_of monitors) tasks (works_of lanes) = subst (WorksFit (kinds_of monitors) tasks) (sym is) fit in
-      record { fit = each_fits lanes f new; cpus = pair_works lanes f.cpus; apart = f.apart }
+      record { fit = each_fits lanes f new; cpus = lanes_apart lanes (pair_works lanes f.cpus); apart = f.apart }
 
 -- ---- lanes as they are made
 
@@ -157,6 +160,7 @@ pub record Made (monitors : List Monitor) (setup : Setup) (tasks : ℕ) (lanes :
   pub again : setup ≡ opened monitors setup.tables tasks
   pub mean : AllMean (map (λ (m : Monitor). m.spec) monitors) setup.tables
   pub fit : FitLanes setup lanes
+  pub ascend : AllPairs (λ (l m : LaneValue). l.work.cpu < m.work.cpu) lanes
 
 pub ready_made : (monitors given : List Monitor) (tables : List Table) (setup : Setup) (n tasks : ℕ) (works : List Work) (lanes : List LaneValue) → HaveTables (kinds_of monitors) tables → WorksFit (kinds_of monitors) tasks works
     → setup ≡ opened given tables n → given ≡ monitors → n ≡ tasks → works_of lanes ≡ works → All (λ (l : LaneValue). IsNewLane l.work l) lanes → Made monitors setup tasks lanes
@@ -167,4 +171,5 @@ ready_made monitors given tables setup n tasks works lanes have fit setup_is sam
       again = is ∙ ap (λ (ts : List Table). opened monitors ts tasks) (sym tables_are);
       mean = subst (λ (ts : List Table). AllMean (map (λ (m : Monitor). m.spec) monitors) ts) (sym tables_are) (tables_mean monitors tables have);
       fit = subst (λ (s : Setup). FitLanes s lanes) (sym is) (lanes_fit monitors tables tasks have works lanes fit works_are new);
+      ascend = pair_works monitors tables tasks have lanes (subst (WorksFit (kinds_of monitors) tasks) (sym works_are) fit).cpus;
     }

@@ -1,10 +1,8 @@
 -- From a specification's file to its printed table.
-use Rattle.std.proofs.Common.{◌≡◌, ℕ, List, sym, ap, ◌∙◌, inl, inr, subst, arith}
-use Rattle.std.specs.Prelude.{Option, Some, Result, Ok, Err, Vec}
-use Rattle.std.specs.declared.alloc.Global.{Global}
+use Rattle.std.proofs.Common.{◌≡◌, ℕ, List, ap, ◌∙◌, subst, arith}
+use Rattle.std.specs.Prelude.{Option, Some, Result, Ok, Err}
 use Rattle.rv_text.specs.declared.refusals.Refusal.{Refusal}
 use Rattle.rv_text.specs.Readings.{and_then}
-use Rattle.rv_model.specs.declared.entry.Entry.{Entry}
 use Rattle.rv_model.specs.Table.{Table, of_labels}
 use Rattle.rv_io.specs.Files.{Files}
 use Rattle.rv_nnf.specs.Parts.{Piece}
@@ -13,15 +11,12 @@ use Rattle.rv_tableau.specs.Nodes.{nodes_of}
 use Rattle.rv_tableau.specs.Rows.{rows_of, tableau_of}
 use Rattle.rv_bind.specs.declared.fault.BindFault.{BindFault}
 use Rattle.rv_bind.specs.declared.fault.BindFault.TheVariants as faults
-use Rattle.rv_bind.specs.Outcomes.{Outcome, accepted, refused, missing, reading, of_file, of_name, Comes, Names}
+use Rattle.rv_bind.specs.Outcomes.{accepted, reading, of_file, of_name, Comes}
 use Rattle.rv_bind.proofs.OutcomeLemmas.{of_name-reading}
 use Rattle.rv_tool.specs.declared.words.Kind.{Kind}
 use Rattle.rv_tool.specs.Faults.{Tells}
 use Rattle.rv_tool.specs.FormulaTexts.{IsFormulaTable}
-use Rattle.rv_tool.specs.Tables.{table_text, table_in, Prints}
-use Rattle.rv_tool.specs.Headline.{GivesUp}
-use Rattle.rv_tool.specs.Words.{table}
-use Rattle.rv_tool.specs.Runs.{PrintsRead, Answers}
+use Rattle.rv_tool.specs.Tables.{table_text, table_in}
 
 -- a tableau's table is a formula's
 pub tableau_is_formula : (parts : List Piece) (t : Table) → tableau_of parts ≡ Ok t → IsFormulaTable t
@@ -47,22 +42,3 @@ pub table_fault : {X : Type 0} (view : X → List ℕ) (told : Option Files) (ki
     → Comes view told before now (Err fault) (λ files. of_name files file accepted) → Comes whole_view told before now (Err fault) (λ files. table_in files kind file)
 table_fault view told kind file before now fault whole_view comes =
     Rattle.rv_bind.proofs.OutcomeLemmas.step_fault told before before now fault view whole_view (λ files. of_name files file accepted) (λ files bytes. of_file file (table_text kind bytes)) (λ files. table_in files kind file) (omega arith) (λ files known. of_name-reading files file (λ bytes. of_file file (table_text kind bytes))) comes
-
-module _ (old new : Option (List ℕ)) (before now status : ℕ) (h : List Entry) where
-  -- want of memory ends it
-  no_print : (o : Outcome (List ℕ)) → GivesUp old new status h → Prints o old new before now status h
-  no_print (accepted text) up = inr up
-  no_print (refused file refusal) up = inr up
-  no_print (missing file) up = inr up
-
-  pub table_answers : (told : Option Files) (first last : ℕ) (kind : Kind) (file : List ℕ) (read : Result (Vec ℕ Global) BindFault)
-      → Comes (λ text. text.items) told first last read (λ files. table_in files kind file) → Names told read (λ files. table_in files kind file) → PrintsRead read old new before now status h
-      → (files : Files) → told ≡ Some files → Answers (Some (table kind file)) files first last old new before now status h
-  table_answers told first last kind file (Ok text) comes reached prints files known = inl (subst (λ (o : Outcome (List ℕ)). Prints o old new before now status h) (sym (comes files known)) prints)
-  table_answers told first last kind file (Err faults.Memory) comes reached prints files known = inl (no_print (table_in files kind file) prints)
-  table_answers told first last kind file (Err (faults.Refused named refusal)) comes reached prints files known = inl (subst (λ (o : Outcome (List ℕ)). Prints o old new before now status h) (sym (comes files known)) prints)
-  table_answers told first last kind file (Err (faults.Unread named)) (inl lacks) reached prints files known =
-      let both : Some lacks.0 ≡ Some files = sym lacks.1 ∙ known in
-      let same : lacks.0 ≡ files = cc in
-      inl (subst (λ (o : Outcome (List ℕ)). Prints o old new before now status h) (sym (ap (λ (fs : Files). table_in fs kind file) (sym same) ∙ lacks.2)) prints)
-  table_answers told first last kind file (Err (faults.Unread named)) (inr rose) reached prints files known = inr (rose, named, reached files known, prints)

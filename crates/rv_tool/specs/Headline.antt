@@ -1,8 +1,8 @@
--- What the top call promises: the bytes and the status are the report of the one history that the words and files determine.
+-- What the top call promises: the bytes and the status are the report of one history of what the words and files come to.
 use Rattle.std.specs.Prelude.{◌≡◌, ◌⊎◌, ℕ, List, [], map, Option, Some}
 use Rattle.rv_model.specs.declared.entry.Entry.{Entry}
 use Rattle.rv_model.specs.Judging.{Judge}
-use Rattle.rv_model.specs.Histories.{AreJudges, IsOneHistory}
+use Rattle.rv_model.specs.Histories.{Input, AreJudges}
 use Rattle.rv_model.specs.Records.{records_of, status_of}
 use Rattle.rv_model.specs.Reports.{report_text}
 use Rattle.rv_report.specs.Shown.{reported}
@@ -10,28 +10,36 @@ use Rattle.rv_bind.specs.Outcomes.{Outcome, accepted, refused, missing}
 use Rattle.rv_tool.specs.Inputs.{InputValue, run_of}
 use Rattle.rv_tool.specs.Output.{Told, refusal_text, missing_text}
 
--- by judges of the specifications this is the one history of the input, the text its report, and the status that of its records
-pub record IsReplayed (i : InputValue) (h : List Entry) (text : List ℕ) (status : ℕ) : Type 0 where
+-- which histories an input may have, by judges of its specifications: `IsOneHistory` on one thread, `IsLegal` on several
+abbrev pub Histories : Type 1
+Histories = Input → List Judge → List Entry → Type 0
+
+-- by judges of the specifications this is such a history of the input, the text its report, and the status that of its records
+pub record IsReported (Is : Histories) (i : InputValue) (h : List Entry) (text : List ℕ) (status : ℕ) : Type 0 where
   pub judges : List Judge
   pub are_judges : AreJudges (run_of i).specs (run_of i).setup.tables judges
-  pub one : IsOneHistory (run_of i) judges h
+  pub history : Is (run_of i) judges h
   pub text_is : text ≡ report_text (map (reported i.bound.containers) i.bound.monitors) i.routed.tasks (records_of (run_of i) judges h)
   pub status_is : status ≡ status_of (records_of (run_of i) judges h)
+
+-- how a call ends: what the sink had taken before and after it, its faults before and after, the status, and the history
+abbrev pub Ending : Type 1
+Ending = Option (List ℕ) → Option (List ℕ) → ℕ → ℕ → ℕ → List Entry → Type 0
 
 -- want of memory: nothing was put, and there is no history
 abbrev pub GivesUp : Option (List ℕ) → Option (List ℕ) → ℕ → List Entry → Type 0
 GivesUp old new status h = (status ≡ 5) × (new ≡ old) × (h ≡ [])
 
 -- without a run a text goes with the status, and there is no history
-abbrev pub Says : Option (List ℕ) → Option (List ℕ) → ℕ → ℕ → List ℕ → ℕ → ℕ → List Entry → Type 0
-Says old new before now text said status h = (Told old new before now text said status × (h ≡ [])) ⊎ GivesUp old new status h
+abbrev pub Says : List ℕ → ℕ → Ending
+Says text said old new before now status h = (Told old new before now text said status × (h ≡ [])) ⊎ GivesUp old new status h
 
--- an accepted input is replayed
-abbrev pub Replays : InputValue → Option (List ℕ) → Option (List ℕ) → ℕ → ℕ → ℕ → List Entry → Type 0
-Replays i old new before now status h = ((text : List ℕ) × (said : ℕ) × IsReplayed i h text said × Told old new before now text said status) ⊎ GivesUp old new status h
+-- an accepted input is run
+abbrev pub Reports : Histories → InputValue → Ending
+Reports Is i old new before now status h = ((text : List ℕ) × (said : ℕ) × IsReported Is i h text said × Told old new before now text said status) ⊎ GivesUp old new status h
 
--- by what the words and files come to
-abbrev pub Ends : Outcome InputValue → Option (List ℕ) → Option (List ℕ) → ℕ → ℕ → ℕ → List Entry → Type 0
-Ends (accepted i) old new before now status h = Replays i old new before now status h
-Ends (refused file refusal) old new before now status h = Says old new before now (refusal_text (Some file) refusal) 2 status h
-Ends (missing file) old new before now status h = Says old new before now (missing_text file) 3 status h
+-- by what the words and files come to: what is accepted ends in its own way, and else the refusal or the missing file is said
+abbrev pub Ends : {Y : Type 0} → (Y → Ending) → Outcome Y → Ending
+Ends Accepted (accepted y) = Accepted y
+Ends Accepted (refused file refusal) = Says (refusal_text (Some file) refusal) 2
+Ends Accepted (missing file) = Says (missing_text file) 3

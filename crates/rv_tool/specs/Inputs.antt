@@ -27,8 +27,8 @@ abbrev pub routed_in : Files → List ℕ → BoundValue → Outcome RoutedValue
 routed_in files trace bound = of_name files trace (routed_text trace bound)
 
 -- the bindings with each specification as its line is reached, and then the trace
-abbrev pub replay_input : Files → List ℕ → List ℕ → Outcome InputValue
-replay_input files bindings trace = reading (bound_of files bindings) (λ bound. reading (routed_in files trace bound) (λ routed. accepted (record { bound = bound; routed = routed })))
+abbrev pub run_input : Files → List ℕ → List ℕ → Outcome InputValue
+run_input files bindings trace = reading (bound_of files bindings) (λ bound. reading (routed_in files trace bound) (λ routed. accepted (record { bound = bound; routed = routed })))
 
 -- ---- the run
 

@@ -6,5 +6,7 @@ pub mod Inputs
 pub mod Output
 pub mod Ready
 pub mod Runs
+pub mod SessionValues
+pub mod Sessions
 pub mod Tables
 pub mod Words

@@ -1,5 +1,5 @@
 -- What a run begins with, as a plain value, and what it keeps.
-use Rattle.std.specs.Prelude.{◌≡◌, map, length}
+use Rattle.std.specs.Prelude.{◌≡◌, ◌<◌, AllPairs, map, length}
 use Rattle.rv_core.specs.Judged.{AllMean}
 use Rattle.rv_feed.specs.Lane.{FitLanes, works_of}
 use Rattle.rv_tool.specs.declared.input.Ready.{Ready}
@@ -11,9 +11,10 @@ ready_value r = record {
   routed = record { tasks = r.tasks; works = works_of r.lanes.items };
 }
 
--- the setup and the reactors are the bindings', the tables mean the specifications, and the lanes fit
+-- the setup and the reactors are the bindings', the tables mean the specifications, and the lanes fit and ascend by CPU
 pub record IsReady (r : Ready) : Type 0 where
   pub setup : r.setup ≡ setup_of (ready_value r).bound (length r.tasks)
   pub reactors : r.reactors.items ≡ map (λ m. m.reactor) r.bindings.monitors.items
   pub mean : AllMean (map (λ m. m.spec) r.bindings.monitors.items) r.setup.tables
   pub lanes : FitLanes r.setup r.lanes.items
+  pub ascend : AllPairs (λ l m. l.work.cpu < m.work.cpu) r.lanes.items

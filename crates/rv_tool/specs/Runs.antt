@@ -10,12 +10,16 @@ use Rattle.rv_bind.specs.declared.fault.BindFault.TheVariants as faults
 use Rattle.rv_bind.specs.Outcomes.{Outcome, IsReached}
 use Rattle.rv_tool.specs.declared.input.Ready.{Ready}
 use Rattle.rv_tool.specs.declared.replaying.Done.{Done}
-use Rattle.rv_tool.specs.Inputs.{replay_input}
+use Rattle.rv_tool.specs.Inputs.{run_input}
 use Rattle.rv_tool.specs.Output.{Told, refusal_text, missing_text}
-use Rattle.rv_tool.specs.Words.{CommandValue, replay, table}
+use Rattle.rv_model.specs.Histories.{IsOneHistory, IsLegal}
+use Rattle.rv_tool.specs.Words.{CommandValue, replay, feed, table, control}
 use Rattle.rv_tool.specs.Ready.{ready_value}
-use Rattle.rv_tool.specs.Tables.{table_in, Prints}
-use Rattle.rv_tool.specs.Headline.{GivesUp, Says, Replays, Ends}
+use Rattle.rv_tool.specs.Tables.{table_in}
+use Rattle.rv_tool.specs.declared.session.Session.{Session}
+use Rattle.rv_tool.specs.Sessions.{Printed, control_in}
+use Rattle.rv_tool.specs.SessionValues.{session_value}
+use Rattle.rv_tool.specs.Headline.{Histories, Ending, GivesUp, Says, Reports, Ends}
 
 -- the report of a run that is done was put, and its history is kept
 abbrev pub Ended : Result Done AllocError → Option (List ℕ) → Option (List ℕ) → ℕ → ℕ → ℕ → List Entry → Type 0
@@ -23,30 +27,51 @@ Ended (Ok done) old new before now status h = Told old new before now done.text.
 Ended (Err fault) old new before now status h = GivesUp old new status h
 
 -- a text that says why there is nothing else to put
-abbrev pub Fails : BindFault → Option (List ℕ) → Option (List ℕ) → ℕ → ℕ → ℕ → List Entry → Type 0
+abbrev pub Fails : BindFault → Ending
 Fails faults.Memory old new before now status h = GivesUp old new status h
-Fails (faults.Refused file refusal) old new before now status h = Says old new before now (refusal_text (Some file) refusal) 2 status h
-Fails (faults.Unread file) old new before now status h = Says old new before now (missing_text file) 3 status h
+Fails (faults.Refused file refusal) old new before now status h = Says (refusal_text (Some file) refusal) 2 old new before now status h
+Fails (faults.Unread file) old new before now status h = Says (missing_text file) 3 old new before now status h
 
--- by what was read: a run, or a text that says why there is none
-abbrev pub Runs : Result Ready BindFault → Option (List ℕ) → Option (List ℕ) → ℕ → ℕ → ℕ → List Entry → Type 0
-Runs (Ok ready) old new before now status h = Replays (ready_value ready) old new before now status h
-Runs (Err fault) old new before now status h = Fails fault old new before now status h
+-- by what was read, seen by view: what was accepted ends in its own way, or a text says why there is none
+abbrev pub EndsRead : {X Y : Type 0} → (X → Y) → (Y → Ending) → Result X BindFault → Ending
+EndsRead view Accepted (Ok x) = Accepted (view x)
+EndsRead view Accepted (Err fault) = Fails fault
 
--- by what was read: the text, or one that says why there is none
-abbrev pub PrintsRead : Result (Vec ℕ Global) BindFault → Option (List ℕ) → Option (List ℕ) → ℕ → ℕ → ℕ → List Entry → Type 0
-PrintsRead (Ok text) old new before now status h = Says old new before now text.items 0 status h
-PrintsRead (Err fault) old new before now status h = Fails fault old new before now status h
+-- ---- how each command ends where its files are accepted
+
+-- a run is reported
+abbrev pub Runs : Histories → Result Ready BindFault → Ending
+Runs Is = EndsRead ready_value (Reports Is)
+
+-- a table is printed
+abbrev pub Prints : List ℕ → Ending
+Prints text = Says text 0
+
+abbrev pub PrintsRead : Result (Vec ℕ Global) BindFault → Ending
+PrintsRead = EndsRead (λ text. text.items) Prints
+
+-- the texts of a script's commands are printed
+abbrev pub PrintsSession : Printed → Ending
+PrintsSession p = Says p.text p.status
+
+abbrev pub SaysSession : Result Session BindFault → Ending
+SaysSession = EndsRead session_value PrintsSession
+
+-- ---- the top call
 
 -- where the store's count of faults rose, a file may be called unread that the order of the reading comes to
-abbrev pub MayBlame : {Y : Type 0} → (Files → Outcome Y) → Files → ℕ → ℕ → Option (List ℕ) → Option (List ℕ) → ℕ → ℕ → ℕ → List Entry → Type 0
+abbrev pub MayBlame : {Y : Type 0} → (Files → Outcome Y) → Files → ℕ → ℕ → Ending
 MayBlame outcome files first last old new before now status h =
-    Rose first last × (file : List ℕ) × IsReached outcome files file × Says old new before now (missing_text file) 3 status h
+    Rose first last × (file : List ℕ) × IsReached outcome files file × Says (missing_text file) 3 old new before now status h
 
--- by what the words ask for, on a store that tells its files
-abbrev pub Answers : Option CommandValue → Files → ℕ → ℕ → Option (List ℕ) → Option (List ℕ) → ℕ → ℕ → ℕ → List Entry → Type 0
-Answers None files first last old new before now status h = Says old new before now (refusal_text None (record { number = USAGE; line = 0 })) 2 status h
-Answers (Some (replay bindings trace)) files first last old new before now status h =
-    Ends (replay_input files bindings trace) old new before now status h ⊎ MayBlame (λ files. replay_input files bindings trace) files first last old new before now status h
-Answers (Some (table kind file)) files first last old new before now status h =
-    Prints (table_in files kind file) old new before now status h ⊎ MayBlame (λ files. table_in files kind file) files first last old new before now status h
+-- what the files come to on a store that tells them
+abbrev pub AnswersBy : {Y : Type 0} → (Y → Ending) → (Files → Outcome Y) → Files → ℕ → ℕ → Ending
+AnswersBy Accepted outcome files first last old new before now status h = Ends Accepted (outcome files) old new before now status h ⊎ MayBlame outcome files first last old new before now status h
+
+-- by what the words ask for: on one thread there is the one history of the input, and at once a legal one
+abbrev pub Answers : Option CommandValue → Files → ℕ → ℕ → Ending
+Answers None files first last = Says (refusal_text None (record { number = USAGE; line = 0 })) 2
+Answers (Some (replay bindings trace)) files first last = AnswersBy (Reports IsOneHistory) (λ files. run_input files bindings trace) files first last
+Answers (Some (feed bindings trace)) files first last = AnswersBy (Reports IsLegal) (λ files. run_input files bindings trace) files first last
+Answers (Some (table kind file)) files first last = AnswersBy Prints (λ files. table_in files kind file) files first last
+Answers (Some (control bindings script)) files first last = AnswersBy PrintsSession (λ files. control_in files bindings script) files first last

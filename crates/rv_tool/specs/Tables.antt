@@ -1,21 +1,18 @@
--- What `table` prints of a file, and how it ends.
+-- What `table` prints of a file.
 use Rattle.std.specs.Prelude.{ℕ, List, Option, Some, Result, Ok}
 use Rattle.rv_text.specs.declared.refusals.Refusal.{Refusal}
 use Rattle.rv_text.specs.Readings.{and_then}
 use Rattle.rv_io.specs.Files.{Files}
-use Rattle.rv_model.specs.declared.entry.Entry.{Entry}
 use Rattle.rv_model.specs.Formulas.{RuleValue}
 use Rattle.rv_dot.specs.Dot.{dot_of}
 use Rattle.rv_ltl.specs.RuleFile.{ltl_of}
 use Rattle.rv_nnf.specs.NormalForm.{normal_of}
 use Rattle.rv_tableau.specs.Rows.{tableau_of}
-use Rattle.rv_bind.specs.Outcomes.{Outcome, accepted, refused, missing, of_file, of_name}
+use Rattle.rv_bind.specs.Outcomes.{Outcome, of_file, of_name}
 use Rattle.rv_tool.specs.declared.words.Kind.{Kind}
 use Rattle.rv_tool.specs.declared.words.Kind.TheVariants as kinds
 use Rattle.rv_tool.specs.AutomatonTexts.{automaton_text}
 use Rattle.rv_tool.specs.FormulaTexts.{nodes_text}
-use Rattle.rv_tool.specs.Output.{refusal_text, missing_text}
-use Rattle.rv_tool.specs.Headline.{Says}
 
 -- the printed table of a rule's normal form, or the first refusal
 abbrev pub rule_text : RuleValue → Result (List ℕ) Refusal
@@ -29,9 +26,3 @@ table_text kinds.Ltl bytes = and_then (ltl_of bytes) rule_text
 -- the same of a file
 abbrev pub table_in : Files → Kind → List ℕ → Outcome (List ℕ)
 table_in files kind file = of_name files file (λ bytes. of_file file (table_text kind bytes))
-
--- by what a file comes to: its text is put, or a text that says why there is none
-abbrev pub Prints : Outcome (List ℕ) → Option (List ℕ) → Option (List ℕ) → ℕ → ℕ → ℕ → List Entry → Type 0
-Prints (accepted text) old new before now status h = Says old new before now text 0 status h
-Prints (refused file refusal) old new before now status h = Says old new before now (refusal_text (Some file) refusal) 2 status h
-Prints (missing file) old new before now status h = Says old new before now (missing_text file) 3 status h

@@ -13,11 +13,16 @@ texts_of words = map string_bytes words
 pub data CommandValue : Type 0 where
   -- the bindings and the trace
   replay : List ℕ → List ℕ → CommandValue
+  feed : List ℕ → List ℕ → CommandValue
+  -- the bindings and the script
+  control : List ℕ → List ℕ → CommandValue
   -- the kind of specification, and its file
   table : Kind → List ℕ → CommandValue
 
 abbrev pub command_value : Command → CommandValue
 command_value (commands.Replay bindings trace) = replay bindings.now trace.now
+command_value (commands.Feed bindings trace) = feed bindings.now trace.now
+command_value (commands.Control bindings script) = control bindings.now script.now
 command_value (commands.Table kind file) = table kind file.now
 
 -- `da` or `ltl`
@@ -29,10 +34,12 @@ abbrev pub table_of : Option Kind → List ℕ → Option CommandValue
 table_of None file = None
 table_of (Some kind) file = Some (table kind file)
 
--- `replay BINDINGS TRACE`, or a table
+-- `replay BINDINGS TRACE`, `feed BINDINGS TRACE`, `control BINDINGS SCRIPT`, or a table
 abbrev pub command_of : List (List ℕ) → Option CommandValue
 command_of (word ∷ first ∷ second ∷ []) =
     if bytes_eq word (codes "replay") then Some (replay first second)
+    else if bytes_eq word (codes "feed") then Some (feed first second)
+    else if bytes_eq word (codes "control") then Some (control first second)
     else if bytes_eq word (codes "table") then table_of (kind_of first) second
     else None
 command_of _ = None

@@ -6,7 +6,7 @@ ghost use Rattle.rv_bind.specs.WellFormed.{HaveTables, kinds_of, IsWellFormed};
 ghost use Rattle.rv_route.specs.Routed.{routed_value};
 ghost use Rattle.rv_route.specs.Fitting.{WorksFit};
 ghost use Rattle.rv_feed.specs.Lane.{IsNewLane, works_of};
-ghost use Rattle.rv_tool.specs.Inputs.{opened, enables, opening_switches, replay_input};
+ghost use Rattle.rv_tool.specs.Inputs.{opened, enables, opening_switches, run_input};
 ghost use Rattle.rv_tool.specs.Ready.{ready_value, IsReady};
 
 use crate::trace_text::read_routed;
@@ -44,8 +44,8 @@ pub(crate) fn read_input<S: Store>(
     ensures kept { S.files store.new ≡ S.files store.old }
     ensures later { S.faults store.old ≤ S.faults store.new }
     ensures ready { IfOk result IsReady }
-    ensures value { Comes ready_value (S.files store.old) (S.faults store.old) (S.faults store.new) result (λ files. replay_input files bindings.now trace.now) }
-    ensures named { Names (S.files store.old) result (λ files. replay_input files bindings.now trace.now) }
+    ensures value { Comes ready_value (S.files store.old) (S.faults store.old) (S.faults store.new) result (λ files. run_input files bindings.now trace.now) }
+    ensures named { Names (S.files store.old) result (λ files. run_input files bindings.now trace.now) }
 {
     let bound = read_bindings(alloc, store, bindings)?;
     let routed = read_routed(alloc, store, trace, &bound)?;

@@ -4,10 +4,12 @@
 mod automaton_text;
 #[cfg(test)]
 mod failing_tests;
+mod feeding;
 mod formula_text;
 mod input;
 mod output;
 mod replaying;
+mod session;
 #[cfg(test)]
 mod table_tests;
 mod tables;

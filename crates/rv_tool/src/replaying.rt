@@ -1,6 +1,7 @@
 //! A run on one thread.
 ghost use Rattle.std.specs.Prelude.{IfOk};
-ghost use Rattle.rv_tool.specs.Headline.{IsReplayed};
+ghost use Rattle.rv_model.specs.Histories.{IsOneHistory};
+ghost use Rattle.rv_tool.specs.Headline.{IsReported};
 ghost use Rattle.rv_tool.specs.Ready.{ready_value, IsReady};
 
 use crate::input::Ready;
@@ -20,7 +21,7 @@ pub(crate) struct Done {
 /// The whole run, its scripts in the order of the trace, and its report.
 pub(crate) fn replayed(alloc: Global, ready: Ready) -> Result<Done, AllocError>
     requires { IsReady ready }
-    ensures { IfOk result (λ done. IsReplayed (ready_value ready) done.closed done.text.items done.status) }
+    ensures { IfOk result (λ done. IsReported IsOneHistory (ready_value ready) done.closed done.text.items done.status) }
 {
     let Ready {
         bindings,

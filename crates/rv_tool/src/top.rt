@@ -1,16 +1,19 @@
 //! The top call.
 ghost use Rattle.std.specs.Prelude.{◌≡◌, [], Some, None, option_copied};
 ghost use Rattle.std.specs.Result.{ForOk};
+ghost use Rattle.rv_model.specs.Histories.{IsOneHistory, IsLegal};
 ghost use Rattle.rv_tool.specs.Output.{refusal_text, missing_text};
 ghost use Rattle.rv_io.specs.Files.{Files};
-ghost use Rattle.rv_tool.specs.Headline.{Says, IsReplayed};
-ghost use Rattle.rv_tool.specs.Runs.{Ended, Fails, Runs, PrintsRead, Answers};
+ghost use Rattle.rv_tool.specs.Headline.{Says};
+ghost use Rattle.rv_tool.specs.Runs.{Ended, Fails, Runs, PrintsRead, SaysSession, Answers};
 ghost use Rattle.rv_tool.specs.Words.{command_of, texts_of};
 ghost use Rattle.rv_tool.specs.Ready.{ready_value, IsReady};
 
+use crate::feeding::fed;
 use crate::input::{Ready, read_input};
 use crate::output::{missing_line, refusal_line, tell};
 use crate::replaying::{Done, replayed};
+use crate::session::{Session, read_control};
 use crate::tables::read_table;
 use crate::words::{Command, read_words};
 use rv_bind::BindFault;
@@ -53,18 +56,28 @@ pub fn rv<R: Threads + Sync, S: Store, K: Sink, G: Gate + Send>(
     ensures kept { S.files store.new ≡ S.files store.old }
     ensures answers { (files : Files) → S.files store.old ≡ Some files → Answers (command_of (texts_of words.now)) files (S.faults store.old) (S.faults store.new) (K.taken out.old) (K.taken out.new) (K.faults out.old) (K.faults out.new) result.status result.closed }
 {
-    let _ = rt;
-    let _ = gate;
     match read_words(words) {
         Some(Command::Replay { bindings, trace }) => run(
             alloc,
             out,
             read_input(alloc, store, bindings, trace),
         ),
+        Some(Command::Feed { bindings, trace }) => run_at_once(
+            rt,
+            alloc,
+            out,
+            gate,
+            read_input(alloc, store, bindings, trace),
+        ),
         Some(Command::Table { kind, file }) => print(
             alloc,
             out,
             read_table(alloc, store, kind, file),
+        ),
+        Some(Command::Control { bindings, script }) => tell_session(
+            alloc,
+            out,
+            read_control(alloc, store, bindings, script),
         ),
         None => refused(
             alloc,
@@ -78,13 +91,30 @@ pub fn rv<R: Threads + Sync, S: Store, K: Sink, G: Gate + Send>(
     }
 }
 
-/// Runs what was read, or says why there is nothing to run.
+/// Runs what was read on one thread, or says why there is nothing to run.
 fn run<K: Sink>(alloc: Global, out: &mut K, read: Result<Ready, BindFault>) -> Finished
     requires { ForOk read IsReady }
-    ensures { Runs read (K.taken out.old) (K.taken out.new) (K.faults out.old) (K.faults out.new) result.status result.closed }
+    ensures { Runs IsOneHistory read (K.taken out.old) (K.taken out.new) (K.faults out.old) (K.faults out.new) result.status result.closed }
 {
     match read {
         Ok(ready) => end(out, replayed(alloc, ready)),
+        Err(fault) => failed(alloc, out, fault),
+    }
+}
+
+/// Runs what was read, a thread for each CPU, or says why there is nothing to run.
+fn run_at_once<R: Threads + Sync, K: Sink, G: Gate + Send>(
+    rt: &R,
+    alloc: Global,
+    out: &mut K,
+    gate: &G,
+    read: Result<Ready, BindFault>,
+) -> Finished
+    requires { ForOk read IsReady }
+    ensures { Runs IsLegal read (K.taken out.old) (K.taken out.new) (K.faults out.old) (K.faults out.new) result.status result.closed }
+{
+    match read {
+        Ok(ready) => end(out, fed(rt, alloc, gate, ready)),
         Err(fault) => failed(alloc, out, fault),
     }
 }
@@ -99,6 +129,23 @@ fn print<K: Sink>(alloc: Global, out: &mut K, read: Result<Vec<u8>, BindFault>) 
             let closed = Closed::new();
             Finished { status, closed }
         }
+        Err(fault) => failed(alloc, out, fault),
+    }
+}
+
+/// Puts the texts of a script's commands, or says why there are none.
+fn tell_session<K: Sink>(
+    alloc: Global,
+    out: &mut K,
+    read: Result<Session, BindFault>,
+) -> Finished
+    ensures { SaysSession read (K.taken out.old) (K.taken out.new) (K.faults out.old) (K.faults out.new) result.status result.closed }
+{
+    match read {
+        Ok(session) => Finished {
+            status: tell(out, session.text.as_slice(), session.status),
+            closed: Closed::new(),
+        },
         Err(fault) => failed(alloc, out, fault),
     }
 }
@@ -135,7 +182,7 @@ fn end<K: Sink>(out: &mut K, done: Result<Done, AllocError>) -> Finished
 
 /// Puts the line of a refusal.
 fn refused<K: Sink>(alloc: Global, out: &mut K, file: Option<&[u8]>, refusal: Refusal) -> Finished
-    ensures { Says (K.taken out.old) (K.taken out.new) (K.faults out.old) (K.faults out.new) (refusal_text (option_copied file.entry) refusal) 2 result.status result.closed }
+    ensures { Says (refusal_text (option_copied file.entry) refusal) 2 (K.taken out.old) (K.taken out.new) (K.faults out.old) (K.faults out.new) result.status result.closed }
 {
     match refusal_line(alloc, file, refusal) {
         Ok(text) => Finished {
@@ -148,7 +195,7 @@ fn refused<K: Sink>(alloc: Global, out: &mut K, file: Option<&[u8]>, refusal: Re
 
 /// Puts the line of a file that cannot be read.
 fn unread<K: Sink>(alloc: Global, out: &mut K, file: &[u8]) -> Finished
-    ensures { Says (K.taken out.old) (K.taken out.new) (K.faults out.old) (K.faults out.new) (missing_text file.now) 3 result.status result.closed }
+    ensures { Says (missing_text file.now) 3 (K.taken out.old) (K.taken out.new) (K.faults out.old) (K.faults out.new) result.status result.closed }
 {
     match missing_line(alloc, file) {
         Ok(text) => Finished {

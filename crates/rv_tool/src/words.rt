@@ -14,7 +14,13 @@ pub enum Kind {
 /// A command, and the files that it names.
 #[derive(Clone, Copy, Debug, Drop)]
 pub(crate) enum Command<'a> {
+    /// All scripts on one thread.
     Replay { bindings: &'a str, trace: &'a str },
+    /// All scripts at once.
+    Feed { bindings: &'a str, trace: &'a str },
+    /// A script on the control files.
+    Control { bindings: &'a str, script: &'a str },
+    /// The table of a specification.
     Table { kind: Kind, file: &'a str },
 }
 
@@ -49,6 +55,18 @@ pub(crate) fn read_words(words: &[String]) -> Option<Command<'_>>
         return Some(Command::Replay {
             bindings: words[1].as_str(),
             trace: words[2].as_str(),
+        });
+    }
+    if is(words[0].as_str(), "feed") {
+        return Some(Command::Feed {
+            bindings: words[1].as_str(),
+            trace: words[2].as_str(),
+        });
+    }
+    if is(words[0].as_str(), "control") {
+        return Some(Command::Control {
+            bindings: words[1].as_str(),
+            script: words[2].as_str(),
         });
     }
     if is(words[0].as_str(), "table") {

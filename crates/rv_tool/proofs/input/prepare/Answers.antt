@@ -7,4 +7,4 @@ pub returns-clause-ready : goal.returns-clause-ready
 returns-clause-ready c =
     let made = ready_made c.args.bound.bindings.monitors.items c.as_slice.result.now c.args.bound.tables.items c.in_ok-setup.setup c.len.result (length c.args.routed.tasks) c.args.routed.works.items c.in_ok-lanes.lanes.items
     c.requires.formed.tables c.requires.fit c.in_ok-setup.ensures c.as_slice.ensures.value c.len.ensures.length c.in_ok-lanes.ensures.0 c.in_ok-lanes.ensures.1 in
-    record { setup = made.again; reactors = c.in_ok-reactors.ensures ∙ ap (map (λ (m : Monitor). m.reactor)) c.as_slice-2.ensures.value; mean = made.mean; lanes = made.fit }
+    record { setup = made.again; reactors = c.in_ok-reactors.ensures ∙ ap (map (λ (m : Monitor). m.reactor)) c.as_slice-2.ensures.value; mean = made.mean; lanes = made.fit; ascend = made.ascend }

@@ -1,0 +1,6 @@
+-- What a script came to, as a plain value.
+use Rattle.rv_tool.specs.declared.session.Session.{Session}
+use Rattle.rv_tool.specs.Sessions.{Printed}
+
+abbrev pub session_value : Session → Printed
+session_value s = record { text = s.text.items; status = s.status }

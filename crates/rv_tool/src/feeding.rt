@@ -1,0 +1,49 @@
+//! A run on several threads.
+ghost use Rattle.std.specs.Prelude.{IfOk};
+ghost use Rattle.rv_model.specs.Histories.{IsLegal};
+ghost use Rattle.rv_tool.specs.Headline.{IsReported};
+ghost use Rattle.rv_tool.specs.Ready.{ready_value, IsReady};
+
+use crate::input::Ready;
+use crate::replaying::Done;
+use rv_feed::feed;
+use rv_io::Gate;
+use rv_report::{lanes_status, report_lanes};
+use std::alloc::{AllocError, Global};
+use std::thread::Threads;
+
+/// The whole run, a thread for each CPU, and its report.
+pub(crate) fn fed<R: Threads + Sync, G: Gate + Send>(
+    rt: &R,
+    alloc: Global,
+    gate: &G,
+    ready: Ready,
+) -> Result<Done, AllocError>
+    requires { IsReady ready }
+    ensures { IfOk result (λ done. IsReported IsLegal (ready_value ready) done.closed done.text.items done.status) }
+{
+    let Ready {
+        bindings,
+        tasks,
+        setup,
+        reactors,
+        lanes,
+    } = ready;
+    let changes = Vec::new(alloc);
+    let run = feed(
+        rt,
+        alloc,
+        setup,
+        reactors.as_slice(),
+        lanes,
+        changes,
+        gate,
+    )?;
+    let text = report_lanes(alloc, &bindings, &tasks, run.lanes.as_slice())?;
+    let status = lanes_status(run.lanes.as_slice());
+    Ok(Done {
+        status,
+        text,
+        closed: run.closed,
+    })
+}
