@@ -6,5 +6,9 @@ pub mod LineLemmas
 pub mod MoveLemmas
 pub mod PlaceLemmas
 pub mod RunLemmas
+pub mod SeekLemmas
 pub mod StampLemmas
+pub mod StreamLemmas
+pub mod TakenLemmas
 pub mod TraceLemmas
+pub mod Walks

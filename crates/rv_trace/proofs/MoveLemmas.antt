@@ -7,14 +7,10 @@ use Rattle.rv_text.specs.declared.refusals.Refusal.{Refusal}
 use Rattle.rv_trace.specs.declared.parts.Part.{Part}
 use Rattle.rv_trace.specs.declared.parts.Parts.{Parts}
 use Rattle.rv_trace.specs.declared.line.TraceLine.{TraceLine}
-use Rattle.rv_trace.specs.Lines.{is_skipped, is_lost, parts_of, pid_of, cpu_of, line_with, said, line_of, moved_span, moved}
-
--- a line whose places are counted from another place on
-abbrev moved_line : ℕ → TraceLine → TraceLine
-moved_line by line = record line { name = moved_span by line.name; fields = moved_span by line.fields }
+use Rattle.rv_trace.specs.Lines.{is_skipped, is_lost, parts_of, pid_of, cpu_of, line_with, said, line_of, moved_line, moved}
 
 -- under a choice
-moved-cond : (by : ℕ) (b : Bool) (x y : Result (Option TraceLine) Refusal) → moved by (cond b x y) ≡ cond b (moved by x) (moved by y)
+pub moved-cond : (by : ℕ) (b : Bool) (x y : Result (Option TraceLine) Refusal) → moved by (cond b x y) ≡ cond b (moved by x) (moved by y)
 moved-cond by true x y = refl
 moved-cond by false x y = refl
 

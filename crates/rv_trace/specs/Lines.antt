@@ -128,8 +128,12 @@ pub record LiesIn (text : List ℕ) (line : TraceLine) : Type 0 where
 abbrev pub moved_span : ℕ → Span → Span
 moved_span by span = record { from = by + span.from; to = by + span.to }
 
+-- a line whose places are counted from another place on
+abbrev pub moved_line : ℕ → TraceLine → TraceLine
+moved_line by line = record line { name = moved_span by line.name; fields = moved_span by line.fields }
+
 -- a reading whose places are counted from another place on
 abbrev pub moved : ℕ → Result (Option TraceLine) Refusal → Result (Option TraceLine) Refusal
 moved by (Err fault) = Err fault
 moved by (Ok None) = Ok None
-moved by (Ok (Some line)) = Ok (Some (record line { name = moved_span by line.name; fields = moved_span by line.fields }))
+moved by (Ok (Some line)) = Ok (Some (moved_line by line))

@@ -1,12 +1,16 @@
 //! What the definitions mean, said in another way.
-ghost use Rattle.std.specs.Prelude.{◌≡◌, ◌↔◌, ◌<◌, ◌≤◌, ◌++◌, length, ℕ, List, Some, None, true};
+ghost use Rattle.std.specs.Prelude.{◌≡◌, ◌↔◌, ◌<◌, ◌≤◌, ◌++◌, [], ◌∷◌, length, ℕ, List, Some, None, Ok, Err, true};
 ghost use Rattle.rv_text.specs.TextLines.{line_end, line_here};
 ghost use Rattle.rv_trace.specs.declared.head.Head.{Head};
 ghost use Rattle.rv_trace.specs.declared.parts.Part.{Part};
 ghost use Rattle.rv_trace.specs.Heads.{head_of, IsHead, EndsFirst};
 ghost use Rattle.rv_trace.specs.Stamps.{IsStamp};
 ghost use Rattle.rv_trace.specs.Lines.{is_stamp, line_of, moved};
-ghost use Rattle.rv_trace.specs.Traces.{reading_of};
+ghost use Rattle.rv_trace.specs.Traces.{reading_of, trace_of};
+ghost use Rattle.rv_trace.specs.Lines.{moved_line};
+ghost use Rattle.rv_trace.specs.declared.line.TraceLine.{TraceLine};
+ghost use Rattle.rv_trace.specs.Streams.{TakesLine, IsTaken, IsRefused};
+ghost use Rattle.rv_text.specs.declared.refusals.Refusal.{Refusal};
 
 /// A head is said by its places alone: the head of a text is the one of all its heads that ends first.
 pub fn heads_by_places()
@@ -28,4 +32,14 @@ pub fn lines_move()
 pub fn lines_stay()
     ensures { (text more : List ℕ) (number from : ℕ) → line_end text from < length text →
         reading_of (line_here (text ++ more) number from) ≡ reading_of (line_here text number from) }
+{}
+
+/// What is taken of a stream, line by line, is the trace that its text is: where the lines so far are the trace of what
+/// was passed, they are so after each call.
+pub fn takes_the_trace()
+    ensures line { (before after whole text : List ℕ) (line : TraceLine) (lines : List TraceLine) → (taken : TakesLine before after whole text line) →
+        trace_of before ≡ Ok lines → trace_of after ≡ Ok (lines ++ moved_line taken.last.from line ∷ []) }
+    ensures none { (before after whole : List ℕ) (lines : List TraceLine) → IsTaken before after whole → trace_of before ≡ Ok lines → trace_of whole ≡ Ok lines }
+    ensures refused { (before after whole : List ℕ) (refusal : Refusal) (lines : List TraceLine) → IsRefused before after whole refusal →
+        trace_of before ≡ Ok lines → trace_of whole ≡ Err refusal }
 {}

@@ -1,17 +1,21 @@
 //! The kernel's trace text, line by line.
 #![tactic(auto)]
 
+mod fed;
 mod fields;
 mod head;
 mod laws;
 mod line;
+mod lines;
 mod parts;
 mod runs;
+mod seek;
 mod trace;
 
 pub use fields::field;
-pub use laws::{heads_by_places, lines_move, lines_stay, stamps_by_places};
+pub use laws::{heads_by_places, lines_move, lines_stay, stamps_by_places, takes_the_trace};
 pub use line::{LAST_CPU, LAST_PID, Span, TraceLine, read_line};
+pub use lines::Lines;
 pub use trace::{MAX_BYTES, MAX_LINES, read_trace};
 
 #[cfg(test)]

@@ -1,8 +1,9 @@
 //! Lines of recorded traces and lines that come close to a limit. What they say was worked out apart from this code.
 use crate::fields::field;
 use crate::line::{Span, TraceLine, read_line};
+use crate::lines::Lines;
 use crate::trace::read_trace;
-use rv_text::{LOST_EVENTS, Refused, TOO_LONG, TOO_MANY_CPUS, TRACE_SYNTAX};
+use rv_text::{LOST_EVENTS, Refusal, Refused, TOO_LONG, TOO_MANY_CPUS, TRACE_SYNTAX};
 use std::alloc::{AllocError, Global};
 use std::process::Abort;
 use std::test::Fail;
@@ -289,4 +290,144 @@ fn a_field_is_found_at_the_beginning_or_behind_a_blank(rt: HostRuntime) {
     for (fields, name, want) in cases {
         assert_eq!(rt; found(&rt, fields, name), want, "at {fields}, {name}");
     }
+}
+
+/// A line of a stream: its number, its name and its fields.
+type Told<'a> = (u32, &'a str, &'a str);
+
+/// The bytes of a span, which lies in the text.
+fn piece<'a>(rt: &impl Abort, text: &'a [u8], span: Span) -> &'a [u8] {
+    let (from, to) = (span.from as usize, span.to as usize);
+    assert!(rt; from <= to && to <= text.len());
+    &text[from..to]
+}
+
+/// Takes the lines that are left. True where none was refused.
+fn takes_all(
+    rt: &impl Abort,
+    lines: &mut Lines,
+    wanted: &[Told<'_>],
+    seen: &mut usize,
+    end: Option<Refusal>,
+) -> bool {
+    for _ in 0..100 {
+        match lines.take() {
+            Ok(Some(line)) => {
+                let (number, name, fields) = *wanted.get(*seen).expect(rt, "a line more");
+                assert_eq!(rt; line.number, number);
+                assert!(rt; piece(rt, lines.text(), line.name) == name.as_bytes());
+                assert!(rt; piece(rt, lines.text(), line.fields) == fields.as_bytes());
+                *seen = seen.wrapping_add(1);
+            }
+            Ok(None) => return true,
+            Err(refusal) => {
+                assert_eq!(rt; Some(refusal), end);
+                assert_eq!(rt; lines.take(), Err(refusal));
+                return false;
+            }
+        }
+    }
+    true
+}
+
+/// Feeds the text in pieces of this size, and takes its lines.
+fn streams(
+    rt: &impl Abort,
+    alloc: Global,
+    row: (&str, &[Told<'_>], Option<Refusal>),
+    size: usize,
+) -> Result<(), Fail> {
+    let (text, wanted, end) = row;
+    let mut lines = Lines::new(alloc);
+    let mut seen = 0;
+    assert!(rt; size > 0);
+    for piece in text.as_bytes().chunks(size) {
+        assert!(rt; lines.is_ready(), "at {text}");
+        lines.feed(piece)?;
+        if !takes_all(rt, &mut lines, wanted, &mut seen, end) {
+            assert_eq!(rt; seen, wanted.len(), "at {text}");
+            return Ok(());
+        }
+    }
+    assert!(rt; lines.is_ready(), "at {text}");
+    lines.finish();
+    let whole = takes_all(rt, &mut lines, wanted, &mut seen, end);
+    assert_eq!(rt; whole, end.is_none(), "at {text}");
+    assert_eq!(rt; seen, wanted.len(), "at {text}");
+    Ok(())
+}
+
+#[test]
+fn a_stream_gives_the_lines_of_its_text_however_it_is_cut(rt: HostRuntime) -> Result<(), Fail> {
+    let cases: [(&str, &[Told<'_>], Option<Refusal>); 9] = [
+        ("", &[], None),
+        ("# tracer: nop\n\n \t\n", &[], None),
+        (
+            "t-1 [000] 1.5: tick: a=1\nt-2 [001] 1.6: tock:\n",
+            &[(1, "tick", " a=1"), (2, "tock", "")],
+            None,
+        ),
+        (
+            "#\n\n          <idle>-0       [002] d..2.    10.86: sched_switch: next_pid=15\n#\nt-1 [000] 1.5: tick: a=1",
+            &[(3, "sched_switch", " next_pid=15"), (5, "tick", " a=1")],
+            None,
+        ),
+        ("t-1 [000] 1.5: tick:\n#", &[(1, "tick", "")], None),
+        (
+            "#\nt-1 [000] 1.5: tick:\ncpus=4\nt-1 [000] 1.5: tock:\n",
+            &[(2, "tick", "")],
+            Some(Refusal::at(TRACE_SYNTAX, 3)),
+        ),
+        (
+            "t-1 [000] 1.5: tick:\n\nCPU:0 [LOST 3 EVENTS]",
+            &[(1, "tick", "")],
+            Some(Refusal::at(LOST_EVENTS, 3)),
+        ),
+        (
+            "t-1 [063] 1.5: tick:\nt-1 [064] 1.5: tick:",
+            &[(1, "tick", "")],
+            Some(Refusal::at(TOO_MANY_CPUS, 2)),
+        ),
+        ("t-1 [000] 1.5:", &[], Some(Refusal::at(TRACE_SYNTAX, 1))),
+    ];
+    for row in cases {
+        for size in [1, 2, 7, 30, 1000] {
+            streams(&rt, rt.alloc(), row, size)?;
+        }
+    }
+    Ok(())
+}
+
+#[test]
+fn a_line_is_given_once_its_end_was_fed(rt: HostRuntime) -> Result<(), Fail> {
+    let mut lines = Lines::new(rt.alloc());
+    assert!(rt; lines.is_ready());
+    lines.feed(b"t-1 [000] 1.5: tick: a=1")?;
+    assert_eq!(rt; lines.take(), Ok(None));
+    assert!(rt; lines.is_ready());
+    lines.feed(b"\nt-1")?;
+    assert!(rt; !lines.is_ready());
+    let line = lines.take().ok().flatten().ok_or("no line")?;
+    assert_eq!(rt; line.name, Span { from: 15, to: 19 });
+    assert!(rt; lines.text() == b"t-1 [000] 1.5: tick: a=1".as_slice());
+    assert_eq!(rt; lines.take(), Ok(None));
+    Ok(())
+}
+
+#[test]
+fn a_stream_has_a_million_lines_and_no_more(rt: HostRuntime) -> Result<(), Fail> {
+    let piece = filled(rt.alloc(), b'\n', 500_000)?;
+    let mut lines = Lines::new(rt.alloc());
+    for _ in 0..2 {
+        assert!(rt; lines.is_ready());
+        lines.feed(&piece)?;
+        assert_eq!(rt; lines.take(), Ok(None));
+    }
+    assert!(rt; lines.is_ready());
+    lines.feed(b"t")?;
+    assert_eq!(rt; lines.take(), Ok(None));
+    assert!(rt; lines.is_ready());
+    lines.finish();
+    assert_eq!(rt; lines.take(), Err(Refusal::at(TOO_LONG, 1_000_001)));
+    Ok(())
 }

@@ -17,7 +17,7 @@ pub const MAX_BYTES: usize = 134_217_728;
 
 /// Reads one line of a trace.
 #[tactic(auto, unfolding(crate::specs::Traces::reading_of))]
-fn reading_of(line: TextLine) -> Result<Option<TraceLine>, Refusal>
+pub(crate) fn reading_of(line: TextLine) -> Result<Option<TraceLine>, Refusal>
     requires { line.from + length line.bytes.now ≤ line.end }
     ensures { result ≡ reading_of (line_text line.entry) }
 {

@@ -1,0 +1,170 @@
+//! Looks for the next line in the bytes that are held of a stream.
+ghost use Rattle.std.specs.Prelude.{◌≡◌, ◌≤◌, ◌+◌, ◌||◌, ℕ, List, length, take, min, nat_lt, IfSome, IfNone};
+ghost use Rattle.rv_text.specs.Places.{between};
+ghost use Rattle.rv_text.specs.TextLines.{line_end, next_number};
+ghost use Rattle.rv_trace.specs.Held.{EndsAt, IsOpen, IsPieceOf, LooksAt};
+ghost use Rattle.rv_trace.specs.Streams.{Answers, IsPassed, part_read};
+ghost use Rattle.rv_trace.specs.Traces.{reading_of};
+
+use crate::line::TraceLine;
+use crate::trace::{MAX_BYTES, reading_of};
+use memchr::memchr;
+use rv_text::{Refusal, TextLine};
+
+/// Where the next line is looked for.
+#[derive(Clone, Copy, Debug, Drop, PartialEq, Eq)]
+pub struct At {
+    /// Where it begins.
+    pub from: usize,
+    /// Up to here no line end stands in it.
+    pub searched: usize,
+    /// Its number.
+    pub number: u32,
+}
+
+/// What was found, and where to look on.
+#[derive(Clone, Copy, Debug, Drop, PartialEq, Eq)]
+pub struct Sought {
+    pub at: At,
+    /// Where the line stands that was found.
+    pub from: usize,
+    pub to: usize,
+    pub read: Result<Option<TraceLine>, Refusal>,
+}
+
+/// The first line end from a place on, or the end.
+fn line_end(held: &[u8], from: usize) -> usize
+    requires { from ≤ length held.now }
+    ensures value { result ≡ line_end held.now from }
+    ensures low { from ≤ result }
+    ensures high { result ≤ length held.now }
+{
+    match memchr(b'\n', &held[from..]) {
+        Some(offset) => from + offset,
+        None => held.len(),
+    }
+}
+
+/// Where the line ends that begins here: at its line end, or at the end where nothing can follow.
+fn line_to(held: &[u8], at: At, whole: bool) -> Option<usize>
+    requires { LooksAt held.now at.from at.searched }
+    ensures some { IfSome result (EndsAt held.now at.from whole) }
+    ensures none { IfNone result (IsOpen held.now at.from whole) }
+{
+    let to = line_end(held, at.searched);
+    if to < held.len() {
+        return Some(to);
+    }
+    if whole && at.from < to {
+        return Some(to);
+    }
+    None
+}
+
+/// Whether nothing that follows can change what is read.
+fn is_whole(ended: bool, length: usize) -> bool
+    ensures { result ≡ (ended || nat_lt MAX_BYTES length) }
+{
+    ended || length > MAX_BYTES
+}
+
+/// The place behind the line end that stands here, if one does.
+fn behind(held: &[u8], to: usize) -> usize
+    requires { to ≤ length held.now }
+    ensures value { result ≡ min (to + 1) (length held.now) }
+{
+    if to < held.len() { to + 1 } else { to }
+}
+
+/// The next line's number.
+fn next_number(number: u32) -> u32
+    ensures { result ≡ next_number number }
+{
+    if number < u32::MAX {
+        number + 1
+    } else {
+        number
+    }
+}
+
+/// Reads a line, whose spans are counted from its own first byte, and which ends here in the stream.
+fn read_at(
+    held: &[u8],
+    from: usize,
+    to: usize,
+    number: u32,
+    end: usize,
+) -> Result<Option<TraceLine>, Refusal>
+    requires order { from ≤ to }
+    requires within { to ≤ length held.now }
+    requires ended { to ≤ end }
+    ensures { result ≡ reading_of (record { number = number; from = 0; bytes = between held.now from to; end = end }) }
+{
+    reading_of(TextLine {
+        number,
+        from: 0,
+        bytes: &held[from..to],
+        end,
+    })
+}
+
+/// The next line that is not skipped.
+pub fn seek(held: &[u8], passed: usize, start: At, ended: bool) -> Sought
+    requires looks { LooksAt held.now start.from start.searched }
+    requires fits { passed + start.from ≤ MAX_BYTES }
+    ensures looks { LooksAt held.now result.at.from result.at.searched }
+    ensures fits { passed + result.at.from ≤ MAX_BYTES }
+    ensures order { result.from ≤ result.to }
+    ensures within { result.to ≤ length held.now }
+    ensures found { (fed : List ℕ) → IsPieceOf fed held.now passed → IsPassed fed ended (passed + start.from) start.number →
+        Answers (take (passed + start.from) fed) (take (passed + result.at.from) fed) (part_read ended fed) (between held.now result.from result.to) result.read }
+    ensures passes { (fed : List ℕ) → IsPieceOf fed held.now passed → IsPassed fed ended (passed + start.from) start.number →
+        IsPassed fed ended (passed + result.at.from) result.at.number }
+{
+    let whole = is_whole(ended, passed + held.len());
+    let mut at = start;
+    while let Some(to) = line_to(held, at, whole) {
+        let end = behind(held, to);
+        let read = read_at(held, at.from, to, at.number, passed + end);
+        let next = At {
+            from: end,
+            searched: end,
+            number: next_number(at.number),
+        };
+        match read {
+            Ok(found) => match found {
+                None => at = next,
+                Some(_) => {
+                    return Sought {
+                        at: next,
+                        from: at.from,
+                        to,
+                        read,
+                    };
+                }
+            },
+            Err(_) => {
+                return Sought {
+                    at: At {
+                        from: at.from,
+                        searched: at.searched,
+                        number: at.number,
+                    },
+                    from: 0,
+                    to: 0,
+                    read,
+                };
+            }
+        }
+    }
+    Sought {
+        at: At {
+            from: at.from,
+            searched: held.len(),
+            number: at.number,
+        },
+        from: 0,
+        to: 0,
+        read: Ok(None),
+    }
+}
