@@ -25,7 +25,7 @@ written-back count new old many = ap (λ (n : ℕ). take n (new ++ drop (length 
 
 module _ (Is : Histories) (i : InputValue) (setup : Setup) (reactors : List Reactor) (lanes : List LaneValue) (setup_is : setup ≡ setup_of i.bound (length i.routed.tasks))
     (reactors_are : reactors ≡ map (λ (m : Monitor). m.reactor) i.bound.monitors) (works_are : works_of lanes ≡ i.routed.works) where
-  specs : List Spec
+  abbrev pub specs : List Spec
   specs = map (λ (m : Monitor). m.spec) i.bound.monitors
 
   input_is : input_of setup specs (panics_of reactors) lanes ≡ run_of i

@@ -5,13 +5,15 @@ use Rattle.rv_tool.specs.declared.words.Command.{Command}
 use Rattle.rv_tool.specs.declared.words.Command.TheVariants as commands
 use Rattle.rv_tool.specs.declared.words.Kind.{Kind}
 use Rattle.rv_tool.specs.declared.words.Kind.TheVariants.{Da, Ltl}
+use Rattle.rv_tool.specs.declared.words.Verb.{Verb}
+use Rattle.rv_tool.specs.declared.words.Verb.TheVariants as verbs
 
 -- the words as texts
 abbrev pub texts_of : List (String Global) → List (List ℕ)
 texts_of words = map string_bytes words
 
 pub data CommandValue : Type 0 where
-  -- the bindings and the trace
+  -- the bindings and the trace, for one thread or several
   replay : List ℕ → List ℕ → CommandValue
   feed : List ℕ → List ℕ → CommandValue
   -- the bindings and the script
@@ -34,12 +36,24 @@ abbrev pub table_of : Option Kind → List ℕ → Option CommandValue
 table_of None file = None
 table_of (Some kind) file = Some (table kind file)
 
+-- what the first word asks for
+abbrev pub verb_of : List ℕ → Option Verb
+verb_of word =
+    if bytes_eq word (codes "replay") then Some verbs.Replay
+    else if bytes_eq word (codes "feed") then Some verbs.Feed
+    else if bytes_eq word (codes "control") then Some verbs.Control
+    else if bytes_eq word (codes "table") then Some verbs.Table
+    else None
+
+-- with two further words
+abbrev pub command_with : Option Verb → List ℕ → List ℕ → Option CommandValue
+command_with None first second = None
+command_with (Some verbs.Replay) first second = Some (replay first second)
+command_with (Some verbs.Feed) first second = Some (feed first second)
+command_with (Some verbs.Control) first second = Some (control first second)
+command_with (Some verbs.Table) first second = table_of (kind_of first) second
+
 -- `replay BINDINGS TRACE`, `feed BINDINGS TRACE`, `control BINDINGS SCRIPT`, or a table
 abbrev pub command_of : List (List ℕ) → Option CommandValue
-command_of (word ∷ first ∷ second ∷ []) =
-    if bytes_eq word (codes "replay") then Some (replay first second)
-    else if bytes_eq word (codes "feed") then Some (feed first second)
-    else if bytes_eq word (codes "control") then Some (control first second)
-    else if bytes_eq word (codes "table") then table_of (kind_of first) second
-    else None
+command_of (word ∷ first ∷ second ∷ []) = command_with (verb_of word) first second
 command_of _ = None

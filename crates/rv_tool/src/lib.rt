@@ -5,6 +5,8 @@ mod automaton_text;
 #[cfg(test)]
 mod failing_tests;
 mod feeding;
+#[cfg(test)]
+mod feeding_tests;
 mod formula_text;
 mod input;
 mod output;

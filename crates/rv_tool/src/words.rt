@@ -1,6 +1,6 @@
 //! What the words of the command line ask for.
-ghost use Rattle.rv_tool.specs.Words.{command_of, command_value, kind_of, texts_of};
-ghost use Rattle.std.specs.Prelude.{◌≡◌, option_map, bytes_eq};
+ghost use Rattle.rv_tool.specs.Words.{verb_of, command_with, command_of, command_value, kind_of, texts_of};
+ghost use Rattle.std.specs.Prelude.{◌≡◌, Some, option_map, bytes_eq};
 
 /// The kinds of specifications.
 #[derive(Clone, Copy, Debug, Drop, PartialEq, Eq)]
@@ -11,16 +11,25 @@ pub enum Kind {
     Ltl,
 }
 
+/// What the first word asks for.
+#[derive(Clone, Copy, Debug, Drop, PartialEq, Eq)]
+pub enum Verb {
+    /// All scripts on one thread.
+    Replay,
+    /// All scripts at once.
+    Feed,
+    /// A script on the control files.
+    Control,
+    /// The table of a specification.
+    Table,
+}
+
 /// A command, and the files that it names.
 #[derive(Clone, Copy, Debug, Drop)]
 pub(crate) enum Command<'a> {
-    /// All scripts on one thread.
     Replay { bindings: &'a str, trace: &'a str },
-    /// All scripts at once.
     Feed { bindings: &'a str, trace: &'a str },
-    /// A script on the control files.
     Control { bindings: &'a str, script: &'a str },
-    /// The table of a specification.
     Table { kind: Kind, file: &'a str },
 }
 
@@ -44,6 +53,47 @@ fn kind_of(word: &str) -> Option<Kind>
     }
 }
 
+/// What the first word asks for, if it asks for something.
+fn verb_of(word: &str) -> Option<Verb>
+    ensures { result ≡ verb_of word.now }
+{
+    if is(word, "replay") {
+        Some(Verb::Replay)
+    } else if is(word, "feed") {
+        Some(Verb::Feed)
+    } else if is(word, "control") {
+        Some(Verb::Control)
+    } else if is(word, "table") {
+        Some(Verb::Table)
+    } else {
+        None
+    }
+}
+
+/// The command of two further words, if they make one.
+fn command_with<'a>(verb: Verb, first: &'a str, second: &'a str) -> Option<Command<'a>>
+    ensures { option_map command_value result ≡ command_with (Some verb) first.now second.now }
+{
+    match verb {
+        Verb::Replay => Some(Command::Replay {
+            bindings: first,
+            trace: second,
+        }),
+        Verb::Feed => Some(Command::Feed {
+            bindings: first,
+            trace: second,
+        }),
+        Verb::Control => Some(Command::Control {
+            bindings: first,
+            script: second,
+        }),
+        Verb::Table => match kind_of(first) {
+            Some(kind) => Some(Command::Table { kind, file: second }),
+            None => None,
+        },
+    }
+}
+
 /// The command that the words are, if they are one.
 pub(crate) fn read_words(words: &[String]) -> Option<Command<'_>>
     ensures { option_map command_value result ≡ command_of (texts_of words.now) }
@@ -51,32 +101,8 @@ pub(crate) fn read_words(words: &[String]) -> Option<Command<'_>>
     if words.len() != 3 {
         return None;
     }
-    if is(words[0].as_str(), "replay") {
-        return Some(Command::Replay {
-            bindings: words[1].as_str(),
-            trace: words[2].as_str(),
-        });
+    match verb_of(words[0].as_str()) {
+        Some(verb) => command_with(verb, words[1].as_str(), words[2].as_str()),
+        None => None,
     }
-    if is(words[0].as_str(), "feed") {
-        return Some(Command::Feed {
-            bindings: words[1].as_str(),
-            trace: words[2].as_str(),
-        });
-    }
-    if is(words[0].as_str(), "control") {
-        return Some(Command::Control {
-            bindings: words[1].as_str(),
-            script: words[2].as_str(),
-        });
-    }
-    if is(words[0].as_str(), "table") {
-        return match kind_of(words[1].as_str()) {
-            Some(kind) => Some(Command::Table {
-                kind,
-                file: words[2].as_str(),
-            }),
-            None => None,
-        };
-    }
-    None
 }

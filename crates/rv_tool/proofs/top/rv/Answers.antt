@@ -22,7 +22,7 @@ pub returns-in-Some-Feed-clause-answers : goal.returns-in-Some-Feed-clause-answe
 returns-in-Some-Feed-clause-answers g c =
     words_answer _ _ _ _ _ _ _ _ (g.S.Store.files c.args.store.now) _ _ (sym (ap (λ v. Some (command_value v)) c.in-Some-Feed.field-0-is) ∙ c.in-Some-Feed.ensures)
     (read_answers _ _ _ _ _ _ ready_value (Reports IsLegal) (λ files. run_input files _ _) (no_report _ _ _ _ _ _ IsLegal) (g.S.Store.files c.args.store.now) _ _
-    c.read_input-in-Feed.result c.read_input-in-Feed.ensures.value c.read_input-in-Feed.ensures.named c.run_at_once.ensures)
+    c.read_input-in-Some-Feed.result c.read_input-in-Some-Feed.ensures.value c.read_input-in-Some-Feed.ensures.named c.run_at_once.ensures)
 
 pub returns-in-Some-Control-clause-answers : goal.returns-in-Some-Control-clause-answers
 returns-in-Some-Control-clause-answers g c =

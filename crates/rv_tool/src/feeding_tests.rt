@@ -1,0 +1,204 @@
+//! What no clause says of scripts at once: that they run at once, and on one board. Gates hold the CPUs in turn.
+use crate::rv;
+use crate::tests::WIP;
+use rv_io::{Gate, MemSink, MemStore};
+use std::sync::atomic::{AtomicU64, Ordering};
+use std::test::Fail;
+
+/// How the two CPUs are held.
+#[derive(Clone, Copy, Drop)]
+enum Plan {
+    /// Each waits before its first turn until the other has come.
+    Meet,
+    /// CPU 1 waits before its turn until CPU 0 has come to its fifth delivery.
+    HaltFirst,
+    /// CPU 0 loses each of its three tries to a turn of CPU 1.
+    Race,
+}
+
+/// How far the CPUs have come.
+struct Marks {
+    /// How many turns CPU 0 has come to.
+    first: AtomicU64,
+    /// How many turns CPU 1 has come to.
+    second: AtomicU64,
+    /// How many tries CPU 0 has come to.
+    tries: AtomicU64,
+    /// How often a CPU gave up.
+    late: AtomicU64,
+}
+
+/// A gate that follows a plan.
+#[derive(Drop)]
+struct Held<'a> {
+    plan: Plan,
+    marks: &'a Marks,
+}
+
+impl Held<'_> {
+    /// Waits until the mark is reached.
+    fn wait(&self, mark: &AtomicU64, least: u64) {
+        for _ in 0..1_000_000_000 {
+            if mark.load(Ordering::SeqCst) >= least {
+                return;
+            }
+        }
+        self.marks.late.fetch_add(1, Ordering::SeqCst);
+    }
+
+    /// CPU 0 before a turn.
+    fn pass_first(&self, turn: u64) {
+        self.marks
+            .first
+            .store(turn.wrapping_add(1), Ordering::SeqCst);
+        match self.plan {
+            Plan::Race if turn == 0 => self.wait(&self.marks.second, 2),
+            Plan::Meet | Plan::HaltFirst if turn == 0 => self.wait(&self.marks.second, 1),
+            _ => (),
+        }
+    }
+
+    /// CPU 1 before a turn.
+    fn pass_second(&self, turn: u64) {
+        self.marks
+            .second
+            .store(turn.wrapping_add(1), Ordering::SeqCst);
+        match self.plan {
+            Plan::Meet if turn == 0 => self.wait(&self.marks.first, 1),
+            Plan::HaltFirst => self.wait(&self.marks.tries, 5),
+            Plan::Race if turn >= 1 && turn <= 3 => self.wait(&self.marks.tries, turn),
+            _ => (),
+        }
+    }
+}
+
+impl Gate for Held<'_> {
+    fn for_cpu(&self, _cpu: u32) -> Self {
+        Held {
+            plan: self.plan,
+            marks: self.marks,
+        }
+    }
+
+    fn pass(&mut self, cpu: u32, turn: u64) {
+        if cpu == 0 {
+            self.pass_first(turn);
+        } else {
+            self.pass_second(turn);
+        }
+    }
+
+    fn between(&mut self, cpu: u32, lost: u32) {
+        if cpu == 0 {
+            self.marks.tries.fetch_add(1, Ordering::SeqCst);
+            if let Plan::Race = self.plan {
+                self.wait(&self.marks.second, (lost as u64).wrapping_add(3));
+            }
+        }
+    }
+}
+
+/// One instance for all CPUs, which print nothing.
+const GLOBAL: &str = "monitor wip global da wip.dot
+on wip preempt_disable : event preempt_disable
+on wip preempt_enable : start preempt_enable
+on wip sched_waking : event sched_waking
+";
+
+/// An instance for each CPU, the first failure of which halts all.
+const HALTING: &str = "monitor wip cpu da wip.dot
+on wip preempt_disable : event preempt_disable
+on wip preempt_enable : start preempt_enable
+on wip sched_waking : event sched_waking
+react wip panic
+";
+
+/// A start on each CPU.
+const STARTS: &str = "t-1 [000] 1.000001: preempt_enable:
+t-1 [001] 1.000002: preempt_enable:
+";
+
+/// A waking outside of a section on CPU 0, and then a start on CPU 1.
+const FAILURE: &str = "t-1 [000] 1.000001: preempt_enable:
+t-1 [000] 1.000002: preempt_disable:
+t-1 [000] 1.000003: sched_waking:
+t-1 [000] 1.000004: preempt_enable:
+t-1 [000] 1.000005: sched_waking:
+t-1 [001] 1.000006: preempt_enable:
+";
+
+/// Five turns of CPU 1, and one of CPU 0.
+const RACE: &str = "t-1 [001] 1.000001: preempt_enable:
+t-1 [001] 1.000002: preempt_disable:
+t-1 [001] 1.000003: preempt_enable:
+t-1 [001] 1.000004: preempt_disable:
+t-1 [001] 1.000005: sched_waking:
+t-1 [000] 1.000006: preempt_disable:
+";
+
+/// Feeds the trace, and gives the status and the text.
+fn fed(
+    rt: &HostRuntime,
+    plan: Plan,
+    bindings: &str,
+    trace: &str,
+) -> Result<(u8, String), Fail> {
+    let mut words = Vec::new(rt.alloc());
+    for word in ["feed", "wip.rv", "wip.txt"] {
+        words.push(String::from_str(rt.alloc(), word)?)?;
+    }
+    let mut store = MemStore::new(rt.alloc());
+    store.add("wip.rv", bindings.as_bytes())?;
+    store.add("wip.dot", WIP.as_bytes())?;
+    store.add("wip.txt", trace.as_bytes())?;
+    let mut out = MemSink::new(rt.alloc(), 64, 1024)?;
+    let marks = Marks {
+        first: AtomicU64::new(0),
+        second: AtomicU64::new(0),
+        tries: AtomicU64::new(0),
+        late: AtomicU64::new(0),
+    };
+    let gate = Held {
+        plan,
+        marks: &marks,
+    };
+    let finished = rv(rt, rt.alloc(), words.as_slice(), &mut store, &mut out, &gate);
+    assert_eq!(rt; marks.late.load(Ordering::SeqCst), 0, "a CPU gave up");
+    let text = String::from_str(rt.alloc(), std::str::from_utf8(out.taken())?)?;
+    Ok((finished.status, text))
+}
+
+#[test]
+fn two_cpus_wait_for_each_other(rt: HostRuntime) -> Result<(), Fail> {
+    let (status, text) = fed(&rt, Plan::Meet, GLOBAL, STARTS)?;
+    assert_eq!(rt; status, 1);
+    assert_eq!(rt; text.as_str(), "wip: instances 1, deliveries 2, failures 1, stopped 0\n");
+    Ok(())
+}
+
+#[test]
+fn a_panic_cuts_another_cpu_off_or_comes_behind_it(rt: HostRuntime) -> Result<(), Fail> {
+    let (status, text) = fed(&rt, Plan::HaltFirst, HALTING, FAILURE)?;
+    let line =
+        "rv: panic: monitor wip[cpu 0] does not allow event sched_waking on state preemptive (line 5)\n";
+    let (head, tail) = match text.as_str().split_once('\n') {
+        Some((head, tail)) => (head, tail),
+        None => ("", ""),
+    };
+    assert_eq!(rt; status, 1);
+    assert_eq!(rt; head, line.trim_end());
+    assert!(rt;
+        tail == "wip: instances 1, deliveries 5, failures 1, stopped 0\n"
+            || tail == "wip: instances 2, deliveries 6, failures 1, stopped 0\n",
+        "{tail}"
+    );
+    Ok(())
+}
+
+#[test]
+fn three_lost_tries_stop_an_instance(rt: HostRuntime) -> Result<(), Fail> {
+    let (status, text) = fed(&rt, Plan::Race, GLOBAL, RACE)?;
+    assert_eq!(rt; status, 6);
+    assert_eq!(rt; text.as_str(), "wip: instances 1, deliveries 6, failures 0, stopped 1\n");
+    Ok(())
+}
