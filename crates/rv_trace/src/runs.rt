@@ -154,6 +154,27 @@ fn wide_end(kind: Kind, text: &[u8], from: usize) -> usize
     run_end(kind, text, place)
 }
 
+/// The first blank from a place on, from which less than a load is left, or the end.
+#[inline(always)]
+fn last_word_end(text: &[u8], place: usize) -> usize
+    requires low { place ≤ length text.now }
+    requires high { length text.now < place + LANES }
+    ensures value { result ≡ run_end kinds.Word text.now place }
+    ensures low { place ≤ result }
+    ensures high { result ≤ length text.now }
+{
+    if text.len() < LANES {
+        return run_end(Kind::Word, text, place);
+    }
+    let start = text.len() - LANES;
+    let bits = blank_bits(text, start) >> (place - start);
+    if bits == 0 {
+        text.len()
+    } else {
+        place + lowest(bits)
+    }
+}
+
 /// The first blank from `from` on, or the end.
 #[inline(always)]
 pub(crate) fn word_end(text: &[u8], from: usize) -> usize
@@ -162,7 +183,15 @@ pub(crate) fn word_end(text: &[u8], from: usize) -> usize
     ensures low { from ≤ result }
     ensures high { result ≤ length text.now }
 {
-    wide_end(Kind::Word, text, from)
+    let mut place = from;
+    while text.len() - place >= LANES {
+        let run = word_in(text, place);
+        place += run;
+        if run < LANES {
+            return place;
+        }
+    }
+    last_word_end(text, place)
 }
 
 /// The first byte from `from` on that is no digit, or the end.
