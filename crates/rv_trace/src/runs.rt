@@ -155,7 +155,7 @@ fn wide_end(kind: Kind, text: &[u8], from: usize) -> usize
 }
 
 /// The first blank from a place on, from which less than a load is left, or the end.
-#[inline(always)]
+#[inline(never)]
 fn last_word_end(text: &[u8], place: usize) -> usize
     requires low { place ≤ length text.now }
     requires high { length text.now < place + LANES }
