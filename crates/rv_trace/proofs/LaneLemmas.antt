@@ -1,12 +1,13 @@
 -- From the mask of a load to the run of bytes that pass a test.
-use Rattle.std.proofs.Common.{◌≡◌, ℕ, ◌+◌, ◌-◌, ◌%◌, ◌^◌, ◌<◌, ◌≤◌, Bool, true, false, not, List, [], ◌∷◌, map, length, get_or, replicate, Fits, w8, refl, sym, ap, ap₂, ◌∙◌, subst, arith, inl, inr}
+use Rattle.std.proofs.Common.{◌≡◌, ℕ, ◌+◌, ◌-◌, ◌%◌, ◌^◌, ◌<◌, ◌≤◌, Bool, true, false, not, cond, List, [], ◌∷◌, map, length, get_or, replicate, Fits, w8, refl, sym, ap, ap₂, ◌∙◌, subst, arith, inl, inr}
 use Rattle.std.proofs.lemmas.Bool.{agree_below, agree_below_at, not-true, not-false, cases_eq, eq-eqb, ne_eqb, cond-true, cond-false}
-use Rattle.std.proofs.lemmas.Simd.{map-map, zip2-map, splat_is_map, mask_l-mod, length-chunk, get_or-chunk, leading_from_mask_l, trailing_mask_l}
-use Rattle.std.proofs.lemmas.List.{length-map}
+use Rattle.std.proofs.lemmas.Simd.{map-map, zip2-map, splat_is_map, mask_l-mod, length-chunk, get_or-chunk, bit_mask_l, leading_from_mask_l, trailing_mask_l}
+use Rattle.std.proofs.lemmas.List.{length-map, get_or-map, get_or_past}
+use Rattle.std.specs.Int.{bit_at}
 use Rattle.std.proofs.lemmas.List.Sums.{prefix_len-le-length, prefix_len_passes, prefix_len_stops}
 use Rattle.std.specs.List.{prefix_len}
 use lib.Lanes.{chunk, zip2, mask_l, top}
-use Rattle.rv_trace.specs.Runs.{IsRunIn, first_set}
+use Rattle.rv_trace.specs.Runs.{IsMask, IsRunIn, first_set}
 
 -- an operation on two vectors that were computed lane by lane from v
 pub joined : (h : ℕ → ℕ → ℕ) (f g : ℕ → ℕ) (v : List ℕ) {a b : List ℕ} → a ≡ map f v → b ≡ map g v → zip2 h a b ≡ map (λ x. h (f x) (g x)) v
@@ -61,4 +62,28 @@ module _ (q : ℕ → Bool) (text : List ℕ) (from n run : ℕ) (z : List ℕ) 
         let at = ap (λ j. get_or (chunk from n text) j 0) (sym counted) ∙ get_or-chunk from n text run 0 short in
         let set = subst (λ x. stops x ≡ true) at (not-false _ (prefix_len_stops (λ x. not (stops x)) (chunk from n text) 0 (omega (arith, counted, long)))) in
         not-true _ (sym (agree_below_at stops (λ x. not (q x)) 256 (get_or text (from + run) 0) all (fits (from + run)).fits) ∙ set);
+  }
+
+-- a lane is set just where the test q passes
+module _ (q : ℕ → Bool) (text : List ℕ) (from n : ℕ) (z : List ℕ) (room : from + n ≤ length text) (few : n ≤ 64)
+    (fits : (k : ℕ) → Fits w8 (get_or text k 0))
+    (f : ℕ → ℕ) (lanes : z ≡ map f (chunk from n text)) (all : agree_below (λ x. top 7 (f x)) q 256 ≡ true) where
+  bit : (k : ℕ) → bit_at (mask_l (map (top 7) z) % 2 ^ 64) k ≡ cond (get_or (map (λ x. top 7 (f x)) (chunk from n text)) k false) 1 0
+  bit k =
+      let v = chunk from n text in
+      ap (λ m. bit_at m k)
+      (ap (λ l. mask_l l % 2 ^ 64) (ap (map (top 7)) lanes ∙ map-map (top 7) f v) ∙ mask_l-mod (map (λ x. top 7 (f x)) v) 64 (omega (arith, length-map v (λ x. top 7 (f x)), length-chunk from n text room)))
+      ∙ bit_mask_l (map (λ x. top 7 (f x)) v) k
+
+  pub mask_in : IsMask q text from n (mask_l (map (top 7) z) % 2 ^ 64)
+  mask_in = record {
+    bits = λ k low.
+        let v = chunk from n text in
+        bit k ∙ ap (λ b. cond b 1 0)
+        (get_or-map (λ x. top 7 (f x)) v k 0 false (omega (arith, length-chunk from n text room))
+        ∙ ap (λ x. top 7 (f x)) (get_or-chunk from n text k 0 low)
+        ∙ agree_below_at (λ x. top 7 (f x)) q 256 (get_or text (from + k) 0) all (fits (from + k)).fits);
+    within = λ k past.
+        let v = chunk from n text in
+        bit k ∙ ap (λ b. cond b 1 0) (get_or_past (map (λ x. top 7 (f x)) v) k false (omega (arith, length-map v (λ x. top 7 (f x)), length-chunk from n text room)));
   }

@@ -1,3 +1,4 @@
+pub mod BitLemmas
 pub mod FieldLemmas
 pub mod HeadLemmas
 pub mod LaneLemmas

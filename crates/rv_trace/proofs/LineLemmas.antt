@@ -6,12 +6,13 @@ use Rattle.rv_text.specs.Decimal.{number_of}
 use Rattle.rv_text.specs.Readings.{and_then}
 use Rattle.rv_text.specs.declared.numbers.TheConstants.{TRACE_SYNTAX, TOO_MANY_CPUS}
 use Rattle.rv_text.specs.declared.refusals.Refusal.{Refusal}
+use Rattle.rv_trace.specs.declared.line.TheConstants.{LAST_PID}
 use Rattle.rv_trace.specs.declared.line.TraceLine.{TraceLine}
 use Rattle.rv_trace.specs.declared.parts.Parts.{Parts}
 use Rattle.rv_trace.specs.Runs.{CountsAs}
 use Rattle.rv_trace.specs.Lines.{number_up_to, pid_of, cpu_of, line_with, said}
 
-module _ (digits : List ℕ) (n limit : ℕ) (is : CountsAs n (number_of digits)) (small : limit ≤ 4294967295) where
+module _ (digits : List ℕ) (n limit : ℕ) (is : CountsAs n (number_of digits)) (small : limit ≤ LAST_PID) where
   -- a number up to the limit is the number
   pub up_to-within : n ≤ limit → Some n ≡ number_up_to digits limit
   unfolding number_up_to

@@ -1,8 +1,13 @@
 -- A run goes on from any of its places.
-use Rattle.std.proofs.Common.{◌≡◌, ℕ, ◌+◌, ◌-◌, ◌*◌, ◌<◌, ◌≤◌, inl, inr, true, false, List, length, get_or, take, drop, sym, ◌∙◌, ap, subst, arith, take-take}
+use Rattle.std.proofs.Common.{◌≡◌, ℕ, ◌+◌, ◌-◌, ◌*◌, ◌<◌, ◌≤◌, inl, inr, true, false, not, cond, ◌/◌, ◌%◌, ◌^◌, List, length, get_or, take, drop, sym, ◌∙◌, ap, subst, arith, take-take}
 use Rattle.std.proofs.lemmas.Bool.{cases_lt, false≢true, and_parts, leb-true}
 use Rattle.std.proofs.lemmas.List.{get_or_past, get_or-drop, length-drop}
-use Rattle.rv_text.specs.Places.{is_digit, is_of, run_end, between}
+use Rattle.std.specs.Int.{bit_at}
+use Rattle.std.proofs.lemmas.Nat.{shr-shr}
+use Rattle.std.proofs.lemmas.Nat.Bits.{bit_at-zero}
+use Rattle.rv_trace.specs.Runs.{IsMask}
+use Rattle.rv_trace.proofs.BitLemmas.{zero_false, one_true}
+use Rattle.rv_text.specs.Places.{is_digit, is_blank, is_of, run_end, between}
 use Rattle.rv_text.specs.Decimal.{number_of}
 use Rattle.rv_text.specs.declared.runs.Kind.{Kind}
 use Rattle.rv_text.specs.declared.runs.Kind.TheVariants as kinds
@@ -77,3 +82,43 @@ pub number-longer : (text : List ℕ) (from end to : ℕ) → end ≤ to → num
 number-longer text from end to more =
     let front : take (end - from) (take (to - from) (drop from text)) ≡ take (end - from) (drop from text) = take-take (end - from) (to - from) (drop from text) (omega arith) in
     omega (arith, ap number_of front, number-front (between text from to) (end - from))
+
+-- the bits of the last load, from a place on
+module _ (text : List ℕ) (place blanks : ℕ) (low : place ≤ length text) (high : length text < place + 16) (room : 16 ≤ length text) (mask : IsMask is_blank text (length text - 16) 16 blanks) where
+  abbrev pub rest_bits : ℕ
+  rest_bits = blanks / 2 ^ (place - (length text - 16))
+
+  rest-bit : (k : ℕ) → place + k < length text → bit_at rest_bits k ≡ cond (is_blank (get_or text (place + k) 0)) 1 0
+  rest-bit k inside =
+      let here : length text - 16 + (place - (length text - 16) + k) ≡ place + k = omega arith in
+      ap (λ n. n % 2) (shr-shr blanks (place - (length text - 16)) k)
+      ∙ mask.bits (place - (length text - 16) + k) (omega arith)
+      ∙ ap {B = ℕ} (λ n. cond (is_blank (get_or text n 0)) 1 0) here
+
+  -- a place whose bit is not set is of the word
+  rest-word : (k : ℕ) → place ≤ k → k < length text → bit_at rest_bits (k - place) ≡ 0 → is_of kinds.Word (get_or text k 0) ≡ true
+  rest-word k from inside clear =
+      let here : place + (k - place) ≡ k = omega arith in
+      ap (λ n. is_of kinds.Word (get_or text n 0)) (sym here) ∙ ap not (zero_false _ (sym (rest-bit (k - place) (omega arith)) ∙ clear))
+
+  -- no blank is left
+  pub rest-none : rest_bits ≡ 0 → run_end kinds.Word text place ≡ length text
+  rest-none none =
+      run_end-is kinds.Word text place (length text) low (omega arith)
+      (λ k from inside. rest-word k from inside (ap (λ m. bit_at m (k - place)) none ∙ bit_at-zero (k - place))) (λ h. absurd (omega arith))
+
+  -- a set bit stands for a place of the text
+  pub rest-inside : (k : ℕ) → bit_at rest_bits k ≡ 1 → place + k < length text
+  rest-inside k set =
+      elim (cases_lt (place + k) (length text)) [
+        | inl inside ↦ inside
+        | inr past ↦ absurd (omega (arith, mask.within (place - (length text - 16) + k) (omega arith), ap {B = ℕ} (λ n. n % 2) (shr-shr blanks (place - (length text - 16)) k)))
+      ]
+
+  -- the lowest bit is the first blank
+  pub rest-first : (k : ℕ) → bit_at rest_bits k ≡ 1 → ((j : ℕ) → j < k → bit_at rest_bits j ≡ 0) → run_end kinds.Word text place ≡ place + k
+  rest-first k set below =
+      let inside : place + k < length text = rest-inside k set in
+      run_end-is kinds.Word text place (place + k) (omega arith) (omega arith)
+      (λ j from to. rest-word j from (omega arith) (below (j - place) (omega arith)))
+      (λ _. ap not (one_true _ (sym (rest-bit k inside) ∙ set)))

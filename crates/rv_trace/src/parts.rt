@@ -78,7 +78,7 @@ fn is_word_end(text: &[u8], place: usize) -> bool
     requires { place ≤ length text.now }
     ensures { result ≡ (place == length text.now || is_blank (slice_index text.now place)) }
 {
-    place == text.len() || Kind::Blank.has(text[place])
+    place >= text.len() || Kind::Blank.has(text[place])
 }
 
 /// Where the timestamp ends that is the word that begins here.

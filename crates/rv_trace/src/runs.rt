@@ -1,15 +1,16 @@
 //! Where runs of bytes end in a line. Sixteen bytes are looked at together, as long as so many are left.
-ghost use Rattle.std.specs.Prelude.{◌≡◌, ◌<◌, ◌≤◌, ◌+◌, ◌-◌, ◌==◌, not, length, slice_index};
+ghost use Rattle.std.specs.Prelude.{◌≡◌, ◌≢◌, ℕ, ◌<◌, ◌≤◌, ◌+◌, ◌-◌, ◌==◌, not, length, slice_index};
 ghost use Rattle.rv_text.specs.Decimal.{number_of};
-ghost use Rattle.rv_text.specs.Places.{is_of, least, run_end, between};
+ghost use Rattle.rv_text.specs.Places.{is_blank, is_of, least, run_end, between};
 ghost use Rattle.rv_text.specs.declared.runs.Kind.TheVariants as kinds;
-ghost use Rattle.rv_trace.specs.Runs.{CountsAs, IsRunIn, first_set};
+ghost use Rattle.rv_trace.specs.Runs.{CountsAs, IsMask, IsRunIn, first_set};
+ghost use Rattle.std.specs.Int.{bit_at};
 
 use rv_text::{Kind, run_end};
 use std::simd::prelude::*;
 
 /// How many bytes are looked at together.
-const LANES: usize = 16;
+pub const LANES: usize = 16;
 /// A number is too large for any use of a trace where another digit follows a larger one than this.
 const LAST_TENTH: u64 = 429_496_729;
 /// A number that is too large for any use of a trace.
@@ -43,6 +44,38 @@ fn first_set(mask: u64) -> usize
     } else {
         mask.trailing_zeros() as usize
     }
+}
+
+/// The lowest bit that is set.
+#[inline(always)]
+pub(crate) fn lowest(mask: u64) -> usize
+    requires { mask ≢ 0 }
+    ensures bound { result < 64 }
+    ensures set { bit_at mask result ≡ 1 }
+    ensures below { (k : ℕ) → k < result → bit_at mask k ≡ 0 }
+{
+    mask.trailing_zeros() as usize
+}
+
+/// A bit for each of the next bytes, set at a blank.
+#[inline(always)]
+pub(crate) fn blank_bits(text: &[u8], place: usize) -> u64
+    requires { place + LANES ≤ length text.now }
+    ensures { IsMask is_blank text.now place LANES result }
+{
+    let bytes = u8x16::from_slice(&text[place..]);
+    let blanks = bytes.simd_eq(u8x16::splat(b' ')) | bytes.simd_eq(u8x16::splat(b'\t'));
+    blanks.to_bitmask()
+}
+
+/// A bit for each of the next bytes, set at `=`.
+#[inline(always)]
+pub(crate) fn equals_bits(text: &[u8], place: usize) -> u64
+    requires { place + LANES ≤ length text.now }
+    ensures { IsMask (λ byte. byte == 61) text.now place LANES result }
+{
+    let bytes = u8x16::from_slice(&text[place..]);
+    bytes.simd_eq(u8x16::splat(b'=')).to_bitmask()
 }
 
 /// How many of the next bytes are of the kind, from the first on.
@@ -121,6 +154,27 @@ fn wide_end(kind: Kind, text: &[u8], from: usize) -> usize
     run_end(kind, text, place)
 }
 
+/// The first blank from a place on, from which less than a load is left, or the end.
+#[inline(never)]
+fn last_word_end(text: &[u8], place: usize) -> usize
+    requires low { place ≤ length text.now }
+    requires high { length text.now < place + LANES }
+    ensures value { result ≡ run_end kinds.Word text.now place }
+    ensures low { place ≤ result }
+    ensures high { result ≤ length text.now }
+{
+    if text.len() < LANES {
+        return run_end(Kind::Word, text, place);
+    }
+    let start = text.len() - LANES;
+    let bits = blank_bits(text, start) >> (place - start);
+    if bits == 0 {
+        text.len()
+    } else {
+        place + lowest(bits)
+    }
+}
+
 /// The first blank from `from` on, or the end.
 #[inline(always)]
 pub(crate) fn word_end(text: &[u8], from: usize) -> usize
@@ -129,7 +183,15 @@ pub(crate) fn word_end(text: &[u8], from: usize) -> usize
     ensures low { from ≤ result }
     ensures high { result ≤ length text.now }
 {
-    wide_end(Kind::Word, text, from)
+    let mut place = from;
+    while text.len() - place >= LANES {
+        let run = word_in(text, place);
+        place += run;
+        if run < LANES {
+            return place;
+        }
+    }
+    last_word_end(text, place)
 }
 
 /// The first byte from `from` on that is no digit, or the end.
