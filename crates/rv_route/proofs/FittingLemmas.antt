@@ -24,8 +24,8 @@ use Rattle.rv_route.specs.declared.asking.Ask.TheVariants as asks
 use Rattle.rv_route.specs.Asking.{text_at, value_of, fires, pid_from, pid_at, pid_of, by_scope, asked_of, ask_of}
 use Rattle.rv_route.specs.Lanes.{LaneValue, with_delivery}
 use Rattle.rv_route.specs.Routing.{Routes, no_lane, delivered, deliver, answer, line_routes}
-use Rattle.rv_route.specs.Fitting.{IsOf, FitsKindOf}
-use Rattle.rv_route.proofs.TurnLemmas.{AscendsTo, ascends-wider, ascends-more, of-more}
+use Rattle.rv_route.specs.Fitting.{IsOf, FitsKindOf, LaneFits, RoutesFit}
+use Rattle.rv_route.proofs.TurnLemmas.{ascends-wider, ascends-more, of-more}
 
 -- ---- what a rule asks for
 
@@ -116,16 +116,6 @@ tasks-more tasks task = go (is_held tasks task)
     go false = rw length-append (omega arith)
 
 -- ---- lanes
-
-pub record LaneFits (lines : List TraceLine) (kinds : List Kind) (tasks n cpu : ℕ) (lane : LaneValue) : Type 0 where
-  pub ascends : AscendsTo n lane.turns
-  pub of : All (IsOf lines cpu) lane.turns
-  pub fit : All (FitsKindOf kinds tasks) lane.deliveries
-
--- all lanes fit lines up to this number
-pub record RoutesFit (lines : List TraceLine) (kinds : List Kind) (n : ℕ) (routes : Routes) : Type 0 where
-  pub many : length routes.lanes ≡ 64
-  pub lanes : (cpu : ℕ) → LaneFits lines kinds (length routes.tasks) n cpu (get_or routes.lanes cpu no_lane)
 
 count-wider : (n m : ℕ) (scope : Scope) → n ≤ m → count_of n scope ≤ count_of m scope
 count-wider n m scopes.Global le = omega arith

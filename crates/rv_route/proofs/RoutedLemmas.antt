@@ -17,7 +17,7 @@ use Rattle.rv_route.specs.declared.asking.Ask.{Ask}
 use Rattle.rv_route.specs.declared.asking.Ask.TheVariants as asks
 use Rattle.rv_route.specs.Asking.{ask_of}
 use Rattle.rv_route.specs.Lanes.{LaneValue, ends_with, longer, with_delivery, IsLane}
-use Rattle.rv_route.specs.Routing.{Routes, no_lane, delivered, deliver, answer, line_routes, routes_of, nothing}
+use Rattle.rv_route.specs.Routing.{Routes, no_lane, delivered, deliver, answer, line_routes, nothing}
 
 -- one more delivery goes to the last turn
 NamesEach-longer : (place : ℕ) (turns : List Turn) (count line : ℕ) → NamesEach place turns count → ends_with turns line ≡ true → NamesEach place (longer turns (count + 1)) (count + 1)
@@ -59,7 +59,7 @@ module _ (P : Routes → Type 0) (grows : (routes : Routes) (line : TraceLine) (
       go true is = cc
       go false is = deliver_keeps (record routes { tasks = with_task routes.tasks (task_of pid line.cpu) }) after line rule (number_of routes.tasks (task_of pid line.cpu)) (tasks routes pid line.cpu p) is
 
-  line_keeps : (text : List ℕ) (line : TraceLine) (monitors : List Monitor) (rules : List OnValue) (routes after : Routes) → P routes → line_routes text line monitors rules routes ≡ Ok after → P after
+  pub line_keeps : (text : List ℕ) (line : TraceLine) (monitors : List Monitor) (rules : List OnValue) (routes after : Routes) → P routes → line_routes text line monitors rules routes ≡ Ok after → P after
   unfolding line_routes
   line_keeps text line monitors [] routes after p is = let same : routes ≡ after = cc in subst P same p
   line_keeps text line monitors (rule ∷ rules) routes after p is =
@@ -70,26 +70,16 @@ module _ (P : Routes → Type 0) (grows : (routes : Routes) (line : TraceLine) (
       go (Ok next) first later is = later next (answer_keeps routes next line rule (ask_of text line monitors rule) p first) is
       go (Err refusal) first later is = cc
 
-  pub routes_keep : (text : List ℕ) (monitors : List Monitor) (rules : List OnValue) (lines : List TraceLine) (routes after : Routes) → P routes → routes_of text monitors rules lines routes ≡ Ok after → P after
-  unfolding routes_of
-  routes_keep text monitors rules [] routes after p is = let same : routes ≡ after = cc in subst P same p
-  routes_keep text monitors rules (line ∷ lines) routes after p is =
-      go (line_routes text line monitors rules routes) refl (λ next q. routes_keep text monitors rules lines next after q) is
-    where
-      go : (r : Result Routes Refusal) → line_routes text line monitors rules routes ≡ r
-          → ((next : Routes) → P next → routes_of text monitors rules lines next ≡ Ok after → P after) → and_then r (routes_of text monitors rules lines) ≡ Ok after → P after
-      go (Ok next) first later is = later next (line_keeps text line monitors rules routes next p first) is
-      go (Err refusal) first later is = cc
+-- no lane has a turn
+pub lanes_nothing : (start : Routes) → start ≡ nothing → All IsLane start.lanes
+unfolding nothing
+lanes_nothing start none = subst (λ (routes : Routes). All IsLane routes.lanes) (sym none) (All-replicate IsLane 64 no_lane refl)
 
 -- every lane's turns name its deliveries
-pub lanes_routed : (text : List ℕ) (monitors : List Monitor) (rules : List OnValue) (lines : List TraceLine) (start after : Routes) → start ≡ nothing → routes_of text monitors rules lines start ≡ Ok after → All IsLane after.lanes
-unfolding nothing
-lanes_routed text monitors rules lines start after none is =
-    routes_keep (λ (routes : Routes). All IsLane routes.lanes) grows (λ routes pid cpu p. p) text monitors rules lines start after (subst (λ (routes : Routes). All IsLane routes.lanes) (sym none) begins) is
+pub lanes_line : (text : List ℕ) (monitors : List Monitor) (rules : List OnValue) (line : TraceLine) (routes after : Routes) → All IsLane routes.lanes → line_routes text line monitors rules routes ≡ Ok after → All IsLane after.lanes
+lanes_line text monitors rules line routes after lanes is =
+    line_keeps (λ (routes : Routes). All IsLane routes.lanes) grows (λ routes pid cpu p. p) text line monitors rules routes after lanes is
   where
-    begins : All IsLane nothing.lanes
-    begins = All-replicate IsLane 64 no_lane refl
-
     grows : (routes : Routes) (line : TraceLine) (rule : OnValue) (instance : ℕ) → All IsLane routes.lanes → All IsLane (delivered routes line rule instance).lanes
     grows routes line rule instance lanes = All-set IsLane routes.lanes line.cpu _ (lane_grows _ line.number _ (lane_at routes.lanes line.cpu lanes)) lanes
       where

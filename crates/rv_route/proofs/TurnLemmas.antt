@@ -6,13 +6,7 @@ use Rattle.std.proofs.lemmas.List.Kept.{AllPairs-cons}
 use Rattle.rv_model.specs.declared.work.Turn.{Turn}
 use Rattle.rv_trace.specs.declared.line.TraceLine.{TraceLine}
 use Rattle.rv_route.specs.Lanes.{ends_with, longer, with_turn}
-use Rattle.rv_route.specs.Fitting.{IsOf}
-
--- each line is below the next one, and the last is at most this one
-abbrev pub AscendsTo : ℕ → List Turn → Type 0
-AscendsTo n [] = Unit {0}
-AscendsTo n (turn ∷ []) = turn.line ≤ n
-AscendsTo n (turn ∷ next ∷ turns) = (turn.line < next.line) × AscendsTo n (next ∷ turns)
+use Rattle.rv_route.specs.Fitting.{IsOf, AscendsTo}
 
 pub ascends-wider : (n m : ℕ) (turns : List Turn) → n ≤ m → AscendsTo n turns → AscendsTo m turns
 ascends-wider n m [] le h = tt

@@ -1,57 +1,47 @@
 -- Routed works fit their lines and their monitors.
-use Rattle.std.proofs.Common.{◌≡◌, ℕ, zero, suc, ◌+◌, ◌<◌, ◌≤◌, ◌==◌, ◌⊎◌, inl, inr, Bool, true, false, List, [], ◌∷◌, length, get_or, refl, sym, ap, ◌∙◌, subst, arith}
-use Rattle.std.specs.Prelude.{All, AllPairs, Contains, Result, Ok, Err, replicate}
+use Rattle.std.proofs.Common.{◌≡◌, ℕ, zero, suc, ◌+◌, ◌<◌, ◌≤◌, ◌==◌, ◌⊎◌, inl, inr, Bool, true, false, List, [], ◌∷◌, ◌++◌, length, get_or, refl, sym, ap, ◌∙◌, subst, arith}
+use Rattle.std.specs.Prelude.{All, AllPairs, Contains, Ok, replicate}
 use Rattle.std.proofs.lemmas.List.{get_or_default}
-use Rattle.std.proofs.lemmas.List.Elements.{All-nil, All-cons, All-head, All-tail, All-weaker}
+use Rattle.std.proofs.lemmas.List.Elements.{All-nil, All-cons, All-push, All-weaker, Contains-append_left, Contains-append_right}
 use Rattle.std.proofs.lemmas.List.Kept.{AllPairs-cons}
-use Rattle.rv_text.specs.declared.refusals.Refusal.{Refusal}
-use Rattle.rv_text.specs.Readings.{and_then}
+use Rattle.std.proofs.lemmas.List.Quantifiers.{all_pairs_push}
 use Rattle.rv_trace.specs.declared.line.TraceLine.{TraceLine}
-use Rattle.rv_model.specs.declared.record.Task.{Task}
 use Rattle.rv_model.specs.declared.work.Turn.{Turn}
 use Rattle.rv_model.specs.Works.{Work}
 use Rattle.rv_model.specs.Histories.{LinesApart}
 use Rattle.rv_bind.specs.declared.bindings.Monitor.{Monitor}
 use Rattle.rv_bind.specs.RuleValues.{OnValue}
 use Rattle.rv_bind.specs.WellFormed.{Kind, kinds_of, FitsKind}
-use Rattle.rv_route.specs.Lines.{IsRoutable}
 use Rattle.rv_route.specs.Lanes.{LaneValue}
-use Rattle.rv_route.specs.Routing.{Routes, no_lane, line_routes, routes_of, nothing, works_from, works_of}
-use Rattle.rv_route.specs.Fitting.{IsOf, FitsKindOf, NumbersAscend, WorksFit}
+use Rattle.rv_route.specs.Routing.{Routes, no_lane, line_routes, nothing, works_from, works_of}
+use Rattle.rv_route.specs.Fitting.{IsOf, FitsKindOf, LaneFits, RoutesFit, Fits, NumbersAscend, WorksFit}
 use Rattle.rv_route.proofs.TurnLemmas.{ascends-pairs}
-use Rattle.rv_route.proofs.FittingLemmas.{LaneFits, RoutesFit, routes-wider, line_fits}
+use Rattle.rv_route.proofs.FittingLemmas.{routes-wider, line_fits}
 
--- ---- all lines
+-- ---- one more line
 
--- the lines are numbered upwards from this number
-abbrev From : ℕ → List TraceLine → Type 0
-From n [] = Unit {0}
-From n (line ∷ lines) = (n ≤ line.number) × From line.number lines
+of_more : (lines : List TraceLine) (line : TraceLine) (cpu : ℕ) (turn : Turn) → IsOf lines cpu turn → IsOf (lines ++ line ∷ []) cpu turn
+of_more lines line cpu turn is = record { line = is.line; there = Contains-append_left lines (line ∷ []) is.line is.there; number = is.number; cpu_is = is.cpu_is }
 
-module _ (text : List ℕ) (all : List TraceLine) (monitors : List Monitor) (rules : List OnValue) (fit : All (FitsKind (kinds_of monitors)) rules) where
-  lines_fit : (n : ℕ) (lines : List TraceLine) (routes after : Routes) → From n lines → All (λ (line : TraceLine). Contains all line × (line.cpu < 64)) lines → RoutesFit all (kinds_of monitors) n routes
-      → routes_of text monitors rules lines routes ≡ Ok after → (m : ℕ) × RoutesFit all (kinds_of monitors) m after
-  unfolding routes_of
-  lines_fit n [] routes after from those f is = let same : routes ≡ after = cc in (n, subst (RoutesFit all (kinds_of monitors) n) same f)
-  lines_fit n (line ∷ lines) routes after from those f is =
-      go (line_routes text line monitors rules routes) refl
-      (λ next g. lines_fit line.number lines next after from.1 (All-tail (λ (l : TraceLine). Contains all l × (l.cpu < 64)) line lines those) g) is
-    where
-      go : (r : Result Routes Refusal) → line_routes text line monitors rules routes ≡ r
-          → ((next : Routes) → RoutesFit all (kinds_of monitors) line.number next → routes_of text monitors rules lines next ≡ Ok after → (m : ℕ) × RoutesFit all (kinds_of monitors) m after)
-          → and_then r (routes_of text monitors rules lines) ≡ Ok after → (m : ℕ) × RoutesFit all (kinds_of monitors) m after
-      go (Ok next) first later is =
-          let here = All-head (λ (l : TraceLine). Contains all l × (l.cpu < 64)) line lines those in
-          later next (line_fits text all monitors line here.0 here.1 rules routes next fit (routes-wider text all monitors n line.number routes from.0 f) first) is
-      go (Err refusal) first later is = cc
+lines_more : (lines : List TraceLine) (line : TraceLine) (kinds : List Kind) (n : ℕ) (routes : Routes) → RoutesFit lines kinds n routes → RoutesFit (lines ++ line ∷ []) kinds n routes
+lines_more lines line kinds n routes f = record {
+  many = f.many;
+  lanes = λ cpu. let lane = get_or routes.lanes cpu no_lane in let was = f.lanes cpu in record { ascends = was.ascends; of = All-weaker (IsOf lines cpu) (IsOf (lines ++ line ∷ []) cpu) (of_more lines line cpu) lane.turns was.of; fit = was.fit };
+}
 
--- lines in ascending order are numbered upwards
-ascending-from : (n : ℕ) (lines : List TraceLine) → All (λ (l : TraceLine). n ≤ l.number) lines → NumbersAscend lines → From n lines
-ascending-from n [] low ascend = tt
-ascending-from n (line ∷ lines) low ascend = (
-  All-head (λ (l : TraceLine). n ≤ l.number) line lines low,
-  ascending-from line.number lines (λ i d within. let lt = ascend 0 (suc i) d (omega arith) (omega arith) in omega arith) (λ i j d lt within. ascend (suc i) (suc j) d (omega arith) (omega arith)),
-)
+-- what has been routed fits one more line
+pub fits_more : (text : List ℕ) (monitors : List Monitor) (rules : List OnValue) (line : TraceLine) (next : ℕ) (routes after : Routes) → All (FitsKind (kinds_of monitors)) rules → line.cpu < 64 → next ≤ line.number → Fits (kinds_of monitors) next routes
+    → line_routes text line monitors rules routes ≡ Ok after → Fits (kinds_of monitors) (line.number + 1) after
+fits_more text monitors rules line next routes after fit cpu from f is =
+    let lines = f.lines ++ line ∷ [] in
+    let was = routes-wider text lines monitors next line.number routes from (lines_more f.lines line (kinds_of monitors) next routes f.fit) in
+    let now = line_fits text lines monitors line (Contains-append_right f.lines (line ∷ []) line (0, omega arith, refl)) cpu rules routes after fit was is in
+    record {
+      lines = lines;
+      ascend = all_pairs_push (λ (l m : TraceLine). l.number < m.number) f.lines line f.ascend (λ k d within. let b = f.below k d within in omega arith);
+      below = All-push (λ (l : TraceLine). l.number < line.number + 1) f.lines line (All-weaker (λ (l : TraceLine). l.number < next) (λ (l : TraceLine). l.number < line.number + 1) (λ l b. omega arith) f.lines f.below) (omega arith);
+      fit = routes-wider text lines monitors line.number (line.number + 1) after (omega arith) now;
+    }
 
 -- ---- the works of lanes
 
@@ -142,26 +132,22 @@ nothing_fits all kinds = record { many = refl; lanes = λ cpu. subst (λ (l : La
     empty (suc n) zero = refl
     empty (suc n) (suc i) = empty n i
 
+-- nothing fits no line
+pub fits_nothing : (kinds : List Kind) (start : Routes) → start ≡ nothing → Fits kinds 0 start
+fits_nothing kinds start none = subst (Fits kinds 0) (sym none) (record { lines = []; ascend = λ i j d lt within. absurd (omega arith); below = All-nil (λ (l : TraceLine). l.number < 0); fit = nothing_fits [] kinds })
+
 -- what is routed fits
-pub works_fit : (text : List ℕ) (monitors : List Monitor) (rules : List OnValue) (lines : List TraceLine) (start after : Routes) (tasks : List Task) (works : List Work)
-    → All (IsRoutable text) lines → NumbersAscend lines → All (FitsKind (kinds_of monitors)) rules → start ≡ nothing → routes_of text monitors rules lines start ≡ Ok after
-    → tasks ≡ after.tasks → works ≡ works_of after.lanes → WorksFit (kinds_of monitors) (length tasks) works
-works_fit text monitors rules lines start after tasks works routable ascend fit none is tasks_is works_is =
-    let those : All (λ (l : TraceLine). Contains lines l × (l.cpu < 64)) lines = λ i d within.
-    ((i, within, get_or_default lines i (get_or lines i d) d within), let c = (routable i d within).lies.cpu in omega arith) in
-    let low : All (λ (l : TraceLine). 0 ≤ l.number) lines = λ i d within. omega arith in
-    let begun = subst (RoutesFit lines (kinds_of monitors) 0) (sym none) (nothing_fits lines (kinds_of monitors)) in
-    let done = lines_fit text lines monitors rules fit 0 lines start after (ascending-from 0 lines low ascend) those begun is in
-    let k : ℕ = length after.tasks in
-    let of = of_lanes lines (kinds_of monitors) k done.0 0 after.lanes (λ i lt. let e : i ≡ 0 + i = omega arith in subst (λ c. LaneFits lines (kinds_of monitors) k done.0 c (get_or after.lanes i no_lane)) e (done.1.lanes i)) in
-    let count : ℕ = length after.lanes in
-    let many : count ≡ 64 = done.1.many in
-    let P : Work → Type 0 = OfLane lines (kinds_of monitors) k done.0 0 count in
-    let fits : WorksFit (kinds_of monitors) k (works_of after.lanes) = record {
-      cpus_below = All-weaker P (λ (w : Work). w.cpu < 64) (λ w o. let h = o.high in omega arith) (works_of after.lanes) of.works;
+pub works_fit : (kinds : List Kind) (next : ℕ) (routes : Routes) → Fits kinds next routes → WorksFit kinds (length routes.tasks) (works_of routes.lanes)
+works_fit kinds next routes f =
+    let k : ℕ = length routes.tasks in
+    let of = of_lanes f.lines kinds k next 0 routes.lanes (λ i lt. let e : i ≡ 0 + i = omega arith in subst (λ c. LaneFits f.lines kinds k next c (get_or routes.lanes i no_lane)) e (f.fit.lanes i)) in
+    let count : ℕ = length routes.lanes in
+    let many : count ≡ 64 = f.fit.many in
+    let P : Work → Type 0 = OfLane f.lines kinds k next 0 count in
+    record {
+      cpus_below = All-weaker P (λ (w : Work). w.cpu < 64) (λ w o. let h = o.high in omega arith) (works_of routes.lanes) of.works;
       cpus = of.apart;
-      lines = All-weaker P (λ (w : Work). AllPairs (λ (t u : Turn). t.line < u.line) w.turns) (λ w o. ascends-pairs done.0 w.turns o.fits.ascends) (works_of after.lanes) of.works;
-      apart = works_apart lines (kinds_of monitors) k done.0 (works_of after.lanes) count ascend of.works;
-      deliveries = All-weaker P (λ (w : Work). All (FitsKindOf (kinds_of monitors) k) w.deliveries) (λ w o. o.fits.fit) (works_of after.lanes) of.works;
-    } in
-    rw (tasks_is, works_is) fits
+      lines = All-weaker P (λ (w : Work). AllPairs (λ (t u : Turn). t.line < u.line) w.turns) (λ w o. ascends-pairs next w.turns o.fits.ascends) (works_of routes.lanes) of.works;
+      apart = works_apart f.lines kinds k next (works_of routes.lanes) count f.ascend of.works;
+      deliveries = All-weaker P (λ (w : Work). All (FitsKindOf kinds k) w.deliveries) (λ w o. o.fits.fit) (works_of routes.lanes) of.works;
+    }

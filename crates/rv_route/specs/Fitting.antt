@@ -1,5 +1,5 @@
--- What routed works keep: each CPU has one work, its lines ascend, no line makes turns of two CPUs, and each delivery fits its monitor.
-use Rattle.std.specs.Prelude.{◌≡◌, ◌<◌, ℕ, List, All, AllPairs, Contains, Some, slice_get}
+-- What routed works keep: they ascend by CPU, the lines of each ascend, no line makes turns of two CPUs, and each delivery fits its monitor.
+use Rattle.std.specs.Prelude.{◌≡◌, ◌<◌, ◌≤◌, ℕ, List, [], ◌∷◌, length, All, AllPairs, Contains, Some, slice_get, slice_index_or}
 use Rattle.rv_model.specs.declared.work.Delivery.{Delivery}
 use Rattle.rv_model.specs.declared.work.Turn.{Turn}
 use Rattle.rv_model.specs.Works.{Work}
@@ -7,6 +7,8 @@ use Rattle.rv_model.specs.Histories.{LinesApart}
 use Rattle.rv_slots.specs.Shapes.{count_of}
 use Rattle.rv_trace.specs.declared.line.TraceLine.{TraceLine}
 use Rattle.rv_bind.specs.WellFormed.{Kind, FitsSpec}
+use Rattle.rv_route.specs.Lanes.{LaneValue}
+use Rattle.rv_route.specs.Routing.{Routes, no_lane}
 
 -- the turn is of a line of this CPU
 pub record IsOf (lines : List TraceLine) (cpu : ℕ) (turn : Turn) : Type 0 where
@@ -32,3 +34,27 @@ pub record WorksFit (kinds : List Kind) (tasks : ℕ) (works : List Work) : Type
   pub lines : All (λ w. AllPairs (λ t u. t.line < u.line) w.turns) works
   pub apart : LinesApart works
   pub deliveries : All (λ w. All (FitsKindOf kinds tasks) w.deliveries) works
+
+-- each line is below the next one, and the last is at most this one
+abbrev pub AscendsTo : ℕ → List Turn → Type 0
+AscendsTo n [] = Unit {0}
+AscendsTo n (turn ∷ []) = turn.line ≤ n
+AscendsTo n (turn ∷ next ∷ turns) = (turn.line < next.line) × AscendsTo n (next ∷ turns)
+
+-- the lane has turns of these lines up to a number, on its CPU, and its deliveries fit
+pub record LaneFits (lines : List TraceLine) (kinds : List Kind) (tasks n cpu : ℕ) (lane : LaneValue) : Type 0 where
+  pub ascends : AscendsTo n lane.turns
+  pub of : All (IsOf lines cpu) lane.turns
+  pub fit : All (FitsKindOf kinds tasks) lane.deliveries
+
+-- all lanes fit lines up to this number
+pub record RoutesFit (lines : List TraceLine) (kinds : List Kind) (n : ℕ) (routes : Routes) : Type 0 where
+  pub many : length routes.lanes ≡ 64
+  pub lanes : (cpu : ℕ) → LaneFits lines kinds (length routes.tasks) n cpu (slice_index_or routes.lanes cpu no_lane)
+
+-- what has been routed fits lines that are numbered upwards, below this number
+pub record Fits (kinds : List Kind) (next : ℕ) (routes : Routes) : Type 0 where
+  pub lines : List TraceLine
+  pub ascend : NumbersAscend lines
+  pub below : All (λ l. l.number < next) lines
+  pub fit : RoutesFit lines kinds next routes

@@ -4,4 +4,5 @@ pub mod Fitting
 pub mod Lanes
 pub mod Lines
 pub mod Routed
+pub mod Routers
 pub mod Routing

@@ -1,5 +1,5 @@
 -- What is routed, as a plain value.
-use Rattle.rv_route.specs.declared.firing.Routed.{Routed}
+use Rattle.rv_route.specs.declared.routed.Routed.{Routed}
 use Rattle.rv_route.specs.Routing.{RoutedValue}
 
 abbrev pub routed_value : Routed → RoutedValue

@@ -1,117 +1,57 @@
-//! Routes a whole trace.
-ghost use Rattle.std.specs.Prelude.{◌≡◌, ◌++◌, length, All, IfOk, OnOk};
-ghost use Rattle.rv_text.specs.Readings.{Gives};
+//! What the rules do on one line.
+ghost use Rattle.std.specs.Prelude.{◌≡◌, true, filter, bytes_eq};
+ghost use Rattle.rv_route.specs.Asking.{text_at};
+ghost use Rattle.rv_route.specs.Events.{is_on, IsEventOf, IsIndexOf};
 ghost use Rattle.rv_route.specs.Lines.{IsRoutable};
-ghost use Rattle.rv_route.specs.Events.{IsIndexOf};
-ghost use Rattle.rv_route.specs.Lanes.{IsLane};
-ghost use Rattle.rv_route.specs.Routing.{Reaches, routes_of, route_of, works_of, work_in};
-ghost use Rattle.rv_route.specs.Routed.{routed_value};
-ghost use Rattle.rv_route.specs.Fitting.{WorksFit, NumbersAscend};
-ghost use Rattle.rv_bind.specs.WellFormed.{FitsKind, kinds_of};
+ghost use Rattle.rv_route.specs.Routing.{Reaches, line_routes};
 
+use crate::asking::{ask_for, look_up};
 use crate::deliveries::Deliveries;
-use crate::index::{Bucket, index_of};
-use crate::lanes::Lane;
-use crate::router::take;
+use crate::event::Event;
+use crate::index::{Bucket, event_at};
 use rv_bind::Bindings;
-use rv_model::CpuWork;
-use rv_slots::Tasks;
 use rv_text::Refused;
-use rv_trace::TraceLine;
-use std::alloc::{AllocError, Global};
+use rv_trace::{Span, TraceLine};
 
-/// The tasks by first use, and the works of the CPUs that have a delivery, ascending by CPU.
-#[derive(Drop)]
-pub struct Routed {
-    pub tasks: Tasks,
-    pub works: Vec<CpuWork>,
-}
-
-/// For each line the rules that fire, in their order.
-pub fn route(
-    alloc: Global,
-    bindings: &Bindings,
-    text: &[u8],
-    lines: &[TraceLine],
-) -> Result<Routed, Refused>
-    requires lines { All (IsRoutable text.now) lines.now }
-    requires ascend { NumbersAscend lines.now }
-    requires rules { All (FitsKind (kinds_of bindings.now.monitors.items)) bindings.now.rules.items }
-    ensures value { Gives routed_value result (route_of bindings.now.monitors.items bindings.now.rules.items text.now lines.now) }
-    ensures fit { IfOk result (λ routed. WorksFit (kinds_of bindings.now.monitors.items) (length routed.tasks) routed.works.items) }
-{
-    let index = index_of(alloc, bindings.rules.as_slice())?;
-    let mut deliveries = Deliveries::new(alloc)?;
-    take_all(
-        alloc,
-        &mut deliveries,
-        bindings,
-        index.as_slice(),
-        text,
-        lines,
-    )?;
-    let routed = end(alloc, deliveries)?;
-    Ok(routed)
-}
-
-/// Routes the lines in order, up to the first refusal. What is looked up goes into memory that is taken before the lines.
-fn take_all(
-    alloc: Global,
+/// Does what the rules ask for on the line, in their order, up to the first refusal.
+pub(crate) fn take(
     deliveries: &mut Deliveries,
     bindings: &Bindings,
     index: &[Bucket],
     text: &[u8],
-    lines: &[TraceLine],
+    line: &TraceLine,
+    found: &mut Vec<Option<Span>>,
 ) -> Result<(), Refused>
-    requires lines { All (IsRoutable text.now) lines.now }
+    requires line { IsRoutable text.now line.now }
     requires index { IsIndexOf bindings.now.rules.items index.now }
-    ensures { Reaches result deliveries.new (routes_of text.now bindings.now.monitors.items bindings.now.rules.items lines.now deliveries.old) }
+    ensures { Reaches result deliveries.new (line_routes text.now line.now bindings.now.monitors.items bindings.now.rules.items deliveries.old) }
 {
-    let mut found = Vec::new(alloc);
-    for line in lines {
-        take(deliveries, bindings, index, text, line, &mut found)?;
+    match event_at(index, &text[line.name.from as usize..line.name.to as usize]) {
+        Some(event) => fire(deliveries, bindings, event, text, line, found),
+        None => Ok(()),
+    }
+}
+
+/// Does what an event's rules ask for on a line of it, in their order, up to the first refusal.
+fn fire(
+    deliveries: &mut Deliveries,
+    bindings: &Bindings,
+    event: &Event,
+    text: &[u8],
+    line: &TraceLine,
+    found: &mut Vec<Option<Span>>,
+) -> Result<(), Refused>
+    requires line { IsRoutable text.now line.now }
+    requires name { bytes_eq (text_at text.now line.now.name) event.now.name ≡ true }
+    requires rules { IsEventOf bindings.now.rules.items event.now }
+    ensures { Reaches result deliveries.new (line_routes text.now line.now bindings.now.monitors.items (filter (is_on event.now.name) bindings.now.rules.items) deliveries.old) }
+{
+    let fields = &text[line.fields.from as usize..line.fields.to as usize];
+    look_up(fields, event.fields.as_slice(), found)?;
+    for asked in &event.rules {
+        let rule = &bindings.rules[asked.rule];
+        let ask = ask_for(&bindings.monitors, rule, asked, line, fields, found);
+        deliveries.answer(line, rule, ask)?;
     }
     Ok(())
-}
-
-/// What was routed.
-fn end(alloc: Global, deliveries: Deliveries) -> Result<Routed, AllocError>
-    requires { All IsLane deliveries.lanes }
-    ensures { IfOk result (λ routed. routed_value routed ≡ record { tasks = deliveries.tasks; works = works_of deliveries.lanes }) }
-{
-    let Deliveries { tasks, lanes, .. } = deliveries;
-    let works = works(alloc, lanes)?;
-    Ok(Routed { tasks, works })
-}
-
-/// The work of a CPU, if it has any.
-fn keep(works: &mut Vec<CpuWork>, cpu: u8, lane: Lane) -> Result<(), AllocError>
-    requires { IsLane lane }
-    ensures { OnOk result (works.new.items ≡ works.old.items ++ work_in cpu lane) }
-{
-    let Lane { turns, deliveries } = lane;
-    if deliveries.is_empty() {
-        return Ok(());
-    }
-    works.push(CpuWork {
-        cpu,
-        turns,
-        deliveries,
-    })?;
-    Ok(())
-}
-
-/// The works of the CPUs that have any, by CPU.
-fn works(alloc: Global, lanes: Vec<Lane>) -> Result<Vec<CpuWork>, AllocError>
-    requires many { length lanes.items ≡ 64 }
-    requires lanes { All IsLane lanes.items }
-    ensures { IfOk result (λ works. works.items ≡ works_of lanes.items) }
-{
-    let mut works = Vec::new(alloc);
-    let mut cpu = 0;
-    for lane in lanes {
-        keep(&mut works, cpu, lane)?;
-        cpu += 1;
-    }
-    Ok(works)
 }

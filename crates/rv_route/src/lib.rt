@@ -7,9 +7,13 @@ mod event;
 mod firing;
 mod index;
 mod lanes;
+mod routed;
 mod router;
 #[cfg(test)]
 mod tests;
+mod tracing;
 
 pub use deliveries::MAX_DELIVERIES;
-pub use firing::{Routed, route};
+pub use routed::Routed;
+pub use router::Router;
+pub use tracing::route;

@@ -1,57 +1,120 @@
-//! Takes one line after the other.
-ghost use Rattle.std.specs.Prelude.{◌≡◌, ◌≤◌, ◌<◌, true, length, filter, All, bytes_eq};
-ghost use Rattle.rv_route.specs.Asking.{text_at};
-ghost use Rattle.rv_route.specs.Events.{is_on, IsEventOf, IsIndexOf};
+//! Takes the lines of a trace one after the other.
+ghost use Rattle.std.specs.Prelude.{◌≡◌, ◌≤◌, List, length, None, All, IfOk};
+ghost use Rattle.rv_bind.specs.WellFormed.{FitsKind, kinds_of, Kind};
+ghost use Rattle.rv_route.specs.Fitting.{Fits, WorksFit};
 ghost use Rattle.rv_route.specs.Lines.{IsRoutable};
-ghost use Rattle.rv_route.specs.Routing.{Reaches, line_routes};
+ghost use Rattle.rv_route.specs.Routed.{routed_value};
+ghost use Rattle.rv_route.specs.Routers.{IsFor, Takes};
+ghost use Rattle.rv_route.specs.Routing.{nothing, works_of};
 
-use crate::asking::{ask_for, look_up};
 use crate::deliveries::Deliveries;
-use crate::event::Event;
-use crate::index::{Bucket, event_at};
+use crate::firing::take;
+use crate::index::{Bucket, index_of};
+use crate::routed::{Routed, works_in};
 use rv_bind::Bindings;
+use rv_model::CpuWork;
 use rv_text::Refused;
 use rv_trace::{Span, TraceLine};
+use std::alloc::{AllocError, Global};
+use std::marker::Model;
 
-/// Does what an event's rules ask for on a line of it, in their order, up to the first refusal.
-fn fire(
-    deliveries: &mut Deliveries,
-    bindings: &Bindings,
-    event: &Event,
-    text: &[u8],
-    line: &TraceLine,
-    found: &mut Vec<Option<Span>>,
-) -> Result<(), Refused>
-    requires line { IsRoutable text.now line.now }
-    requires name { bytes_eq (text_at text.now line.now.name) event.now.name ≡ true }
-    requires rules { IsEventOf bindings.now.rules.items event.now }
-    ensures { Reaches result deliveries.new (line_routes text.now line.now bindings.now.monitors.items (filter (is_on event.now.name) bindings.now.rules.items) deliveries.old) }
-{
-    let fields = &text[line.fields.from as usize..line.fields.to as usize];
-    look_up(fields, event.fields.as_slice(), found)?;
-    for asked in &event.rules {
-        let rule = &bindings.rules[asked.rule];
-        let ask = ask_for(&bindings.monitors, rule, asked, line, fields, found);
-        deliveries.answer(line, rule, ask)?;
-    }
-    Ok(())
+/// What has been routed, and what is needed to route on. After a refusal every line is refused so.
+#[derive(Drop)]
+pub struct Router {
+    index: Vec<Bucket>,
+    /// What a line's fields have.
+    found: Vec<Option<Span>>,
+    deliveries: Deliveries,
+    /// Room for the works, so that the end takes no memory.
+    works: Vec<CpuWork>,
+    next: u64,
+    refused: Option<Refused>,
 }
 
-/// Routes one line: the rules in order, up to the first refusal.
-pub(crate) fn take(
-    deliveries: &mut Deliveries,
-    bindings: &Bindings,
-    index: &[Bucket],
-    text: &[u8],
-    line: &TraceLine,
-    found: &mut Vec<Option<Span>>,
-) -> Result<(), Refused>
-    requires line { IsRoutable text.now line.now }
-    requires index { IsIndexOf bindings.now.rules.items index.now }
-    ensures { Reaches result deliveries.new (line_routes text.now line.now bindings.now.monitors.items bindings.now.rules.items deliveries.old) }
-{
-    match event_at(index, &text[line.name.from as usize..line.name.to as usize]) {
-        Some(event) => fire(deliveries, bindings, event, text, line, found),
-        None => Ok(()),
+impl Model for Router {
+    ghost use Rattle.std.specs.Prelude.{◌≡◌, ◌≤◌, [], None, All};
+    ghost use Rattle.std.specs.Vec.{vec_capacity};
+    ghost use Rattle.rv_route.specs.Lanes.{IsLane};
+    ghost use Rattle.rv_route.specs.Routers.{RouterValue};
+
+    ghost Value = { RouterValue };
+
+    ghost view = { λ r. record { index = r.index.items; routes = r.deliveries; next = r.next; refused = r.refused } };
+
+    ghost invariant = { λ r. (r.works.items ≡ []) × (64 ≤ vec_capacity r.works) × (r.refused ≡ None → All IsLane r.deliveries.lanes) };
+}
+
+impl Router {
+    /// No line was taken. The rules are to be those of the bindings that every call is given.
+    pub fn new(alloc: Global, bindings: &Bindings) -> Result<Router, AllocError>
+        requires { All (FitsKind (kinds_of bindings.now.monitors.items)) bindings.now.rules.items }
+        ensures made { IfOk result (λ router. IsFor bindings.now router) }
+        ensures routes { IfOk result (λ router. router.routes ≡ nothing) }
+        ensures next { IfOk result (λ router. router.next ≡ 0) }
+        ensures accepted { IfOk result (λ router. router.refused ≡ None) }
+    {
+        let index = index_of(alloc, bindings.rules.as_slice())?;
+        let deliveries = Deliveries::new(alloc)?;
+        let works = Vec::with_capacity(alloc, 64)?;
+        Ok(Router {
+            index,
+            found: Vec::new(alloc),
+            deliveries,
+            works,
+            next: 0,
+            refused: None,
+        })
+    }
+
+    /// Does what the rules ask for on the line, whose pieces are places in the text.
+    pub fn line(
+        &mut self,
+        bindings: &Bindings,
+        text: &[u8],
+        line: &TraceLine,
+    ) -> Result<(), Refused>
+        requires made { IsFor bindings.now self.old }
+        requires line { IsRoutable text.now line.now }
+        requires ascends { self.old.next ≤ line.now.number }
+        ensures takes { Takes bindings.now text.now line.now self.old result self.new }
+        ensures made { IsFor bindings.now self.new }
+    {
+        self.next = line.number as u64 + 1;
+        if let Some(refused) = self.refused {
+            return Err(refused);
+        }
+        let index = self.index.as_slice();
+        match take(
+            &mut self.deliveries,
+            bindings,
+            index,
+            text,
+            line,
+            &mut self.found,
+        ) {
+            Ok(()) => Ok(()),
+            Err(refused) => {
+                self.refused = Some(refused);
+                Err(refused)
+            }
+        }
+    }
+
+    /// What was routed. It takes no memory.
+    pub fn end(self) -> Routed
+        requires { self.refused ≡ None }
+        ensures value { routed_value result ≡ record { tasks = self.routes.tasks; works = works_of self.routes.lanes } }
+        ensures fit { (kinds : List Kind) → Fits kinds self.next self.routes → WorksFit kinds (length result.tasks) result.works.items }
+    {
+        let Router {
+            deliveries,
+            works,
+            ..
+        } = self;
+        let Deliveries { tasks, lanes, .. } = deliveries;
+        Routed {
+            tasks,
+            works: works_in(works, lanes),
+        }
     }
 }

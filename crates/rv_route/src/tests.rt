@@ -1,15 +1,17 @@
 //! What whole bindings make of whole traces, and each limit with one beyond it.
-ghost use Rattle.std.specs.Prelude.{All, IfOk, IsTrue};
+ghost use Rattle.std.specs.Prelude.{◌≡◌, ◌≤◌, ◌<◌, ◌+◌, length, All, IfOk, IsTrue};
 ghost use Rattle.rv_bind.specs.BoundViews.{bound_value};
 ghost use Rattle.rv_bind.specs.WellFormed.{IsWellFormed};
 ghost use Rattle.rv_route.specs.Fitting.{NumbersAscend};
+ghost use Rattle.rv_route.specs.Lines.{IsRoutable};
+ghost use Rattle.rv_route.specs.Routers.{IsFor, refusal_of};
 
-use crate::{Routed, route};
-use rv_bind::{BindFault, Bound, read_bindings};
+use crate::{Routed, Router, route};
+use rv_bind::{BindFault, Bindings, Bound, read_bindings};
 use rv_io::MemStore;
 use rv_model::CpuWork;
 use rv_text::{Line, NO_PID, Refusal, Refused, TOO_MANY_DELIVERIES, TOO_MANY_TASKS};
-use rv_trace::{TraceLine, read_trace};
+use rv_trace::{Span, TraceLine, read_trace};
 use std::alloc::{AllocError, Global};
 use std::process::Abort;
 use std::test::Fail;
@@ -282,5 +284,98 @@ fn a_rule_of_very_many_tests_fires(rt: HostRuntime) -> Result<(), Fail> {
     let text = b"t-1 [000] 1.5: x: f=1\nt-1 [000] 1.5: x: f=2\nt-1 [000] 1.5: x:\n";
     let answer = told(&rt, rt.alloc(), rules.bytes(), text)?;
     assert_eq!(rt; answer.bytes(), b" 0:2>2.0".as_slice());
+    Ok(())
+}
+
+/// A line on the CPU of its number, whose event is the text's first byte.
+fn line_of(text: &[u8], number: u32) -> TraceLine
+    requires some { 0 < length text.now }
+    requires small { length text.now ≤ 1000 }
+    requires cpu { number < 64 }
+    ensures line { IsRoutable text.now result }
+    ensures number { result.number ≡ number }
+{
+    TraceLine {
+        number,
+        pid: 1,
+        cpu: number as u8,
+        name: Span { from: 0, to: 1 },
+        fields: Span {
+            from: 1,
+            to: text.len() as u32,
+        },
+    }
+}
+
+/// One router's answer to a line that stands alone in its text.
+fn taken(
+    rt: &impl Abort,
+    router: &mut Router,
+    bindings: &Bindings,
+    text: &[u8],
+    number: u32,
+) -> Result<(), Refused>
+    requires made { IsFor bindings.now router.old }
+    requires cpu { number < 64 }
+    requires ascends { router.old.next ≤ number }
+    ensures made { IsFor bindings.now router.new }
+    ensures next { router.new.next ≡ number + 1 }
+    ensures noted { router.new.refused ≡ refusal_of result }
+{
+    assert!(rt; text.len() > 0);
+    assert!(rt; text.len() <= 1_000);
+    router.line(bindings, text, &line_of(text, number))
+}
+
+/// What comes of three lines, each in a text of its own.
+fn told_by_line(
+    rt: &impl Abort,
+    alloc: Global,
+    rules: &[u8],
+    texts: [&str; 3],
+) -> Result<Line, Fail> {
+    let bound = bound(alloc, rules)?;
+    let mut out = Line::new(alloc);
+    let mut router = Router::new(alloc, &bound.bindings)?;
+    let first = taken(rt, &mut router, &bound.bindings, texts[0].as_bytes(), 1);
+    tell_refusal(&mut out, first)?;
+    let second = taken(rt, &mut router, &bound.bindings, texts[1].as_bytes(), 2);
+    tell_refusal(&mut out, second)?;
+    match taken(rt, &mut router, &bound.bindings, texts[2].as_bytes(), 3) {
+        Ok(()) => tell(&mut out, Ok(router.end()))?,
+        third => tell_refusal(&mut out, third)?,
+    }
+    Ok(out)
+}
+
+/// A refusal's number and line, if there is one.
+fn tell_refusal(out: &mut Line, taken: Result<(), Refused>) -> Result<(), AllocError> {
+    match taken {
+        Ok(()) => Ok(()),
+        Err(Refused::Because(refusal)) => {
+            out.text(b" ")?;
+            out.number(refusal.number as u64)?;
+            out.text(b" at ")?;
+            out.number(refusal.line as u64)
+        }
+        Err(Refused::Memory) => out.text(b" memory"),
+    }
+}
+
+#[test]
+fn a_router_takes_lines_of_their_own_texts_up_to_a_refusal(rt: HostRuntime) -> Result<(), Fail> {
+    // the texts, the deliveries or the refusals
+    let cases = [
+        (["x f=7", "y f=8", "x g=1 f=9"], " 1:1>2.0 3:3>2.1"),
+        (["x f=1 f=2", "x f=2", "x f=1"], " 1:1>2.0 2:2>2.1 3:3>2.0"),
+        (["z", "z", "z"], ""),
+        (["x f=7", "x f=no", "x f=9"], " 29 at 2 29 at 2"),
+        (["x", "y", "x f="], " 29 at 1 29 at 1 29 at 1"),
+        (["x f=7", "z f=no", "x f=-1"], " 29 at 3"),
+    ];
+    for (texts, want) in cases {
+        let answer = told_by_line(&rt, rt.alloc(), b"on t x by f : event x", texts)?;
+        assert_eq!(rt; answer.bytes(), want.as_bytes(), "at {want}");
+    }
     Ok(())
 }

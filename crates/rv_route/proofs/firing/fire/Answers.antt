@@ -14,7 +14,7 @@ use Rattle.rv_text.specs.Readings.{and_then}
 use Rattle.rv_route.proofs.EventLemmas.{asked_at, asked-many, has_found}
 use Rattle.rv_route.proofs.IndexLemmas.{fired}
 use Rattle.rv_route.proofs.RoutingLemmas.{rules-end, refuses-then}
-use Rattle.rv_route.proofs.router.fire.Goals as goal
+use Rattle.rv_route.proofs.firing.fire.Goals as goal
 
 pub index-rule-requires : goal.index-rule-requires
 index-rule-requires c =

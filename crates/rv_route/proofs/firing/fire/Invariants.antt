@@ -2,7 +2,7 @@ use Rattle.std.proofs.Common.{◌≡◌, drop}
 use Rattle.std.specs.Prelude.{filter}
 use Rattle.rv_route.specs.Events.{is_on}
 use Rattle.rv_route.specs.Routing.{line_routes}
-use Rattle.rv_route.proofs.router.fire.Given as goal
+use Rattle.rv_route.proofs.firing.fire.Given as goal
 
 abbrev pub invariant-loop-asked : goal.invariant-loop-asked
 invariant-loop-asked l =

@@ -4,7 +4,7 @@ use Rattle.rv_route.specs.Asking.{text_at}
 use Rattle.rv_route.specs.Routing.{Reaches}
 use Rattle.rv_route.proofs.EventLemmas.{itself}
 use Rattle.rv_route.proofs.IndexLemmas.{found-event, line-event, line-none}
-use Rattle.rv_route.proofs.router.take.Goals as goal
+use Rattle.rv_route.proofs.firing.take.Goals as goal
 
 pub fire-requires-clause-name : goal.fire-requires-clause-name
 fire-requires-clause-name c =

@@ -1,9 +1,0 @@
-use Rattle.std.proofs.Common.{◌≡◌, ◌+◌, ◌++◌, length}
-use Rattle.std.specs.Vec.Iter.{into_iter_items}
-use Rattle.std.specs.Prelude.{All}
-use Rattle.rv_route.specs.Lanes.{IsLane}
-use Rattle.rv_route.specs.Routing.{works_of, works_from}
-use Rattle.rv_route.proofs.firing.works.Given as goal
-
-abbrev pub invariant-loop-lane : goal.invariant-loop-lane
-invariant-loop-lane l = (works_of l.fn.lanes.items ≡ l.works.items ++ works_from l.cpu (into_iter_items l.lane-iterator)) × (l.cpu + length (into_iter_items l.lane-iterator) ≡ 64) × All IsLane (into_iter_items l.lane-iterator)

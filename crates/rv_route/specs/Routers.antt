@@ -1,0 +1,35 @@
+-- A router between two lines.
+use Rattle.std.specs.Prelude.{◌≡◌, ◌+◌, ℕ, List, All, Option, Some, None, Result, Ok, Err}
+use Rattle.rv_text.specs.declared.refusals.Refused.{Refused}
+use Rattle.rv_trace.specs.declared.line.TraceLine.{TraceLine}
+use Rattle.rv_bind.specs.declared.bindings.Bindings.{Bindings}
+use Rattle.rv_bind.specs.WellFormed.{FitsKind, kinds_of}
+use Rattle.rv_route.specs.declared.index.Bucket.{Bucket}
+use Rattle.rv_route.specs.Events.{IsIndexOf}
+use Rattle.rv_route.specs.Fitting.{Fits}
+use Rattle.rv_route.specs.Routing.{Routes, Reaches, line_routes}
+
+-- the rules by their events, what has been routed, the least number of the next line, and the refusal that was given, if any
+pub record RouterValue : Type 0 where
+  pub index : List Bucket
+  pub routes : Routes
+  pub next : ℕ
+  pub refused : Option Refused
+
+-- the router was made for these bindings
+pub record IsFor (bindings : Bindings) (router : RouterValue) : Type 0 where
+  pub index : IsIndexOf bindings.rules.items router.index
+  pub rules : All (FitsKind (kinds_of bindings.monitors.items)) bindings.rules.items
+  pub fits : router.refused ≡ None → Fits (kinds_of bindings.monitors.items) router.next router.routes
+
+-- the refusal that a call gave, if any
+abbrev pub refusal_of : {X : Type 0} → Result X Refused → Option Refused
+refusal_of (Ok x) = None
+refusal_of (Err refused) = Some refused
+
+-- a call took the line: it did what the rules ask for, unless a line was refused before
+pub record Takes (bindings : Bindings) (text : List ℕ) (line : TraceLine) (old : RouterValue) (result : Result (Unit {0}) Refused) (new : RouterValue) : Type 0 where
+  pub first : old.refused ≡ None → Reaches result new.routes (line_routes text line bindings.monitors.items bindings.rules.items old.routes)
+  pub again : (refused : Refused) → old.refused ≡ Some refused → result ≡ Err refused
+  pub noted : new.refused ≡ refusal_of result
+  pub next : new.next ≡ line.number + 1
