@@ -1,4 +1,4 @@
-use Rattle.std.proofs.Common.{◌≡◌, ap, ◌∙◌, List}
+use Rattle.std.proofs.Common.{ap, ◌∙◌, List}
 use Rattle.rv_model.specs.Records.{sort_records, status_of}
 use Rattle.rv_model.specs.Reports.{report_text}
 use Rattle.rv_feed.specs.Lane.{LaneValue, works_of}
