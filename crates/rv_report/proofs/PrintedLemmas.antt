@@ -1,6 +1,6 @@
 -- Records whose reaction is not printed have no text.
 use Rattle.std.proofs.Common.{◌≡◌, ℕ, Bool, true, false, List, [], ◌∷◌, ◌++◌, ◌⊎◌, inl, inr, refl, sym, ap, ◌∙◌}
-use Rattle.std.specs.Prelude.{filter, flat_map, Option, Some, None, slice_get, if◌then◌else◌}
+use Rattle.std.specs.Prelude.{filter, flat_map, Option, Some, None, slice_get}
 use Rattle.std.proofs.lemmas.List.Concat.{flat_map-cons}
 use Rattle.rv_model.specs.declared.entry.Answer.TheVariants.{Passed, Started, Kept, Failed, Stopped, Cleared, Looked, Switched}
 use Rattle.rv_model.specs.declared.reactor.Reactor.{Reactor}

@@ -1,5 +1,5 @@
 -- All records are found.
-use Rattle.std.proofs.Common.{◌≡◌, List, [], ◌∙◌, length}
+use Rattle.std.proofs.Common.{◌≡◌, List, [], ◌∙◌}
 use Rattle.std.proofs.lemmas.List.{length-map}
 use Rattle.std.proofs.lemmas.Result.{IfOk-weaker}
 use Rattle.rv_model.specs.declared.record.Record.{Record}
