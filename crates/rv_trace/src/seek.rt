@@ -100,9 +100,10 @@ fn read_at(
     requires ended { to ≤ end }
     ensures { result ≡ reading_of (record { number = number; from = 0; bytes = between held.now from to; end = end }) }
 {
+    let start = 0;
     reading_of(TextLine {
         number,
-        from: 0,
+        from: start,
         bytes: &held[from..to],
         end,
     })
