@@ -24,7 +24,7 @@ use Rattle.rv_route.specs.declared.asking.Ask.TheVariants as asks
 use Rattle.rv_route.specs.Asking.{text_at, value_of, fires, pid_from, pid_at, pid_of, by_scope, asked_of, ask_of}
 use Rattle.rv_route.specs.Lanes.{LaneValue, with_delivery}
 use Rattle.rv_route.specs.Routing.{Routes, no_lane, delivered, deliver, answer, line_routes}
-use Rattle.rv_route.specs.Fitting.{IsOf, FitsKindOf, LaneFits, RoutesFit}
+use Rattle.rv_route.specs.Fitting.{FitsKindOf, LaneFits, RoutesFit}
 use Rattle.rv_route.proofs.TurnLemmas.{ascends-wider, ascends-more, of-more}
 
 -- ---- what a rule asks for

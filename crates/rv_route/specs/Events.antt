@@ -1,5 +1,5 @@
 -- Rules by the events that they are on, and the fields that they name.
-use Rattle.std.specs.Prelude.{◌≡◌, ◌≤◌, ℕ, ◌+◌, ◌-◌, ◌%◌, Bool, true, List, All, length, map, filter, Option, Some, None, IfSome, option_map, option_and_then, bytes_eq, slice_get, slice_index, slice_index_or}
+use Rattle.std.specs.Prelude.{◌≡◌, ◌≤◌, ℕ, ◌+◌, ◌-◌, ◌*◌, ◌%◌, Bool, true, List, All, length, map, filter, Option, Some, None, IfSome, option_map, option_and_then, bytes_eq, slice_get, slice_index, slice_index_or}
 use Rattle.std.specs.List.{find, AllZip}
 use Rattle.std.specs.Option.{is_some}
 use Rattle.std.specs.Borrow.{Bor}
@@ -50,7 +50,7 @@ IsEventOf rules event = AllZip (IsAsked rules event.fields.items) event.rules.it
 
 -- where the event of a name is kept: by the name's length and its last byte
 unfoldable pub bucket_of : List ℕ → ℕ
-bucket_of name = (length name % 64 + slice_index name (length name - 1)) % 64
+bucket_of name = (length name % 64 * 8 + slice_index name (length name - 1)) % 64
 
 -- the event of a name
 unfoldable pub event_at : List Bucket → List ℕ → Option Event

@@ -1,15 +1,16 @@
 //! What a rule finds on a line: a condition on that line alone.
 ghost use Rattle.std.specs.Prelude.{◌≡◌, ◌≤◌, length, map, All, OnOk, bytes_eq, option_map, option_copied};
 ghost use Rattle.std.specs.List.{list_all};
+ghost use Rattle.rv_text.specs.Decimal.{decimal_of};
 ghost use Rattle.rv_trace.specs.Fields.{field_of};
-ghost use Rattle.rv_route.specs.Asking.{text_at, is_same, differs, passes, holds, pid_at, pid_found, ask_on};
+ghost use Rattle.rv_route.specs.Asking.{text_at, is_same, differs, passes, holds, pid_from, pid_at, pid_found, ask_on};
 ghost use Rattle.rv_route.specs.Events.{names_of, IsInside, found_at, HasFound};
 
 use crate::event::Asked;
 use rv_bind::{Monitor, On, Test};
 use rv_model::{Name, Scope};
-use rv_text::decimal;
-use rv_trace::{Span, TraceLine, field};
+use rv_text::Kind;
+use rv_trace::{LAST_PID, Span, TraceLine, field};
 use std::alloc::AllocError;
 
 /// What a rule asks for.
@@ -123,13 +124,33 @@ fn all_hold(fields: &[u8], tests: &[Test], places: &[usize], found: &[Option<Spa
 fn pid_at(value: Option<&[u8]>) -> Ask
     ensures { result ≡ pid_at (option_copied value.entry) }
 {
-    let Some(value) = value else {
-        return Ask::NoPid;
-    };
-    match decimal(value) {
-        Some(pid) if pid <= 0xffff_ffff => Ask::Pid(pid as u32),
-        _ => Ask::NoPid,
+    match value {
+        Some(text) => pid_in(text),
+        None => Ask::NoPid,
     }
+}
+
+/// The pid that digits spell. No digit may follow a number that is larger than a tenth of the last pid.
+fn pid_in(text: &[u8]) -> Ask
+    ensures { result ≡ pid_from (decimal_of text.now) }
+{
+    if text.is_empty() {
+        return Ask::NoPid;
+    }
+    let mut pid: u64 = 0;
+    for &byte in text {
+        if !Kind::Digit.has(byte) {
+            return Ask::NoPid;
+        }
+        if pid > LAST_PID as u64 / 10 {
+            return Ask::NoPid;
+        }
+        pid = pid * 10 + (byte - b'0') as u64;
+    }
+    if pid > LAST_PID as u64 {
+        return Ask::NoPid;
+    }
+    Ask::Pid(pid as u32)
 }
 
 /// The pid in the rule's field, or else the line's.

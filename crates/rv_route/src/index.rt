@@ -16,6 +16,7 @@ pub(crate) struct Bucket {
 }
 
 /// The number of a name's bucket.
+#[inline(always)]
 fn bucket_of(name: &[u8]) -> usize
     ensures value { result ≡ bucket_of name.now }
     ensures below { result < 64 }
@@ -23,10 +24,11 @@ fn bucket_of(name: &[u8]) -> usize
     if name.is_empty() {
         return 0;
     }
-    (name.len() % 64 + name[name.len() - 1] as usize) % 64
+    (name.len() % 64 * 8 + name[name.len() - 1] as usize) % 64
 }
 
 /// The event of a name, if a rule is on it.
+#[inline(always)]
 pub(crate) fn event_at<'a>(index: &'a [Bucket], name: &[u8]) -> Option<&'a Event>
     requires { length index.now ≡ 64 }
     ensures { option_copied result ≡ event_at index.now name.now }
@@ -36,6 +38,7 @@ pub(crate) fn event_at<'a>(index: &'a [Bucket], name: &[u8]) -> Option<&'a Event
 }
 
 /// The event of a name among these.
+#[inline(always)]
 fn find<'a>(events: &'a [Event], name: &[u8]) -> Option<&'a Event>
     ensures { option_copied result ≡ find (λ event. bytes_eq name.now event.name) events.now }
 {

@@ -1,4 +1,4 @@
-use Rattle.std.proofs.Common.{◌≡◌, ◌<◌, ◌≤◌, None, sym, ap, ◌∙◌, subst, arith}
+use Rattle.std.proofs.Common.{◌<◌, ◌≤◌, sym, ap, subst, arith}
 use Rattle.rv_route.specs.Routers.{RouterValue, IsFor}
 use Rattle.rv_route.proofs.RoutedLemmas.{lanes_line}
 use Rattle.rv_route.proofs.WorksLemmas.{fits_more}
