@@ -43,11 +43,11 @@ module _ (script : List ℕ) (opening : Tree) (commands : List Numbered) where
       let same : rest after ≡ later = ap rest after_is in
       record {
         text_is =
-          ap (λ (p : Printed). longer ++ p.text) same ∙ ap (λ (t : List ℕ). t ++ later.text) longer_is ∙ append_assoc text (done_of script tree n).text later.text
-          ∙ ap (λ (p : Printed). text ++ p.text) (sym whole) ∙ ran.text_is;
+            ap (λ (p : Printed). longer ++ p.text) same ∙ ap (λ (t : List ℕ). t ++ later.text) longer_is ∙ append_assoc text (done_of script tree n).text later.text
+            ∙ ap (λ (p : Printed). text ++ p.text) (sym whole) ∙ ran.text_is;
         status_is =
-          ap (λ (p : Printed). status_with (if now then true else so_far) p.status) same ∙ sym (refused_or now so_far now later.status)
-          ∙ ap (λ (b : Bool). status_with so_far (status_with b later.status)) now_is ∙ ap (λ (p : Printed). status_with so_far p.status) (sym whole) ∙ ran.status_is;
+            ap (λ (p : Printed). status_with (if now then true else so_far) p.status) same ∙ sym (refused_or now so_far now later.status)
+            ∙ ap (λ (b : Bool). status_with so_far (status_with b later.status)) now_is ∙ ap (λ (p : Printed). status_with so_far p.status) (sym whole) ∙ ran.status_is;
       }
 
   -- all commands

@@ -30,15 +30,7 @@ pub(crate) fn fed<R: Threads + Sync, G: Gate + Send>(
         lanes,
     } = ready;
     let changes = Vec::new(alloc);
-    let run = feed(
-        rt,
-        alloc,
-        setup,
-        reactors.as_slice(),
-        lanes,
-        changes,
-        gate,
-    )?;
+    let run = feed(rt, alloc, setup, reactors.as_slice(), lanes, changes, gate)?;
     let text = report_lanes(alloc, &bindings, &tasks, run.lanes.as_slice())?;
     let status = lanes_status(run.lanes.as_slice());
     Ok(Done {

@@ -2,8 +2,10 @@
 use crate::rv;
 use crate::tests::WIP;
 use rv_io::{Gate, MemSink, MemStore};
+use std::alloc::Global;
 use std::sync::atomic::{AtomicU64, Ordering};
 use std::test::Fail;
+use std::thread::Threads;
 
 /// How the two CPUs are held.
 #[derive(Clone, Copy, Drop)]
@@ -17,6 +19,7 @@ enum Plan {
 }
 
 /// How far the CPUs have come.
+#[derive(Drop)]
 struct Marks {
     /// How many turns CPU 0 has come to.
     first: AtomicU64,
@@ -136,22 +139,32 @@ t-1 [001] 1.000005: sched_waking:
 t-1 [000] 1.000006: preempt_disable:
 ";
 
-/// Feeds the trace, and gives the status and the text.
-fn fed(
-    rt: &HostRuntime,
+/// What a run came to.
+#[derive(Drop)]
+struct Came {
+    status: u8,
+    text: String,
+    /// How often a CPU gave up.
+    late: u64,
+}
+
+/// Feeds the trace.
+fn fed<R: Threads + Sync>(
+    rt: &R,
+    alloc: Global,
     plan: Plan,
     bindings: &str,
     trace: &str,
-) -> Result<(u8, String), Fail> {
-    let mut words = Vec::new(rt.alloc());
+) -> Result<Came, Fail> {
+    let mut words = Vec::new(alloc);
     for word in ["feed", "wip.rv", "wip.txt"] {
-        words.push(String::from_str(rt.alloc(), word)?)?;
+        words.push(String::from_str(alloc, word)?)?;
     }
-    let mut store = MemStore::new(rt.alloc());
+    let mut store = MemStore::new(alloc);
     store.add("wip.rv", bindings.as_bytes())?;
     store.add("wip.dot", WIP.as_bytes())?;
     store.add("wip.txt", trace.as_bytes())?;
-    let mut out = MemSink::new(rt.alloc(), 64, 1024)?;
+    let mut out = MemSink::new(alloc, 64, 1024)?;
     let marks = Marks {
         first: AtomicU64::new(0),
         second: AtomicU64::new(0),
@@ -162,30 +175,36 @@ fn fed(
         plan,
         marks: &marks,
     };
-    let finished = rv(rt, rt.alloc(), words.as_slice(), &mut store, &mut out, &gate);
-    assert_eq!(rt; marks.late.load(Ordering::SeqCst), 0, "a CPU gave up");
-    let text = String::from_str(rt.alloc(), std::str::from_utf8(out.taken())?)?;
-    Ok((finished.status, text))
+    let finished = rv(rt, alloc, words.as_slice(), &mut store, &mut out, &gate);
+    let text = String::from_str(alloc, std::str::from_utf8(out.taken())?)?;
+    Ok(Came {
+        status: finished.status,
+        text,
+        late: marks.late.load(Ordering::SeqCst),
+    })
 }
 
 #[test]
 fn two_cpus_wait_for_each_other(rt: HostRuntime) -> Result<(), Fail> {
-    let (status, text) = fed(&rt, Plan::Meet, GLOBAL, STARTS)?;
-    assert_eq!(rt; status, 1);
-    assert_eq!(rt; text.as_str(), "wip: instances 1, deliveries 2, failures 1, stopped 0\n");
+    let came = fed(&rt, rt.alloc(), Plan::Meet, GLOBAL, STARTS)?;
+    assert_eq!(rt; (came.status, came.late), (1, 0));
+    assert_eq!(rt;
+        came.text.as_str(),
+        "wip: instances 1, deliveries 2, failures 1, stopped 0\n"
+    );
     Ok(())
 }
 
 #[test]
 fn a_panic_cuts_another_cpu_off_or_comes_behind_it(rt: HostRuntime) -> Result<(), Fail> {
-    let (status, text) = fed(&rt, Plan::HaltFirst, HALTING, FAILURE)?;
+    let came = fed(&rt, rt.alloc(), Plan::HaltFirst, HALTING, FAILURE)?;
     let line =
         "rv: panic: monitor wip[cpu 0] does not allow event sched_waking on state preemptive (line 5)\n";
-    let (head, tail) = match text.as_str().split_once('\n') {
+    let (head, tail) = match came.text.as_str().split_once('\n') {
         Some((head, tail)) => (head, tail),
         None => ("", ""),
     };
-    assert_eq!(rt; status, 1);
+    assert_eq!(rt; (came.status, came.late), (1, 0));
     assert_eq!(rt; head, line.trim_end());
     assert!(rt;
         tail == "wip: instances 1, deliveries 5, failures 1, stopped 0\n"
@@ -197,8 +216,11 @@ fn a_panic_cuts_another_cpu_off_or_comes_behind_it(rt: HostRuntime) -> Result<()
 
 #[test]
 fn three_lost_tries_stop_an_instance(rt: HostRuntime) -> Result<(), Fail> {
-    let (status, text) = fed(&rt, Plan::Race, GLOBAL, RACE)?;
-    assert_eq!(rt; status, 6);
-    assert_eq!(rt; text.as_str(), "wip: instances 1, deliveries 6, failures 0, stopped 1\n");
+    let came = fed(&rt, rt.alloc(), Plan::Race, GLOBAL, RACE)?;
+    assert_eq!(rt; (came.status, came.late), (6, 0));
+    assert_eq!(rt;
+        came.text.as_str(),
+        "wip: instances 1, deliveries 6, failures 0, stopped 1\n"
+    );
     Ok(())
 }

@@ -132,12 +132,7 @@ fn begin(
 }
 
 /// Does the commands of the text.
-fn run_text(
-    alloc: Global,
-    script: &str,
-    bound: &Bound,
-    text: &[u8],
-) -> Result<Session, BindFault>
+fn run_text(alloc: Global, script: &str, bound: &Bound, text: &[u8]) -> Result<Session, BindFault>
     requires { IsWellFormed (bound_value bound.now) }
     ensures { Tells session_value result (session_text script.now (bound_value bound.now) text.now) }
 {

@@ -134,11 +134,7 @@ fn print<K: Sink>(alloc: Global, out: &mut K, read: Result<Vec<u8>, BindFault>) 
 }
 
 /// Puts the texts of a script's commands, or says why there are none.
-fn tell_session<K: Sink>(
-    alloc: Global,
-    out: &mut K,
-    read: Result<Session, BindFault>,
-) -> Finished
+fn tell_session<K: Sink>(alloc: Global, out: &mut K, read: Result<Session, BindFault>) -> Finished
     ensures { SaysSession read (K.taken out.old) (K.taken out.new) (K.faults out.old) (K.faults out.new) result.status result.closed }
 {
     match read {
