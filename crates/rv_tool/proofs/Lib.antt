@@ -2,6 +2,7 @@ pub mod AnswerLemmas
 pub mod ComesLemmas
 pub mod GrowingTexts
 pub mod NamedLemmas
+pub mod PiecesLemmas
 pub mod ReadyLemmas
 pub mod ReportedLemmas
 pub mod SaysLemmas

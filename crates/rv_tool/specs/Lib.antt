@@ -4,6 +4,7 @@ pub mod FormulaTexts
 pub mod Headline
 pub mod Inputs
 pub mod Output
+pub mod Pieces
 pub mod Ready
 pub mod Runs
 pub mod SessionValues

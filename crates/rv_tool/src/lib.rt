@@ -11,6 +11,7 @@ mod formula_text;
 mod input;
 mod output;
 mod replaying;
+mod routing;
 mod session;
 #[cfg(test)]
 mod table_tests;
