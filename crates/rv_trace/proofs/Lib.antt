@@ -1,5 +1,6 @@
 pub mod BitLemmas
 pub mod FieldLemmas
+pub mod FrontLemmas
 pub mod HeadLemmas
 pub mod LaneLemmas
 pub mod LiesLemmas

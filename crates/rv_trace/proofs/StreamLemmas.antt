@@ -157,7 +157,7 @@ pub record Steps (ended : Bool) (fed done after : List ℕ) (line : LineText) : 
   pub next : lines_of (part_read ended fed) ≡ lines_of done ++ line ∷ later
 
 -- a choice is one of the two
-choice : {X : Type 0} (b : Bool) (x y : X) → ((b ≡ true) × (cond b x y ≡ x)) ⊎ ((b ≡ false) × (cond b x y ≡ y))
+pub choice : {X : Type 0} (b : Bool) (x y : X) → ((b ≡ true) × (cond b x y ≡ x)) ⊎ ((b ≡ false) × (cond b x y ≡ y))
 choice true x y = inl (refl, refl)
 choice false x y = inr (refl, refl)
 

@@ -19,7 +19,7 @@ joined (Ok r) (Err refusal) second = refl
 joined (Ok r) (Ok lines) second = onto-onto (shown r) lines second
 
 -- lines that are read one after the other
-all_read-append : (front back : List LineText) → all_read (front ++ back) ≡ and_then (all_read front) (λ lines. onto lines (all_read back))
+pub all_read-append : (front back : List LineText) → all_read (front ++ back) ≡ and_then (all_read front) (λ lines. onto lines (all_read back))
 unfolding all_read
 all_read-append [] back = onto-none (all_read back)
 all_read-append (line ∷ front) back =

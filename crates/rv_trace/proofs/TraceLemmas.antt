@@ -1,5 +1,5 @@
 -- From one line of a trace to the next.
-use Rattle.std.proofs.Common.{◌≡◌, ℕ, inl, inr, List, [], ◌∷◌, ◌++◌, Option, Some, None, Result, Ok, Err, refl, sym, ap, subst, arith, append_assoc, append-nil}
+use Rattle.std.proofs.Common.{◌≡◌, ℕ, ◌+◌, ◌≤◌, inl, inr, List, [], ◌∷◌, ◌++◌, length, Option, Some, None, Result, Ok, Err, refl, sym, ap, subst, arith, append_assoc, append-nil}
 use Rattle.std.specs.List.{All}
 use Rattle.std.proofs.lemmas.List.Elements.{All-nil, All-cons, All-append, All-head, All-tail}
 use Rattle.rv_text.specs.Readings.{and_then}
@@ -41,15 +41,20 @@ all_read-err line later lines refusal is = ap (λ r. onto lines (and_then r (λ 
 ok_list : (x y : List TraceLine) → ◌≡◌ {A = Result (List TraceLine) Refusal} (Ok x) (Ok y) → x ≡ y
 ok_list x y is = cc
 
--- what a line adds lies in the text that it stands in
-shown-lies : (text : List ℕ) (line : LineText) (read : Option TraceLine) → StandsIn text line → reading_of line ≡ Ok read → All (LiesIn text) (shown read)
+-- what a line says lies in a text that has its bytes at its place
+pub reading-lies : (text : List ℕ) (line : LineText) (found : TraceLine) → line.from + length line.bytes ≤ length text → reading_of line ≡ Ok (Some found) → LiesIn text found
 unfolding reading_of
-shown-lies text line None stands is = All-nil (LiesIn text)
-shown-lies text line (Some found) stands is =
+reading-lies text line found inside is =
     elim (chosen (is_too_long line) _ _ _ is) [
       | inl long ↦ absurd (refused_none _ found long.1)
-      | inr short ↦ All-cons (LiesIn text) found [] (line_of-lies text line.bytes line.from line.number found (omega (arith, stands.ended, stands.within)) short.1) (All-nil (LiesIn text))
+      | inr short ↦ line_of-lies text line.bytes line.from line.number found inside short.1
     ]
+
+-- what a line adds lies in the text that it stands in
+shown-lies : (text : List ℕ) (line : LineText) (read : Option TraceLine) → StandsIn text line → reading_of line ≡ Ok read → All (LiesIn text) (shown read)
+shown-lies text line None stands is = All-nil (LiesIn text)
+shown-lies text line (Some found) stands is =
+    All-cons (LiesIn text) found [] (reading-lies text line found (omega (arith, stands.ended, stands.within)) is) (All-nil (LiesIn text))
 
 -- all that was read of lines of a text lies in it
 all_read-lie : (text : List ℕ) (lines : List LineText) (read : List TraceLine) → All (StandsIn text) lines → all_read lines ≡ Ok read → All (LiesIn text) read

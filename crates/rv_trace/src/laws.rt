@@ -1,5 +1,5 @@
 //! What the definitions mean, said in another way.
-ghost use Rattle.std.specs.Prelude.{◌≡◌, ◌↔◌, ◌<◌, ◌≤◌, ◌++◌, [], ◌∷◌, length, ℕ, List, Some, None, Ok, Err, true};
+ghost use Rattle.std.specs.Prelude.{◌≡◌, ◌↔◌, ◌<◌, ◌≤◌, ◌++◌, [], ◌∷◌, length, ℕ, List, Some, None, Ok, Err, true, false};
 ghost use Rattle.rv_text.specs.TextLines.{line_end, line_here};
 ghost use Rattle.rv_trace.specs.declared.head.Head.{Head};
 ghost use Rattle.rv_trace.specs.declared.parts.Part.{Part};
@@ -9,7 +9,7 @@ ghost use Rattle.rv_trace.specs.Lines.{is_stamp, line_of, moved};
 ghost use Rattle.rv_trace.specs.Traces.{reading_of, trace_of};
 ghost use Rattle.rv_trace.specs.Lines.{moved_line};
 ghost use Rattle.rv_trace.specs.declared.line.TraceLine.{TraceLine};
-ghost use Rattle.rv_trace.specs.Streams.{TakesLine, IsTaken, IsRefused};
+ghost use Rattle.rv_trace.specs.Streams.{ended_front, part_read, TakesLine, IsTaken, IsRefused};
 ghost use Rattle.rv_text.specs.declared.refusals.Refusal.{Refusal};
 
 /// A head is said by its places alone: the head of a text is the one of all its heads that ends first.
@@ -42,4 +42,10 @@ pub fn takes_the_trace()
     ensures none { (before after whole : List ℕ) (lines : List TraceLine) → IsTaken before after whole → trace_of before ≡ Ok lines → trace_of whole ≡ Ok lines }
     ensures refused { (before after whole : List ℕ) (refusal : Refusal) (lines : List TraceLine) → IsRefused before after whole refusal →
         trace_of before ≡ Ok lines → trace_of whole ≡ Err refusal }
+{}
+
+/// A refusal stays, whatever follows: that of a text up to its last line end, and that of what is read of a stream.
+pub fn refusals_stay()
+    ensures front { (fed more : List ℕ) (refusal : Refusal) → trace_of (ended_front fed) ≡ Err refusal → trace_of (fed ++ more) ≡ Err refusal }
+    ensures read { (fed more : List ℕ) (refusal : Refusal) → trace_of (part_read false fed) ≡ Err refusal → trace_of (fed ++ more) ≡ Err refusal }
 {}

@@ -13,7 +13,9 @@ mod seek;
 mod trace;
 
 pub use fields::field;
-pub use laws::{heads_by_places, lines_move, lines_stay, stamps_by_places, takes_the_trace};
+pub use laws::{
+    heads_by_places, lines_move, lines_stay, refusals_stay, stamps_by_places, takes_the_trace,
+};
 pub use line::{LAST_CPU, LAST_PID, Span, TraceLine, read_line};
 pub use lines::Lines;
 pub use trace::{MAX_BYTES, MAX_LINES, read_trace};

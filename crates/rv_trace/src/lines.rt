@@ -1,10 +1,12 @@
 //! The lines of a stream that is fed in pieces and never held whole.
-ghost use Rattle.std.specs.Prelude.{◌≡◌, ◌≤◌, ◌++◌, ◌&&◌, [], true, false, not, drop, length, IsTrue, OnOk, OnErr};
+ghost use Rattle.std.specs.Prelude.{◌≡◌, ◌≤◌, ◌++◌, ◌&&◌, [], true, false, not, drop, take, length, IsTrue, IfOk, IfSome, OnOk, OnErr};
+ghost use Rattle.rv_trace.specs.Lines.{LiesIn};
 ghost use Rattle.rv_trace.specs.Streams.{Takes};
 
 use crate::fed::Fed;
 use crate::line::TraceLine;
 use crate::seek::{At, seek};
+use crate::trace::MAX_BYTES;
 use rv_text::Refusal;
 use std::alloc::{AllocError, Global};
 use std::marker::Model;
@@ -77,6 +79,7 @@ impl Lines {
         requires idle { self.old.idle ≡ true }
         ensures ok { OnOk result (self.new ≡ record self.old { fed = self.old.fed ++ piece.now; text = []; idle = false }) }
         ensures err { OnErr result (self.new ≡ self.old) }
+        ensures kept { OnOk result (take self.new.taken self.new.fed ≡ take self.old.taken self.old.fed) }
     {
         self.held.extend_from_slice(piece)?;
         let_go(&mut self.held, self.at.from);
@@ -115,7 +118,9 @@ impl Lines {
     /// The next line that is not skipped, or None where no line is left of what can be read: before the end of the
     /// stream that is all up to its last line end. After a refusal each call refuses the same. No memory is taken.
     pub fn take(&mut self) -> Result<Option<TraceLine>, Refusal>
-        ensures { Takes self.old self.new result }
+        ensures takes { Takes self.old self.new result }
+        ensures lies { IfOk result (λ found. IfSome found (LiesIn self.new.text)) }
+        ensures small { length self.new.text ≤ MAX_BYTES }
     {
         let sought = seek(self.held.as_slice(), self.passed, self.at, self.ended);
         self.at = sought.at;

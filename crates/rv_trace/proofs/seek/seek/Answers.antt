@@ -1,11 +1,15 @@
 use Rattle.std.proofs.Common.{◌≡◌, ◌≤◌, ◌+◌, ◌||◌, ltb, length, take, Option, Result, Ok, Some, None, sym, ◌∙◌, ap, subst, arith}
+use Rattle.std.specs.Prelude.{IfSome}
 use Rattle.rv_text.specs.Places.{between}
+use Rattle.rv_text.specs.TextLines.{LineText}
 use Rattle.rv_text.specs.declared.refusals.Refusal.{Refusal}
 use Rattle.rv_trace.specs.declared.line.TraceLine.{TraceLine}
 use Rattle.rv_trace.specs.declared.trace.TheConstants.{MAX_BYTES}
 use Rattle.rv_trace.specs.Held.{EndsAt, IsOpen}
+use Rattle.rv_trace.specs.Lines.{LiesIn}
 use Rattle.rv_trace.specs.Streams.{Answers, part_read}
 use Rattle.rv_trace.proofs.SeekLemmas.{adds-none, open-is, reading-fits, looks-first, behind-passed, behind-skipped, behind-taken, behind-refused}
+use Rattle.rv_trace.proofs.TraceLemmas.{reading-lies}
 use Rattle.rv_trace.proofs.seek.seek.Goals as goal
 
 pub loop-to-init : goal.loop-to-init
@@ -34,6 +38,19 @@ loop-to-preserved c =
 pub returns-in-Some-found-clause-fits : goal.returns-in-Some-found-clause-fits
 returns-in-Some-found-clause-fits c =
     reading-fits (record { number = c.loop-to.at.number; from = 0; bytes = between c.args.held.now c.loop-to.at.from c.in-Some.to; end = c.args.passed + c.behind-end.result }) c.in-Ok.found (sym c.read_at-read.ensures ∙ c.in-Ok.is)
+
+pub returns-in-Some-found-clause-small : goal.returns-in-Some-found-clause-small
+returns-in-Some-found-clause-small c =
+    let fits = reading-fits (record { number = c.loop-to.at.number; from = 0; bytes = between c.args.held.now c.loop-to.at.from c.in-Some.to; end = c.args.passed + c.behind-end.result }) c.in-Ok.found (sym c.read_at-read.ensures ∙ c.in-Ok.is) in
+    omega (arith, fits, c.behind-end.ensures.value, c.in-Some.ensures.some.within)
+
+pub returns-in-Some-found-clause-lies : goal.returns-in-Some-found-clause-lies
+returns-in-Some-found-clause-lies c =
+    let text = between c.args.held.now c.loop-to.at.from c.in-Some.to in
+    let line : LineText = record { number = c.loop-to.at.number; from = 0; bytes = between c.args.held.now c.loop-to.at.from c.in-Some.to; end = c.args.passed + c.behind-end.result } in
+    let is : ◌≡◌ {A = Result (Option TraceLine) Refusal} c.read_at-read.result (Ok (Some c.in-Some-found.field-0)) = c.in-Ok.is ∙ ap Ok c.in-Some-found.is in
+    subst (λ (o : Option TraceLine). IfSome o (LiesIn text)) (sym c.in-Some-found.is)
+    (reading-lies text line c.in-Some-found.field-0 (omega arith) (sym c.read_at-read.ensures ∙ is))
 
 pub returns-in-Some-found-clause-found : goal.returns-in-Some-found-clause-found
 returns-in-Some-found-clause-found c fed piece stands =
