@@ -3,6 +3,7 @@ pub mod EventLemmas
 pub mod FittingLemmas
 pub mod IndexLemmas
 pub mod LaneLemmas
+pub mod MoveLemmas
 pub mod RoutedLemmas
 pub mod RoutingLemmas
 pub mod TurnLemmas

@@ -1,5 +1,5 @@
 -- One more rule, and one more line.
-use Rattle.std.proofs.Common.{◌≡◌, ℕ, ◌+◌, ◌<◌, ◌≤◌, List, ◌∷◌, ◌++◌, arith, length, get_or, drop, Result, Ok, sym, ◌∙◌, ap, drop-cons, add-one}
+use Rattle.std.proofs.Common.{◌≡◌, ℕ, ◌+◌, ◌<◌, ◌≤◌, List, [], ◌∷◌, ◌++◌, arith, length, get_or, drop, Result, Ok, Err, refl, sym, ◌∙◌, ap, drop-cons, add-one}
 use Rattle.std.specs.Prelude.{All}
 use Rattle.std.proofs.lemmas.List.{drop_all, append_assoc}
 use Rattle.std.proofs.lemmas.List.Elements.{All-rest}
@@ -8,6 +8,7 @@ use Rattle.rv_text.specs.declared.refusals.Refusal.{Refusal}
 use Rattle.rv_text.specs.declared.refusals.Refused.{Refused}
 use Rattle.rv_text.specs.declared.refusals.Refused.TheVariants as refuseds
 use Rattle.rv_text.specs.Readings.{Refuses}
+use Rattle.rv_text.proofs.ReadingLaws.{and_then-and_then}
 use Rattle.rv_trace.specs.declared.line.TraceLine.{TraceLine}
 use Rattle.rv_bind.specs.declared.bindings.Monitor.{Monitor}
 use Rattle.rv_bind.specs.RuleValues.{OnValue}
@@ -44,6 +45,24 @@ line-more text monitors rules lines i none routes inside =
 pub lines-end : (text : List ℕ) (monitors : List Monitor) (rules : List OnValue) (lines : List TraceLine) (i : ℕ) (routes : Routes) → length lines ≤ i → routes_of text monitors rules (drop i lines) routes ≡ Ok routes
 unfolding routes_of
 lines-end text monitors rules lines i routes past = ap (λ rest. routes_of text monitors rules rest routes) (drop_all i lines past)
+
+-- what is read next alike is alike
+pub next-alike : (read : Result Routes Refusal) (f g : Routes → Result Routes Refusal) → ((routes : Routes) → f routes ≡ g routes) → and_then read f ≡ and_then read g
+next-alike (Ok routes) f g same = same routes
+next-alike (Err refusal) f g same = refl
+
+-- one more line goes last
+pub line-last : (text : List ℕ) (monitors : List Monitor) (rules : List OnValue) (lines : List TraceLine) (line : TraceLine) (routes : Routes) →
+    routes_of text monitors rules (lines ++ line ∷ []) routes ≡ and_then (routes_of text monitors rules lines routes) (line_routes text line monitors rules)
+unfolding routes_of
+line-last text monitors rules [] line routes = ends (line_routes text line monitors rules routes)
+  where
+    ends : (read : Result Routes Refusal) → and_then read (λ (routes : Routes). routes_of text monitors rules [] routes) ≡ read
+    ends (Ok routes) = refl
+    ends (Err refusal) = refl
+line-last text monitors rules (first ∷ lines) line routes =
+    let read : Result Routes Refusal = line_routes text first monitors rules routes in
+    next-alike read (routes_of text monitors rules (lines ++ line ∷ [])) _ (line-last text monitors rules lines line) ∙ sym (and_then-and_then read (routes_of text monitors rules lines) (line_routes text line monitors rules))
 
 -- a refusal stays the refusal, whatever would come next
 pub refuses-then : (refused : Refused) (read : Result Routes Refusal) (next : Routes → Result Routes Refusal) → Refuses refused read → Refuses refused (and_then read next)

@@ -7,6 +7,7 @@ mod event;
 mod firing;
 mod index;
 mod lanes;
+mod laws;
 mod routed;
 mod router;
 #[cfg(test)]
@@ -14,6 +15,7 @@ mod tests;
 mod tracing;
 
 pub use deliveries::MAX_DELIVERIES;
+pub use laws::lines_are_routed_alike;
 pub use routed::Routed;
 pub use router::Router;
 pub use tracing::route;
