@@ -1,6 +1,6 @@
 -- A line more of a text that is routed as it is read.
 use Rattle.std.proofs.Common.{◌≡◌, ℕ, ◌+◌, ◌-◌, ◌<◌, ◌≤◌, List, [], ◌∷◌, ◌++◌, length, take, drop, get_or, refl, sym, ap, ◌∙◌, subst, arith, append_assoc, take-append-drop, length-append}
-use Rattle.std.specs.Prelude.{All, Option, Some, None, Result, Ok, Err}
+use Rattle.std.specs.Prelude.{All, Option, Some, None, IfSome, Result, Ok, Err}
 use Rattle.std.proofs.lemmas.List.{get_or-append_right}
 use Rattle.std.proofs.Math.ListN.{get_or-append}
 use Rattle.rv_text.specs.declared.refusals.Refusal.{Refusal}
@@ -12,40 +12,26 @@ use Rattle.rv_text.proofs.LinesStand.{lines_of-stand}
 use Rattle.rv_text.proofs.ReadingLaws.{Refuses-and_then, Refuses-same, and_then-ok}
 use Rattle.rv_trace.specs.declared.line.TraceLine.{TraceLine}
 use Rattle.rv_trace.specs.Lines.{LiesIn, moved_line}
-use Rattle.rv_trace.specs.Streams.{TakesLine}
+use Rattle.rv_trace.specs.Streams as streams
+use Rattle.rv_trace.specs.Streams.{Stream, TakesLine, IsTaken, Answers, part_read}
+use Rattle.rv_trace.specs.declared.trace.TheConstants.{MAX_BYTES}
 use Rattle.rv_trace.specs.Traces.{trace_of}
-use Rattle.rv_trace.proofs.TakenLemmas.{takes-read}
+use Rattle.rv_trace.proofs.TakenLemmas.{adds-nothing, takes-read, refused-read}
 use Rattle.rv_trace.proofs.TraceLemmas.{trace_of-lies}
 use Rattle.rv_bind.specs.declared.bindings.Bindings.{Bindings}
-use Rattle.rv_bind.specs.declared.bindings.Monitor.{Monitor}
-use Rattle.rv_bind.specs.RuleValues.{OnValue}
 use Rattle.rv_route.specs.Fitting.{NumbersAscend}
+use Rattle.rv_route.specs.Lines.{IsRoutable}
 use Rattle.rv_route.specs.Routers.{RouterValue, IsFor, Takes, refusal_of}
 use Rattle.rv_route.specs.Routing.{Routes, Reaches, routes_of, line_routes, nothing}
-use Rattle.rv_tool.specs.Pieces.{RoutedAs, IsRouted}
+use Rattle.rv_route.proofs.MoveLemmas.{routes_of-more, line_routes-moved}
+use Rattle.rv_route.proofs.RoutingLemmas.{line-last}
+use Rattle.rv_tool.specs.Pieces.{passed, RoutedAs, IsRouted}
 use Rattle.rv_tool.proofs.TraceTextLemmas.{trace_ascends}
 
 module _ (bindings : Bindings) where
-  ms : List Monitor
-  ms = bindings.monitors.items
-
-  rs : List OnValue
-  rs = bindings.rules.items
-
-  more : (text tail : List ℕ) (lines : List TraceLine) → All (LiesIn text) lines → routes_of (text ++ tail) bindings.monitors.items bindings.rules.items lines nothing ≡ routes_of text bindings.monitors.items bindings.rules.items lines nothing
-  more text tail lines lie = ?
-
-  last : (text : List ℕ) (lines : List TraceLine) (line : TraceLine) → routes_of text bindings.monitors.items bindings.rules.items (lines ++ line ∷ []) nothing
-      ≡ and_then (routes_of text bindings.monitors.items bindings.rules.items lines nothing) (line_routes text line bindings.monitors.items bindings.rules.items)
-  last text lines line = ?
-
-  moved : (text own : List ℕ) (from : ℕ) (line : TraceLine) (routes : Routes) → LiesIn own line → own ≡ between text from (from + length own) → from + length own ≤ length text
-      → line_routes text (moved_line from line) bindings.monitors.items bindings.rules.items routes ≡ line_routes own line bindings.monitors.items bindings.rules.items routes
-  moved text own from line routes lie is within = ?
-
   -- the front of a text routes the same
   prefix : (fed : List ℕ) (i : ℕ) (lines : List TraceLine) → All (LiesIn (take i fed)) lines → routes_of fed bindings.monitors.items bindings.rules.items lines nothing ≡ routes_of (take i fed) bindings.monitors.items bindings.rules.items lines nothing
-  prefix fed i lines lie = ap (λ (t : List ℕ). routes_of t bindings.monitors.items bindings.rules.items lines nothing) (sym (take-append-drop i fed)) ∙ more (take i fed) (drop i fed) lines lie
+  prefix fed i lines lie = ap (λ (t : List ℕ). routes_of t bindings.monitors.items bindings.rules.items lines nothing) (sym (take-append-drop i fed)) ∙ routes_of-more (take i fed) (drop i fed) bindings.monitors.items bindings.rules.items lines nothing lie
 
   front_of : (P : TraceLine → Type 0) (xs ys : List TraceLine) → All P (xs ++ ys) → All P xs
   front_of P xs ys all i d within = let many : length (xs ++ ys) ≡ length xs + length ys = length-append xs ys in subst P (get_or-append xs ys d i within) (all i d (omega arith))
@@ -73,10 +59,10 @@ module _ (bindings : Bindings) where
       omega arith
 
   -- a line's step, from what was routed before it
-  routed-step : (before line_read : Result Routes Refusal) (old new : RouterValue) (result : Result (Unit {0}) Refused) (step : Routes → Result Routes Refusal)
+  routed-step : (before : Result Routes Refusal) (old new : RouterValue) (result : Result (Unit {0}) Refused) (step : Routes → Result Routes Refusal)
       → RoutedAs old.refused before old.routes → (old.refused ≡ None → Reaches result new.routes (step old.routes)) → ((refused : Refused) → old.refused ≡ Some refused → result ≡ Err refused) → new.refused ≡ refusal_of result
       → RoutedAs new.refused (and_then before step) new.routes
-  routed-step before line_read old new result step so_far first again noted = go old.refused refl result refl so_far
+  routed-step before old new result step so_far first again noted = go old.refused refl result refl so_far
     where
       go : (refused : Option Refused) → old.refused ≡ refused → (r : Result (Unit {0}) Refused) → result ≡ r → RoutedAs refused before old.routes → RoutedAs new.refused (and_then before step) new.routes
       go None is (Ok done) r_is routed =
@@ -101,10 +87,9 @@ module _ (bindings : Bindings) where
       sym (prefix fed j r.lines lies_a) ∙ prefix fed i r.lines (trace_of-lies b r.lines r.read) in
       let stands : StandsIn a taken.last = last_of (StandsIn a) (lines_of b) taken.adds.skipped taken.last (subst (All (StandsIn a)) taken.adds.are (lines_of-stand a)) in
       let own : text ≡ between a taken.last.from (taken.last.from + length text) = subst (λ (t : List ℕ). t ≡ between a taken.last.from (taken.last.from + length t)) (sym taken.bytes) stands.bytes in
-      let within : taken.last.from + length text ≤ length a = let ended = stands.ended in let inside = stands.within in let long : length text ≡ length taken.last.bytes = ap length taken.bytes in omega arith in
       let step : Routes → Result Routes Refusal = line_routes a m bindings.monitors.items bindings.rules.items in
       let first : old.refused ≡ None → Reaches result new.routes (step old.routes) =
-      λ none. subst (Reaches result new.routes) (sym (moved a text taken.last.from line old.routes lies own within)) (takes.first none) in
+      λ none. subst (Reaches result new.routes) (sym (line_routes-moved a text taken.last.from line bindings.monitors.items bindings.rules.items old.routes lies own)) (takes.first none) in
       record {
         lines = r.lines ++ m ∷ [];
         read = read;
@@ -113,10 +98,65 @@ module _ (bindings : Bindings) where
         late_is = late_is;
         routed =
           subst (λ (q : Result Routes Refusal). RoutedAs new.refused q new.routes)
-          (sym (last a r.lines m ∙ ap (λ (q : Result Routes Refusal). and_then q step) same))
-          (routed-step (routes_of b bindings.monitors.items bindings.rules.items r.lines nothing) (step old.routes) old new result step r.routed first takes.again takes.noted);
+          (sym (line-last a bindings.monitors.items bindings.rules.items r.lines m nothing ∙ ap (λ (q : Result Routes Refusal). and_then q step) same))
+          (routed-step (routes_of b bindings.monitors.items bindings.rules.items r.lines nothing) old new result step r.routed first takes.again takes.noted);
       }
 
   -- the next line has a higher number than those that were routed
   pub line-ascends : (whole text before after : List ℕ) (line : TraceLine) (router : RouterValue) (late : Option Refused) → IsRouted bindings before router late → TakesLine before after whole text line → router.next ≤ line.number
   line-ascends whole text before after line router late r taken = r.next (moved_line taken.last.from line) (trace_ascends after (r.lines ++ moved_line taken.last.from line ∷ []) (takes-read before after whole text line r.lines taken r.read))
+
+  -- a line that was taken lies in its text
+  pub routable : (text given : List ℕ) (found : Option TraceLine) (line : TraceLine) → found ≡ Some line → IfSome found (LiesIn text) → length text ≤ MAX_BYTES → given ≡ text → IsRoutable given line
+  routable text given found line is lies small same =
+      let own : LiesIn text line = subst (λ (o : Option TraceLine). IfSome o (LiesIn text)) is lies in
+      subst (λ (t : List ℕ). IsRoutable t line) (sym same) (record { size = omega arith; lies = own })
+
+  -- what a call took, where it took a line
+  line-taken : (old new : Stream) (found : Option TraceLine) (line : TraceLine) → found ≡ Some line → streams.Takes old new (Ok found) → TakesLine (take old.taken old.fed) (take new.taken old.fed) (part_read old.ended old.fed) new.text line
+  line-taken old new found line is t =
+      subst (λ (fed : List ℕ). TakesLine (take old.taken old.fed) (take new.taken fed) (part_read old.ended old.fed) new.text line) t.fed
+      (subst (λ (o : Option TraceLine). Answers (take old.taken old.fed) (take new.taken new.fed) (part_read old.ended old.fed) new.text (Ok o)) is t.answers)
+
+  -- its number is not below that of the next line
+  pub taken-ascends : (old new : Stream) (found : Option TraceLine) (line : TraceLine) (router : RouterValue) (late : Option Refused) → found ≡ Some line → streams.Takes old new (Ok found) → IsRouted bindings (passed old) router late → router.next ≤ line.number
+  taken-ascends old new found line router late is t r = line-ascends (part_read old.ended old.fed) new.text (passed old) (take new.taken old.fed) line router late r (line-taken old new found line is t)
+
+  -- it was routed
+  pub taken-routed : (old new : Stream) (found : Option TraceLine) (line : TraceLine) (text : List ℕ) (router router' : RouterValue) (late late' : Option Refused) (result : Result (Unit {0}) Refused)
+      → found ≡ Some line → streams.Takes old new (Ok found) → IfSome found (LiesIn new.text) → text ≡ new.text → IsRouted bindings (passed old) router late → Takes bindings text line router result router' → IsFor bindings router' → late' ≡ router'.refused
+      → IsRouted bindings (passed new) router' late'
+  taken-routed old new found line text router router' late late' result is t lies same r takes made late_is =
+      let own : LiesIn new.text line = subst (λ (o : Option TraceLine). IfSome o (LiesIn new.text)) is lies in
+      let took : Takes bindings new.text line router result router' = subst (λ (x : List ℕ). Takes bindings x line router result router') same takes in
+      subst (λ (fed : List ℕ). IsRouted bindings (take new.taken fed) router' late') (sym t.fed)
+      (routed-line old.fed (part_read old.ended old.fed) new.text old.taken new.taken line router router' late late' result r (line-taken old new found line is t) own took made late_is)
+
+  -- where a line was routed, no refusal was given before it either
+  pub late-stays : (text : List ℕ) (line : TraceLine) (old new : RouterValue) (late : Option Refused) (result : Result (Unit {0}) Refused) (done : Unit {0}) → result ≡ Ok done → late ≡ old.refused → Takes bindings text line old result new → late ≡ new.refused
+  late-stays text line old new late result done ok late_is takes = go old.refused refl
+    where
+      go : (refused : Option Refused) → old.refused ≡ refused → late ≡ new.refused
+      go None is = late_is ∙ is ∙ sym (takes.noted ∙ ap refusal_of ok)
+      go (Some fault) is = let both : Ok done ≡ Err fault = sym ok ∙ takes.again fault is in cc
+
+  -- no line was left
+  pub rest-routed : (old new : Stream) (router : RouterValue) (late : Option Refused) → streams.Takes old new (Ok None) → IsRouted bindings (passed old) router late → IsRouted bindings (passed new) router late
+  rest-routed old new router late t r =
+      let taken : IsTaken (take old.taken old.fed) (take new.taken old.fed) (part_read old.ended old.fed) = subst (λ (fed : List ℕ). IsTaken (take old.taken old.fed) (take new.taken fed) (part_read old.ended old.fed)) t.fed t.answers in
+      let a : List ℕ = take new.taken old.fed in
+      let read : trace_of a ≡ Ok r.lines = adds-nothing (passed old) a r.lines taken.adds r.read in
+      let same : routes_of a bindings.monitors.items bindings.rules.items r.lines nothing ≡ routes_of (passed old) bindings.monitors.items bindings.rules.items r.lines nothing =
+      sym (prefix old.fed new.taken r.lines (trace_of-lies a r.lines read)) ∙ prefix old.fed old.taken r.lines (trace_of-lies (passed old) r.lines r.read) in
+      subst (λ (fed : List ℕ). IsRouted bindings (take new.taken fed) router late) (sym t.fed) (record {
+        lines = r.lines;
+        read = read;
+        made = r.made;
+        next = r.next;
+        late_is = r.late_is;
+        routed = subst (λ (q : Result Routes Refusal). RoutedAs router.refused q router.routes) (sym same) r.routed;
+      })
+
+  -- a line was refused
+  pub taken-refused : (old new : Stream) (router : RouterValue) (late : Option Refused) (refusal : Refusal) → streams.Takes old new (Err refusal) → IsRouted bindings (passed old) router late → trace_of (part_read old.ended old.fed) ≡ Err refusal
+  taken-refused old new router late refusal t r = refused-read (passed old) (take new.taken new.fed) (part_read old.ended old.fed) refusal r.lines t.answers r.read

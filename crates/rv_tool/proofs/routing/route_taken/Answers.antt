@@ -1,0 +1,38 @@
+use Rattle.std.proofs.Common.{◌≡◌, ◌∙◌, sym, ap, subst}
+use Rattle.std.specs.Prelude.{Some, Err}
+use Rattle.std.proofs.lemmas.Result.{err_from_is_err_and}
+use Rattle.rv_trace.specs.Streams.{part_read}
+use Rattle.rv_trace.specs.Traces.{trace_of}
+use Rattle.rv_route.specs.Routers.{refusal_of}
+use Rattle.rv_tool.proofs.PiecesLemmas.{routable, taken-ascends, taken-routed, late-stays, rest-routed, taken-refused}
+use Rattle.rv_tool.proofs.routing.route_taken.Goals as goal
+
+pub line-requires-clause-line : goal.line-requires-clause-line
+line-requires-clause-line c = routable c.args.bindings.now c.take.new.self.text c.text.result.now c.in_ok-line.field-0 c.in-Some.line c.in-Some.is c.in_ok-line.ensures.lies c.take.ensures.small c.text.ensures
+
+pub line-requires-clause-ascends : goal.line-requires-clause-ascends
+line-requires-clause-ascends c =
+    taken-ascends c.args.bindings.now c.loop-line.lines c.take.new.self c.in_ok-line.field-0 c.in-Some.line c.loop-line.router c.loop-line.late c.in-Some.is c.in_ok-line.ensures.takes c.loop-line.invariant.2
+
+pub loop-line-preserved-in-Err : goal.loop-line-preserved-in-Err
+loop-line-preserved-in-Err c = (
+  c.take.ensures.takes.fed ∙ c.loop-line.invariant.0,
+  c.take.ensures.takes.ended ∙ c.loop-line.invariant.1,
+  taken-routed c.args.bindings.now c.loop-line.lines c.take.new.self c.in_ok-line.field-0 c.in-Some.line c.text.result.now c.loop-line.router c.line.new.self c.loop-line.late (Some c.in-Err.fault) c.line.result
+  c.in-Some.is c.in_ok-line.ensures.takes c.in_ok-line.ensures.lies c.text.ensures c.loop-line.invariant.2 c.line.ensures.takes c.line.ensures.made (sym (c.line.ensures.takes.noted ∙ ap refusal_of c.in-Err.is)),
+)
+
+pub loop-line-preserved : goal.loop-line-preserved
+loop-line-preserved c = (
+  c.take.ensures.takes.fed ∙ c.loop-line.invariant.0,
+  c.take.ensures.takes.ended ∙ c.loop-line.invariant.1,
+  taken-routed c.args.bindings.now c.loop-line.lines c.take.new.self c.in_ok-line.field-0 c.in-Some.line c.text.result.now c.loop-line.router c.line.new.self c.loop-line.late c.loop-line.late c.line.result
+  c.in-Some.is c.in_ok-line.ensures.takes c.in_ok-line.ensures.lies c.text.ensures c.loop-line.invariant.2 c.line.ensures.takes c.line.ensures.made
+  (late-stays c.args.bindings.now c.text.result.now c.in-Some.line c.loop-line.router c.line.new.self c.loop-line.late c.line.result tt c.in_default-line.is c.loop-line.invariant.2.late_is c.line.ensures.takes),
+)
+
+pub returns-in_err-line-clause-refused : goal.returns-in_err-line-clause-refused
+returns-in_err-line-clause-refused c = ?
+
+pub returns-clause-routed : goal.returns-clause-routed
+returns-clause-routed c = rest-routed c.args.bindings.now c.loop-line.lines c.take.new.self c.loop-line.router c.loop-line.late ? c.loop-line.invariant.2
