@@ -1,3 +1,4 @@
+pub mod AscendLemmas
 pub mod BitLemmas
 pub mod FieldLemmas
 pub mod FrontLemmas

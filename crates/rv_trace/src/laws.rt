@@ -1,5 +1,5 @@
 //! What the definitions mean, said in another way.
-ghost use Rattle.std.specs.Prelude.{◌≡◌, ◌↔◌, ◌<◌, ◌≤◌, ◌++◌, [], ◌∷◌, length, ℕ, List, Some, None, Ok, Err, true, false};
+ghost use Rattle.std.specs.Prelude.{◌≡◌, ◌↔◌, ◌<◌, ◌≤◌, ◌++◌, [], ◌∷◌, length, ℕ, List, Some, None, Ok, Err, true, false, AllPairs};
 ghost use Rattle.rv_text.specs.TextLines.{line_end, line_here};
 ghost use Rattle.rv_trace.specs.declared.head.Head.{Head};
 ghost use Rattle.rv_trace.specs.declared.parts.Part.{Part};
@@ -48,4 +48,9 @@ pub fn takes_the_trace()
 pub fn refusals_stay()
     ensures front { (fed more : List ℕ) (refusal : Refusal) → trace_of (ended_front fed) ≡ Err refusal → trace_of (fed ++ more) ≡ Err refusal }
     ensures read { (fed more : List ℕ) (refusal : Refusal) → trace_of (part_read false fed) ≡ Err refusal → trace_of (fed ++ more) ≡ Err refusal }
+{}
+
+/// The lines of a trace are numbered upwards.
+pub fn traces_ascend()
+    ensures { (text : List ℕ) (lines : List TraceLine) → trace_of text ≡ Ok lines → AllPairs (λ l m. l.number < m.number) lines }
 {}

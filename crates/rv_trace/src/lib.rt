@@ -15,6 +15,7 @@ mod trace;
 pub use fields::field;
 pub use laws::{
     heads_by_places, lines_move, lines_stay, refusals_stay, stamps_by_places, takes_the_trace,
+    traces_ascend,
 };
 pub use line::{LAST_CPU, LAST_PID, Span, TraceLine, read_line};
 pub use lines::Lines;
