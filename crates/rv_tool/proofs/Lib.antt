@@ -9,4 +9,3 @@ pub mod SaysLemmas
 pub mod SessionLemmas
 pub mod SwitchLemmas
 pub mod TableLemmas
-pub mod TraceTextLemmas

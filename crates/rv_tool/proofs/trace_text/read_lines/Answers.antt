@@ -1,4 +1,4 @@
-use Rattle.rv_tool.proofs.TraceTextLemmas.{trace_ascends}
+use Rattle.rv_trace.proofs.AscendLemmas.{trace_ascends}
 use Rattle.rv_tool.proofs.trace_text.read_lines.Goals as goal
 
 pub returns-in-Ok-clause-ascend : goal.returns-in-Ok-clause-ascend
