@@ -1,13 +1,15 @@
 -- A line more of a text that is routed as it is read.
 use Rattle.std.proofs.Common.{◌≡◌, ℕ, ◌+◌, ◌-◌, ◌<◌, ◌≤◌, List, [], ◌∷◌, ◌++◌, length, take, drop, get_or, refl, sym, ap, ◌∙◌, subst, arith, append_assoc, take-append-drop, length-append}
-use Rattle.std.specs.Prelude.{All, Option, Some, None, IfSome, Result, Ok, Err}
+use Rattle.std.specs.Prelude.{All, Option, Some, None, IfSome, Result, Ok, Err, Bool, false, slice_range}
 use Rattle.std.proofs.lemmas.List.{get_or-append_right}
 use Rattle.std.proofs.Math.ListN.{get_or-append}
+use Rattle.std.proofs.Math.Seq.{take-add}
 use Rattle.rv_text.specs.declared.refusals.Refusal.{Refusal}
 use Rattle.rv_text.specs.declared.refusals.Refused.{Refused}
+use Rattle.rv_text.specs.declared.refusals.Refused.TheVariants as refuseds
 use Rattle.rv_text.specs.Places.{between}
 use Rattle.rv_text.specs.Readings.{Refuses, and_then}
-use Rattle.rv_text.specs.TextLines.{LineText, StandsIn, lines_of}
+use Rattle.rv_text.specs.TextLines.{LineText, StandsIn, lines_of, lines_from, lines_at, select}
 use Rattle.rv_text.proofs.LinesStand.{lines_of-stand}
 use Rattle.rv_text.proofs.ReadingLaws.{Refuses-and_then, Refuses-same, and_then-ok}
 use Rattle.rv_trace.specs.declared.line.TraceLine.{TraceLine}
@@ -15,18 +17,29 @@ use Rattle.rv_trace.specs.Lines.{LiesIn, moved_line}
 use Rattle.rv_trace.specs.Streams as streams
 use Rattle.rv_trace.specs.Streams.{Stream, TakesLine, IsTaken, Answers, part_read}
 use Rattle.rv_trace.specs.declared.trace.TheConstants.{MAX_BYTES}
-use Rattle.rv_trace.specs.Traces.{trace_of}
+use Rattle.rv_trace.specs.Traces.{trace_of, all_read}
 use Rattle.rv_trace.proofs.TakenLemmas.{adds-nothing, takes-read, refused-read}
 use Rattle.rv_trace.proofs.TraceLemmas.{trace_of-lies}
 use Rattle.rv_bind.specs.declared.bindings.Bindings.{Bindings}
+use Rattle.rv_bind.specs.Outcomes.{reading, of_file}
 use Rattle.rv_route.specs.Fitting.{NumbersAscend}
 use Rattle.rv_route.specs.Lines.{IsRoutable}
 use Rattle.rv_route.specs.Routers.{RouterValue, IsFor, Takes, refusal_of}
-use Rattle.rv_route.specs.Routing.{Routes, Reaches, routes_of, line_routes, nothing}
+use Rattle.rv_route.specs.Routing.{Routes, RoutedValue, Reaches, routes_of, line_routes, nothing, routed_of, route_of, works_of}
 use Rattle.rv_route.proofs.MoveLemmas.{routes_of-more, line_routes-moved}
 use Rattle.rv_route.proofs.RoutingLemmas.{line-last}
 use Rattle.rv_tool.specs.Pieces.{passed, RoutedAs, IsRouted}
-use Rattle.rv_tool.proofs.TraceTextLemmas.{trace_ascends}
+use Rattle.rv_trace.proofs.AscendLemmas.{trace_ascends}
+use Rattle.rv_trace.proofs.FrontLemmas.{read-refused}
+
+-- a piece more of a text
+pub piece_more : (text : List ℕ) (place end : ℕ) → place ≤ end → take place text ++ slice_range text place end ≡ take end text
+piece_more text place end le = sym (take-add place (end - place) text) ∙ (let e : place + (end - place) ≡ end = omega arith in ap (λ n. take n text) e)
+
+-- a refusal of what was fed of a text is the text's
+pub front_refused : (text fed : List ℕ) (ended : Bool) (end : ℕ) (refusal : Refusal) → fed ≡ take end text → ended ≡ false → trace_of (part_read ended fed) ≡ Err refusal → trace_of text ≡ Err refusal
+front_refused text fed ended end refusal is open_is e =
+    sym (ap trace_of (ap (λ (t : List ℕ). t ++ drop end text) is ∙ take-append-drop end text)) ∙ read-refused fed (drop end text) refusal (subst (λ (b : Bool). trace_of (part_read b fed) ≡ Err refusal) open_is e)
 
 module _ (bindings : Bindings) where
   -- the front of a text routes the same
@@ -97,9 +110,9 @@ module _ (bindings : Bindings) where
         next = λ x ascend. let lt = behind r.lines m x ascend in let is = takes.next in omega arith;
         late_is = late_is;
         routed =
-          subst (λ (q : Result Routes Refusal). RoutedAs new.refused q new.routes)
-          (sym (line-last a bindings.monitors.items bindings.rules.items r.lines m nothing ∙ ap (λ (q : Result Routes Refusal). and_then q step) same))
-          (routed-step (routes_of b bindings.monitors.items bindings.rules.items r.lines nothing) old new result step r.routed first takes.again takes.noted);
+            subst (λ (q : Result Routes Refusal). RoutedAs new.refused q new.routes)
+            (sym (line-last a bindings.monitors.items bindings.rules.items r.lines m nothing ∙ ap (λ (q : Result Routes Refusal). and_then q step) same))
+            (routed-step (routes_of b bindings.monitors.items bindings.rules.items r.lines nothing) old new result step r.routed first takes.again takes.noted);
       }
 
   -- the next line has a higher number than those that were routed
@@ -160,3 +173,46 @@ module _ (bindings : Bindings) where
   -- a line was refused
   pub taken-refused : (old new : Stream) (router : RouterValue) (late : Option Refused) (refusal : Refusal) → streams.Takes old new (Err refusal) → IsRouted bindings (passed old) router late → trace_of (part_read old.ended old.fed) ≡ Err refusal
   taken-refused old new router late refusal t r = refused-read (passed old) (take new.taken new.fed) (part_read old.ended old.fed) refusal r.lines t.answers r.read
+
+  -- nothing was routed of no text
+  pub none-routed : (router : RouterValue) (late : Option Refused) → IsFor bindings router → router.routes ≡ nothing → router.next ≡ 0 → router.refused ≡ None → late ≡ None → IsRouted bindings [] router late
+  unfolding trace_of lines_of lines_from select lines_at all_read routes_of
+  none-routed router late made routes next refused late_is = record {
+    lines = [];
+    read = refl;
+    made = made;
+    next = λ line ascend. omega arith;
+    late_is = late_is ∙ sym refused;
+    routed = subst (λ (r : Option Refused). RoutedAs r (Ok nothing) router.routes) (sym refused) (ap (λ (r : Routes). Ok r) (sym routes));
+  }
+
+  -- all of a text was routed
+  pub all-routed : (text : List ℕ) (router : RouterValue) (late : Option Refused) (value : RoutedValue) → late ≡ None → IsRouted bindings text router late → value ≡ record { tasks = router.routes.tasks; works = works_of router.routes.lanes }
+      → and_then (trace_of text) (route_of bindings.monitors.items bindings.rules.items text) ≡ Ok value
+  unfolding route_of
+  all-routed text router late value none r is =
+      let routed : routes_of text bindings.monitors.items bindings.rules.items r.lines nothing ≡ Ok router.routes =
+      subst (λ (o : Option Refused). RoutedAs o (routes_of text bindings.monitors.items bindings.rules.items r.lines nothing) router.routes) (sym r.late_is ∙ none) r.routed in
+      and_then-ok (trace_of text) r.lines (route_of bindings.monitors.items bindings.rules.items text) r.read ∙ ap routed_of routed ∙ ap (λ (v : RoutedValue). Ok v) (sym is)
+
+  -- a line was refused
+  pub late-refused : (text : List ℕ) (router : RouterValue) (late : Option Refused) (fault : Refused) → late ≡ Some fault → IsRouted bindings text router late → Refuses fault (and_then (trace_of text) (route_of bindings.monitors.items bindings.rules.items text))
+  unfolding route_of
+  late-refused text router late fault is r =
+      let routed : Refuses fault (routes_of text bindings.monitors.items bindings.rules.items r.lines nothing) =
+      subst (λ (o : Option Refused). RoutedAs o (routes_of text bindings.monitors.items bindings.rules.items r.lines nothing) router.routes) (sym r.late_is ∙ is) r.routed in
+      Refuses-same fault (route_of bindings.monitors.items bindings.rules.items text r.lines) (and_then (trace_of text) (route_of bindings.monitors.items bindings.rules.items text))
+      (and_then-ok (trace_of text) r.lines (route_of bindings.monitors.items bindings.rules.items text) r.read) (refuses-routed fault (routes_of text bindings.monitors.items bindings.rules.items r.lines nothing) routed)
+    where
+      refuses-routed : (f : Refused) (q : Result Routes Refusal) → Refuses f q → Refuses f (routed_of q)
+      refuses-routed refuseds.Memory q e = tt
+      refuses-routed (refuseds.Because refusal) q e = ap routed_of e
+
+  -- no refusal was given
+  pub none-late : (text : List ℕ) (router : RouterValue) (late : Option Refused) → late ≡ None → IsRouted bindings text router late → router.refused ≡ None
+  none-late text router late none r = sym r.late_is ∙ none
+
+-- in a file's words
+pub of_file-and_then : {X Y : Type 0} (file : List ℕ) (read : Result X Refusal) (next : X → Result Y Refusal) → of_file file (and_then read next) ≡ reading (of_file file read) (λ x. of_file file (next x))
+of_file-and_then file (Ok x) next = refl
+of_file-and_then file (Err refusal) next = refl

@@ -1,23 +1,23 @@
 //! From the trace's file to what each CPU has to do.
-ghost use Rattle.std.specs.Prelude.{◌≡◌, ◌≤◌, ◌⊎◌, length, All, IfOk};
-ghost use Rattle.rv_trace.specs.Traces.{trace_of};
-ghost use Rattle.rv_bind.specs.Outcomes.{Comes, Names, of_name, of_file, accepted};
+ghost use Rattle.std.specs.Prelude.{◌≡◌, ◌≤◌, ◌⊎◌, length, IfOk};
+ghost use Rattle.rv_bind.specs.Outcomes.{Comes, Names, of_file, of_name, accepted};
 ghost use Rattle.rv_bind.specs.BoundViews.{bound_value};
 ghost use Rattle.rv_bind.specs.WellFormed.{IsWellFormed, kinds_of};
 ghost use Rattle.rv_bind.specs.declared.fault.BindFault.TheVariants as faults;
-ghost use Rattle.rv_route.specs.Lines.{IsRoutable};
-ghost use Rattle.rv_route.specs.Routing.{route_of};
 ghost use Rattle.rv_route.specs.Routed.{routed_value};
-ghost use Rattle.rv_route.specs.Fitting.{WorksFit, NumbersAscend};
-ghost use Rattle.rv_tool.specs.Inputs.{routed_text, routed_in};
+ghost use Rattle.rv_route.specs.Routing.{route_of};
+ghost use Rattle.rv_text.specs.Readings.{and_then};
+ghost use Rattle.rv_trace.specs.Traces.{trace_of};
+ghost use Rattle.rv_route.specs.Fitting.{WorksFit};
+ghost use Rattle.rv_tool.specs.Inputs.{routed_in};
 ghost use Rattle.rv_tool.specs.Faults.{IsFaultIn, Tells};
 
+use crate::routing::routed;
 use rv_bind::{BindFault, Bound};
 use rv_io::{READ_LIMIT, ReadError, Store};
 use rv_model::Name;
-use rv_route::{Routed, route};
+use rv_route::Routed;
 use rv_text::Refused;
-use rv_trace::{TraceLine, read_trace};
 use std::alloc::Global;
 
 /// The bytes of the trace.
@@ -98,40 +98,9 @@ fn route_text(alloc: Global, name: &str, bound: &Bound, text: &[u8]) -> Result<R
     requires size { length text.now ≤ 134217729 }
     requires formed { IsWellFormed (bound_value bound.now) }
     ensures fit { IfOk result (λ routed. WorksFit (kinds_of bound.now.bindings.monitors.items) (length routed.tasks) routed.works.items) }
-    ensures value { Tells routed_value result (routed_text name.now (bound_value bound.now) text.now) }
+    ensures value { Tells routed_value result (of_file name.now (and_then (trace_of text.now) (route_of bound.now.bindings.monitors.items bound.now.bindings.rules.items text.now))) }
 {
-    let lines = read_lines(alloc, name, text)?;
-    route_lines(alloc, name, bound, text, lines.as_slice())
-}
-
-/// The lines of the text.
-fn read_lines(alloc: Global, name: &str, text: &[u8]) -> Result<Vec<TraceLine>, BindFault>
-    requires { length text.now ≤ 134217729 }
-    ensures lines { IfOk result (λ lines. All (IsRoutable text.now) lines.items) }
-    ensures ascend { IfOk result (λ lines. NumbersAscend lines.items) }
-    ensures value { Tells (λ lines. lines.items) result (of_file name.now (trace_of text.now)) }
-{
-    match read_trace(alloc, text) {
-        Ok(lines) => Ok(lines),
-        Err(fault) => Err(refused(alloc, name, fault)),
-    }
-}
-
-/// Routes the lines of the text.
-fn route_lines(
-    alloc: Global,
-    name: &str,
-    bound: &Bound,
-    text: &[u8],
-    lines: &[TraceLine],
-) -> Result<Routed, BindFault>
-    requires formed { IsWellFormed (bound_value bound.now) }
-    requires lines { All (IsRoutable text.now) lines.now }
-    requires ascend { NumbersAscend lines.now }
-    ensures fit { IfOk result (λ routed. WorksFit (kinds_of bound.now.bindings.monitors.items) (length routed.tasks) routed.works.items) }
-    ensures value { Tells routed_value result (of_file name.now (route_of bound.now.bindings.monitors.items bound.now.bindings.rules.items text.now lines.now)) }
-{
-    match route(alloc, &bound.bindings, text, lines) {
+    match routed(alloc, &bound.bindings, text) {
         Ok(routed) => Ok(routed),
         Err(fault) => Err(refused(alloc, name, fault)),
     }
