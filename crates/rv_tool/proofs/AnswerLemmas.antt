@@ -1,5 +1,5 @@
 -- From how the parts of a run end to what the top call answers.
-use Rattle.std.proofs.Common.{◌≡◌, ℕ, List, sym, ap, ◌∙◌, inl, inr, subst}
+use Rattle.std.proofs.Common.{◌≡◌, ℕ, List, sym, ap, ◌∙◌, inl, inr, subst, arith}
 use Rattle.std.specs.Prelude.{Option, Some, Result, Ok, Err, IfOk}
 use Rattle.std.specs.declared.alloc.AllocError.{AllocError}
 use Rattle.rv_text.specs.declared.refusals.Refusal.{Refusal}
@@ -47,6 +47,14 @@ module _ (old new : Option (List ℕ)) (before now status : ℕ) (h : List Entry
         let same : lacks.0 ≡ files = cc in
         inl (subst (λ (o : Outcome Y). Ends Accepted o old new before now status h) (sym (ap outcome (sym same) ∙ lacks.2)) ends)
     read_answers told first last (Err (faults.Unread file)) (inr rose) named ends files known = inr (rose, file, named files known, ends)
+
+  -- where no fault was counted, no file is blamed
+  pub no_blame : {Y : Type 0} (Accepted : Y → Ending) (outcome : Files → Outcome Y) (files : Files) → AnswersBy Accepted outcome files 0 0 old new before now status h → Ends Accepted (outcome files) old new before now status h
+  no_blame Accepted outcome files (inl ends) = ends
+  no_blame Accepted outcome files (inr (rose, file, reached, said)) = absurd (elim rose [
+    | inl lt ↦ omega arith
+    | inr last ↦ omega arith
+  ])
 
   -- a refusal that was said
   pub refused_fails : (fault : BindFault) (file told : List ℕ) (refusal : Refusal) → fault ≡ faults.Refused file refusal → told ≡ file → Says (refusal_text (Some told) refusal) 2 old new before now status h → Fails fault old new before now status h

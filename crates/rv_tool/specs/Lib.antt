@@ -3,6 +3,7 @@ pub mod Faults
 pub mod FormulaTexts
 pub mod Headline
 pub mod Inputs
+pub mod Loaded
 pub mod Output
 pub mod Pieces
 pub mod Ready

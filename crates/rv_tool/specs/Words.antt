@@ -1,6 +1,8 @@
 -- What the words of the command line ask for.
-use Rattle.std.specs.Prelude.{ℕ, List, [], ◌∷◌, map, codes, bytes_eq, string_bytes, Option, Some, None, if◌then◌else◌, String}
+use Rattle.std.specs.Prelude.{ℕ, nat_lt, ◌&&◌, not, List, [], ◌∷◌, map, codes, bytes_eq, string_bytes, Option, Some, None, if◌then◌else◌, String}
 use Rattle.std.specs.declared.alloc.Global.{Global}
+use Rattle.rv_text.specs.Decimal.{decimal_of}
+use Rattle.rv_gen.specs.declared.files.TheConstants.{MAX_BLOCKS}
 use Rattle.rv_tool.specs.declared.words.Command.{Command}
 use Rattle.rv_tool.specs.declared.words.Command.TheVariants as commands
 use Rattle.rv_tool.specs.declared.words.Kind.{Kind}
@@ -18,6 +20,8 @@ pub data CommandValue : Type 0 where
   feed : List ℕ → List ℕ → CommandValue
   -- the bindings and the script
   control : List ℕ → List ℕ → CommandValue
+  -- how many blocks of the generated input
+  load : ℕ → CommandValue
   -- the kind of specification, and its file
   table : Kind → List ℕ → CommandValue
 
@@ -25,6 +29,7 @@ abbrev pub command_value : Command → CommandValue
 command_value (commands.Replay bindings trace) = replay bindings.now trace.now
 command_value (commands.Feed bindings trace) = feed bindings.now trace.now
 command_value (commands.Control bindings script) = control bindings.now script.now
+command_value (commands.Load blocks) = load blocks
 command_value (commands.Table kind file) = table kind file.now
 
 -- `da` or `ltl`
@@ -53,7 +58,13 @@ command_with (Some verbs.Feed) first second = Some (feed first second)
 command_with (Some verbs.Control) first second = Some (control first second)
 command_with (Some verbs.Table) first second = table_of (kind_of first) second
 
--- `replay BINDINGS TRACE`, `feed BINDINGS TRACE`, `control BINDINGS SCRIPT`, or a table
+-- from 1 to as many blocks as make a whole trace
+abbrev pub load_of : Option ℕ → Option CommandValue
+load_of None = None
+load_of (Some blocks) = if nat_lt 0 blocks && not (nat_lt MAX_BLOCKS blocks) then Some (load blocks) else None
+
+-- `replay BINDINGS TRACE`, `feed BINDINGS TRACE`, `control BINDINGS SCRIPT`, `load N`, or a table
 abbrev pub command_of : List (List ℕ) → Option CommandValue
+command_of (word ∷ number ∷ []) = if bytes_eq word (codes "load") then load_of (decimal_of number) else None
 command_of (word ∷ first ∷ second ∷ []) = command_with (verb_of word) first second
 command_of _ = None

@@ -9,6 +9,7 @@ mod feeding;
 mod feeding_tests;
 mod formula_text;
 mod input;
+mod loading;
 mod output;
 mod replaying;
 mod routing;

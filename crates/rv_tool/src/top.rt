@@ -2,15 +2,17 @@
 ghost use Rattle.std.specs.Prelude.{◌≡◌, [], Some, None, option_copied};
 ghost use Rattle.std.specs.Result.{ForOk};
 ghost use Rattle.rv_model.specs.Histories.{IsOneHistory, IsLegal};
+ghost use Rattle.rv_tool.specs.Loaded.{load_input};
 ghost use Rattle.rv_tool.specs.Output.{refusal_text, missing_text};
 ghost use Rattle.rv_io.specs.Files.{Files};
-ghost use Rattle.rv_tool.specs.Headline.{Says};
+ghost use Rattle.rv_tool.specs.Headline.{Says, Reports, Ends};
 ghost use Rattle.rv_tool.specs.Runs.{Ended, Fails, Runs, PrintsRead, SaysSession, Answers};
 ghost use Rattle.rv_tool.specs.Words.{command_of, texts_of};
 ghost use Rattle.rv_tool.specs.Ready.{ready_value, IsReady};
 
 use crate::feeding::fed;
 use crate::input::{Ready, read_input};
+use crate::loading::{BINDINGS, TRACE, generated_store};
 use crate::output::{missing_line, refusal_line, tell};
 use crate::replaying::{Done, replayed};
 use crate::session::{Session, read_control};
@@ -79,6 +81,7 @@ pub fn rv<R: Threads + Sync, S: Store, K: Sink, G: Gate + Send>(
             out,
             read_control(alloc, store, bindings, script),
         ),
+        Some(Command::Load { blocks }) => load(rt, alloc, out, gate, blocks),
         None => refused(
             alloc,
             out,
@@ -116,6 +119,28 @@ fn run_at_once<R: Threads + Sync, K: Sink, G: Gate + Send>(
     match read {
         Ok(ready) => end(out, fed(rt, alloc, gate, ready)),
         Err(fault) => failed(alloc, out, fault),
+    }
+}
+
+/// Runs so many blocks of the generated input.
+fn load<R: Threads + Sync, K: Sink, G: Gate + Send>(
+    rt: &R,
+    alloc: Global,
+    out: &mut K,
+    gate: &G,
+    blocks: u32,
+) -> Finished
+    ensures { Ends (Reports IsLegal) (load_input blocks) (K.taken out.old) (K.taken out.new) (K.faults out.old) (K.faults out.new) result.status result.closed }
+{
+    match generated_store(alloc, blocks) {
+        Ok(mut store) => run_at_once(
+            rt,
+            alloc,
+            out,
+            gate,
+            read_input(alloc, &mut store, BINDINGS, TRACE),
+        ),
+        Err(AllocError) => give_up(),
     }
 }
 

@@ -1,6 +1,10 @@
 //! What the words of the command line ask for.
-ghost use Rattle.rv_tool.specs.Words.{verb_of, command_with, command_of, command_value, kind_of, texts_of};
-ghost use Rattle.std.specs.Prelude.{◌≡◌, Some, option_map, bytes_eq};
+ghost use Rattle.rv_tool.specs.Words.{load, load_of, verb_of, command_with, command_of, command_value, kind_of, texts_of};
+ghost use Rattle.std.specs.Prelude.{◌≡◌, ◌∷◌, [], Some, option_map, bytes_eq};
+ghost use Rattle.rv_text.specs.Decimal.{decimal_of};
+
+use rv_gen::MAX_BLOCKS;
+use rv_text::decimal;
 
 /// The kinds of specifications.
 #[derive(Clone, Copy, Debug, Drop, PartialEq, Eq)]
@@ -31,6 +35,7 @@ pub(crate) enum Command<'a> {
     Feed { bindings: &'a str, trace: &'a str },
     Control { bindings: &'a str, script: &'a str },
     Table { kind: Kind, file: &'a str },
+    Load { blocks: u32 },
 }
 
 /// Whether the word is this one.
@@ -94,10 +99,36 @@ fn command_with<'a>(verb: Verb, first: &'a str, second: &'a str) -> Option<Comma
     }
 }
 
+/// How many blocks the word asks for, if so many may be loaded.
+fn blocks_of(number: &str) -> Option<u32>
+    ensures { option_map load result ≡ load_of (decimal_of number.now) }
+{
+    match decimal(number.as_bytes()) {
+        Some(blocks) if blocks >= 1 && blocks <= MAX_BLOCKS as u64 => Some(blocks as u32),
+        _ => None,
+    }
+}
+
+/// The command of one further word, if they make one.
+fn load_with<'a>(word: &str, number: &str) -> Option<Command<'a>>
+    ensures { option_map command_value result ≡ command_of (word.now ∷ number.now ∷ []) }
+{
+    if !is(word, "load") {
+        return None;
+    }
+    match blocks_of(number) {
+        Some(blocks) => Some(Command::Load { blocks }),
+        None => None,
+    }
+}
+
 /// The command that the words are, if they are one.
 pub(crate) fn read_words(words: &[String]) -> Option<Command<'_>>
     ensures { option_map command_value result ≡ command_of (texts_of words.now) }
 {
+    if words.len() == 2 {
+        return load_with(words[0].as_str(), words[1].as_str());
+    }
     if words.len() != 3 {
         return None;
     }

@@ -30,6 +30,10 @@ returns-in-Some-Control-clause-answers g c =
     (read_answers _ _ _ _ _ _ session_value PrintsSession (λ files. control_in files _ _) (λ p. no_text _ _ _ _ _ _ p.text p.status) (g.S.Store.files c.args.store.now) _ _
     c.read_control.result c.read_control.ensures.value c.read_control.ensures.named c.tell_session.ensures)
 
+pub returns-in-Some-Load-clause-answers : goal.returns-in-Some-Load-clause-answers
+returns-in-Some-Load-clause-answers g c =
+    words_answer _ _ _ _ _ _ _ _ (g.S.Store.files c.args.store.now) _ _ (sym (ap (λ v. Some (command_value v)) c.in-Some-Load.field-0-is) ∙ c.in-Some-Load.ensures) (λ files known. c.load.ensures)
+
 pub returns-in-Some-Table-clause-answers : goal.returns-in-Some-Table-clause-answers
 returns-in-Some-Table-clause-answers g c =
     words_answer _ _ _ _ _ _ _ _ (g.S.Store.files c.args.store.now) _ _ (sym (ap (λ v. Some (command_value v)) c.in-Some-Table.field-0-is) ∙ c.in-Some-Table.ensures)
