@@ -4,6 +4,8 @@
 #include <dlfcn.h>
 #include <stdio.h>
 #include <stdlib.h>
+#include <sys/syscall.h>
+#include <unistd.h>
 
 static unsigned long made;
 static int has_ended;
@@ -36,4 +38,11 @@ __attribute__((destructor)) static void tell(void) {
         fprintf(file, "%lu\n", calls);
         fclose(file);
     }
+}
+
+/* The program ends by `_exit`, which runs no destructor. */
+void _exit(int status) {
+    tell();
+    for (;;)
+        syscall(SYS_exit_group, status);
 }
