@@ -10,9 +10,10 @@ use Rattle.rv_model.specs.Setups.{Setup}
 use Rattle.rv_model.specs.Seats.{is_in, is_among, entries_of}
 use Rattle.rv_board.specs.declared.view.View.{View}
 use Rattle.rv_board.specs.Known.{knows, Begun, numbers, blank}
-use Rattle.rv_board.specs.Rule.{Fits, KeptPlainly, spent_view, joined}
+use Rattle.rv_board.specs.Rule.{word_at, nothing_else, Fits, Kept, KeptPlainly, spent_view, joined}
 use Rattle.rv_board.proofs.Knowing.{not_true, none_of, none_after, none_either, knows_blank, none_blank, begun_blank}
 use Rattle.rv_board.proofs.ViewLemmas.{each_set, blank_within, AllApart}
+use Rattle.rv_board.proofs.SplitLemmas.{IsSteady}
 use Rattle.rv_board.proofs.NumberLemmas.{none_among, range_right, in_range, or_cases, among_append, numbers_known, joined_cases, joined_left, joined_right}
 
 -- of two beginnings of one list, one begins the other
@@ -52,14 +53,14 @@ longer_begun history v w a b = on (nat_lt (length v.part.seen) (length w.part.se
         empty (x ∷ xs) e = absurd (omega arith)
 
 -- a view takes in another, and the other is left with nothing
-pub joins : (k : Setup) (id : ℕ) (v : View) (other : ℕ) (w : View) → Joins (KeptPlainly k) id v other w (joined v w) spent_view
-joins k id v other w s r e ne there = record {
+pub joins_with : (code : Setup → List Entry → ℕ → ℕ) (also : List Entry → List View → Type 0) → IsSteady also → (k : Setup) (id : ℕ) (v : View) (other : ℕ) (w : View) → Joins (Kept code also k) id v other w (joined v w) spent_view
+joins_with code also steady k id v other w s r e ne there = record {
   history = r.history;
   wide = r.wide;
   words = r.words;
   machine = r.machine;
   sound = r.sound;
-  further = tt;
+  further = steady r.history s.views (set (set s.views id (joined v w)) other spent_view) r.further;
   fits = each_set (λ j u. Fits r.history u) (set s.views id (joined v w)) other spent_view blank_fits (λ j u _ x. each_set (λ j' u'. Fits r.history u') s.views id (joined v w) both_fits (λ j' u' _ x'. r.fits j' u' x') j u x);
   apart = gives_apart;
 }
@@ -106,3 +107,7 @@ joins k id v other w s r e ne there = record {
           where
             both : (d : ℕ) (q : View) → d ≢ id → d ≢ other → get_elem? s.views d ≡ some q → (knows v.part n ≡ true) ⊎ (knows w.part n ≡ true) → knows q.part n ≡ true → ⊥
             both d q d_id d_other eq t kq = ⊎_elim (λ h. r.apart d id q v eq e d_id n kq h) (λ h. r.apart d other q w eq at_other d_other n kq h) t
+
+-- the same on a board
+pub joins : (k : Setup) (id : ℕ) (v : View) (other : ℕ) (w : View) → Joins (KeptPlainly k) id v other w (joined v w) spent_view
+joins k = joins_with word_at nothing_else (λ history old new f. tt) k

@@ -14,3 +14,4 @@ mod view;
 pub use board::{Board, BoardStart};
 pub use rv_model::Delivered;
 pub use seat::{SEATS, Seat};
+pub use view::{Part, View};

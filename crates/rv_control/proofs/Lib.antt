@@ -1,3 +1,4 @@
+pub mod EffectLemmas
 pub mod JoinedLemmas
 pub mod OrderLemmas
 pub mod PieceLemmas

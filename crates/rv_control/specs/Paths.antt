@@ -102,3 +102,11 @@ file_by tree (top ∷ container ∷ monitor ∷ name ∷ more ∷ pieces) = None
 -- the file of a path
 abbrev pub path_of : Tree → List ℕ → Option Path
 path_of tree path = file_by tree (pieces_of path)
+
+abbrev pub is_reactors_file : Option Path → Bool
+is_reactors_file (Some (Reactors place)) = true
+is_reactors_file _ = false
+
+-- the path is that of a monitor's reactors
+abbrev pub is_reactors : Tree → List ℕ → Bool
+is_reactors tree path = is_reactors_file (path_of tree path)

@@ -1,7 +1,7 @@
 //! The control files as one value.
 ghost use Rattle.std.specs.Prelude.{◌≡◌, ◌<◌, ◌≤◌, length, slice_get, option_copied, Some};
 ghost use Rattle.rv_model.specs.Numbers.{has_bit};
-ghost use Rattle.rv_control.specs.Trees.{is_holder, is_in, is_of};
+ghost use Rattle.rv_control.specs.Trees.{IsTree, is_holder, is_in, is_of};
 
 use crate::watched::Watched;
 use rv_bind::Item;
@@ -29,6 +29,13 @@ impl Model for Control {
 }
 
 impl Control {
+    /// What is known of all control files.
+    pub(crate) fn known(&self)
+        ensures { IsTree self.now }
+    {
+        let _ = &self.monitors;
+    }
+
     /// A bit for each monitor that is enabled, by its place; bit 32 for monitoring, 33 for reacting, 34 for halted.
     pub fn switches(&self) -> u64
         ensures { result ≡ self.now.switches }

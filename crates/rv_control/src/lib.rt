@@ -15,4 +15,5 @@ mod watched;
 mod writes;
 
 pub use control::Control;
+pub use opening::opening_switches;
 pub use script::{Command, Numbered, SCRIPT_LIMIT, read_script};

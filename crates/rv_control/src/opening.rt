@@ -75,9 +75,10 @@ fn enables(monitors: &[Monitor], place: usize) -> bool
     }
 }
 
-/// The switches that a run opens with.
-fn switches(monitors: &[Monitor]) -> u64
-    ensures { result ≡ opening_switches monitors.now }
+/// The switches that a run opens with: a bit for each monitor that is enabled, by its place; bit 32 for monitoring, 33 for reacting.
+pub fn opening_switches(monitors: &[Monitor]) -> u64
+    ensures value { result ≡ opening_switches monitors.now }
+    ensures fits { result < 2 ^ 35 }
 {
     let mut switches: u64 = 0;
     let mut bit: u64 = 1;
@@ -99,7 +100,7 @@ impl Control {
     {
         let all = bindings.monitors.as_slice();
         Ok(Control {
-            switches: switches(all),
+            switches: opening_switches(all),
             reactors: reactors(alloc, all)?,
             containers: containers(alloc, &bindings.containers)?,
             monitors: monitors(alloc, all)?,

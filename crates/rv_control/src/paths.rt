@@ -1,7 +1,7 @@
 //! The control files by their paths.
 ghost use Rattle.std.specs.Prelude.{◌≡◌, ◌<◌, ◌≤◌, ◌++◌, [], length, position, bytes_eq, codes, option_map, option_copied, slice_index_or, IfSome};
 ghost use Rattle.rv_control.specs.Trees.{shown_in};
-ghost use Rattle.rv_control.specs.Paths.{container_named, is_same, is_called, monitor_named, outer_named, inner_named, is_shown, item_named, item_or, top_file, reactors_file, item_file, file_below, path_of};
+ghost use Rattle.rv_control.specs.Paths.{container_named, is_same, is_called, monitor_named, outer_named, inner_named, is_shown, item_named, item_or, top_file, reactors_file, item_file, file_below, path_of, is_reactors};
 
 use crate::control::Control;
 use crate::pieces::Pieces;
@@ -241,6 +241,16 @@ impl Control {
             None => None,
         };
         item_or(self.container_named(name), monitor)
+    }
+
+    /// Whether a monitor's reactors are at this path.
+    pub fn is_reactors(&self, path: &[u8]) -> bool
+        ensures { result ≡ is_reactors self.now path.now }
+    {
+        match self.file_at(path) {
+            Some(Path::Reactors(_)) => true,
+            _ => false,
+        }
     }
 
     /// The file at this path.

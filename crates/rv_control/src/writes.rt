@@ -105,9 +105,11 @@ impl Control {
     /// Writes a text to a file of the tree. The change says what was made of the switches; the tree is unchanged after a refusal.
     pub fn write(&mut self, path: &[u8], text: &[u8], append: bool) -> Result<Change, Refusal>
         ensures ok { IfOk result (λ change. effect self.old path.now text.now append ≡ Ok (self.new, change)) }
+        ensures below_halt { IfOk result (λ change. (change.lower < 2 ^ 34) × (change.raise < 2 ^ 34)) }
         ensures refused { IfErr result (λ refusal. effect self.old path.now text.now append ≡ Err refusal) }
         ensures kept { OnErr result (self.new ≡ self.old) }
     {
+        self.known();
         let file = self.file_at(path).ok_or(Refusal::whole(NO_SUCH_FILE))?;
         let text = without_end(text);
         if let Path::Reactors(place) = file {

@@ -8,7 +8,8 @@ use Rattle.rv_model.specs.declared.entry.Entry.{Entry}
 use Rattle.rv_model.specs.declared.formula.Spec.{Spec}
 use Rattle.rv_model.specs.declared.work.Change.{Change}
 use Rattle.rv_model.specs.Cuts.{AtEach}
-use Rattle.rv_model.specs.Histories.{IsSound, IsLegal, AreJudges, acts_of}
+use Rattle.rv_model.specs.Histories.{Input, IsSound, IsLegal, AreJudges, acts_of}
+use Rattle.rv_model.specs.Judging.{Judge}
 use Rattle.rv_model.specs.Records.{script_records}
 use Rattle.rv_model.specs.Scripts.{played, Plays, control_acts}
 use Rattle.rv_model.specs.Seats.{known_of}
@@ -23,6 +24,7 @@ use Rattle.rv_feed.specs.Feeders.{RunsFeeder}
 use Rattle.rv_feed.specs.Lane.{LaneValue, works_of}
 use Rattle.rv_feed.specs.One.{lane_records}
 use Rattle.rv_feed.specs.Order.{Whole}
+use Rattle.rv_feed.specs.Runs.{IsRunOf}
 use Rattle.rv_feed.proofs.JoinAllLemmas.{follows-then, holds-itself, holds-still, holds-joined}
 use Rattle.rv_feed.proofs.JoinedLemmas.{kept-holds, later-played, later-acts, later-own}
 use Rattle.rv_feed.proofs.ListLemmas.{map-reverse, All-reverse, Any-reverse, Any-implied, Any-map, zip-with, zip-left, zip-right, zip-map}
@@ -120,12 +122,18 @@ module _ {G : Type 0} (board : BoardId) (panics : ℕ → Bool) (h : List Entry)
             Any-map (λ (w : Work). e.seat ≡ 2 + w.cpu) (λ (l : LaneValue). l.work) (lanes_of fs)
             (Any-reverse (λ (l : LaneValue). e.seat ≡ 2 + l.work.cpu) (map (λ f. f.lane) fs) (Any-map (λ (l : LaneValue). e.seat ≡ 2 + l.work.cpu) (λ f. f.lane) fs any))
 
-    -- so the history is legal, and the lanes have its records
-    pub fed-legal : (specs : List Spec) → AreJudges specs board.setup.tables (judges_of board.setup) → IsLegalOf (input_with board.setup specs panics (lanes_of fs) changes) (lane_records (lanes_of fs')) h
-    fed-legal specs are =
+    -- so the history is legal, and the lanes have its records; whatever is said of a legal history by these judges may be said with it
+    pub fed-says : (specs : List Spec) (Says : Input → List Judge → List Entry → Type 0)
+        → (IsLegal (input_with board.setup specs panics (lanes_of fs) changes) (judges_of board.setup) h → Says (input_with board.setup specs panics (lanes_of fs) changes) (judges_of board.setup) h)
+        → AreJudges specs board.setup.tables (judges_of board.setup) → IsRunOf Says (input_with board.setup specs panics (lanes_of fs) changes) (lane_records (lanes_of fs')) h
+    fed-says specs Says says are =
         let acts : acts_of 1 h ≡ control_acts board.setup.shape changes = subst (λ (n : ℕ). acts_of n h ≡ control_acts board.setup.shape changes) fed.actor_is (later-acts actor actor' h fed.actor_fresh.seen fed.actor_fresh.has fed.actor_in _ fed.did) in
-        run-of board.setup panics h (lanes_of fs) (lanes_of fs') specs changes fed-works whole IsLegal are
-        (legal-of-run board.setup panics h (lanes_of fs) (lanes_of fs') specs changes fed-works whole fed.sound acts nobody)
+        run-of board.setup panics h (lanes_of fs) (lanes_of fs') specs changes fed-works whole Says are
+        (says (legal-of-run board.setup panics h (lanes_of fs) (lanes_of fs') specs changes fed-works whole fed.sound acts nobody))
+
+    -- nothing else is said
+    pub fed-legal : (specs : List Spec) → AreJudges specs board.setup.tables (judges_of board.setup) → IsLegalOf (input_with board.setup specs panics (lanes_of fs) changes) (lane_records (lanes_of fs')) h
+    fed-legal specs are = fed-says specs IsLegal (λ legal. legal) are
 
 -- ---- from the calls of a run
 
@@ -144,11 +152,11 @@ ran-many {G} panics lanes fs fs' is ran =
     sym (length_all_zip (RunsFeeder panics) fs fs' ran) ∙ sym (ap length is ∙ length-reverse (map (λ (f : Feeder G). f.lane) fs) ∙ length-map fs (λ (f : Feeder G). f.lane))
 
 -- the seats were split off, the feeders and the control actor ran, and all seats were joined into the one that closed the board
-pub fed-from : {G : Type 0} (board : BoardId) (panics : ℕ → Bool) (h : List Entry) (old first actor actor' mid last : SeatValue) (changes : List Change) (lanes : List LaneValue) (fs fs' : List (Feeder G))
-    → AreSeated board old lanes [] fs → first ≡ seat_value (part old.part.number 1 old.part.gone old.part.seen) old.board → actor ≡ seat_value (part 1 old.part.end [] old.part.seen) old.board
+pub fed-from : {G : Type 0} (board : BoardId) (end : ℕ) (panics : ℕ → Bool) (h : List Entry) (old first actor actor' mid last : SeatValue) (changes : List Change) (lanes : List LaneValue) (fs fs' : List (Feeder G))
+    → AreSeated board end old lanes [] fs → end ≡ 67 → first ≡ seat_value (part old.part.number 1 old.part.gone old.part.seen) old.board → actor ≡ seat_value (part 1 old.part.end [] old.part.seen) old.board
     → AllZip (RunsFeeder panics) fs fs' → DoesAll actor actor' (control_acts actor.board.setup.shape changes)
     → Joins first actor' mid → Holds last mid → All (λ (f : Feeder G). Holds last f.seat) fs' → last.board ≡ board → Closes last h → IsFed board panics h first actor actor' changes fs fs'
-fed-from {G} board panics h old first actor actor' mid last changes lanes fs fs' are first_is actor_is ran did joins held feeders on closes =
+fed-from {G} board end panics h old first actor actor' mid last changes lanes fs fs' are all first_is actor_is ran did joins held feeders on closes =
     let mid_in : Follows h mid.part = follows-then last mid h held closes.list in
     let same_board : actor.board ≡ board = ap (λ (s : SeatValue). s.board) actor_is ∙ are.is_first.board_is in
     record {
@@ -165,7 +173,7 @@ fed-from {G} board panics h old first actor actor' mid last changes lanes fs fs'
       actor_in = follows-then mid actor' h (holds-joined first actor' mid joins) mid_in;
       seen = ap (λ (s : SeatValue). s.part.seen) first_is ∙ are.is_first.seen;
       first_in = follows-then mid first h (holds-still first actor' mid joins first (holds-itself first)) mid_in;
-      cover = λ n lt. elim (are.cover n lt) [
+      cover = λ n lt. elim (are.cover n (omega arith)) [
         | inl t ↦ elim (split_known old first actor 1 n (ap (λ (s : SeatValue). s.part) first_is) (ap (λ (s : SeatValue). s.part) actor_is) t) [
           | inl a ↦ inl a
           | inr b ↦ inr (inl b)

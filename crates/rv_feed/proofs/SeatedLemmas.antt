@@ -11,7 +11,7 @@ use Rattle.rv_board.specs.Known.{known_by, part}
 use Rattle.rv_board.specs.Seats.{BoardId, SeatValue, seat_value}
 use Rattle.rv_board.proofs.Knowing.{known_is}
 use Rattle.rv_feed.specs.declared.feeder.Feeder.{Feeder}
-use Rattle.rv_feed.specs.AtOnce.{IsSeated, lanes_of, AreSeated}
+use Rattle.rv_feed.specs.AtOnce.{IsFirst, IsSeated, lanes_of, AreSeated}
 use Rattle.rv_feed.specs.Feeding.{CanFeed}
 use Rattle.rv_feed.specs.Lane.{LaneValue, FitsLane}
 use Rattle.rv_feed.proofs.FeederLemmas.{All-front, All-back}
@@ -19,10 +19,10 @@ use Rattle.rv_feed.proofs.ListLemmas.{Any-front}
 
 -- ---- numbers
 
--- the first seat of a board has all numbers
-all_known : (n : ℕ) → n < 67 → known_by 0 67 [] n ≡ true
+-- a seat with number 0 has all numbers below its end
+all_known : (end : ℕ) (gone : List ℕ) (n : ℕ) → n < end → known_by 0 end gone n ≡ true
 unfolding known_by is_in is_among
-all_known n lt = grind (arith, nat_tests)
+all_known end gone n lt = grind (arith, nat_tests)
 
 -- what is known is on one of the two sides of a cut
 cut_known : (number at end : ℕ) (gone : List ℕ) (n : ℕ) → known_by number end gone n ≡ true → (known_by number at gone n ≡ true) ⊎ (known_by at end [] n ≡ true)
@@ -53,17 +53,17 @@ pub record CanSeat (s : Setup) (first : SeatValue) (left : List LaneValue) : Typ
 
 module _ (board : BoardId) where
   -- no lane is seated
-  pub seated-none : {G : Type 0} (first : SeatValue) (lanes : List LaneValue) → first ≡ seat_value (part 0 67 [] []) board → AreSeated {G = G} board first lanes lanes []
+  pub seated-none : {G : Type 0} (first : SeatValue) (lanes : List LaneValue) → IsFirst board first → AreSeated {G = G} board first.part.end first lanes lanes []
   seated-none {G} first lanes is = record {
-    is_first = record { board_is = ap (λ (s : SeatValue). s.board) is; number = ap (λ (s : SeatValue). s.part.number) is; end = let e : first.part.end ≡ 67 = ap (λ (s : SeatValue). s.part.end) is in omega arith; seen = ap (λ (s : SeatValue). s.part.seen) is };
+    is_first = is;
     seated = All-nil (IsSeated board);
     lanes_are = sym (append-nil lanes);
-    cover = λ n lt. inl ((λ i. known_of (is i).part n) ∙ (λ i. known_is (part 0 67 [] []) i n) ∙ all_known n lt);
+    cover = λ n lt. inl ((λ i. known_is first.part i n) ∙ (λ i. known_by (is.number i) first.part.end first.part.gone n) ∙ all_known first.part.end first.part.gone n lt);
   }
 
   -- all can be
-  pub can-start : (first : SeatValue) (lanes : List LaneValue) → first ≡ seat_value (part 0 67 [] []) board → All (FitsLane board.setup) lanes → AllPairs (λ (l m : LaneValue). l.work.cpu < m.work.cpu) lanes → CanSeat board.setup first lanes
-  can-start first lanes is fit ascend = record { fit = fit; ascend = ascend; below = λ k d lt. let c = (fit k d lt).cpu in let e : first.part.end ≡ 67 = ap (λ (s : SeatValue). s.part.end) is in omega arith }
+  pub can-start : (first : SeatValue) (lanes : List LaneValue) → 65 < first.part.end → All (FitsLane board.setup) lanes → AllPairs (λ (l m : LaneValue). l.work.cpu < m.work.cpu) lanes → CanSeat board.setup first lanes
+  can-start first lanes end fit ascend = record { fit = fit; ascend = ascend; below = λ k d lt. let c = (fit k d lt).cpu in omega arith }
 
   module _ (old new : SeatValue) (left : List LaneValue) (l : LaneValue) (can : CanSeat board.setup old (left ++ l ∷ [])) where
     -- the last lane of those that are left
@@ -89,9 +89,9 @@ module _ (board : BoardId) where
     }
 
     -- the lane is seated
-    pub seated-more : {G : Type 0} (all : List LaneValue) (fs : List (Feeder G)) (f : Feeder G) → AreSeated board old all (left ++ l ∷ []) fs → f.lane ≡ l → f.seat ≡ seat_value (part (2 + l.work.cpu) old.part.end [] old.part.seen) old.board
-        → new ≡ seat_value (part old.part.number (2 + l.work.cpu) old.part.gone old.part.seen) old.board → AreSeated board new all left (fs ++ f ∷ [])
-    seated-more {G} all fs f are lane seat first = record {
+    pub seated-more : {G : Type 0} (end : ℕ) (all : List LaneValue) (fs : List (Feeder G)) (f : Feeder G) → AreSeated board end old all (left ++ l ∷ []) fs → f.lane ≡ l → f.seat ≡ seat_value (part (2 + l.work.cpu) old.part.end [] old.part.seen) old.board
+        → new ≡ seat_value (part old.part.number (2 + l.work.cpu) old.part.gone old.part.seen) old.board → AreSeated board end new all left (fs ++ f ∷ [])
+    seated-more {G} end all fs f are lane seat first = record {
       is_first = record {
         board_is = ap (λ (s : SeatValue). s.board) first ∙ are.is_first.board_is;
         number = ap (λ (s : SeatValue). s.part.number) first ∙ are.is_first.number;

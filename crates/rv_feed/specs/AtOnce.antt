@@ -53,13 +53,13 @@ module _ {G : Type 0} where
   abbrev pub lanes_of : List (Feeder G) → List LaneValue
   lanes_of fs = reverse (map (λ f. f.lane) fs)
 
-  -- every number is the first seat's or a feeder's
-  abbrev pub Cover : SeatValue → List (Feeder G) → Type 0
-  Cover first fs = (n : ℕ) → n < 67 → (known_of first.part n ≡ true) ⊎ Any (λ f. known_of f.seat.part n ≡ true) fs
+  -- every number below this one is the first seat's or a feeder's
+  abbrev pub Cover : ℕ → SeatValue → List (Feeder G) → Type 0
+  Cover end first fs = (n : ℕ) → n < end → (known_of first.part n ≡ true) ⊎ Any (λ f. known_of f.seat.part n ≡ true) fs
 
-  -- but for those that are left, the lanes have feeders, and these and the first seat have all numbers
-  pub record AreSeated (board : BoardId) (first : SeatValue) (all left : List LaneValue) (fs : List (Feeder G)) : Type 0 where
+  -- but for those that are left, the lanes have feeders, and these and the first seat have all numbers below this one
+  pub record AreSeated (board : BoardId) (end : ℕ) (first : SeatValue) (all left : List LaneValue) (fs : List (Feeder G)) : Type 0 where
     pub is_first : IsFirst board first
     pub seated : All (IsSeated board) fs
     pub lanes_are : all ≡ left ++ lanes_of fs
-    pub cover : Cover first fs
+    pub cover : Cover end first fs

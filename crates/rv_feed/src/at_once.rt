@@ -7,7 +7,7 @@ ghost use Rattle.rv_board.specs.Seats.{seat_value};
 ghost use Rattle.rv_feed.specs.Changes.{IsBelowHalt};
 ghost use Rattle.rv_feed.specs.Lane.{FitsLane, panics_of, works_of};
 ghost use Rattle.rv_feed.specs.One.{lane_records};
-ghost use Rattle.rv_feed.specs.AtOnce.{input_with, IsLegalOf, Holds, lanes_of, AreSeated};
+ghost use Rattle.rv_feed.specs.AtOnce.{input_with, IsLegalOf, Holds, IsFirst, lanes_of, AreSeated};
 
 use crate::changer::{CONTROL, Changer};
 use crate::feeder::Feeder;
@@ -47,18 +47,19 @@ fn seat_lane<G: Gate>(board: &Board, seat: &mut Seat, lane: Lane, gate: &G) -> F
     }
 }
 
-/// A feeder for each lane, from the last lane to the first.
-fn seat_lanes<G: Gate>(
+/// A feeder for each lane, from the last lane to the first. Their seats have the numbers that the first seat hands on.
+pub fn seat_lanes<G: Gate>(
     alloc: Global,
     board: &Board,
     seat: &mut Seat,
     lanes: &mut Vec<Lane>,
     gate: &G,
 ) -> Result<Vec<Feeder<G>>, AllocError>
-    requires seat { seat.old ≡ seat_value (part 0 67 [] []) board.now }
+    requires seat { IsFirst board.now seat.old }
+    requires end { 65 < seat.old.part.end }
     requires fit { All (FitsLane board.now.setup) lanes.old.items }
     requires ascend { AllPairs (λ l m. l.work.cpu < m.work.cpu) lanes.old.items }
-    ensures feeders { IfOk result (λ feeders. AreSeated board.now seat.new lanes.old.items [] feeders.items) }
+    ensures feeders { IfOk result (λ feeders. AreSeated board.now seat.old.part.end seat.new lanes.old.items [] feeders.items) }
     ensures empty { IfOk result (λ _. lanes.new.items ≡ []) }
     ensures room { length lanes.old.items ≤ lanes.new.cap }
 {
@@ -82,7 +83,7 @@ fn put_back(lanes: &mut Vec<Lane>, lane: Lane)
 }
 
 /// The seats of all feeders are joined into this one, and their lanes come back.
-fn join_all<G: Gate>(
+pub fn join_all<G: Gate>(
     board: &Board,
     into: &mut Seat,
     mut feeders: Vec<Feeder<G>>,

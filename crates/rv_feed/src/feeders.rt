@@ -14,7 +14,7 @@ use std::thread::{Threads, join_mut};
 
 /// The feeders' scripts, each half in a thread of its own.
 #[cycle(halves)]
-fn run_halves<R: Threads + Sync, G: Gate + Send>(
+pub fn run_halves<R: Threads + Sync, G: Gate + Send>(
     rt: &R,
     board: &Board,
     reactors: &[Reactor],

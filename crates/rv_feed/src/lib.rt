@@ -12,10 +12,10 @@ mod order;
 mod tests;
 mod turn;
 
-pub use at_once::{Fed, feed};
+pub use at_once::{Fed, feed, join_all, seat_lanes};
 pub use changer::Changer;
 pub use feeder::Feeder;
-pub use feeders::run_feeders;
+pub use feeders::{run_feeders, run_halves};
 pub use lane::Lane;
 pub use one::replay;
 pub use order::run_in_order;

@@ -4,11 +4,13 @@ use Rattle.std.specs.declared.alloc.Global.{Global}
 use Rattle.rv_io.specs.declared.store.ReadError.{ReadError}
 use Rattle.rv_io.specs.declared.store.ReadError.TheVariants.{NoFile, Memory}
 use Rattle.rv_io.specs.Files.{front_read}
+use Rattle.rv_io.specs.Pieces.{IsPiece}
 use Rattle.rv_io.specs.Calls.{Calls, is_listed, passed, failed}
 
--- files with their names and bytes, and the calls
+-- files with their names and bytes, the most bytes of a piece, and the calls
 pub record StoreValue : Type 0 where
   pub files : List (List ℕ × List ℕ)
+  pub most : Option ℕ
   pub calls : Calls
 
 -- the bytes of the file of the name
@@ -25,6 +27,12 @@ Copies None result = result ≡ Err NoFile
 Copies (Some bytes) (Ok read) = read.items ≡ front_read bytes
 Copies (Some bytes) (Err refused) = refused ≡ Memory
 
--- after a read: a fault is counted exactly where the call is listed
+-- a piece of the bytes that a name has
+abbrev pub CopiesPiece : Option (List ℕ) → ℕ → List ℕ → List ℕ → Result ℕ ReadError → Type 0
+CopiesPiece None from old new result = (result ≡ Err NoFile) × (new ≡ old)
+CopiesPiece (Some bytes) from old new (Ok count) = IsPiece bytes from old new count
+CopiesPiece (Some bytes) from old new (Err refused) = ⊥
+
+-- after a call: a fault is counted exactly where the call is listed
 abbrev pub counted : Calls → Calls
 counted calls = if is_listed calls then failed calls else passed calls

@@ -1,6 +1,7 @@
 //! The numbers of a store's or a sink's calls, and those that shall fail.
 ghost use Rattle.std.specs.Prelude.{◌≡◌, ◌≤◌, ◌∷◌, [], ◌++◌, OnOk, OnErr};
 ghost use Rattle.rv_io.specs.Calls.{Calls as CallsValue, is_listed, passed, failed};
+ghost use Rattle.rv_io.specs.MemStores.{counted};
 
 use std::alloc::{AllocError, Global};
 use std::marker::Model;
@@ -62,5 +63,19 @@ impl Calls {
     {
         self.made = self.made.saturating_add(1);
         self.faults = self.faults.saturating_add(1);
+    }
+    /// Counts a call, and tells whether it is listed and so fails.
+    pub(crate) fn count(&mut self) -> bool
+        ensures value { result ≡ is_listed self.old }
+        ensures counted { self.new ≡ counted self.old }
+        ensures later { self.old.faults ≤ self.new.faults }
+    {
+        let fails = self.is_next_listed();
+        if fails {
+            self.fail();
+        } else {
+            self.pass();
+        }
+        fails
     }
 }

@@ -1,7 +1,8 @@
 //! The files of the system: the trusted edge, so as little as can be.
-ghost use Rattle.std.specs.Prelude.{◌≡◌, ◌≤◌, ◌⊎◌, None, take, length, IsOk, IsErrOf, IfOk, IfSome};
+ghost use Rattle.std.specs.Prelude.{◌≡◌, ◌≤◌, ◌⊎◌, None, take, length, IsOk, IsErrOf, IfOk, IfSome, OnErr};
 ghost use Rattle.rv_io.specs.Calls.{risen};
 ghost use Rattle.rv_io.specs.Files.{Reads};
+ghost use Rattle.rv_io.specs.Pieces.{Pieces};
 ghost use Rattle.rv_io.specs.Reading.{ReadsMore};
 
 use crate::{READ_LIMIT, ReadError, Store};
@@ -14,14 +15,24 @@ use std::rt::Files;
 /// How many bytes one read asks for.
 const READ_PIECE: usize = 65_536;
 
-/// It tells nothing of its files, and is seen as its count of faults.
+/// A file that is read forward, and how many of its bytes were read.
 #[derive(Drop)]
-pub struct Disk<'a, R> {
-    rt: &'a R,
-    faults: u64,
+struct OpenFile<F> {
+    name: String,
+    file: F,
+    place: u64,
+    buffer: Vec<u8>,
 }
 
-impl<'a, R> Model for Disk<'a, R> {
+/// It tells nothing of its files, and is seen as its count of faults. The file of its last piece stays open.
+#[derive(Drop)]
+pub struct Disk<'a, R: Files> {
+    rt: &'a R,
+    faults: u64,
+    open: Option<OpenFile<R::File>>,
+}
+
+impl<'a, R: Files> Model for Disk<'a, R> {
     ghost use Rattle.std.specs.Prelude.{ℕ};
 
     ghost Value = { ℕ };
@@ -33,7 +44,11 @@ impl<'a, R: Files> Disk<'a, R> {
     pub fn new(rt: &'a R) -> Disk<'a, R>
         ensures { result ≡ 0 }
     {
-        Disk { rt, faults: 0 }
+        Disk {
+            rt,
+            faults: 0,
+            open: None,
+        }
     }
 }
 
@@ -70,6 +85,107 @@ fn read_front<F: Read>(file: &mut F, alloc: Global, most: usize) -> Result<Vec<u
     Ok(text)
 }
 
+/// Opens a file.
+fn open<R: Files>(rt: &R, name: &str) -> Result<R::File, ReadError>
+    ensures { ¬ (IsErrOf result ReadError.Memory) }
+{
+    match File::open(rt, name) {
+        Ok(file) => Ok(file),
+        Err(error) if error.kind() == ErrorKind::NotFound => Err(ReadError::NoFile),
+        Err(_) => Err(ReadError::Failed),
+    }
+}
+
+/// The next bytes go to the front of the buffer. None come at the end of the file.
+fn next_bytes<F: Read>(file: &mut F, buffer: &mut [u8]) -> Result<usize, ReadError>
+    ensures { IfOk result (λ count. count ≤ length buffer.new) }
+{
+    match file.read(buffer) {
+        Ok(count) => Ok(count),
+        Err(_) => Err(ReadError::Failed),
+    }
+}
+
+impl<F: Read> OpenFile<F> {
+    /// The next bytes of the file, at most so many.
+    fn next(&mut self, most: usize) -> Result<&[u8], ReadError>
+        ensures { IfOk result (λ bytes. length bytes.now ≤ most) }
+    {
+        let buffer = self.buffer.as_mut_slice();
+        let room = buffer.len().min(most);
+        let front = &mut buffer[..room];
+        let count = next_bytes(&mut self.file, front)?;
+        self.place = self.place.saturating_add(count as u64);
+        Ok(&front[..count])
+    }
+
+    /// Reads forward to a place, or to the end of the file.
+    fn skip_to(&mut self, place: u64) -> Result<(), ReadError> {
+        let mut left = place.saturating_sub(self.place);
+        while left > 0 {
+            let most = left.min(READ_PIECE as u64) as usize;
+            let count = self.next(most)?.len();
+            if count == 0 {
+                return Ok(());
+            }
+            left -= count as u64;
+        }
+        Ok(())
+    }
+}
+
+impl<R: Files> Disk<'_, R> {
+    /// The file of the name, at or before the place: the one that is open, or it is opened anew.
+    fn opened(
+        &mut self,
+        alloc: Global,
+        name: &str,
+        from: u64,
+    ) -> Result<OpenFile<R::File>, ReadError>
+        ensures { self.new ≡ self.old }
+    {
+        match self.open.take() {
+            Some(open) if open.place <= from && open.name.as_str() == name => return Ok(open),
+            _ => {}
+        }
+        let file = open(self.rt, name)?;
+        let Ok(name) = String::from_str(alloc, name) else {
+            return Err(ReadError::Memory);
+        };
+        let Ok(buffer) = vec![in alloc; 0u8; READ_PIECE] else {
+            return Err(ReadError::Memory);
+        };
+        Ok(OpenFile {
+            name,
+            file,
+            place: 0,
+            buffer,
+        })
+    }
+
+    /// Reads a piece, before a fault is counted.
+    fn read_piece(
+        &mut self,
+        alloc: Global,
+        name: &str,
+        from: u64,
+        into: &mut [u8],
+    ) -> Result<usize, ReadError>
+        ensures same { self.new ≡ self.old }
+        ensures room { IfOk result (λ count. count ≤ length into.old) }
+        ensures len { length into.new ≡ length into.old }
+        ensures err { OnErr result (into.new ≡ into.old) }
+    {
+        let mut file = self.opened(alloc, name, from)?;
+        file.skip_to(from)?;
+        let bytes = file.next(into.len())?;
+        let count = bytes.len();
+        into[..count].copy_from_slice(bytes);
+        self.open = Some(file);
+        Ok(count)
+    }
+}
+
 impl<R: Files> Store for Disk<'_, R> {
     ghost files = { λ _. None };
 
@@ -82,15 +198,35 @@ impl<R: Files> Store for Disk<'_, R> {
         ensures same { IsOk result ⊎ IsErrOf result ReadError.Memory → self.new ≡ self.old }
         ensures fault { IsErrOf result ReadError.NoFile ⊎ IsErrOf result ReadError.Failed → self.new ≡ risen self.old }
     {
-        let fault = match File::open(self.rt, name) {
+        let fault = match open(self.rt, name) {
             Ok(mut file) => match read_front(&mut file, alloc, READ_LIMIT) {
                 Err(fault) if fault != ReadError::Memory => fault,
                 answer => return answer,
             },
-            Err(error) if error.kind() == ErrorKind::NotFound => ReadError::NoFile,
-            Err(_) => ReadError::Failed,
+            Err(fault) => fault,
         };
         self.faults = self.faults.saturating_add(1);
         Err(fault)
+    }
+
+    fn piece(
+        &mut self,
+        alloc: Global,
+        name: &str,
+        from: u64,
+        into: &mut [u8],
+    ) -> Result<usize, ReadError>
+        ensures later { self.old ≤ self.new }
+        ensures piece { Pieces None name.now from into.old into.new self.old self.new result }
+        ensures same { IsOk result ⊎ IsErrOf result ReadError.Memory → self.new ≡ self.old }
+        ensures fault { IsErrOf result ReadError.NoFile ⊎ IsErrOf result ReadError.Failed → self.new ≡ risen self.old }
+    {
+        match self.read_piece(alloc, name, from, into) {
+            Err(fault) if fault != ReadError::Memory => {
+                self.faults = self.faults.saturating_add(1);
+                Err(fault)
+            }
+            answer => answer,
+        }
     }
 }

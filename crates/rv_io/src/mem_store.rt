@@ -1,10 +1,12 @@
 //! A store whose files are in memory, with calls that fail as they are listed.
-ghost use Rattle.std.specs.Prelude.{◌≡◌, ◌≤◌, ◌↔◌, ◌∷◌, [], ◌++◌, ℕ, List, Bool, true, Some, None, take, bytes_eq, OnOk, OnErr, IfOk, IsErrOf, IsTrue, position, false, find, option_copied};
+ghost use Rattle.std.specs.Prelude.{◌≡◌, ◌≤◌, ◌↔◌, ◌∷◌, [], ◌++◌, ℕ, List, Bool, true, Some, None, take, bytes_eq, OnOk, OnErr, IfOk, IsErrOf, IsTrue, IfSome, position, false, find, option_copied};
 ghost use Rattle.rv_io.specs.Calls.{is_listed};
 ghost use Rattle.rv_io.specs.Files.{Reads, front_read};
-ghost use Rattle.rv_io.specs.MemStores.{lookup, counted, Copies, IsReplaced};
+ghost use Rattle.rv_io.specs.MemStores.{lookup, counted, Copies, CopiesPiece, IsReplaced};
+ghost use Rattle.rv_io.specs.Pieces.{Pieces};
 
 use crate::calls::Calls;
+use crate::piece::piece_of;
 use crate::{READ_LIMIT, ReadError, Store};
 use std::alloc::{AllocError, Global};
 use std::marker::Model;
@@ -93,29 +95,52 @@ fn copy_of(files: &[MemFile], alloc: Global, name: &str) -> Result<Vec<u8>, Read
     }
 }
 
+/// A piece of the bytes that the name has.
+fn piece_in(
+    files: &[MemFile],
+    name: &str,
+    from: u64,
+    most: Option<usize>,
+    into: &mut [u8],
+) -> Result<usize, ReadError>
+    requires { IfSome most (λ most. 1 ≤ most) }
+    ensures piece { CopiesPiece (lookup files.now name.now) from into.old into.new result }
+    ensures cut { IfOk result (λ count. IfSome most (λ most. count ≤ most)) }
+{
+    let Some(file) = held(files, name) else {
+        return Err(ReadError::NoFile);
+    };
+    Ok(piece_of(file.bytes(), from, most, into))
+}
+
 /// Each name has one file. It tells its files, and fails at its listed calls alone.
 #[derive(Drop)]
 pub struct MemStore {
     alloc: Global,
     files: Vec<MemFile>,
+    most: Option<usize>,
     calls: Calls,
 }
 
 impl Model for MemStore {
+    ghost use Rattle.std.specs.Prelude.{◌≤◌, IfSome};
     ghost use Rattle.rv_io.specs.MemStores.{StoreValue};
 
     ghost Value = { StoreValue };
 
-    ghost view = { λ s. record { files = s.files.items; calls = s.calls } };
+    ghost view = { λ s. record { files = s.files.items; most = s.most; calls = s.calls } };
+
+    ghost invariant = { λ s. IfSome s.most (λ most. 1 ≤ most) };
 }
 
 impl MemStore {
     pub fn new(alloc: Global) -> MemStore
-        ensures { result ≡ record { files = []; calls = record { listed = []; made = 0; faults = 0 } } }
+        ensures { result ≡ record { files = []; most = None; calls = record { listed = []; made = 0; faults = 0 } } }
     {
         MemStore {
             alloc,
             files: Vec::new(alloc),
+            most: None,
             calls: Calls::new(alloc),
         }
     }
@@ -123,7 +148,7 @@ impl MemStore {
     /// Adds a file, in place of an older one of the name.
     pub fn add(&mut self, name: &str, bytes: &[u8]) -> Result<(), AllocError>
         ensures ok { OnOk result (IsReplaced self.old.files self.new.files name.now bytes.now) }
-        ensures calls { self.new.calls ≡ self.old.calls }
+        ensures calls { (self.new.calls ≡ self.old.calls) × (self.new.most ≡ self.old.most) }
         ensures err { OnErr result (self.new ≡ self.old) }
     {
         let file = MemFile::new(self.alloc, name, bytes)?;
@@ -134,7 +159,15 @@ impl MemStore {
         Ok(())
     }
 
-    /// Lists a call, counted from 1: a read that has this number fails.
+    /// From now on a piece has at most so many bytes.
+    pub fn cut(&mut self, most: usize)
+        requires { 1 ≤ most }
+        ensures { self.new ≡ record self.old { most = Some most } }
+    {
+        self.most = Some(most);
+    }
+
+    /// Lists a call, counted from 1: a read or a piece that has this number fails.
     pub fn fail_at(&mut self, call: u64) -> Result<(), AllocError>
         ensures ok { OnOk result (self.new ≡ record self.old { calls = record self.old.calls { listed = self.old.calls.listed ++ call ∷ [] } }) }
         ensures err { OnErr result (self.new ≡ self.old) }
@@ -155,11 +188,29 @@ impl Store for MemStore {
         ensures no_file { IsErrOf result ReadError.NoFile ↔ ((is_listed self.old.calls ≡ false) × (lookup self.old.files name.now ≡ None)) }
         ensures counted { self.new ≡ record self.old { calls = counted self.old.calls } }
     {
-        if self.calls.is_next_listed() {
-            self.calls.fail();
+        if self.calls.count() {
             return Err(ReadError::Failed);
         }
-        self.calls.pass();
         copy_of(&self.files, alloc, name)
+    }
+
+    fn piece(
+        &mut self,
+        _alloc: Global,
+        name: &str,
+        from: u64,
+        into: &mut [u8],
+    ) -> Result<usize, ReadError>
+        ensures later { self.old.calls.faults ≤ self.new.calls.faults }
+        ensures piece { Pieces (Some (lookup self.old.files)) name.now from into.old into.new self.old.calls.faults self.new.calls.faults result }
+        ensures failed { IsErrOf result ReadError.Failed ↔ IsTrue (is_listed self.old.calls) }
+        ensures no_file { IsErrOf result ReadError.NoFile ↔ ((is_listed self.old.calls ≡ false) × (lookup self.old.files name.now ≡ None)) }
+        ensures cut { IfOk result (λ count. IfSome self.old.most (λ most. count ≤ most)) }
+        ensures counted { self.new ≡ record self.old { calls = counted self.old.calls } }
+    {
+        if self.calls.count() {
+            return Err(ReadError::Failed);
+        }
+        piece_in(&self.files, name, from, self.most, into)
     }
 }

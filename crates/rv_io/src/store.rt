@@ -1,6 +1,7 @@
 //! What gives files by their names.
 ghost use Rattle.std.specs.Prelude.{◌≡◌, ◌≤◌, ℕ, Option};
 ghost use Rattle.rv_io.specs.Files.{Files, Reads};
+ghost use Rattle.rv_io.specs.Pieces.{Pieces};
 
 use std::alloc::Global;
 use thiserror::Error;
@@ -33,4 +34,17 @@ pub trait Store {
         ensures kept { files self.new ≡ files self.old }
         ensures later { faults self.old ≤ faults self.new }
         ensures read { Reads (files self.old) name.now (faults self.old) (faults self.new) result };
+
+    /// Puts the bytes of a file from a place on into the front of `into`, as many as come at once, and answers how
+    /// many. Only where there is no room, or no byte from that place on, there are none.
+    fn piece(
+        &mut self,
+        alloc: Global,
+        name: &str,
+        from: u64,
+        into: &mut [u8],
+    ) -> Result<usize, ReadError>
+        ensures kept { files self.new ≡ files self.old }
+        ensures later { faults self.old ≤ faults self.new }
+        ensures piece { Pieces (files self.old) name.now from into.old into.new (faults self.old) (faults self.new) result };
 }

@@ -64,6 +64,65 @@ fn a_file_is_read_whole_and_a_missing_one_is_told(rt: HostRuntime) -> Result<(),
 }
 
 #[test]
+fn pieces_are_cut_and_listed_ones_fail(rt: HostRuntime) -> Result<(), Fail> {
+    let mut store = MemStore::new(rt.alloc());
+    store.add("a", b"abcdefgh")?;
+    store.cut(3);
+    store.fail_at(4)?;
+    let cases = [
+        ("a", 0, 5, Ok("abc")),
+        ("a", 6, 5, Ok("gh")),
+        ("a", 3, 2, Ok("de")),
+        ("a", 3, 2, Err(ReadError::Failed)),
+        ("a", 8, 5, Ok("")),
+        ("a", 99, 5, Ok("")),
+        ("a", 0, 0, Ok("")),
+        ("b", 0, 5, Err(ReadError::NoFile)),
+    ];
+    for (name, from, room, wanted) in cases {
+        let mut into = [b'-'; 5];
+        let piece = store.piece(rt.alloc(), name, from, &mut into[..room]);
+        match (piece, wanted) {
+            (Ok(count), Ok(text)) => {
+                assert_eq!(rt; &into[..count], text.as_bytes(), "at {name} {from}");
+                assert!(rt;
+                    into[count..].iter().all(|byte| *byte == b'-'),
+                    "behind {name} {from}"
+                );
+            }
+            (Err(fault), Err(wanted)) => assert_eq!(rt; fault, wanted, "at {name} {from}"),
+            _ => assert!(rt; false, "at {name} {from}"),
+        }
+    }
+    Ok(())
+}
+
+#[test]
+fn a_file_is_read_forward_and_opened_anew_for_what_was_passed(rt: HostRuntime) -> Result<(), Fail> {
+    let name = "rv_io_piece_test.txt";
+    fs::write(&rt, name, "0123456789")?;
+    let mut disk = Disk::new(&rt);
+    let mut into = [b'-'; 4];
+    for (from, wanted) in [
+        (0, "0123"),
+        (4, "4567"),
+        (9, "9"),
+        (10, ""),
+        (2, "2345"),
+        (20, ""),
+    ] {
+        let count = disk.piece(rt.alloc(), name, from, &mut into)?;
+        assert_eq!(rt; &into[..count], wanted.as_bytes(), "at {from}");
+    }
+    fs::remove_file(&rt, name)?;
+    assert_eq!(rt;
+        disk.piece(rt.alloc(), name, 0, &mut into).err(),
+        Some(ReadError::NoFile)
+    );
+    Ok(())
+}
+
+#[test]
 fn standard_output_takes_a_piece(rt: HostRuntime) -> Result<(), Fail> {
     let mut out = Stdout::new(&rt);
     assert_eq!(rt; put_all(&mut out, b"rv_io: a piece\n"), Ok(()));

@@ -74,6 +74,8 @@ two_below : (n : ℕ) (op : Binary) (f g : Ltl) → HasAtomsBelow n f → HasAto
 two_below n binary.And f g h k = (h, k)
 two_below n binary.Or f g h k = (h, k)
 two_below n binary.Until f g h k = (h, k)
+two_below n binary.Release f g h k = (h, k)
+two_below n binary.WeakUntil f g h k = (h, k)
 two_below n binary.Imply f g h k = (h, k)
 two_below n binary.Equivalent f g h k = (h, k)
 

@@ -3,7 +3,7 @@ use Rattle.std.proofs.Common.{◌≡◌, ℕ, zero, suc, ◌+◌, ◌-◌, ◌<�
 use Rattle.rv_ltl.specs.declared.token.Token.{Token}
 use Rattle.rv_ltl.specs.declared.token.Token.TheVariants as token
 use Rattle.rv_ltl.specs.declared.token.Binary.{Binary}
-use Rattle.rv_ltl.specs.declared.token.Binary.TheVariants.{And, Or, Until, Imply, Equivalent}
+use Rattle.rv_ltl.specs.declared.token.Binary.TheVariants.{And, Or, Until, Release, WeakUntil, Imply, Equivalent}
 use Rattle.rv_ltl.specs.Grammar.{Expr, Paren, One, Two, Place, Whole, Chain, spell, Fits}
 use Rattle.rv_ltl.specs.Parse.{Reader, operator, chain_at, term_at, expr_by, after_term, closed, is_close, ◌>>=◌}
 use Rattle.std.proofs.lemmas.Bool.{eqb-true}
@@ -55,13 +55,17 @@ abbrev in_row : ℕ → Binary
 in_row zero = And
 in_row (suc zero) = Or
 in_row (suc (suc zero)) = Until
-in_row (suc (suc (suc zero))) = Imply
-in_row (suc (suc (suc (suc n)))) = Equivalent
+in_row (suc (suc (suc zero))) = Release
+in_row (suc (suc (suc (suc zero)))) = WeakUntil
+in_row (suc (suc (suc (suc (suc zero))))) = Imply
+in_row (suc (suc (suc (suc (suc (suc n)))))) = Equivalent
 
 row_back : (op : Binary) → in_row (row_of op) ≡ op
 row_back And = refl
 row_back Or = refl
 row_back Until = refl
+row_back Release = refl
+row_back WeakUntil = refl
 row_back Imply = refl
 row_back Equivalent = refl
 
@@ -73,6 +77,8 @@ pub same_self : (a : Binary) → is_same a a ≡ true
 same_self And = refl
 same_self Or = refl
 same_self Until = refl
+same_self Release = refl
+same_self WeakUntil = refl
 same_self Imply = refl
 same_self Equivalent = refl
 
@@ -80,6 +86,8 @@ pub some_joins : (op : Binary) → 0 < joins op
 some_joins And = omega arith
 some_joins Or = omega arith
 some_joins Until = omega arith
+some_joins Release = omega arith
+some_joins WeakUntil = omega arith
 some_joins Imply = omega arith
 some_joins Equivalent = omega arith
 

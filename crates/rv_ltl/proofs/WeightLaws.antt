@@ -2,7 +2,7 @@
 use Rattle.std.proofs.Common.{◌≡◌, ◌≢◌, ℕ, ◌+◌, ◌<◌, ◌≤◌, Bool, true, false, cond, ltb, ◌⊎◌, Option, Some, None, refl, sym, ap, ◌∙◌, inl, inr, arith}
 use Rattle.std.proofs.lemmas.Bool.{ltb-false, ltb-true}
 use Rattle.rv_ltl.specs.declared.token.Binary.{Binary}
-use Rattle.rv_ltl.specs.declared.token.Binary.TheVariants.{And, Or, Until, Imply, Equivalent}
+use Rattle.rv_ltl.specs.declared.token.Binary.TheVariants.{And, Or, Until, Release, WeakUntil, Imply, Equivalent}
 use Rattle.rv_ltl.specs.declared.weight.Weight.{Weight}
 use Rattle.rv_ltl.specs.declared.weight.Weight.TheVariants.{Open, Large, Is}
 use Rattle.rv_ltl.specs.Grammar.{Expr, Paren, One, Two}
@@ -17,6 +17,8 @@ left_weight : (op : Binary) (a b : ℕ) → a ≤ weight_two op a b
 left_weight And a b = omega arith
 left_weight Or a b = omega arith
 left_weight Until a b = omega arith
+left_weight Release a b = omega arith
+left_weight WeakUntil a b = omega arith
 left_weight Imply a b = omega arith
 left_weight Equivalent a b = omega arith
 
@@ -24,6 +26,8 @@ right_weight : (op : Binary) (a b : ℕ) → b ≤ weight_two op a b
 right_weight And a b = omega arith
 right_weight Or a b = omega arith
 right_weight Until a b = omega arith
+right_weight Release a b = omega arith
+right_weight WeakUntil a b = omega arith
 right_weight Imply a b = omega arith
 right_weight Equivalent a b = omega arith
 

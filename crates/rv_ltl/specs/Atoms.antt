@@ -48,6 +48,8 @@ abbrev pub two_of : Binary → Ltl → Ltl → Ltl
 two_of binary.And f g = Ltl.And f g
 two_of binary.Or f g = Ltl.Or f g
 two_of binary.Until f g = Ltl.Until f g
+two_of binary.Release f g = Ltl.Release f g
+two_of binary.WeakUntil f g = Ltl.WeakUntil f g
 two_of binary.Imply f g = Ltl.Imply f g
 two_of binary.Equivalent f g = Ltl.Equivalent f g
 

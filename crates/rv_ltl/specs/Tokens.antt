@@ -35,6 +35,8 @@ binary_of piece =
     if bytes_eq piece (codes "and") then Some binary.And
     else if bytes_eq piece (codes "or") then Some binary.Or
     else if bytes_eq piece (codes "until") then Some binary.Until
+    else if bytes_eq piece (codes "release") then Some binary.Release
+    else if bytes_eq piece (codes "weak_until") then Some binary.WeakUntil
     else if bytes_eq piece (codes "imply") then Some binary.Imply
     else if bytes_eq piece (codes "equivalent") then Some binary.Equivalent
     else None

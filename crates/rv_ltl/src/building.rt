@@ -47,6 +47,8 @@ fn two(op: Binary, left: Box<Formula>, right: Box<Formula>) -> Formula
         Binary::And => Formula::And(left, right),
         Binary::Or => Formula::Or(left, right),
         Binary::Until => Formula::Until(left, right),
+        Binary::Release => Formula::Release(left, right),
+        Binary::WeakUntil => Formula::WeakUntil(left, right),
         Binary::Imply => Formula::Imply(left, right),
         Binary::Equivalent => Formula::Equivalent(left, right),
     }

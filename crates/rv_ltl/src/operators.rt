@@ -13,8 +13,10 @@ fn row_of(op: Binary) -> u8
         Binary::And => 0,
         Binary::Or => 1,
         Binary::Until => 2,
-        Binary::Imply => 3,
-        Binary::Equivalent => 4,
+        Binary::Release => 3,
+        Binary::WeakUntil => 4,
+        Binary::Imply => 5,
+        Binary::Equivalent => 6,
     }
 }
 
@@ -33,6 +35,8 @@ pub fn joins(op: Binary) -> usize
         Binary::And => 255,
         Binary::Or => 255,
         Binary::Until => 1,
+        Binary::Release => 1,
+        Binary::WeakUntil => 1,
         Binary::Imply => 1,
         Binary::Equivalent => 1,
     }

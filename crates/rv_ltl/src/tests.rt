@@ -93,6 +93,16 @@ fn leaning(alloc: Global, levels: usize) -> Result<Vec<u8>, AllocError> {
     Ok(text)
 }
 
+// So many `weak_until` in one another, each on the right of the one around it.
+fn waiting(alloc: Global, levels: usize) -> Result<Vec<u8>, AllocError> {
+    let mut text = Vec::new(alloc);
+    put(&mut text, b"RULE = ", 1)?;
+    put(&mut text, b"A weak_until (", levels)?;
+    put(&mut text, b"B", 1)?;
+    put(&mut text, b")", levels)?;
+    Ok(text)
+}
+
 // A rule and a comment, of so many bytes.
 fn padded(alloc: Global, bytes: usize) -> Result<Vec<u8>, AllocError> {
     let mut text = Vec::new(alloc);
@@ -112,6 +122,14 @@ fn the_first_fault_of_a_text_is_its_refusal(rt: HostRuntime) -> Result<(), Fail>
         ("RULE = A and B or C", LTL_SYNTAX),
         ("RULE = A until B until C", LTL_SYNTAX),
         ("RULE = (A until B) until C", 0),
+        ("RULE = A release B", 0),
+        ("RULE = A release B until C", LTL_SYNTAX),
+        ("RULE = A release B release C", LTL_SYNTAX),
+        ("RULE = A weak_until B weak_until C", LTL_SYNTAX),
+        ("RULE = A weak_until (B release C)", 0),
+        ("RULE = A weak until B", LTL_SYNTAX),
+        ("RULE = A Release B", LTL_SYNTAX),
+        ("RULE = RELEASE and WEAK_UNTIL", 0),
         ("RULE = a", LTL_SYNTAX),
         ("RULE = (A", LTL_SYNTAX),
         ("RULE = A;", LTL_SYNTAX),
@@ -147,6 +165,9 @@ fn each_limit_is_the_last_that_is_accepted(rt: HostRuntime) -> Result<(), Fail> 
     assert_eq!(rt; answer(alloc, &doubled(alloc, 10)?), TOO_BIG);
     assert_eq!(rt; answer(alloc, &doubled(alloc, 255)?), TOO_BIG);
     assert_eq!(rt; answer(alloc, &doubled(alloc, 256)?), LTL_SYNTAX);
+    // each level weighs 3 more than twice the one in it
+    assert_eq!(rt; answer(alloc, &waiting(alloc, 8)?), 0);
+    assert_eq!(rt; answer(alloc, &waiting(alloc, 9)?), TOO_BIG);
     assert_eq!(rt; answer(alloc, &padded(alloc, MAX_BYTES)?), 0);
     assert_eq!(rt; answer(alloc, &padded(alloc, MAX_BYTES + 1)?), LTL_SYNTAX);
     Ok(())

@@ -22,6 +22,10 @@ pub enum Binary {
     Or,
     /// `until`: the right one at some letter, and the left one at each before it.
     Until,
+    /// `release`: the right one up to and with the first letter where the left one holds too, or at every letter.
+    Release,
+    /// `weak_until`: as `until`, but the right one need not come.
+    WeakUntil,
     /// `imply`
     Imply,
     /// `equivalent`

@@ -34,6 +34,8 @@ fn weight_two(op: Binary, left: u32, right: u32) -> u64
         Binary::And => 1 + (left as u64 + right as u64),
         Binary::Or => 1 + (left as u64 + right as u64),
         Binary::Until => 1 + (left as u64 + right as u64),
+        Binary::Release => 1 + (left as u64 + right as u64),
+        Binary::WeakUntil => 2 + (left as u64 + 2 * right as u64),
         Binary::Imply => 1 + (left as u64 + right as u64),
         Binary::Equivalent => 3 + 2 * (left as u64 + right as u64),
     }

@@ -56,6 +56,10 @@ fn binary(piece: &[u8]) -> Option<Binary>
         Some(Binary::Or)
     } else if piece == b"until".as_slice() {
         Some(Binary::Until)
+    } else if piece == b"release".as_slice() {
+        Some(Binary::Release)
+    } else if piece == b"weak_until".as_slice() {
+        Some(Binary::WeakUntil)
     } else if piece == b"imply".as_slice() {
         Some(Binary::Imply)
     } else if piece == b"equivalent".as_slice() {

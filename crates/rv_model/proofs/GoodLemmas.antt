@@ -6,9 +6,9 @@ use Rattle.rv_model.specs.declared.hit.Letter.{Letter}
 use Rattle.rv_model.specs.declared.formula.Spec.{Spec}
 use Rattle.rv_model.specs.declared.formula.Spec.TheVariants.{Da, Ltl as Rule}
 use Rattle.rv_model.specs.Letters.{atoms_in}
-use Rattle.rv_model.specs.Ltl.{Ltl, True, False, Atom, Not, Next, Always, Eventually, And, Or, Imply, Equivalent, Until}
+use Rattle.rv_model.specs.Ltl.{Ltl, True, False, Atom, Not, Next, Always, Eventually, And, Or, Imply, Equivalent, Until, Release, WeakUntil}
 use Rattle.rv_model.specs.Truth.{Weak, Strong, Satisfies}
-use Rattle.rv_model.specs.Meaning.{Meaning, true_m, not_m, and_m, or_m, next_m, until_m, meaning}
+use Rattle.rv_model.specs.Meaning.{Meaning, true_m, not_m, and_m, or_m, next_m, until_m, release_m, meaning}
 use Rattle.rv_model.specs.Language.{IsPath, HasEdge}
 use Rattle.rv_model.specs.Machine.{Machine}
 use Rattle.rv_model.specs.Judging.{IsGood}
@@ -126,6 +126,9 @@ until_strong p q h k (x ∷ t) more e =
 until_cuts : (p q : Meaning) → Cuts p → Cuts q → Cuts (until_m p q)
 until_cuts p q h k = record { weak = until_weak p q h k; strong = until_strong p q h k }
 
+release_cuts : (p q : Meaning) → Cuts p → Cuts q → Cuts (release_m p q)
+release_cuts p q h k = not_cuts _ (until_cuts _ _ (not_cuts _ h) (not_cuts _ k))
+
 cuts : (f : Ltl) → Cuts (meaning f)
 cuts True = true_cuts
 cuts False = false_cuts
@@ -137,6 +140,8 @@ cuts (Or f g) = or_cuts _ _ (cuts f) (cuts g)
 cuts (Imply f g) = or_cuts _ _ (not_cuts _ (cuts f)) (cuts g)
 cuts (Equivalent f g) = or_cuts _ _ (and_cuts _ _ (cuts f) (cuts g)) (and_cuts _ _ (not_cuts _ (cuts f)) (not_cuts _ (cuts g)))
 cuts (Until f g) = until_cuts _ _ (cuts f) (cuts g)
+cuts (Release f g) = release_cuts _ _ (cuts f) (cuts g)
+cuts (WeakUntil f g) = release_cuts _ _ (cuts g) (or_cuts _ _ (cuts f) (cuts g))
 cuts (Eventually f) = until_cuts _ _ true_cuts (cuts f)
 cuts (Always f) = not_cuts _ (until_cuts _ _ true_cuts (not_cuts _ (cuts f)))
 

@@ -3,9 +3,9 @@ use Rattle.std.proofs.Common.{◌≡◌, ℕ, zero, suc, ◌<◌, ◌≤◌, Boo
 use Rattle.std.specs.Bool.{Decides}
 use Rattle.std.proofs.lemmas.Bool.Decides.{Decides-not, Decides-and, Decides-or, Decides-like}
 use Rattle.std.proofs.lemmas.Bool.{false≢true}
-use Rattle.rv_model.specs.Ltl.{Ltl, True, False, Atom, Not, Next, Always, Eventually, And, Or, Imply, Equivalent, Until}
-use Rattle.rv_model.specs.Truth.{View, Weak, Strong, other, Says, OnLetter, TrueSays, NotSays, AndSays, OrSays, UntilSays, says}
-use Rattle.rv_model.specs.Meaning.{Meaning, is_weak, on_letter, true_m, not_m, and_m, or_m, until_m, meaning}
+use Rattle.rv_model.specs.Ltl.{Ltl, True, False, Atom, Not, Next, Always, Eventually, And, Or, Imply, Equivalent, Until, Release, WeakUntil}
+use Rattle.rv_model.specs.Truth.{View, Weak, Strong, other, Says, OnLetter, TrueSays, NotSays, AndSays, OrSays, UntilSays, ReleaseSays, says}
+use Rattle.rv_model.specs.Meaning.{Meaning, is_weak, on_letter, true_m, not_m, and_m, or_m, until_m, release_m, meaning}
 
 -- the test p says what P says
 abbrev pub Tells : Meaning → Says → Type 0
@@ -64,6 +64,10 @@ until_tells p q P Q h k proper Strong [] = decides_false
 until_tells p q P Q h k proper Weak (x ∷ t) = somewhere_tells p q P Q h k proper Weak (x ∷ t)
 until_tells p q P Q h k proper Strong (x ∷ t) = somewhere_tells p q P Q h k proper Strong (x ∷ t)
 
+-- the test of a release says what a release says
+release_tells : (p q : Meaning) (P Q : Says) → Tells p P → Tells q Q → Tells (release_m p q) (ReleaseSays P Q)
+release_tells p q P Q h k = not_tells _ _ (until_tells _ _ _ _ (not_tells _ _ h) (not_tells _ _ k) (λ v. refl))
+
 -- on the empty word, whatever the formula
 pub proper : (f : Ltl) (v : View) → meaning f v [] ≡ is_weak v
 proper True v = refl
@@ -76,6 +80,8 @@ proper (Or f g) v = refl
 proper (Imply f g) v = refl
 proper (Equivalent f g) v = refl
 proper (Until f g) v = refl
+proper (Release f g) v = refl
+proper (WeakUntil f g) v = refl
 proper (Eventually f) v = refl
 proper (Always f) v = refl
 
@@ -93,5 +99,7 @@ tells (Or f g) = or_tells _ _ _ _ (tells f) (tells g)
 tells (Imply f g) = or_tells _ _ _ _ (not_tells _ _ (tells f)) (tells g)
 tells (Equivalent f g) = or_tells _ _ _ _ (and_tells _ _ _ _ (tells f) (tells g)) (and_tells _ _ _ _ (not_tells _ _ (tells f)) (not_tells _ _ (tells g)))
 tells (Until f g) = until_tells _ _ _ _ (tells f) (tells g) (proper g)
+tells (Release f g) = release_tells _ _ _ _ (tells f) (tells g)
+tells (WeakUntil f g) = release_tells _ _ _ _ (tells g) (or_tells _ _ _ _ (tells f) (tells g))
 tells (Eventually f) = until_tells _ _ _ _ true_tells (tells f) (proper f)
 tells (Always f) = not_tells _ _ (until_tells _ _ _ _ true_tells (not_tells _ _ (tells f)) (λ v. refl))

@@ -6,7 +6,7 @@ use Rattle.rv_model.specs.Ltl.{Ltl}
 use Rattle.rv_model.specs.LtlCode.{coded_ltl}
 use Rattle.rv_model.specs.WellFormed.{IsBefore}
 use Rattle.rv_model.specs.declared.formula.Formula.{Formula}
-use Rattle.rv_model.specs.declared.formula.Formula.TheVariants.{True, False, Atom, Not', Next', Always', Eventually', And', Or', Imply', Equivalent', Until'}
+use Rattle.rv_model.specs.declared.formula.Formula.TheVariants.{True, False, Atom, Not', Next', Always', Eventually', And', Or', Imply', Equivalent', Until', Release', WeakUntil'}
 
 -- a formula without its boxes
 abbrev pub ltl : Formula → Ltl
@@ -22,6 +22,8 @@ ltl (Or' p f q g) = Ltl.Or (ltl f) (ltl g)
 ltl (Imply' p f q g) = Ltl.Imply (ltl f) (ltl g)
 ltl (Equivalent' p f q g) = Ltl.Equivalent (ltl f) (ltl g)
 ltl (Until' p f q g) = Ltl.Until (ltl f) (ltl g)
+ltl (Release' p f q g) = Ltl.Release (ltl f) (ltl g)
+ltl (WeakUntil' p f q g) = Ltl.WeakUntil (ltl f) (ltl g)
 
 -- a rule as contracts see it
 pub record RuleValue : Type 0 where
@@ -42,6 +44,8 @@ HasAtomsBelow n (Ltl.Or f g) = HasAtomsBelow n f × HasAtomsBelow n g
 HasAtomsBelow n (Ltl.Imply f g) = HasAtomsBelow n f × HasAtomsBelow n g
 HasAtomsBelow n (Ltl.Equivalent f g) = HasAtomsBelow n f × HasAtomsBelow n g
 HasAtomsBelow n (Ltl.Until f g) = HasAtomsBelow n f × HasAtomsBelow n g
+HasAtomsBelow n (Ltl.Release f g) = HasAtomsBelow n f × HasAtomsBelow n g
+HasAtomsBelow n (Ltl.WeakUntil f g) = HasAtomsBelow n f × HasAtomsBelow n g
 
 -- what a rule keeps
 pub record IsRule (r : RuleValue) : Type 0 where

@@ -6,5 +6,5 @@ pub data Ltl : Type 0 where
   True False : Ltl
   Atom : ℕ → Ltl
   Not Next Always Eventually : Ltl → Ltl
-  And Or Imply Equivalent Until : Ltl → Ltl → Ltl
+  And Or Imply Equivalent Until Release WeakUntil : Ltl → Ltl → Ltl
   deriving Discrete as Ltl-discrete

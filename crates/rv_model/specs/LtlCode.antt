@@ -2,7 +2,7 @@
 use Rattle.std.specs.Prelude.{◌≡◌, ℕ, zero, suc, List, [], ◌∷◌}
 use Rattle.std.specs.Coded.{Coded, code_by, coded×, coded_ℕ, coded_list}
 use Rattle.std.proofs.Common.{refl, ap, ◌∙◌}
-use Rattle.rv_model.specs.Ltl.{Ltl, True, False, Atom, Not, Next, Always, Eventually, And, Or, Imply, Equivalent, Until}
+use Rattle.rv_model.specs.Ltl.{Ltl, True, False, Atom, Not, Next, Always, Eventually, And, Or, Imply, Equivalent, Until, Release, WeakUntil}
 
 -- a symbol: its number, and the atom's number
 abbrev pub Symbol : Type 0
@@ -22,6 +22,8 @@ spelled (Or f g) rest = spelled f (spelled g ((8, 0) ∷ rest))
 spelled (Imply f g) rest = spelled f (spelled g ((9, 0) ∷ rest))
 spelled (Equivalent f g) rest = spelled f (spelled g ((10, 0) ∷ rest))
 spelled (Until f g) rest = spelled f (spelled g ((11, 0) ∷ rest))
+spelled (Release f g) rest = spelled f (spelled g ((12, 0) ∷ rest))
+spelled (WeakUntil f g) rest = spelled f (spelled g ((13, 0) ∷ rest))
 
 -- the formula of a symbol and its operands
 abbrev made : ℕ → ℕ → Ltl → Ltl → Ltl
@@ -36,7 +38,9 @@ made (suc (suc (suc (suc (suc (suc (suc zero))))))) a f g = And f g
 made (suc (suc (suc (suc (suc (suc (suc (suc zero)))))))) a f g = Or f g
 made (suc (suc (suc (suc (suc (suc (suc (suc (suc zero))))))))) a f g = Imply f g
 made (suc (suc (suc (suc (suc (suc (suc (suc (suc (suc zero)))))))))) a f g = Equivalent f g
-made (suc (suc (suc (suc (suc (suc (suc (suc (suc (suc (suc n))))))))))) a f g = Until f g
+made (suc (suc (suc (suc (suc (suc (suc (suc (suc (suc (suc zero))))))))))) a f g = Until f g
+made (suc (suc (suc (suc (suc (suc (suc (suc (suc (suc (suc (suc zero)))))))))))) a f g = Release f g
+made (suc (suc (suc (suc (suc (suc (suc (suc (suc (suc (suc (suc (suc n))))))))))))) a f g = WeakUntil f g
 
 -- the formula on top of the stack
 abbrev top : List Ltl → Ltl
@@ -78,6 +82,8 @@ read_symbols-spelled (Or f g) rest fs = read_symbols-spelled f (spelled g ((8, 0
 read_symbols-spelled (Imply f g) rest fs = read_symbols-spelled f (spelled g ((9, 0) ∷ rest)) fs ∙ read_symbols-spelled g ((9, 0) ∷ rest) (f ∷ fs)
 read_symbols-spelled (Equivalent f g) rest fs = read_symbols-spelled f (spelled g ((10, 0) ∷ rest)) fs ∙ read_symbols-spelled g ((10, 0) ∷ rest) (f ∷ fs)
 read_symbols-spelled (Until f g) rest fs = read_symbols-spelled f (spelled g ((11, 0) ∷ rest)) fs ∙ read_symbols-spelled g ((11, 0) ∷ rest) (f ∷ fs)
+read_symbols-spelled (Release f g) rest fs = read_symbols-spelled f (spelled g ((12, 0) ∷ rest)) fs ∙ read_symbols-spelled g ((12, 0) ∷ rest) (f ∷ fs)
+read_symbols-spelled (WeakUntil f g) rest fs = read_symbols-spelled f (spelled g ((13, 0) ∷ rest)) fs ∙ read_symbols-spelled g ((13, 0) ∷ rest) (f ∷ fs)
 
 pub read_again : (f : Ltl) → top (read_symbols (spelled f []) []) ≡ f
 read_again f = ap top (read_symbols-spelled f [] [])

@@ -1,6 +1,6 @@
 -- Satisfaction again, as a test that computes. A law says that the two are the same.
 use Rattle.std.specs.Prelude.{ℕ, Bool, true, false, not, ◌&&◌, ◌||◌, List, [], ◌∷◌}
-use Rattle.rv_model.specs.Ltl.{Ltl, True, False, Atom, Not, Next, Always, Eventually, And, Or, Imply, Equivalent, Until}
+use Rattle.rv_model.specs.Ltl.{Ltl, True, False, Atom, Not, Next, Always, Eventually, And, Or, Imply, Equivalent, Until, Release, WeakUntil}
 use Rattle.rv_model.specs.Numbers.{has_bit}
 use Rattle.rv_model.specs.Truth.{View, Weak, Strong, other}
 
@@ -59,6 +59,8 @@ meaning (Or f g) = or_m (meaning f) (meaning g)
 meaning (Imply f g) = or_m (not_m (meaning f)) (meaning g)
 meaning (Equivalent f g) = or_m (and_m (meaning f) (meaning g)) (and_m (not_m (meaning f)) (not_m (meaning g)))
 meaning (Until f g) = until_m (meaning f) (meaning g)
+meaning (Release f g) = release_m (meaning f) (meaning g)
+meaning (WeakUntil f g) = release_m (meaning g) (or_m (meaning f) (meaning g))
 meaning (Eventually f) = until_m true_m (meaning f)
 meaning (Always f) = not_m (until_m true_m (not_m (meaning f)))
 
@@ -76,3 +78,5 @@ true_on x (Next f) = false
 true_on x (Always f) = false
 true_on x (Eventually f) = false
 true_on x (Until f g) = false
+true_on x (Release f g) = false
+true_on x (WeakUntil f g) = false

@@ -2,7 +2,7 @@
 -- Only the weak view of a truncated path is asked for at the end; the strong one is what `not` asks of its operand.
 use Rattle.std.specs.Prelude.{ℕ, ◌<◌, ◌≤◌, List, [], ◌∷◌, length, drop, ◌⊎◌, IsTrue}
 use Rattle.rv_model.specs.Numbers.{has_bit}
-use Rattle.rv_model.specs.Ltl.{Ltl, True, False, Atom, Not, Next, Always, Eventually, And, Or, Imply, Equivalent, Until}
+use Rattle.rv_model.specs.Ltl.{Ltl, True, False, Atom, Not, Next, Always, Eventually, And, Or, Imply, Equivalent, Until, Release, WeakUntil}
 
 -- how a word that may go on is judged
 pub data View : Type 0 where
@@ -59,6 +59,8 @@ says (Or f g) = OrSays (says f) (says g)
 says (Imply f g) = OrSays (NotSays (says f)) (says g)
 says (Equivalent f g) = OrSays (AndSays (says f) (says g)) (AndSays (NotSays (says f)) (NotSays (says g)))
 says (Until f g) = UntilSays (says f) (says g)
+says (Release f g) = ReleaseSays (says f) (says g)
+says (WeakUntil f g) = ReleaseSays (says g) (OrSays (says f) (says g))
 says (Eventually f) = UntilSays TrueSays (says f)
 says (Always f) = NotSays (UntilSays TrueSays (NotSays (says f)))
 

@@ -23,6 +23,10 @@ pub enum Formula {
     Imply(Box<Formula>, Box<Formula>),
     Equivalent(Box<Formula>, Box<Formula>),
     Until(Box<Formula>, Box<Formula>),
+    /// The right operand holds up to and with the first letter where the left one does, and always if there is none.
+    Release(Box<Formula>, Box<Formula>),
+    /// An until whose right operand need not come.
+    WeakUntil(Box<Formula>, Box<Formula>),
 }
 
 /// A formula and the names of its atoms: at most 32, ascending by bytes.
@@ -84,6 +88,14 @@ impl Formula {
                 let left = Box::new(alloc, f.copy(alloc)?)?;
                 Ok(Formula::Until(left, Box::new(alloc, g.copy(alloc)?)?))
             }
+            Formula::Release(f, g) => {
+                let left = Box::new(alloc, f.copy(alloc)?)?;
+                Ok(Formula::Release(left, Box::new(alloc, g.copy(alloc)?)?))
+            }
+            Formula::WeakUntil(f, g) => {
+                let left = Box::new(alloc, f.copy(alloc)?)?;
+                Ok(Formula::WeakUntil(left, Box::new(alloc, g.copy(alloc)?)?))
+            }
         }
     }
 
@@ -129,6 +141,14 @@ impl Formula {
             },
             Formula::Until(f, h) => match other {
                 Formula::Until(g, k) => f.equals(g) && h.equals(k),
+                _ => false,
+            },
+            Formula::Release(f, h) => match other {
+                Formula::Release(g, k) => f.equals(g) && h.equals(k),
+                _ => false,
+            },
+            Formula::WeakUntil(f, h) => match other {
+                Formula::WeakUntil(g, k) => f.equals(g) && h.equals(k),
                 _ => false,
             },
         }

@@ -9,6 +9,7 @@ pub mod NumberedSays
 pub mod TreeLabels
 pub mod LastPart
 pub mod EnterLemmas
+pub mod Extents
 pub mod OneByOne
 pub mod Signs
 pub mod RefusedExactly

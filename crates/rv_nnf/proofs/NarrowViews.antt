@@ -1,9 +1,9 @@
 -- What holds in the strong view holds in the weak one.
 use Rattle.std.proofs.Common.{ℕ, Bool, true, false, not, ◌&&◌, ◌||◌, [], ◌∷◌, refl, ap, ◌∙◌}
 use Rattle.std.proofs.lemmas.Bool.{false≢true}
-use Rattle.rv_model.specs.Ltl.{Ltl, True, False, Atom, Not, Next, Always, Eventually, And, Or, Imply, Equivalent, Until}
+use Rattle.rv_model.specs.Ltl.{Ltl, True, False, Atom, Not, Next, Always, Eventually, And, Or, Imply, Equivalent, Until, Release, WeakUntil}
 use Rattle.rv_model.specs.Numbers.{has_bit}
-use Rattle.rv_model.specs.Meaning.{Meaning, on_letter, true_m, not_m, and_m, or_m, next_m, until_m, meaning}
+use Rattle.rv_model.specs.Meaning.{Meaning, on_letter, true_m, not_m, and_m, or_m, next_m, until_m, release_m, meaning}
 use Rattle.rv_nnf.proofs.Denials.{Le, Narrow}
 
 -- ---- the strong view is the narrower
@@ -54,6 +54,10 @@ until_narrow : (p q : Meaning) → Narrow p → Narrow q → Narrow (until_m p q
 until_narrow p q h k [] = le_empty
 until_narrow p q h k (x ∷ t) = le_or _ _ _ _ (k (x ∷ t)) (le_and _ _ _ _ (h (x ∷ t)) (until_narrow p q h k t))
 
+-- a release
+release_narrow : (p q : Meaning) → Narrow p → Narrow q → Narrow (release_m p q)
+release_narrow p q h k = not_narrow (until_m (not_m p) (not_m q)) (until_narrow (not_m p) (not_m q) (not_narrow p h) (not_narrow q k))
+
 -- what looks at the first letter alone
 letter_narrow : (b : ℕ → Bool) → Narrow (on_letter (λ v x t. b x))
 letter_narrow b [] = le_empty
@@ -74,5 +78,7 @@ narrow (Equivalent f g) =
     (and_narrow (meaning f) (meaning g) (narrow f) (narrow g))
     (and_narrow (not_m (meaning f)) (not_m (meaning g)) (not_narrow (meaning f) (narrow f)) (not_narrow (meaning g) (narrow g)))
 narrow (Until f g) = until_narrow (meaning f) (meaning g) (narrow f) (narrow g)
+narrow (Release f g) = release_narrow (meaning f) (meaning g) (narrow f) (narrow g)
+narrow (WeakUntil f g) = release_narrow (meaning g) (or_m (meaning f) (meaning g)) (narrow g) (or_narrow (meaning f) (meaning g) (narrow f) (narrow g))
 narrow (Eventually f) = until_narrow true_m (meaning f) (letter_narrow (λ x. true)) (narrow f)
 narrow (Always f) = not_narrow (until_m true_m (not_m (meaning f))) (until_narrow true_m (not_m (meaning f)) (letter_narrow (λ x. true)) (not_narrow (meaning f) (narrow f)))

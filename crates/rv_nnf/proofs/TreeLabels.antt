@@ -1,7 +1,7 @@
 -- The labels of a normal form are proper: no temporal operators, and atoms below 32.
 use Rattle.std.proofs.Common.{◌≡◌, Bool, true, false, cond, refl}
 use Rattle.rv_model.specs.Formulas.{HasAtomsBelow}
-use Rattle.rv_model.specs.Ltl.{Ltl, True, False, Atom, Not, Next, Always, Eventually, And, Or, Imply, Equivalent, Until}
+use Rattle.rv_model.specs.Ltl.{Ltl, True, False, Atom, Not, Next, Always, Eventually, And, Or, Imply, Equivalent, Until, Release, WeakUntil}
 use Rattle.rv_nnf.specs.Tree.{Tree, Label, is_plain, negated, signed, or_label, tree_of}
 use Rattle.rv_nnf.specs.Parts.{IsLabel}
 use Rattle.rv_nnf.proofs.Walked.{IsPlainTree}
@@ -43,6 +43,10 @@ tree_plain (Equivalent f g) false a = plain_label (Equivalent f g) false _ a ((t
 tree_plain (Next f) s a = tree_plain f s a
 tree_plain (Until f g) true a = (tree_plain f true a.0, tree_plain g true a.1)
 tree_plain (Until f g) false a = (tree_plain f false a.0, tree_plain g false a.1)
+tree_plain (Release f g) true a = (tree_plain f true a.0, tree_plain g true a.1)
+tree_plain (Release f g) false a = (tree_plain f false a.0, tree_plain g false a.1)
+tree_plain (WeakUntil f g) true a = (tree_plain g true a.1, plain_label (Or f g) true _ a (tree_plain f true a.0, tree_plain g true a.1))
+tree_plain (WeakUntil f g) false a = (tree_plain g false a.1, plain_label (Or f g) false _ a (tree_plain f false a.0, tree_plain g false a.1))
 tree_plain (Always f) true a = ((refl, tt), tree_plain f true a)
 tree_plain (Always f) false a = ((refl, tt), tree_plain f false a)
 tree_plain (Eventually f) true a = ((refl, tt), tree_plain f true a)

@@ -1,7 +1,7 @@
 -- The normal form keeps truth.
 use Rattle.std.proofs.Common.{◌≡◌, ℕ, Bool, true, false, cond, List, refl, sym, ap, ◌∙◌}
 use mathlib.Core.Path.{ap₂}
-use Rattle.rv_model.specs.Ltl.{Ltl, True, False, Atom, Not, Next, Always, Eventually, And, Or, Imply, Equivalent, Until}
+use Rattle.rv_model.specs.Ltl.{Ltl, True, False, Atom, Not, Next, Always, Eventually, And, Or, Imply, Equivalent, Until, Release, WeakUntil}
 use Rattle.rv_model.specs.Truth.{View}
 use Rattle.rv_model.specs.Meaning.{Meaning, true_m, not_m, and_m, or_m, next_m, until_m, release_m, meaning}
 use Rattle.rv_model.proofs.TruthLemmas.{proper}
@@ -48,6 +48,12 @@ keeps (Next f) true = ap next_m (keeps f true)
 keeps (Next f) false = ap next_m (keeps f false) ∙ sym (not_next_m (meaning f) (proper f))
 keeps (Until f g) true = ap₂ until_m (keeps f true) (keeps g true)
 keeps (Until f g) false = ap₂ release_m (keeps f false) (keeps g false) ∙ sym (not_until_m (meaning f) (meaning g) (proper f) (proper g))
+keeps (Release f g) true = ap₂ release_m (keeps f true) (keeps g true)
+keeps (Release f g) false = ap₂ until_m (keeps f false) (keeps g false) ∙ sym (not_not_m (until_m (not_m (meaning f)) (not_m (meaning g))) (λ v. refl))
+keeps (WeakUntil f g) true = ap₂ release_m (keeps g true) (label_says (Or f g) true _ (ap₂ or_m (keeps f true) (keeps g true)))
+keeps (WeakUntil f g) false =
+    ap₂ until_m (keeps g false) (label_says (Or f g) false _ (ap₂ and_m (keeps f false) (keeps g false) ∙ sym (not_or_m (meaning f) (meaning g))))
+    ∙ sym (not_not_m (until_m (not_m (meaning g)) (not_m (or_m (meaning f) (meaning g)))) (λ v. refl))
 keeps (Always f) true = ap (release_m (meaning False)) (keeps f true) ∙ ap (λ m. not_m (until_m m (not_m (meaning f)))) not_false_m
 keeps (Always f) false = ap (until_m true_m) (keeps f false) ∙ sym (not_not_m (until_m true_m (not_m (meaning f))) (λ v. refl))
 keeps (Eventually f) true = ap (until_m true_m) (keeps f true)

@@ -1,7 +1,7 @@
 -- The normal form of a formula as a tree, in which a negation stands inside a label alone (Gerth, Peled, Vardi and Wolper, 1995).
 -- A label is a formula without temporal operators, and counts as one.
 use Rattle.std.specs.Prelude.{Bool, true, false, not, ◌&&◌, cond}
-use Rattle.rv_model.specs.Ltl.{Ltl, True, False, Atom, Not, Next, Always, Eventually, And, Or, Imply, Equivalent, Until}
+use Rattle.rv_model.specs.Ltl.{Ltl, True, False, Atom, Not, Next, Always, Eventually, And, Or, Imply, Equivalent, Until, Release, WeakUntil}
 use Rattle.rv_model.specs.Meaning.{Meaning, meaning, and_m, or_m, next_m, until_m, release_m}
 
 -- a label; what holds next; both; one of two; the first until the second; the second up to where the first releases it
@@ -25,6 +25,8 @@ is_plain (Next f) = false
 is_plain (Always f) = false
 is_plain (Eventually f) = false
 is_plain (Until f g) = false
+is_plain (Release f g) = false
+is_plain (WeakUntil f g) = false
 
 -- the label of a negation
 abbrev pub negated : Ltl → Ltl
@@ -41,7 +43,7 @@ signed false f = negated f
 abbrev pub or_label : Ltl → Bool → Tree → Tree
 or_label f sign t = cond (is_plain f) (Label (signed sign f)) t
 
--- the normal form of the formula at true, and of its negation at false
+-- the normal form of the formula at true, and of its negation at false; that of `f weak_until g` is that of `g release (f or g)`
 abbrev pub tree_of : Ltl → Bool → Tree
 tree_of True sign = Label (signed sign True)
 tree_of False sign = Label (signed sign False)
@@ -58,6 +60,10 @@ tree_of (Equivalent f g) false = or_label (Equivalent f g) false (Either (Both (
 tree_of (Next f) sign = Later (tree_of f sign)
 tree_of (Until f g) true = Awaits (tree_of f true) (tree_of g true)
 tree_of (Until f g) false = Releases (tree_of f false) (tree_of g false)
+tree_of (Release f g) true = Releases (tree_of f true) (tree_of g true)
+tree_of (Release f g) false = Awaits (tree_of f false) (tree_of g false)
+tree_of (WeakUntil f g) true = Releases (tree_of g true) (or_label (Or f g) true (Either (tree_of f true) (tree_of g true)))
+tree_of (WeakUntil f g) false = Awaits (tree_of g false) (or_label (Or f g) false (Both (tree_of f false) (tree_of g false)))
 tree_of (Always f) true = Releases (Label False) (tree_of f true)
 tree_of (Always f) false = Awaits (Label True) (tree_of f false)
 tree_of (Eventually f) true = Awaits (Label True) (tree_of f true)

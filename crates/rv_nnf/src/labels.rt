@@ -1,6 +1,7 @@
 //! Labels: formulas without temporal operators.
 ghost use Rattle.std.specs.Prelude.{◌≡◌, IfOk};
 ghost use Rattle.rv_model.specs.Formulas.{ltl};
+ghost use Rattle.rv_model.specs.Ltl.{Or};
 ghost use Rattle.rv_nnf.specs.Tree.{is_plain as plain, signed};
 
 use rv_model::Formula;
@@ -31,4 +32,21 @@ pub fn label(alloc: Global, formula: &Formula, positive: bool) -> Result<Formula
         Formula::False => Ok(Formula::True),
         _ => Ok(Formula::Not(Box::new(alloc, formula.copy(alloc)?)?)),
     }
+}
+
+/// The label of an `or` of two such formulas, or of its negation.
+pub fn or_label(
+    alloc: Global,
+    f: &Formula,
+    g: &Formula,
+    positive: bool,
+) -> Result<Formula, AllocError>
+    ensures { IfOk result (λ label. ltl label ≡ signed positive (Or (ltl f.now) (ltl g.now))) }
+{
+    let left = Box::new(alloc, f.copy(alloc)?)?;
+    let both = Formula::Or(left, Box::new(alloc, g.copy(alloc)?)?);
+    if positive {
+        return Ok(both);
+    }
+    Ok(Formula::Not(Box::new(alloc, both)?))
 }

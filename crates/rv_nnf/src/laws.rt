@@ -1,7 +1,7 @@
 //! Laws of the normal form.
-ghost use Rattle.std.specs.Prelude.{◌≡◌, ◌↔◌, ◌<◌, ◌-◌, ℕ, List, length, true, false, IsTrue};
+ghost use Rattle.std.specs.Prelude.{◌≡◌, ◌↔◌, ◌<◌, ◌-◌, ℕ, List, length, Bool, true, false, IsTrue};
 ghost use Rattle.rv_text.specs.Readings.{refused_with};
-ghost use Rattle.rv_model.specs.Ltl.{Ltl};
+ghost use Rattle.rv_model.specs.Ltl.{Ltl, Or, Release, WeakUntil};
 ghost use Rattle.rv_model.specs.Formulas.{HasAtomsBelow};
 ghost use Rattle.rv_model.specs.Meaning.{meaning, not_m};
 ghost use Rattle.rv_model.specs.Truth.{View, Satisfies};
@@ -15,6 +15,11 @@ use rv_text::TOO_MANY_PARTS;
 pub fn normal_form_keeps_truth()
     ensures positive { (f : Ltl) (view : View) (letters : List ℕ) → tree_meaning (tree_of f true) view letters ≡ meaning f view letters }
     ensures negative { (f : Ltl) (view : View) (letters : List ℕ) → tree_meaning (tree_of f false) view letters ≡ not_m (meaning f) view letters }
+{}
+
+/// The normal form of `f weak_until g` is that of `g release (f or g)`, and their negations' are the same too.
+pub fn weak_until_is_a_release()
+    ensures { (f g : Ltl) (sign : Bool) → tree_of (WeakUntil f g) sign ≡ tree_of (Release g (Or f g)) sign }
 {}
 
 /// A part says what its operands make.

@@ -10,6 +10,9 @@ mod parts;
 #[cfg(test)]
 mod tests;
 
-pub use laws::{last_part_is_the_formula, normal_form_keeps_truth, part_is_what_its_operands_make};
+pub use laws::{
+    last_part_is_the_formula, normal_form_keeps_truth, part_is_what_its_operands_make,
+    weak_until_is_a_release,
+};
 pub use numbers::normal;
 pub use parts::{Normal, Part};

@@ -2,6 +2,7 @@
 ghost use Rattle.std.specs.Prelude.{◌≡◌, ◌↔◌, ◌≤◌, ◌-◌, ℕ, List, length, vec_len, IfOk, IsTrue, OnOk};
 ghost use Rattle.rv_text.specs.Readings.{Gives};
 ghost use Rattle.rv_model.specs.Formulas.{ltl, HasAtomsBelow};
+ghost use Rattle.rv_model.specs.Ltl.{Or};
 ghost use Rattle.rv_model.specs.Truth.{View, Satisfies};
 ghost use Rattle.rv_nnf.specs.Entering.{numbers, and_or_of, until_release_of, constant_of};
 ghost use Rattle.rv_nnf.specs.NormalForm.{normal_of};
@@ -10,7 +11,7 @@ ghost use Rattle.rv_nnf.specs.Tree.{tree_of};
 ghost use Rattle.rv_nnf.specs.Views.{piece, pieces};
 
 use crate::entering::enter;
-use crate::labels::{is_plain, label};
+use crate::labels::{is_plain, label, or_label};
 use crate::parts::{Normal, Part};
 use rv_model::Formula;
 use rv_text::Refused;
@@ -41,7 +42,29 @@ fn constant(value: bool) -> Part
     Part::Label(if value { Formula::True } else { Formula::False })
 }
 
+// The number of the normal form of `f or g`, or of its negation.
+#[cycle(number)]
+fn either(
+    alloc: Global,
+    parts: &mut Vec<Part>,
+    f: &Formula,
+    g: &Formula,
+    positive: bool,
+) -> Result<u8, Refused>
+    requires { vec_len parts.old ≤ 64 }
+    ensures gives { Gives (λ number. (pieces parts.new.items, number)) result (numbers (pieces parts.old.items) (tree_of (Or (ltl f.now) (ltl g.now)) positive)) }
+    ensures few { OnOk result (vec_len parts.new ≤ 64) }
+{
+    if is_plain(f) && is_plain(g) {
+        return enter(parts, Part::Label(or_label(alloc, f, g, positive)?));
+    }
+    let i = number(alloc, parts, f, positive)?;
+    let j = number(alloc, parts, g, positive)?;
+    enter(parts, and_or(!positive, i, j))
+}
+
 // The number of the normal form of a formula or of its negation, whose parts are entered by first use.
+#[cycle(number)]
 #[tactic(auto, using(crate::proofs::Signs::always_numbers, crate::proofs::Signs::eventually_numbers))]
 fn number(
     alloc: Global,
@@ -77,11 +100,7 @@ fn number(
             let j = number(alloc, parts, g, positive)?;
             enter(parts, and_or(positive, i, j))
         }
-        Formula::Or(f, g) => {
-            let i = number(alloc, parts, f, positive)?;
-            let j = number(alloc, parts, g, positive)?;
-            enter(parts, and_or(!positive, i, j))
-        }
+        Formula::Or(f, g) => either(alloc, parts, f, g, positive),
         Formula::Imply(f, g) => {
             let i = number(alloc, parts, f, !positive)?;
             let j = number(alloc, parts, g, positive)?;
@@ -100,6 +119,16 @@ fn number(
             let i = number(alloc, parts, f, positive)?;
             let j = number(alloc, parts, g, positive)?;
             enter(parts, until_release(positive, i, j))
+        }
+        Formula::Release(f, g) => {
+            let left = number(alloc, parts, f, positive)?;
+            let right = number(alloc, parts, g, positive)?;
+            enter(parts, until_release(!positive, left, right))
+        }
+        Formula::WeakUntil(f, g) => {
+            let right = number(alloc, parts, g, positive)?;
+            let both = either(alloc, parts, f, g, positive)?;
+            enter(parts, until_release(!positive, right, both))
         }
         Formula::True | Formula::False | Formula::Atom(_) => unreachable!(),
     }

@@ -77,3 +77,13 @@ fn what_has_no_temporal_operator_is_one_part(rt: HostRuntime) -> Result<(), Fail
     }
     Ok(())
 }
+
+#[test]
+fn a_weak_until_releases_one_label(rt: HostRuntime) -> Result<(), Fail> {
+    let left = Box::new(rt.alloc(), Formula::Atom(0))?;
+    let right = Box::new(rt.alloc(), Formula::Atom(1))?;
+    let parts = normal(rt.alloc(), &Formula::WeakUntil(left, right))?;
+    assert_eq!(rt; parts.parts.len(), 3);
+    assert!(rt; matches!(parts.parts.last(), Some(Part::Release(0, 1))));
+    Ok(())
+}

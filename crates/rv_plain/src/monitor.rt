@@ -175,7 +175,11 @@ fn is_true(label: &Formula, set: u32) -> bool
         Formula::Imply(f, g) => !is_true(f, set) || is_true(g, set),
         Formula::Equivalent(f, g) => (is_true(f, set) && is_true(g, set))
             || (!is_true(f, set) && !is_true(g, set)),
-        Formula::Next(_) | Formula::Always(_) | Formula::Eventually(_) | Formula::Until(_, _) =>
-            false,
+        Formula::Next(_)
+        | Formula::Always(_)
+        | Formula::Eventually(_)
+        | Formula::Until(_, _)
+        | Formula::Release(_, _)
+        | Formula::WeakUntil(_, _) => false,
     }
 }

@@ -79,6 +79,12 @@ fn tested(formula: &Formula, view: View, letters: &[Letter]) -> bool
         Formula::Until(f, g) => {
             tested(g, view, letters) || (tested(f, view, letters) && tested(formula, view, rest))
         }
+        Formula::Release(f, g) => {
+            tested(g, view, letters) && (tested(f, view, letters) || tested(formula, view, rest))
+        }
+        Formula::WeakUntil(f, g) => {
+            tested(g, view, letters) || (tested(f, view, letters) && tested(formula, view, rest))
+        }
         Formula::Eventually(f) => tested(f, view, letters) || tested(formula, view, rest),
         Formula::Always(f) => tested(f, view, letters) && tested(formula, view, rest),
     }

@@ -125,7 +125,9 @@ pub fn has_atoms_below(count: u8, formula: &Formula) -> bool
         | Formula::Or(f, g)
         | Formula::Imply(f, g)
         | Formula::Equivalent(f, g)
-        | Formula::Until(f, g) => { has_atoms_below(count, f) && has_atoms_below(count, g) }
+        | Formula::Until(f, g)
+        | Formula::Release(f, g)
+        | Formula::WeakUntil(f, g) => { has_atoms_below(count, f) && has_atoms_below(count, g) }
     }
 }
 

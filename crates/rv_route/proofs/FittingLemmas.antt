@@ -55,6 +55,18 @@ pid-scope fields line by scopes.Global pid n tasks e lt = cc
 pid-scope fields line by scopes.Cpu pid n tasks e lt = cc
 pid-scope fields line by scopes.Task pid n tasks e lt = lt
 
+-- the instance of a monitor by CPU is the line's CPU
+instance-cpu : (fields : List ℕ) (line : TraceLine) (by : Option (List ℕ)) (scope : Scope) (i : ℕ) → by_scope fields line by scope ≡ asks.Instance i → scope ≡ scopes.Cpu → i ≡ line.cpu
+instance-cpu fields line by scopes.Global i e is = cc
+instance-cpu fields line by scopes.Cpu i e is = cc
+instance-cpu fields line by scopes.Task i e is = cc
+
+-- no pid asks for an instance of a monitor by CPU
+pid-cpu : (fields : List ℕ) (line : TraceLine) (by : Option (List ℕ)) (scope : Scope) (pid : ℕ) → by_scope fields line by scope ≡ asks.Pid pid → scope ≡ scopes.Cpu → ⊥
+pid-cpu fields line by scopes.Global pid e is = cc
+pid-cpu fields line by scopes.Cpu pid e is = cc
+pid-cpu fields line by scopes.Task pid e is = cc
+
 -- the monitor of a kind
 record HasKind (monitors : List Monitor) (place : ℕ) (kind : Kind) : Type 0 where
   monitor : Monitor
@@ -123,14 +135,14 @@ count-wider n m scopes.Cpu le = omega arith
 count-wider n m scopes.Task le = le
 
 module _ (text : List ℕ) (lines : List TraceLine) (monitors : List Monitor) where
-  fits-wider : (n m : ℕ) → n ≤ m → (d : Delivery) → FitsKindOf (kinds_of monitors) n d → FitsKindOf (kinds_of monitors) m d
-  fits-wider n m le d f = record { kind = f.kind; there = f.there; hit = f.hit; instance_fits = let w = count-wider n m f.kind.scope le in let i = f.instance_fits in omega arith }
+  fits-wider : (n m cpu : ℕ) → n ≤ m → (d : Delivery) → FitsKindOf (kinds_of monitors) n cpu d → FitsKindOf (kinds_of monitors) m cpu d
+  fits-wider n m cpu le d f = record { kind = f.kind; there = f.there; hit = f.hit; instance_fits = let w = count-wider n m f.kind.scope le in let i = f.instance_fits in omega arith; by_cpu = f.by_cpu }
 
   lane-wider : (n m k l cpu : ℕ) (lane : LaneValue) → n ≤ m → k ≤ l → LaneFits lines (kinds_of monitors) k n cpu lane → LaneFits lines (kinds_of monitors) l m cpu lane
   lane-wider n m k l cpu lane le more f = record {
     ascends = ascends-wider n m lane.turns le f.ascends;
     of = f.of;
-    fit = All-weaker (FitsKindOf (kinds_of monitors) k) (FitsKindOf (kinds_of monitors) l) (fits-wider k l more) lane.deliveries f.fit;
+    fit = All-weaker (FitsKindOf (kinds_of monitors) k cpu) (FitsKindOf (kinds_of monitors) l cpu) (fits-wider k l cpu more) lane.deliveries f.fit;
   }
 
   pub routes-wider : (n m : ℕ) (routes : Routes) → n ≤ m → RoutesFit lines (kinds_of monitors) n routes → RoutesFit lines (kinds_of monitors) m routes
@@ -141,7 +153,7 @@ module _ (text : List ℕ) (lines : List TraceLine) (monitors : List Monitor) wh
 
   module _ (line : TraceLine) (there : Contains lines line) (cpu_fits : line.cpu < 64) where
     -- a delivery that fits goes to its lane
-    delivered_fits : (routes : Routes) (rule : OnValue) (place : ℕ) → FitsKindOf (kinds_of monitors) (length routes.tasks) (record { order = routes.count; monitor = rule.monitor; instance = place; hit = rule.hit })
+    delivered_fits : (routes : Routes) (rule : OnValue) (place : ℕ) → FitsKindOf (kinds_of monitors) (length routes.tasks) line.cpu (record { order = routes.count; monitor = rule.monitor; instance = place; hit = rule.hit })
         → RoutesFit lines (kinds_of monitors) line.number routes → RoutesFit lines (kinds_of monitors) line.number (delivered routes line rule place)
     delivered_fits routes rule place fits f = record { many = length-set routes.lanes line.cpu _ ∙ f.many; lanes = λ cpu. go cpu (same_or_not cpu line.cpu) }
       where
@@ -161,7 +173,7 @@ module _ (text : List ℕ) (lines : List TraceLine) (monitors : List Monitor) wh
             record {
               ascends = ascends-more line.number (length lane.deliveries) lane.turns was.ascends;
               of = of-more lines line.cpu line (length lane.deliveries) lane.turns there refl was.of;
-              fit = All-push (FitsKindOf (kinds_of monitors) (length routes.tasks)) lane.deliveries d was.fit fits;
+              fit = All-push (FitsKindOf (kinds_of monitors) (length routes.tasks) line.cpu) lane.deliveries d was.fit fits;
             }
 
         go : (cpu : ℕ) → (cpu ≡ line.cpu) ⊎ (cpu ≢ line.cpu) → LaneFits lines (kinds_of monitors) (length routes.tasks) line.number cpu (get_or (set routes.lanes line.cpu grown) cpu no_lane)
@@ -177,7 +189,7 @@ module _ (text : List ℕ) (lines : List TraceLine) (monitors : List Monitor) wh
       lanes = λ cpu. lane-wider line.number line.number (length routes.tasks) (length (with_task routes.tasks task)) cpu (get_or routes.lanes cpu no_lane) (omega arith) (tasks-more routes.tasks task) (f.lanes cpu);
     }
 
-    deliver_fits : (routes after : Routes) (rule : OnValue) (place : ℕ) → FitsKindOf (kinds_of monitors) (length routes.tasks) (record { order = routes.count; monitor = rule.monitor; instance = place; hit = rule.hit })
+    deliver_fits : (routes after : Routes) (rule : OnValue) (place : ℕ) → FitsKindOf (kinds_of monitors) (length routes.tasks) line.cpu (record { order = routes.count; monitor = rule.monitor; instance = place; hit = rule.hit })
         → RoutesFit lines (kinds_of monitors) line.number routes → deliver routes line rule place ≡ Ok after → RoutesFit lines (kinds_of monitors) line.number after
     deliver_fits routes after rule place fits f is = go (nat_lt routes.count MAX_DELIVERIES) is
       where
@@ -193,7 +205,13 @@ module _ (text : List ℕ) (lines : List TraceLine) (monitors : List Monitor) wh
         let h = has_kind monitors rule.monitor k.kind k.there in
         let by = asked-instance text line monitors rule h.monitor h.there i e in
         let fits = instance-fits (text_at text line.fields) line rule.by h.monitor.scope i (length routes.tasks) cpu_fits by in
-        deliver_fits routes after rule i (record { kind = k.kind; there = k.there; hit = k.hit; instance_fits = subst (λ (kind : Kind). i < count_of (length routes.tasks) kind.scope) h.is fits }) f is
+        deliver_fits routes after rule i (record {
+          kind = k.kind;
+          there = k.there;
+          hit = k.hit;
+          instance_fits = subst (λ (kind : Kind). i < count_of (length routes.tasks) kind.scope) h.is fits;
+          by_cpu = λ is_cpu. instance-cpu (text_at text line.fields) line rule.by h.monitor.scope i by (ap (λ (kind : Kind). kind.scope) h.is ∙ is_cpu);
+        }) f is
     answer_fits routes after rule (asks.Pid pid) k e f is = go (not (is_held routes.tasks (task_of pid line.cpu)) && length routes.tasks == MAX_TASKS) is
       where
         task : Task
@@ -202,12 +220,18 @@ module _ (text : List ℕ) (lines : List TraceLine) (monitors : List Monitor) wh
         next : Routes
         next = record routes { tasks = with_task routes.tasks (task_of pid line.cpu) }
 
-        fits : FitsKindOf (kinds_of monitors) (length (with_task routes.tasks (task_of pid line.cpu))) (record { order = routes.count; monitor = rule.monitor; instance = number_of routes.tasks (task_of pid line.cpu); hit = rule.hit })
+        fits : FitsKindOf (kinds_of monitors) (length (with_task routes.tasks (task_of pid line.cpu))) line.cpu (record { order = routes.count; monitor = rule.monitor; instance = number_of routes.tasks (task_of pid line.cpu); hit = rule.hit })
         fits =
             let h = has_kind monitors rule.monitor k.kind k.there in
             let by = asked-pid text line monitors rule h.monitor h.there pid e in
             let below = pid-scope (text_at text line.fields) line rule.by h.monitor.scope pid (number_of routes.tasks (task_of pid line.cpu)) (length (with_task routes.tasks (task_of pid line.cpu))) by (number-below routes.tasks (task_of pid line.cpu)) in
-            record { kind = k.kind; there = k.there; hit = k.hit; instance_fits = subst (λ (kind : Kind). number_of routes.tasks (task_of pid line.cpu) < count_of (length (with_task routes.tasks (task_of pid line.cpu))) kind.scope) h.is below }
+            record {
+              kind = k.kind;
+              there = k.there;
+              hit = k.hit;
+              instance_fits = subst (λ (kind : Kind). number_of routes.tasks (task_of pid line.cpu) < count_of (length (with_task routes.tasks (task_of pid line.cpu))) kind.scope) h.is below;
+              by_cpu = λ is_cpu. absurd (pid-cpu (text_at text line.fields) line rule.by h.monitor.scope pid by (ap (λ (kind : Kind). kind.scope) h.is ∙ is_cpu));
+            }
 
         go : (b : Bool)
             → (if b then Rattle.rv_text.specs.Readings.refused_at Rattle.rv_text.specs.declared.numbers.TheConstants.TOO_MANY_TASKS line.number

@@ -125,7 +125,7 @@ works_apart all kinds tasks n works count ascend of w v t u in_w in_v in_t in_u 
 
 nothing_fits : (all : List TraceLine) (kinds : List Kind) → RoutesFit all kinds 0 nothing
 unfolding nothing
-nothing_fits all kinds = record { many = refl; lanes = λ cpu. subst (λ (l : LaneValue). LaneFits all kinds 0 0 cpu l) (sym (empty 64 cpu)) (record { ascends = tt; of = All-nil (IsOf all cpu); fit = All-nil (FitsKindOf kinds 0) }) }
+nothing_fits all kinds = record { many = refl; lanes = λ cpu. subst (λ (l : LaneValue). LaneFits all kinds 0 0 cpu l) (sym (empty 64 cpu)) (record { ascends = tt; of = All-nil (IsOf all cpu); fit = All-nil (FitsKindOf kinds 0 cpu) }) }
   where
     empty : (n i : ℕ) → get_or (replicate n no_lane) i no_lane ≡ no_lane
     empty zero i = refl
@@ -149,5 +149,5 @@ works_fit kinds next routes f =
       cpus = of.apart;
       lines = All-weaker P (λ (w : Work). AllPairs (λ (t u : Turn). t.line < u.line) w.turns) (λ w o. ascends-pairs next w.turns o.fits.ascends) (works_of routes.lanes) of.works;
       apart = works_apart f.lines kinds k next (works_of routes.lanes) count f.ascend of.works;
-      deliveries = All-weaker P (λ (w : Work). All (FitsKindOf kinds k) w.deliveries) (λ w o. o.fits.fit) (works_of routes.lanes) of.works;
+      deliveries = All-weaker P (λ (w : Work). All (FitsKindOf kinds k w.cpu) w.deliveries) (λ w o. o.fits.fit) (works_of routes.lanes) of.works;
     }

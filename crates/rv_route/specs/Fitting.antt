@@ -1,6 +1,7 @@
--- What routed works keep: they ascend by CPU, the lines of each ascend, no line makes turns of two CPUs, and each delivery fits its monitor.
+-- What routed works keep: they ascend by CPU, the lines of each ascend, no line makes turns of two CPUs, and each delivery fits its monitor and its CPU.
 use Rattle.std.specs.Prelude.{◌≡◌, ◌<◌, ◌≤◌, ℕ, List, [], ◌∷◌, length, All, AllPairs, Contains, Some, slice_get, slice_index_or}
 use Rattle.rv_model.specs.declared.work.Delivery.{Delivery}
+use Rattle.rv_model.specs.declared.work.Scope.TheVariants.{Cpu}
 use Rattle.rv_model.specs.declared.work.Turn.{Turn}
 use Rattle.rv_model.specs.Works.{Work}
 use Rattle.rv_model.specs.Histories.{LinesApart}
@@ -17,12 +18,13 @@ pub record IsOf (lines : List TraceLine) (cpu : ℕ) (turn : Turn) : Type 0 wher
   pub number : line.number ≡ turn.line
   pub cpu_is : line.cpu ≡ cpu
 
--- the delivery is to an instance of a monitor whose specification the hit fits
-pub record FitsKindOf (kinds : List Kind) (tasks : ℕ) (d : Delivery) : Type 0 where
+-- the delivery is to an instance of a monitor whose specification the hit fits, and to the CPU's own instance where these are the CPUs
+pub record FitsKindOf (kinds : List Kind) (tasks cpu : ℕ) (d : Delivery) : Type 0 where
   pub kind : Kind
   pub there : slice_get kinds d.monitor ≡ Some kind
   pub hit : FitsSpec kind.spec d.hit
   pub instance_fits : d.instance < count_of tasks kind.scope
+  pub by_cpu : kind.scope ≡ Cpu → d.instance ≡ cpu
 
 -- the lines are numbered upwards
 abbrev pub NumbersAscend : List TraceLine → Type 0
@@ -33,7 +35,7 @@ pub record WorksFit (kinds : List Kind) (tasks : ℕ) (works : List Work) : Type
   pub cpus : AllPairs (λ w v. w.cpu < v.cpu) works
   pub lines : All (λ w. AllPairs (λ t u. t.line < u.line) w.turns) works
   pub apart : LinesApart works
-  pub deliveries : All (λ w. All (FitsKindOf kinds tasks) w.deliveries) works
+  pub deliveries : All (λ w. All (FitsKindOf kinds tasks w.cpu) w.deliveries) works
 
 -- each line is below the next one, and the last is at most this one
 abbrev pub AscendsTo : ℕ → List Turn → Type 0
@@ -45,7 +47,7 @@ AscendsTo n (turn ∷ next ∷ turns) = (turn.line < next.line) × AscendsTo n (
 pub record LaneFits (lines : List TraceLine) (kinds : List Kind) (tasks n cpu : ℕ) (lane : LaneValue) : Type 0 where
   pub ascends : AscendsTo n lane.turns
   pub of : All (IsOf lines cpu) lane.turns
-  pub fit : All (FitsKindOf kinds tasks) lane.deliveries
+  pub fit : All (FitsKindOf kinds tasks cpu) lane.deliveries
 
 -- all lanes fit lines up to this number
 pub record RoutesFit (lines : List TraceLine) (kinds : List Kind) (n : ℕ) (routes : Routes) : Type 0 where

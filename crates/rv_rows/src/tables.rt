@@ -9,7 +9,7 @@ use std::alloc::Global;
 use std::test::Fail;
 
 /// Over the atoms A and B.
-const RULES: [&str; 30] = [
+const RULES: [&str; 37] = [
     "RULE = A imply B",
     "RULE = not next A",
     "RULE = A and next B",
@@ -39,6 +39,13 @@ const RULES: [&str; 30] = [
     "RULE = (always A) or (eventually B)",
     "RULE = not (A equivalent eventually B)",
     "RULE = (next next A) and (eventually not B)",
+    "RULE = A release B",
+    "RULE = not (A release B)",
+    "RULE = A weak_until B",
+    "RULE = not (A weak_until B)",
+    "RULE = always (A imply (B release not A))",
+    "RULE = (next A) weak_until (B and next B)",
+    "RULE = A release (B weak_until next A)",
     "RULE = X imply Y  X = A until next B  Y = eventually (A and next A)",
 ];
 
@@ -57,7 +64,7 @@ fn agrees(table: &Table, formula: &Formula, letters: &[Letter]) -> bool {
 }
 
 #[test]
-fn tables_of_thirty_rules_agree_with_the_plain_evaluator(rt: HostRuntime) -> Result<(), Fail> {
+fn tables_of_rules_agree_with_the_plain_evaluator(rt: HostRuntime) -> Result<(), Fail> {
     for text in RULES {
         let rule = read_ltl(rt.alloc(), text.as_bytes())?;
         let table = table_of(rt.alloc(), &rule)?;

@@ -3,7 +3,7 @@ use Rattle.std.specs.Prelude.{◌≡◌, ℕ, ◌+◌, ◌<◌, ◌≤◌, ◌^�
 use Rattle.std.specs.Coded.{Coded, code_by, coded×, coded_ℕ, coded_list}
 use Rattle.std.proofs.Common.{refl}
 use Rattle.rv_model.specs.Numbers.{list_of, has_bit}
-use Rattle.rv_model.specs.Ltl.{Ltl, True, False, Atom, Not, Next, Always, Eventually, And, Or, Imply, Equivalent, Until}
+use Rattle.rv_model.specs.Ltl.{Ltl, True, False, Atom, Not, Next, Always, Eventually, And, Or, Imply, Equivalent, Until, Release, WeakUntil}
 use Rattle.rv_model.specs.LtlCode.{coded_ltl}
 use Rattle.rv_model.specs.Machine.{Machine}
 use Rattle.rv_model.specs.Table.{Table, of_events, of_labels, Node, next_row, node_at}
@@ -45,6 +45,8 @@ IsLabel (Or f g) = IsLabel f × IsLabel g
 IsLabel (Imply f g) = IsLabel f × IsLabel g
 IsLabel (Equivalent f g) = IsLabel f × IsLabel g
 IsLabel (Until f g) = ⊥
+IsLabel (Release f g) = ⊥
+IsLabel (WeakUntil f g) = ⊥
 
 -- a set of rows from 1 on, below n
 abbrev pub IsRowSet : ℕ → ℕ → Type 0

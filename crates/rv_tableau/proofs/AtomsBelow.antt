@@ -2,7 +2,7 @@
 use Rattle.std.proofs.Common.{◌≡◌, ℕ, ◌≤◌, true, arith}
 use Rattle.std.proofs.lemmas.Bool.{false≢true, and_parts}
 use Rattle.rv_model.specs.Formulas.{HasAtomsBelow}
-use Rattle.rv_model.specs.Ltl.{Ltl, True, False, Atom, Not, Next, Always, Eventually, And, Or, Imply, Equivalent, Until}
+use Rattle.rv_model.specs.Ltl.{Ltl, True, False, Atom, Not, Next, Always, Eventually, And, Or, Imply, Equivalent, Until, Release, WeakUntil}
 use Rattle.rv_nnf.specs.Tree.{is_plain}
 use Rattle.rv_table.specs.Rows.{IsLabel}
 
@@ -20,6 +20,8 @@ atoms_within n m h (Or f g) a = (atoms_within n m h f a.0, atoms_within n m h g 
 atoms_within n m h (Imply f g) a = (atoms_within n m h f a.0, atoms_within n m h g a.1)
 atoms_within n m h (Equivalent f g) a = (atoms_within n m h f a.0, atoms_within n m h g a.1)
 atoms_within n m h (Until f g) a = (atoms_within n m h f a.0, atoms_within n m h g a.1)
+atoms_within n m h (Release f g) a = (atoms_within n m h f a.0, atoms_within n m h g a.1)
+atoms_within n m h (WeakUntil f g) a = (atoms_within n m h f a.0, atoms_within n m h g a.1)
 
 -- a formula without temporal operators, whose atoms are below 32, is a label
 pub label_is : (f : Ltl) → is_plain f ≡ true → HasAtomsBelow 32 f → IsLabel f
@@ -35,3 +37,5 @@ label_is (Next f) p a = false≢true p
 label_is (Always f) p a = false≢true p
 label_is (Eventually f) p a = false≢true p
 label_is (Until f g) p a = false≢true p
+label_is (Release f g) p a = false≢true p
+label_is (WeakUntil f g) p a = false≢true p

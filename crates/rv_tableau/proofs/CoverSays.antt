@@ -4,7 +4,7 @@ use mathlib.Core.Path.{ap₂}
 use Rattle.std.specs.List.{list_any}
 use Rattle.std.proofs.lemmas.List.Folds.{list_any-append}
 use Rattle.std.proofs.lemmas.Bool.{and_parts, false≢true}
-use Rattle.rv_model.specs.Ltl.{Ltl, True, False, Atom, Not, Next, Always, Eventually, And, Or, Imply, Equivalent, Until}
+use Rattle.rv_model.specs.Ltl.{Ltl, True, False, Atom, Not, Next, Always, Eventually, And, Or, Imply, Equivalent, Until, Release, WeakUntil}
 use Rattle.rv_model.specs.Truth.{View, Weak, Strong, other}
 use Rattle.rv_model.specs.Numbers.{has_bit}
 use Rattle.rv_nnf.specs.Tree.{is_plain}
@@ -65,6 +65,8 @@ plain_is (Next f) h v x t = absurd (false≢true h)
 plain_is (Always f) h v x t = absurd (false≢true h)
 plain_is (Eventually f) h v x t = absurd (false≢true h)
 plain_is (Until f g) h v x t = absurd (false≢true h)
+plain_is (Release f g) h v x t = absurd (false≢true h)
+plain_is (WeakUntil f g) h v x t = absurd (false≢true h)
 
 -- ---- a cover is what its step says
 

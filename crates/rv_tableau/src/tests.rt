@@ -188,6 +188,28 @@ fn holds(f: &Formula, weakly: bool, letters: &[u32]) -> bool
             }
             weakly
         }
+        Formula::Release(g, h) => {
+            for k in 0..letters.len() {
+                if !holds(h, weakly, &letters[k..]) {
+                    return false;
+                }
+                if holds(g, weakly, &letters[k..]) {
+                    return true;
+                }
+            }
+            weakly
+        }
+        Formula::WeakUntil(g, h) => {
+            for k in 0..letters.len() {
+                if holds(h, weakly, &letters[k..]) {
+                    return true;
+                }
+                if !holds(g, weakly, &letters[k..]) {
+                    return false;
+                }
+            }
+            weakly
+        }
     }
 }
 
@@ -203,20 +225,22 @@ fn formula(alloc: Global, code: u32, levels: u8) -> Result<Formula, AllocError>
             _ => Formula::Atom(1),
         });
     }
-    let left = Box::new(alloc, formula(alloc, code / 9, levels - 1)?)?;
-    match code % 9 {
+    let left = Box::new(alloc, formula(alloc, code / 11, levels - 1)?)?;
+    match code % 11 {
         0 => Ok(Formula::Not(left)),
         1 => Ok(Formula::Next(left)),
         2 => Ok(Formula::Always(left)),
         3 => Ok(Formula::Eventually(left)),
         _ => {
-            let right = Box::new(alloc, formula(alloc, code / 36, levels - 1)?)?;
-            Ok(match code % 9 {
+            let right = Box::new(alloc, formula(alloc, code / 44, levels - 1)?)?;
+            Ok(match code % 11 {
                 4 => Formula::And(left, right),
                 5 => Formula::Or(left, right),
                 6 => Formula::Imply(left, right),
                 7 => Formula::Equivalent(left, right),
-                _ => Formula::Until(left, right),
+                8 => Formula::Until(left, right),
+                9 => Formula::Release(left, right),
+                _ => Formula::WeakUntil(left, right),
             })
         }
     }

@@ -1,5 +1,9 @@
 pub mod AnswerLemmas
+pub mod BesideLemmas
+pub mod ChangesLemmas
 pub mod ComesLemmas
+pub mod CpuLemmas
+pub mod FeedingLemmas
 pub mod GrowingTexts
 pub mod NamedLemmas
 pub mod PiecesLemmas
@@ -7,5 +11,5 @@ pub mod ReadyLemmas
 pub mod ReportedLemmas
 pub mod SaysLemmas
 pub mod SessionLemmas
-pub mod SwitchLemmas
 pub mod TableLemmas
+pub mod VerdictLemmas

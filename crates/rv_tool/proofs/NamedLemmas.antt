@@ -1,5 +1,5 @@
 -- The unread file that a part of a reading names is reached in the whole.
-use Rattle.std.proofs.Common.{◌≡◌, ℕ, List, refl}
+use Rattle.std.proofs.Common.{◌≡◌, ℕ, List, [], refl}
 use Rattle.std.specs.Prelude.{Option, Some, Result, Ok, Err}
 use Rattle.rv_io.specs.Files.{Files}
 use Rattle.rv_bind.specs.declared.fault.BindFault.{BindFault}
@@ -13,6 +13,7 @@ use Rattle.rv_tool.specs.declared.words.Kind.{Kind}
 use Rattle.rv_tool.specs.Faults.{Tells}
 use Rattle.rv_tool.specs.Inputs.{InputValue, routed_text, routed_in, run_input}
 use Rattle.rv_tool.specs.Sessions.{session_text, session_in, control_in}
+use Rattle.rv_tool.specs.HeaderFiles.{header_text, header_in}
 use Rattle.rv_tool.specs.Tables.{table_text, table_in}
 
 module _ (told : Option Files) where
@@ -33,6 +34,11 @@ module _ (told : Option Files) where
   table_named X Z kind file fault =
       step_named X Z told fault (λ files. of_name files file accepted) (λ files text. of_file file (table_text kind text)) (λ files. table_in files kind file) (λ files. of_name-reading files file (λ text. of_file file (table_text kind text)))
 
+  -- an automaton whose C tables are asked for is read by its file
+  pub header_named : (X Z : Type 0) (name file : List ℕ) (fault : BindFault) → Names {X = X} told (Err fault) (λ files. of_name files file accepted) → Names {X = Z} told (Err fault) (λ files. header_in files name file)
+  header_named X Z name file fault =
+      step_named X Z told fault (λ files. of_name files file accepted) (λ files text. of_file file (header_text name text)) (λ files. header_in files name file) (λ files. of_name-reading files file (λ text. of_file file (header_text name text)))
+
   -- an unread script is read by its file
   pub script_named : (X Z : Type 0) (script : List ℕ) (bound : BoundValue) (fault : BindFault) → Names {X = X} told (Err fault) (λ files. of_name files script accepted) → Names {X = Z} told (Err fault) (λ files. session_in files script bound)
   script_named X Z script bound fault =
@@ -52,14 +58,14 @@ module _ (told : Option Files) where
   -- what the bindings name, the run names
   pub input_named : (X Z : Type 0) (bindings trace : List ℕ) (fault : BindFault) → Names {X = X} told (Err fault) (λ files. bound_of files bindings) → Names {X = Z} told (Err fault) (λ files. run_input files bindings trace)
   input_named X Z bindings trace fault =
-      step_named X Z told fault (λ files. bound_of files bindings) (λ files bound. reading (routed_in files trace bound) (λ routed. accepted (record { bound = bound; routed = routed }))) (λ files. run_input files bindings trace) (λ files. refl)
+      step_named X Z told fault (λ files. bound_of files bindings) (λ files bound. reading (routed_in files trace bound) (λ routed. accepted (record { bound = bound; routed = routed; changes = [] }))) (λ files. run_input files bindings trace) (λ files. refl)
 
   -- where the bindings were read, the run names what the trace names
   pub input_behind_named : (X Z : Type 0) (bindings trace : List ℕ) (bound : BoundValue) (fault : BindFault) → ((files : Files) → told ≡ Some files → bound_of files bindings ≡ accepted bound)
       → Names {X = X} told (Err fault) (λ files. routed_in files trace bound) → Names {X = Z} told (Err fault) (λ files. run_input files bindings trace)
   input_behind_named X Z bindings trace bound fault read named =
       behind_named X Z told fault (λ files. bound_of files bindings) bound next (bound-local bindings) read
-      (step_named X X told fault (λ files. routed_in files trace bound) (λ files routed. accepted (record { bound = bound; routed = routed })) (λ files. next files bound) (λ files. refl) named)
+      (step_named X X told fault (λ files. routed_in files trace bound) (λ files routed. accepted (record { bound = bound; routed = routed; changes = [] })) (λ files. next files bound) (λ files. refl) named)
     where
       next : Files → BoundValue → Outcome InputValue
-      next files bound = reading (routed_in files trace bound) (λ routed. accepted (record { bound = bound; routed = routed }))
+      next files bound = reading (routed_in files trace bound) (λ routed. accepted (record { bound = bound; routed = routed; changes = [] }))

@@ -32,10 +32,6 @@ use Rattle.rv_tool.specs.Pieces.{passed, RoutedAs, IsRouted}
 use Rattle.rv_trace.proofs.AscendLemmas.{trace_ascends}
 use Rattle.rv_trace.proofs.FrontLemmas.{read-refused}
 
--- a piece more of a text
-pub piece_more : (text : List ℕ) (place end : ℕ) → place ≤ end → take place text ++ slice_range text place end ≡ take end text
-piece_more text place end le = sym (take-add place (end - place) text) ∙ (let e : place + (end - place) ≡ end = omega arith in ap (λ n. take n text) e)
-
 -- a refusal of what was fed of a text is the text's
 pub front_refused : (text fed : List ℕ) (ended : Bool) (end : ℕ) (refusal : Refusal) → fed ≡ take end text → ended ≡ false → trace_of (part_read ended fed) ≡ Err refusal → trace_of text ≡ Err refusal
 front_refused text fed ended end refusal is open_is e =
@@ -207,10 +203,6 @@ module _ (bindings : Bindings) where
       refuses-routed : (f : Refused) (q : Result Routes Refusal) → Refuses f q → Refuses f (routed_of q)
       refuses-routed refuseds.Memory q e = tt
       refuses-routed (refuseds.Because refusal) q e = ap routed_of e
-
-  -- no refusal was given
-  pub none-late : (text : List ℕ) (router : RouterValue) (late : Option Refused) → late ≡ None → IsRouted bindings text router late → router.refused ≡ None
-  none-late text router late none r = sym r.late_is ∙ none
 
 -- in a file's words
 pub of_file-and_then : {X Y : Type 0} (file : List ℕ) (read : Result X Refusal) (next : X → Result Y Refusal) → of_file file (and_then read next) ≡ reading (of_file file read) (λ x. of_file file (next x))

@@ -26,7 +26,8 @@ use Rattle.rv_bind.specs.Compiling.{IsTableOf}
 use Rattle.rv_bind.specs.WellFormed.{Kind, kind_of, kinds_of, FitsAtoms, FitsSpec, HasTable, HaveTables}
 use Rattle.rv_bind.proofs.TableLemmas.{labelled}
 use Rattle.rv_route.specs.Fitting.{FitsKindOf, WorksFit}
-use Rattle.rv_tool.specs.Inputs.{opened}
+use Rattle.rv_verdicts.specs.Lone.{IsByCpu}
+use Rattle.rv_tool.specs.Inputs.{opened, HasCpus}
 
 -- ---- tables
 
@@ -90,8 +91,8 @@ hit_fits (specs.Da a) t mode (whats.Da event) is fits = subst (λ (u : Table). F
 hit_fits (specs.Da a) t mode (whats.Ltl on off pulse) is fits = absurd fits
 
 module _ (monitors : List Monitor) (tables : List Table) (tasks : ℕ) (have : HaveTables (kinds_of monitors) tables) where
-  delivery_fits : (d : Delivery) → FitsKindOf (kinds_of monitors) tasks d → FitsDelivery (opened monitors tables tasks) d
-  delivery_fits d f =
+  delivery_fits : (cpu : ℕ) (d : Delivery) → FitsKindOf (kinds_of monitors) tasks cpu d → FitsDelivery (opened monitors tables tasks) d
+  delivery_fits cpu d f =
       let at = at_place monitors tables tasks d.monitor f.kind f.there have in
       let shape : List ℕ = map (count_of tasks) (map (λ (m : Monitor). m.scope) monitors) in
       let small : d.instance < slice_index shape d.monitor = subst (λ n. d.instance < n) (sym at.count) f.instance_fits in
@@ -132,8 +133,10 @@ module _ (monitors : List Monitor) (tables : List Table) (tasks : ℕ) (have : H
     new_lane = new i d within;
     cpu = all_works (λ (w : Work). w.cpu < 64) lanes f.cpus_below i d within;
     lines = all_works (λ (w : Work). AllPairs (λ (t u : Turn). t.line < u.line) w.turns) lanes f.lines i d within;
-    fit = All-weaker (FitsKindOf (kinds_of monitors) tasks) (FitsDelivery (opened monitors tables tasks)) delivery_fits (get_or lanes i d).work.deliveries
-        (all_works (λ (w : Work). All (FitsKindOf (kinds_of monitors) tasks) w.deliveries) lanes f.deliveries i d within);
+    fit =
+        let w : Work = (get_or lanes i d).work in
+        All-weaker (FitsKindOf (kinds_of monitors) tasks w.cpu) (FitsDelivery (opened monitors tables tasks)) (delivery_fits w.cpu) w.deliveries
+        (all_works (λ (w : Work). All (FitsKindOf (kinds_of monitors) tasks w.cpu) w.deliveries) lanes f.deliveries i d within);
   }
 
   -- new lanes of routed works fit the setup
@@ -154,6 +157,27 @@ lanes_new lanes more lane work all is added =
     subst (λ (ls : List LaneValue). All (λ (l : LaneValue). IsNewLane l.work l) ls) (sym added)
     (All-push (λ (l : LaneValue). IsNewLane l.work l) lanes lane all (record { work_is = refl; no_records = is.no_records; room = subst (λ (w : Work). length w.deliveries ≤ lane.room) (sym is.work_is) is.room }))
 
+-- ---- monitors by CPU
+
+-- the kind of a monitor
+kind_at : (monitors : List Monitor) (place : ℕ) (m : Monitor) → slice_get monitors place ≡ Some m → slice_get (kinds_of monitors) place ≡ Some (kind_of m)
+kind_at [] place m e = cc
+kind_at (first ∷ monitors) zero m e = let same : first ≡ m = cc in ap (λ (n : Monitor). Some (kind_of n)) same
+kind_at (first ∷ monitors) (suc place) m e = kind_at monitors place m e
+
+-- a delivery that fits its CPU is to the CPU's own instance of a monitor by CPU
+own_instance : (monitors : List Monitor) (tasks place cpu : ℕ) → HasCpus monitors place → (d : Delivery) → FitsKindOf (kinds_of monitors) tasks cpu d → d.monitor ≡ place → d.instance ≡ cpu
+own_instance monitors tasks place cpu has d f at =
+    let both : Some f.kind ≡ Some (kind_of has.monitor) = sym f.there ∙ ap (slice_get (kinds_of monitors)) at ∙ kind_at monitors place has.monitor has.there in
+    let same : f.kind ≡ kind_of has.monitor = cc in
+    f.by_cpu (ap (λ (k : Kind). k.scope) same ∙ has.scope)
+
+-- routed works are to the CPUs' own instances of a monitor by CPU
+works_own : (monitors : List Monitor) (tasks : ℕ) (works : List Work) → WorksFit (kinds_of monitors) tasks works → (place : ℕ) → HasCpus monitors place → IsByCpu works place
+works_own monitors tasks works fit place has =
+    All-weaker (λ (w : Work). All (FitsKindOf (kinds_of monitors) tasks w.cpu) w.deliveries) (λ (w : Work). All (λ (d : Delivery). d.monitor ≡ place → d.instance ≡ w.cpu) w.deliveries)
+    (λ w all. All-weaker (FitsKindOf (kinds_of monitors) tasks w.cpu) (λ (d : Delivery). d.monitor ≡ place → d.instance ≡ w.cpu) (own_instance monitors tasks place w.cpu has) w.deliveries all) works fit.deliveries
+
 -- ---- all of it
 
 pub record Made (monitors : List Monitor) (setup : Setup) (tasks : ℕ) (lanes : List LaneValue) : Type 0 where
@@ -161,6 +185,7 @@ pub record Made (monitors : List Monitor) (setup : Setup) (tasks : ℕ) (lanes :
   pub mean : AllMean (map (λ (m : Monitor). m.spec) monitors) setup.tables
   pub fit : FitLanes setup lanes
   pub ascend : AllPairs (λ (l m : LaneValue). l.work.cpu < m.work.cpu) lanes
+  pub by_cpu : (place : ℕ) → HasCpus monitors place → IsByCpu (works_of lanes) place
 
 pub ready_made : (monitors given : List Monitor) (tables : List Table) (setup : Setup) (n tasks : ℕ) (works : List Work) (lanes : List LaneValue) → HaveTables (kinds_of monitors) tables → WorksFit (kinds_of monitors) tasks works
     → setup ≡ opened given tables n → given ≡ monitors → n ≡ tasks → works_of lanes ≡ works → All (λ (l : LaneValue). IsNewLane l.work l) lanes → Made monitors setup tasks lanes
@@ -172,4 +197,5 @@ ready_made monitors given tables setup n tasks works lanes have fit setup_is sam
       mean = subst (λ (ts : List Table). AllMean (map (λ (m : Monitor). m.spec) monitors) ts) (sym tables_are) (tables_mean monitors tables have);
       fit = subst (λ (s : Setup). FitLanes s lanes) (sym is) (lanes_fit monitors tables tasks have works lanes fit works_are new);
       ascend = pair_works monitors tables tasks have lanes (subst (WorksFit (kinds_of monitors) tasks) (sym works_are) fit).cpus;
+      by_cpu = works_own monitors tasks (works_of lanes) (subst (WorksFit (kinds_of monitors) tasks) (sym works_are) fit);
     }

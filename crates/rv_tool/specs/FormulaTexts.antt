@@ -1,6 +1,6 @@
 -- The printed table of a formula (this project's choice: docs/FORMATS.md). Row 0 is where runs begin, and node k is row k.
 use Rattle.std.specs.Prelude.{ℕ, Bool, true, false, zero, suc, ◌-◌, ◌<◌, List, [], ◌∷◌, ◌++◌, length, flat_map, slice_index_or, if◌then◌else◌, codes, decimal}
-use Rattle.rv_model.specs.Ltl.{Ltl, True, False, Atom, Not, Next, Always, Eventually, And, Or, Imply, Equivalent, Until}
+use Rattle.rv_model.specs.Ltl.{Ltl, True, False, Atom, Not, Next, Always, Eventually, And, Or, Imply, Equivalent, Until, Release, WeakUntil}
 use Rattle.rv_model.specs.Numbers.{list_of, has_bit}
 use Rattle.rv_model.specs.Reports.{line_end}
 use Rattle.rv_model.specs.Table.{Table}
@@ -36,6 +36,8 @@ operator_text (Or f g) = codes " or "
 operator_text (Imply f g) = codes " imply "
 operator_text (Equivalent f g) = codes " equivalent "
 operator_text (Until f g) = codes " until "
+operator_text (Release f g) = codes " release "
+operator_text (WeakUntil f g) = codes " weak_until "
 
 -- an operand with its text
 abbrev pub operand_text : Ltl → List ℕ → List ℕ
@@ -63,6 +65,8 @@ formula_text atoms (Or f g) = binary_text (codes " or ") f (formula_text atoms f
 formula_text atoms (Imply f g) = binary_text (codes " imply ") f (formula_text atoms f) g (formula_text atoms g)
 formula_text atoms (Equivalent f g) = binary_text (codes " equivalent ") f (formula_text atoms f) g (formula_text atoms g)
 formula_text atoms (Until f g) = binary_text (codes " until ") f (formula_text atoms f) g (formula_text atoms g)
+formula_text atoms (Release f g) = binary_text (codes " release ") f (formula_text atoms f) g (formula_text atoms g)
+formula_text atoms (WeakUntil f g) = binary_text (codes " weak_until ") f (formula_text atoms f) g (formula_text atoms g)
 
 -- ---- rows
 

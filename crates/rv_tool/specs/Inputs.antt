@@ -1,7 +1,8 @@
 -- What the files of a run come to, and the run that they determine.
-use Rattle.std.specs.Prelude.{ℕ, ◌+◌, ◌^◌, Bool, false, List, [], map, length, Option, Some, None, slice_get}
+use Rattle.std.specs.Prelude.{◌≡◌, ℕ, List, [], map, length, Some, slice_get}
 use Rattle.rv_io.specs.Files.{Files}
-use Rattle.rv_model.specs.Numbers.{number_of}
+use Rattle.rv_model.specs.declared.work.Change.{Change}
+use Rattle.rv_model.specs.declared.work.Scope.TheVariants.{Cpu}
 use Rattle.rv_model.specs.Setups.{Setup}
 use Rattle.rv_model.specs.Table.{Table}
 use Rattle.rv_model.specs.Histories.{Input}
@@ -12,12 +13,14 @@ use Rattle.rv_bind.specs.Values.{BoundValue}
 use Rattle.rv_bind.specs.Bound.{bound_of}
 use Rattle.rv_bind.specs.Outcomes.{Outcome, accepted, reading, of_file, of_name}
 use Rattle.rv_route.specs.Routing.{RoutedValue, route_of}
+use Rattle.rv_control.specs.Opening.{opening_switches}
 use Rattle.rv_feed.specs.Lane.{panics_of}
 
--- the bindings, and what each CPU has to do
+-- the bindings, what each CPU has to do, and the changes of the control actor
 pub record InputValue : Type 0 where
   pub bound : BoundValue
   pub routed : RoutedValue
+  pub changes : List Change
 
 -- what the text of the trace comes to under the bindings: the trace by lines, then the routing by lines
 abbrev pub routed_text : List ℕ → BoundValue → List ℕ → Outcome RoutedValue
@@ -26,23 +29,17 @@ routed_text trace bound text = reading (of_file trace (trace_of text)) (λ lines
 abbrev pub routed_in : Files → List ℕ → BoundValue → Outcome RoutedValue
 routed_in files trace bound = of_name files trace (routed_text trace bound)
 
--- the bindings with each specification as its line is reached, and then the trace
+-- the bindings with each specification as its line is reached, and then the trace; nothing changes beside them
 abbrev pub run_input : Files → List ℕ → List ℕ → Outcome InputValue
-run_input files bindings trace = reading (bound_of files bindings) (λ bound. reading (routed_in files trace bound) (λ routed. accepted (record { bound = bound; routed = routed })))
+run_input files bindings trace = reading (bound_of files bindings) (λ bound. reading (routed_in files trace bound) (λ routed. accepted (record { bound = bound; routed = routed; changes = [] })))
 
 -- ---- the run
 
-abbrev pub is_enabled : Option Monitor → Bool
-is_enabled None = false
-is_enabled (Some m) = m.enabled
-
--- whether the monitor of the bit is enabled
-abbrev pub enables : List Monitor → ℕ → Bool
-enables monitors bit = is_enabled (slice_get monitors bit)
-
--- bits 32 and 33 are on, monitoring and reacting, and so is the bit of each monitor that is not off
-abbrev pub opening_switches : List Monitor → ℕ
-opening_switches monitors = number_of (enables monitors) 32 + (2 ^ 32 + 2 ^ 33)
+-- the monitor that stands here is by CPU
+pub record HasCpus (monitors : List Monitor) (place : ℕ) : Type 0 where
+  pub monitor : Monitor
+  pub there : slice_get monitors place ≡ Some monitor
+  pub scope : monitor.scope ≡ Cpu
 
 -- the setup that a run with so many tasks opens with
 abbrev pub opened : List Monitor → List Table → ℕ → Setup
@@ -62,5 +59,5 @@ run_of i = record {
   specs = map (λ m. m.spec) i.bound.monitors;
   panics = panics_of (map (λ m. m.reactor) i.bound.monitors);
   works = i.routed.works;
-  changes = [];
+  changes = i.changes;
 }

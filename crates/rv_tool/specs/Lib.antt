@@ -1,6 +1,9 @@
 pub mod AutomatonTexts
+pub mod Changes
 pub mod Faults
+pub mod Feeding
 pub mod FormulaTexts
+pub mod HeaderFiles
 pub mod Headline
 pub mod Inputs
 pub mod Loaded
@@ -11,4 +14,5 @@ pub mod Runs
 pub mod SessionValues
 pub mod Sessions
 pub mod Tables
+pub mod Verdicts
 pub mod Words

@@ -1,20 +1,27 @@
 -- What a run begins with, as a plain value, and what it keeps.
-use Rattle.std.specs.Prelude.{◌≡◌, ◌<◌, AllPairs, map, length}
+use Rattle.std.specs.Prelude.{ℕ, ◌≡◌, ◌<◌, ◌≤◌, All, AllPairs, map, length}
 use Rattle.rv_core.specs.Judged.{AllMean}
+use Rattle.rv_feed.specs.Changes.{IsBelowHalt}
 use Rattle.rv_feed.specs.Lane.{FitLanes, works_of}
+use Rattle.rv_verdicts.specs.Lone.{IsByCpu}
 use Rattle.rv_tool.specs.declared.input.Ready.{Ready}
-use Rattle.rv_tool.specs.Inputs.{InputValue, setup_of}
+use Rattle.rv_tool.specs.Inputs.{InputValue, setup_of, HasCpus}
 
 abbrev pub ready_value : Ready → InputValue
 ready_value r = record {
   bound = record { containers = r.bindings.containers; monitors = r.bindings.monitors.items; rules = r.bindings.rules.items; items = r.bindings.items.items; tables = r.setup.tables };
   routed = record { tasks = r.tasks; works = works_of r.lanes.items };
+  changes = r.changes.items;
 }
 
--- the setup and the reactors are the bindings', the tables mean the specifications, and the lanes fit and ascend by CPU
+-- the setup and the reactors are the bindings', the tables mean the specifications, the lanes fit and ascend by CPU, each CPU delivers to its own instance of a monitor by CPU, and no change halts
 pub record IsReady (r : Ready) : Type 0 where
   pub setup : r.setup ≡ setup_of (ready_value r).bound (length r.tasks)
   pub reactors : r.reactors.items ≡ map (λ m. m.reactor) r.bindings.monitors.items
   pub mean : AllMean (map (λ m. m.spec) r.bindings.monitors.items) r.setup.tables
   pub lanes : FitLanes r.setup r.lanes.items
   pub ascend : AllPairs (λ l m. l.work.cpu < m.work.cpu) r.lanes.items
+  pub by_cpu : (place : ℕ) → HasCpus r.bindings.monitors.items place → IsByCpu (works_of r.lanes.items) place
+  pub below_halt : All IsBelowHalt r.changes.items
+  pub few_monitors : length r.bindings.monitors.items ≤ 32
+  pub few_containers : length r.bindings.containers ≤ 32

@@ -10,12 +10,14 @@ use Rattle.rv_bind.specs.declared.fault.BindFault.TheVariants as faults
 use Rattle.rv_bind.specs.Outcomes.{Outcome, IsReached}
 use Rattle.rv_tool.specs.declared.input.Ready.{Ready}
 use Rattle.rv_tool.specs.declared.replaying.Done.{Done}
+use Rattle.rv_tool.specs.Changes.{input_beside}
 use Rattle.rv_tool.specs.Inputs.{run_input}
 use Rattle.rv_tool.specs.Loaded.{load_input}
 use Rattle.rv_tool.specs.Output.{Told, refusal_text, missing_text}
 use Rattle.rv_model.specs.Histories.{IsOneHistory, IsLegal}
-use Rattle.rv_tool.specs.Words.{CommandValue, replay, feed, table, control, load}
+use Rattle.rv_tool.specs.Words.{CommandValue, replay, feed, feed_beside, table, header, control, load}
 use Rattle.rv_tool.specs.Ready.{ready_value}
+use Rattle.rv_tool.specs.HeaderFiles.{header_in}
 use Rattle.rv_tool.specs.Tables.{table_in}
 use Rattle.rv_tool.specs.declared.session.Session.{Session}
 use Rattle.rv_tool.specs.Sessions.{Printed, control_in}
@@ -74,6 +76,8 @@ abbrev pub Answers : Option CommandValue → Files → ℕ → ℕ → Ending
 Answers None files first last = Says (refusal_text None (record { number = USAGE; line = 0 })) 2
 Answers (Some (replay bindings trace)) files first last = AnswersBy (Reports IsOneHistory) (λ files. run_input files bindings trace) files first last
 Answers (Some (feed bindings trace)) files first last = AnswersBy (Reports IsLegal) (λ files. run_input files bindings trace) files first last
+Answers (Some (feed_beside bindings trace script)) files first last = AnswersBy (Reports IsLegal) (λ files. input_beside files bindings trace script) files first last
 Answers (Some (load blocks)) files first last = Ends (Reports IsLegal) (load_input blocks)
 Answers (Some (table kind file)) files first last = AnswersBy Prints (λ files. table_in files kind file) files first last
+Answers (Some (header name file)) files first last = AnswersBy Prints (λ files. header_in files name file) files first last
 Answers (Some (control bindings script)) files first last = AnswersBy PrintsSession (λ files. control_in files bindings script) files first last

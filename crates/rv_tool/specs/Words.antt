@@ -1,8 +1,9 @@
 -- What the words of the command line ask for.
-use Rattle.std.specs.Prelude.{ℕ, nat_lt, ◌&&◌, not, List, [], ◌∷◌, map, codes, bytes_eq, string_bytes, Option, Some, None, if◌then◌else◌, String}
+use Rattle.std.specs.Prelude.{◌≡◌, ℕ, true, nat_lt, ◌&&◌, not, List, [], ◌∷◌, map, codes, bytes_eq, string_bytes, Option, Some, None, if◌then◌else◌, String}
 use Rattle.std.specs.declared.alloc.Global.{Global}
 use Rattle.rv_text.specs.Decimal.{decimal_of}
 use Rattle.rv_gen.specs.declared.files.TheConstants.{MAX_BLOCKS}
+use Rattle.rv_header.specs.Naming.{is_header_name}
 use Rattle.rv_tool.specs.declared.words.Command.{Command}
 use Rattle.rv_tool.specs.declared.words.Command.TheVariants as commands
 use Rattle.rv_tool.specs.declared.words.Kind.{Kind}
@@ -18,19 +19,25 @@ pub data CommandValue : Type 0 where
   -- the bindings and the trace, for one thread or several
   replay : List ℕ → List ℕ → CommandValue
   feed : List ℕ → List ℕ → CommandValue
+  -- the bindings, the trace, and the script beside the CPUs
+  feed_beside : List ℕ → List ℕ → List ℕ → CommandValue
   -- the bindings and the script
   control : List ℕ → List ℕ → CommandValue
   -- how many blocks of the generated input
   load : ℕ → CommandValue
   -- the kind of specification, and its file
   table : Kind → List ℕ → CommandValue
+  -- the name of the C tables, and the automaton's file
+  header : List ℕ → List ℕ → CommandValue
 
 abbrev pub command_value : Command → CommandValue
 command_value (commands.Replay bindings trace) = replay bindings.now trace.now
 command_value (commands.Feed bindings trace) = feed bindings.now trace.now
+command_value (commands.FeedBeside bindings trace script) = feed_beside bindings.now trace.now script.now
 command_value (commands.Control bindings script) = control bindings.now script.now
 command_value (commands.Load blocks) = load blocks
 command_value (commands.Table kind file) = table kind file.now
+command_value (commands.Header name file) = header name.now file.now
 
 -- `da` or `ltl`
 abbrev pub kind_of : List ℕ → Option Kind
@@ -41,6 +48,10 @@ abbrev pub table_of : Option Kind → List ℕ → Option CommandValue
 table_of None file = None
 table_of (Some kind) file = Some (table kind file)
 
+-- `header NAME FILE`, where C tables may have the name
+abbrev pub header_of : List ℕ → List ℕ → Option CommandValue
+header_of name file = if is_header_name name then Some (header name file) else None
+
 -- what the first word asks for
 abbrev pub verb_of : List ℕ → Option Verb
 verb_of word =
@@ -48,6 +59,7 @@ verb_of word =
     else if bytes_eq word (codes "feed") then Some verbs.Feed
     else if bytes_eq word (codes "control") then Some verbs.Control
     else if bytes_eq word (codes "table") then Some verbs.Table
+    else if bytes_eq word (codes "header") then Some verbs.Header
     else None
 
 -- with two further words
@@ -57,14 +69,21 @@ command_with (Some verbs.Replay) first second = Some (replay first second)
 command_with (Some verbs.Feed) first second = Some (feed first second)
 command_with (Some verbs.Control) first second = Some (control first second)
 command_with (Some verbs.Table) first second = table_of (kind_of first) second
+command_with (Some verbs.Header) first second = header_of first second
 
 -- from 1 to as many blocks as make a whole trace
 abbrev pub load_of : Option ℕ → Option CommandValue
 load_of None = None
 load_of (Some blocks) = if nat_lt 0 blocks && not (nat_lt MAX_BLOCKS blocks) then Some (load blocks) else None
 
--- `replay BINDINGS TRACE`, `feed BINDINGS TRACE`, `control BINDINGS SCRIPT`, `load N`, or a table
+-- `replay BINDINGS TRACE`, `feed BINDINGS TRACE`, `feed BINDINGS TRACE CONTROL`, `control BINDINGS SCRIPT`, `load N`, a table or C tables
 abbrev pub command_of : List (List ℕ) → Option CommandValue
 command_of (word ∷ number ∷ []) = if bytes_eq word (codes "load") then load_of (decimal_of number) else None
 command_of (word ∷ first ∷ second ∷ []) = command_with (verb_of word) first second
+command_of (word ∷ bindings ∷ trace ∷ script ∷ []) = if bytes_eq word (codes "feed") then Some (feed_beside bindings trace script) else None
 command_of _ = None
+
+-- C tables may have the name that the command gives them
+abbrev pub IsWellNamed : Command → Type 0
+IsWellNamed (commands.Header name file) = is_header_name name.now ≡ true
+IsWellNamed _ = Unit {0}

@@ -19,7 +19,9 @@ fn a_failed_read_names_its_file(rt: HostRuntime) -> Result<(), Fail> {
         (1, 3, "rv: cannot read wip.rv\n"),
         (2, 3, "rv: cannot read wip.dot\n"),
         (3, 3, "rv: cannot read wip.txt\n"),
-        (4, 1, REPORT),
+        // the piece that shows the end of the trace
+        (4, 3, "rv: cannot read wip.txt\n"),
+        (5, 1, REPORT),
     ];
     let words = first_words(&rt)?;
     for (call, status, text) in cases {
@@ -36,6 +38,35 @@ fn a_failed_read_names_its_file(rt: HostRuntime) -> Result<(), Fail> {
         );
         assert_eq!(rt; finished.status, status, "at read {call}");
         assert_eq!(rt; out.taken(), text.as_bytes(), "at read {call}");
+    }
+    Ok(())
+}
+
+#[test]
+fn pieces_of_any_size_come_to_the_same(rt: HostRuntime) -> Result<(), Fail> {
+    // The most bytes of a piece, the call that fails, the status and the text. A whole read of the trace is one call.
+    let cases = [
+        (1, 1000, 1, REPORT),
+        (7, 1000, 1, REPORT),
+        (4096, 1000, 1, REPORT),
+        (7, 4, 3, "rv: cannot read wip.txt\n"),
+    ];
+    let words = first_words(&rt)?;
+    for (most, call, status, text) in cases {
+        let mut store = first_files(&rt)?;
+        store.cut(most);
+        store.fail_at(call)?;
+        let mut out = MemSink::new(rt.alloc(), 512, 512)?;
+        let finished = rv(
+            &rt,
+            rt.alloc(),
+            words.as_slice(),
+            &mut store,
+            &mut out,
+            &OpenGate,
+        );
+        assert_eq!(rt; finished.status, status, "in pieces of {most}");
+        assert_eq!(rt; out.taken(), text.as_bytes(), "in pieces of {most}");
     }
     Ok(())
 }

@@ -12,7 +12,7 @@ use rv_report::{lanes_status, report_lanes};
 use std::alloc::{AllocError, Global};
 use std::thread::Threads;
 
-/// The whole run, a thread for each CPU, and its report.
+/// The whole run, a thread for each CPU and one for its changes, and its report.
 pub(crate) fn fed<R: Threads + Sync, G: Gate + Send>(
     rt: &R,
     alloc: Global,
@@ -28,8 +28,8 @@ pub(crate) fn fed<R: Threads + Sync, G: Gate + Send>(
         setup,
         reactors,
         lanes,
+        changes,
     } = ready;
-    let changes = Vec::new(alloc);
     let run = feed(rt, alloc, setup, reactors.as_slice(), lanes, changes, gate)?;
     let text = report_lanes(alloc, &bindings, &tasks, run.lanes.as_slice())?;
     let status = lanes_status(run.lanes.as_slice());

@@ -66,6 +66,8 @@ fn operator(formula: &Formula) -> &'static [u8]
         Formula::Imply(_, _) => b" imply ",
         Formula::Equivalent(_, _) => b" equivalent ",
         Formula::Until(_, _) => b" until ",
+        Formula::Release(_, _) => b" release ",
+        Formula::WeakUntil(_, _) => b" weak_until ",
     }
 }
 
@@ -87,7 +89,9 @@ fn put_formula(out: &mut Line, atoms: &Names, formula: &Formula) -> Result<(), A
         | Formula::Or(f, g)
         | Formula::Imply(f, g)
         | Formula::Equivalent(f, g)
-        | Formula::Until(f, g) => {
+        | Formula::Until(f, g)
+        | Formula::Release(f, g)
+        | Formula::WeakUntil(f, g) => {
             put_open(out, f)?;
             put_formula(out, atoms, f)?;
             put_close(out, f)?;

@@ -1,20 +1,21 @@
 //! From the files to what a run begins with.
-ghost use Rattle.std.specs.Prelude.{◌≡◌, ◌≤◌, ◌<◌, ◌^◌, length, map, All, IfOk};
+ghost use Rattle.std.specs.Prelude.{◌≡◌, ◌≤◌, [], length, map, All, IfOk};
 ghost use Rattle.rv_bind.specs.Outcomes.{Comes, Names};
 ghost use Rattle.rv_bind.specs.BoundViews.{bound_value};
 ghost use Rattle.rv_bind.specs.WellFormed.{HaveTables, kinds_of, IsWellFormed};
 ghost use Rattle.rv_route.specs.Routed.{routed_value};
 ghost use Rattle.rv_route.specs.Fitting.{WorksFit};
 ghost use Rattle.rv_feed.specs.Lane.{IsNewLane, works_of};
-ghost use Rattle.rv_tool.specs.Inputs.{opened, enables, opening_switches, run_input};
+ghost use Rattle.rv_tool.specs.Inputs.{opened, run_input};
 ghost use Rattle.rv_tool.specs.Ready.{ready_value, IsReady};
 
 use crate::trace_text::read_routed;
 use rv_bind::{BindFault, Bindings, Bound, Monitor, read_bindings};
+use rv_control::opening_switches;
 use rv_core::Setup;
 use rv_feed::Lane;
 use rv_io::Store;
-use rv_model::{CpuWork, Reactor, Scope};
+use rv_model::{Change, CpuWork, Reactor, Scope};
 use rv_route::Routed;
 use rv_slots::{Shape, Tasks};
 use rv_table::Table;
@@ -28,10 +29,8 @@ pub(crate) struct Ready {
     pub(crate) setup: Setup,
     pub(crate) reactors: Vec<Reactor>,
     pub(crate) lanes: Vec<Lane>,
+    pub(crate) changes: Vec<Change>,
 }
-
-/// Monitoring and reacting.
-const SWITCHED_ON: u64 = 12_884_901_888;
 
 /// Reads the bindings and the trace.
 #[tactic(auto, using(crate::proofs::NamedLemmas::input_named, crate::proofs::NamedLemmas::input_behind_named))]
@@ -44,6 +43,7 @@ pub(crate) fn read_input<S: Store>(
     ensures kept { S.files store.new ≡ S.files store.old }
     ensures later { S.faults store.old ≤ S.faults store.new }
     ensures ready { IfOk result IsReady }
+    ensures unchanged { IfOk result (λ ready. ready.changes.items ≡ []) }
     ensures value { Comes ready_value (S.files store.old) (S.faults store.old) (S.faults store.new) result (λ files. run_input files bindings.now trace.now) }
     ensures named { Names (S.files store.old) result (λ files. run_input files bindings.now trace.now) }
 {
@@ -61,7 +61,7 @@ fn prepare(alloc: Global, bound: Bound, routed: Routed) -> Result<Ready, AllocEr
     requires formed { IsWellFormed (bound_value bound) }
     requires fit { WorksFit (kinds_of bound.bindings.monitors.items) (length routed.tasks) routed.works.items }
     ensures ready { IfOk result IsReady }
-    ensures value { IfOk result (λ ready. ready_value ready ≡ record { bound = bound_value bound; routed = routed_value routed }) }
+    ensures value { IfOk result (λ ready. ready_value ready ≡ record { bound = bound_value bound; routed = routed_value routed; changes = [] }) }
 {
     let Bound { bindings, tables } = bound;
     let Routed { tasks, works } = routed;
@@ -74,6 +74,7 @@ fn prepare(alloc: Global, bound: Bound, routed: Routed) -> Result<Ready, AllocEr
         setup,
         reactors,
         lanes,
+        changes: Vec::new(alloc),
     })
 }
 
@@ -92,7 +93,7 @@ fn opening(
     let scopes = scopes(alloc, monitors)?;
     let shape = Shape::new(alloc, scopes.as_slice(), tasks)?;
     let starts = starts(alloc, monitors)?;
-    let switches = switches(monitors);
+    let switches = opening_switches(monitors);
     Ok(Setup {
         shape,
         tables,
@@ -132,32 +133,6 @@ fn reactors(alloc: Global, monitors: &[Monitor]) -> Result<Vec<Reactor>, AllocEr
         reactors.push(monitor.reactor)?;
     }
     Ok(reactors)
-}
-
-/// Whether there is a monitor at this place, and it is enabled.
-fn is_enabled(monitors: &[Monitor], place: usize) -> bool
-    ensures { result ≡ enables monitors.now place }
-{
-    match monitors.get(place) {
-        Some(monitor) => monitor.enabled,
-        None => false,
-    }
-}
-
-/// The switches that a run opens with.
-fn switches(monitors: &[Monitor]) -> u64
-    ensures value { result ≡ opening_switches monitors.now }
-    ensures fits { result < 2 ^ 35 }
-{
-    let mut switches: u64 = 0;
-    let mut bit: u64 = 1;
-    for place in 0..32usize {
-        if is_enabled(monitors, place) {
-            switches += bit;
-        }
-        bit *= 2;
-    }
-    switches + SWITCHED_ON
 }
 
 /// A lane for each work.

@@ -3,11 +3,15 @@
 
 mod automaton_text;
 #[cfg(test)]
+mod beside_tests;
+mod changes;
+#[cfg(test)]
 mod failing_tests;
 mod feeding;
 #[cfg(test)]
 mod feeding_tests;
 mod formula_text;
+mod headers;
 mod input;
 mod loading;
 mod output;

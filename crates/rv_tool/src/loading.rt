@@ -4,7 +4,7 @@ ghost use Rattle.rv_io.specs.Files.{front_read};
 ghost use Rattle.rv_tool.specs.Loaded.{named_files, generated_files};
 
 use rv_gen::{Generated, generate};
-use rv_io::{READ_LIMIT, ReadError, Store};
+use rv_io::{READ_LIMIT, ReadError, Store, piece_of};
 use std::alloc::{AllocError, Global};
 
 /// The name of the bindings.
@@ -69,6 +69,19 @@ impl Store for Loaded {
         match Vec::from_slice(alloc, front_read(text)) {
             Ok(bytes) => Ok(bytes),
             Err(AllocError) => Err(ReadError::Memory),
+        }
+    }
+
+    fn piece(
+        &mut self,
+        _alloc: Global,
+        name: &str,
+        from: u64,
+        into: &mut [u8],
+    ) -> Result<usize, ReadError> {
+        match self.text(name) {
+            Some(text) => Ok(piece_of(text, from, None, into)),
+            None => Err(ReadError::NoFile),
         }
     }
 }

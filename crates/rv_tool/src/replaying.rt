@@ -1,5 +1,5 @@
 //! A run on one thread.
-ghost use Rattle.std.specs.Prelude.{IfOk};
+ghost use Rattle.std.specs.Prelude.{◌≡◌, [], IfOk};
 ghost use Rattle.rv_model.specs.Histories.{IsOneHistory};
 ghost use Rattle.rv_tool.specs.Headline.{IsReported};
 ghost use Rattle.rv_tool.specs.Ready.{ready_value, IsReady};
@@ -20,7 +20,8 @@ pub(crate) struct Done {
 
 /// The whole run, its scripts in the order of the trace, and its report.
 pub(crate) fn replayed(alloc: Global, ready: Ready) -> Result<Done, AllocError>
-    requires { IsReady ready }
+    requires ready { IsReady ready }
+    requires unchanged { ready.changes.items ≡ [] }
     ensures { IfOk result (λ done. IsReported IsOneHistory (ready_value ready) done.closed done.text.items done.status) }
 {
     let Ready {
@@ -29,6 +30,7 @@ pub(crate) fn replayed(alloc: Global, ready: Ready) -> Result<Done, AllocError>
         setup,
         reactors,
         mut lanes,
+        changes: _changes,
     } = ready;
     let closed = replay(alloc, setup, reactors.as_slice(), lanes.as_mut_slice())?;
     let text = report_lanes(alloc, &bindings, &tasks, lanes.as_slice())?;

@@ -1,5 +1,5 @@
-//! The lines of a trace are routed as they are taken from its text, and none is kept.
-ghost use Rattle.std.specs.Prelude.{◌≡◌, ◌<◌, ◌≤◌, [], true, false, length, All, Err, IfErr, IfOk, OnOk};
+//! The lines of a trace are routed as they are taken from its pieces, and none is kept.
+ghost use Rattle.std.specs.Prelude.{◌≡◌, ◌≤◌, ◌++◌, [], true, false, length, All, Err, IfErr, IfOk, OnOk};
 ghost use Rattle.rv_text.specs.Readings.{Gives, Refuses, and_then};
 ghost use Rattle.rv_trace.specs.Streams.{part_read};
 ghost use Rattle.rv_trace.specs.Traces.{trace_of};
@@ -8,15 +8,21 @@ ghost use Rattle.rv_route.specs.Fitting.{WorksFit};
 ghost use Rattle.rv_route.specs.Routed.{routed_value};
 ghost use Rattle.rv_route.specs.Routing.{route_of};
 ghost use Rattle.rv_tool.specs.Pieces.{passed, IsRouted};
+ghost use Rattle.rv_tool.specs.Feeding.{IsOpen};
 
 use rv_bind::Bindings;
 use rv_route::{Routed, Router};
 use rv_text::{Refusal, Refused};
 use rv_trace::Lines;
-use std::alloc::Global;
+use std::alloc::{AllocError, Global};
 
-/// How many bytes of a text are taken at a time.
-const PIECE: usize = 65_536;
+/// A trace that is read and routed: the lines that are not yet taken, what was routed, and the first refusal of routing.
+#[derive(Drop)]
+pub(crate) struct Routing {
+    pub(crate) lines: Lines,
+    pub(crate) router: Router,
+    pub(crate) late: Option<Refused>,
+}
 
 /// Routes all lines that can be taken. The first refusal of routing is kept, and the lines behind it are read on.
 fn route_taken(
@@ -41,58 +47,48 @@ fn route_taken(
     Ok(())
 }
 
-/// Where the piece ends that begins at a place of a text with so many bytes.
-fn piece_end(place: usize, count: usize) -> usize
-    requires { place < count }
-    ensures low { place < result }
-    ensures high { result ≤ count }
-{
-    if count - place < PIECE {
-        count
-    } else {
-        place + PIECE
+impl Routing {
+    /// No byte was read.
+    pub(crate) fn new(alloc: Global, bindings: &Bindings) -> Result<Routing, AllocError>
+        requires { All (FitsKind (kinds_of bindings.now.monitors.items)) bindings.now.rules.items }
+        ensures open { IfOk result (IsOpen bindings.now) }
+        ensures fed { IfOk result (λ routing. routing.lines.fed ≡ []) }
+    {
+        Ok(Routing {
+            lines: Lines::new(alloc),
+            router: Router::new(alloc, bindings)?,
+            late: None,
+        })
     }
-}
 
-/// Routes a text piece by piece.
-fn route_pieces(
-    lines: &mut Lines,
-    router: &mut Router,
-    bindings: &Bindings,
-    late: &mut Option<Refused>,
-    text: &[u8],
-) -> Result<(), Refused>
-    requires size { length text.now ≤ 134217729 }
-    requires fresh { lines.old ≡ record { fed = []; taken = 0; text = []; ended = false; idle = true } }
-    requires begun { IsRouted bindings.now [] router.old late.old }
-    ensures routed { OnOk result (IsRouted bindings.now text.now router.new late.new) }
-    ensures refused { IfErr result (λ fault. Refuses fault (trace_of text.now)) }
-{
-    let mut place = 0;
-    'pieces: while place < text.len() {
-        let end = piece_end(place, text.len());
-        lines.feed(&text[place..end])?;
-        route_taken(lines, router, bindings, late)?;
-        place = end;
+    /// Routes the lines that end in the next piece of the text.
+    pub(crate) fn take_piece(&mut self, bindings: &Bindings, piece: &[u8]) -> Result<(), Refused>
+        requires { IsOpen bindings.now self.old }
+        ensures open { OnOk result (IsOpen bindings.now self.new) }
+        ensures fed { OnOk result (self.new.lines.fed ≡ self.old.lines.fed ++ piece.now) }
+        ensures refused { IfErr result (λ fault. Refuses fault (trace_of (part_read false (self.old.lines.fed ++ piece.now)))) }
+    {
+        self.lines.feed(piece)?;
+        route_taken(&mut self.lines, &mut self.router, bindings, &mut self.late)?;
+        Ok(())
     }
-    lines.finish();
-    route_taken(lines, router, bindings, late)?;
-    Ok(())
-}
 
-/// What a text of trace lines is routed to. A refusal of a line comes before one of routing.
-pub(crate) fn routed(alloc: Global, bindings: &Bindings, text: &[u8]) -> Result<Routed, Refused>
-    requires size { length text.now ≤ 134217729 }
-    requires rules { All (FitsKind (kinds_of bindings.now.monitors.items)) bindings.now.rules.items }
-    ensures value { Gives routed_value result (and_then (trace_of text.now) (route_of bindings.now.monitors.items bindings.now.rules.items text.now)) }
-    ensures fit { IfOk result (λ routed. WorksFit (kinds_of bindings.now.monitors.items) (length routed.tasks) routed.works.items) }
-{
-    let mut lines = Lines::new(alloc);
-    let mut router = Router::new(alloc, bindings)?;
-    let mut late = None;
-    route_pieces(&mut lines, &mut router, bindings, &mut late, text)?;
-    match late {
-        None => Ok(router.end()),
-        Some(fault) => Err(fault),
+    /// What the whole text is routed to. A refusal of a line comes before one of routing.
+    pub(crate) fn end(self, bindings: &Bindings) -> Result<Routed, Refused>
+        requires { IsOpen bindings.now self }
+        ensures value { Gives routed_value result (and_then (trace_of self.lines.fed) (route_of bindings.now.monitors.items bindings.now.rules.items self.lines.fed)) }
+        ensures fit { IfOk result (λ routed. WorksFit (kinds_of bindings.now.monitors.items) (length routed.tasks) routed.works.items) }
+    {
+        let Routing {
+            mut lines,
+            mut router,
+            mut late,
+        } = self;
+        lines.finish();
+        route_taken(&mut lines, &mut router, bindings, &mut late)?;
+        match late {
+            None => Ok(router.end()),
+            Some(fault) => Err(fault),
+        }
     }
 }

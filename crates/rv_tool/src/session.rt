@@ -108,7 +108,11 @@ fn run_commands(
 }
 
 /// The commands of a script.
-fn commands_in(alloc: Global, script: &str, text: &[u8]) -> Result<Vec<Numbered>, BindFault>
+pub(crate) fn commands_in(
+    alloc: Global,
+    script: &str,
+    text: &[u8],
+) -> Result<Vec<Numbered>, BindFault>
     ensures { Tells (λ commands. commands.items) result (of_file script.now (script_of text.now)) }
 {
     match read_script(alloc, text) {

@@ -13,6 +13,13 @@ const CONFLICT: &str = "digraph state_automaton {
 }
 ";
 
+/// An automaton with a state that no C name can stand for.
+const DOTTED: &str = "digraph state_automaton {
+\t{node [shape = circle] \"a.b\"};
+\t\"__init_a.b\" -> \"a.b\";
+}
+";
+
 /// The table of the automaton.
 const WIP_TABLE: &str = "states 2, events 3
 1 preemptive marked
@@ -78,11 +85,43 @@ fn tables_are_printed_and_refused_files_named(rt: HostRuntime) -> Result<(), Fai
             0,
             "nodes 1, atoms 0\n0 -> 1\n1 [] ->\n",
         ),
+        (
+            "table ltl m.ltl",
+            "RULE = A release B",
+            0,
+            "nodes 3, atoms 2\n0 -> 1 2\n1 [B] -> 1 2\n2 [A; B] -> 3\n3 [] -> 3\n",
+        ),
+        (
+            "table ltl m.ltl",
+            "RULE = A weak_until B",
+            0,
+            "nodes 3, atoms 2\n0 -> 1 2\n1 [A or B] -> 1 2\n2 [B; A or B] -> 3\n3 [] -> 3\n",
+        ),
+        (
+            "table ltl m.ltl",
+            "RULE = A release B until C",
+            2,
+            "rv: refused 9 in m.ltl\n",
+        ),
         ("table ltl sleep.ltl", SLEEP, 0, SLEEP_TABLE),
         ("table ltl f.ltl", WIDE, 2, "rv: refused 16 in f.ltl\n"),
         ("table ltl f.ltl", LONG, 2, "rv: refused 17 in f.ltl\n"),
         ("table ltl f.ltl", "X = A", 2, "rv: refused 10 in f.ltl\n"),
         ("table dot wip.dot", WIP, 2, "rv: refused 1\n"),
+        (
+            "header wip wip.dot",
+            CONFLICT,
+            2,
+            "rv: refused 6 in wip.dot\n",
+        ),
+        (
+            "header wip wip.dot",
+            DOTTED,
+            2,
+            "rv: refused 35 in wip.dot\n",
+        ),
+        ("header Wip wip.dot", WIP, 2, "rv: refused 1\n"),
+        ("header wip", WIP, 2, "rv: refused 1\n"),
         ("table da", WIP, 2, "rv: refused 1\n"),
     ];
     for (words, file, status, text) in cases {

@@ -260,6 +260,15 @@ m: instances 1, deliveries 1, failures 1, stopped 0
 ",
         ),
         (
+            "RULE = A release B",
+            NEXT,
+            "t-1 [000] 1.000001: tick:\n",
+            1,
+            "rv: monitor m: violation detected (line 1)
+m: instances 1, deliveries 1, failures 1, stopped 0
+",
+        ),
+        (
             "RULE = always (RT imply not PAGEFAULT)",
             FAULT,
             FAULTS,

@@ -7,10 +7,13 @@ ghost use Rattle.rv_tool.specs.Output.{refusal_text, missing_text};
 ghost use Rattle.rv_io.specs.Files.{Files};
 ghost use Rattle.rv_tool.specs.Headline.{Says, Reports, Ends};
 ghost use Rattle.rv_tool.specs.Runs.{Ended, Fails, Runs, PrintsRead, SaysSession, Answers};
+ghost use Rattle.rv_tool.specs.Verdicts.{ReportsVerdicts, Verdicts};
 ghost use Rattle.rv_tool.specs.Words.{command_of, texts_of};
 ghost use Rattle.rv_tool.specs.Ready.{ready_value, IsReady};
 
+use crate::changes::read_beside;
 use crate::feeding::fed;
+use crate::headers::read_header;
 use crate::input::{Ready, read_input};
 use crate::loading::{BINDINGS, TRACE, generated_store};
 use crate::output::{missing_line, refusal_line, tell};
@@ -57,6 +60,7 @@ pub fn rv<R: Threads + Sync, S: Store, K: Sink, G: Gate + Send>(
 ) -> Finished
     ensures kept { S.files store.new ≡ S.files store.old }
     ensures answers { (files : Files) → S.files store.old ≡ Some files → Answers (command_of (texts_of words.now)) files (S.faults store.old) (S.faults store.new) (K.taken out.old) (K.taken out.new) (K.faults out.old) (K.faults out.new) result.status result.closed }
+    ensures verdicts { (files : Files) → S.files store.old ≡ Some files → Verdicts (command_of (texts_of words.now)) files (S.faults store.old) (S.faults store.new) (K.taken out.old) (K.taken out.new) (K.faults out.old) (K.faults out.new) result.status result.closed }
 {
     match read_words(words) {
         Some(Command::Replay { bindings, trace }) => run(
@@ -71,10 +75,28 @@ pub fn rv<R: Threads + Sync, S: Store, K: Sink, G: Gate + Send>(
             gate,
             read_input(alloc, store, bindings, trace),
         ),
+        Some(
+            Command::FeedBeside {
+                bindings,
+                trace,
+                script,
+            },
+        ) => run_at_once(
+            rt,
+            alloc,
+            out,
+            gate,
+            read_beside(alloc, store, bindings, trace, script),
+        ),
         Some(Command::Table { kind, file }) => print(
             alloc,
             out,
             read_table(alloc, store, kind, file),
+        ),
+        Some(Command::Header { name, file }) => print(
+            alloc,
+            out,
+            read_header(alloc, store, name, file),
         ),
         Some(Command::Control { bindings, script }) => tell_session(
             alloc,
@@ -96,7 +118,8 @@ pub fn rv<R: Threads + Sync, S: Store, K: Sink, G: Gate + Send>(
 
 /// Runs what was read on one thread, or says why there is nothing to run.
 fn run<K: Sink>(alloc: Global, out: &mut K, read: Result<Ready, BindFault>) -> Finished
-    requires { ForOk read IsReady }
+    requires ready { ForOk read IsReady }
+    requires unchanged { ForOk read (λ ready. ready.changes.items ≡ []) }
     ensures { Runs IsOneHistory read (K.taken out.old) (K.taken out.new) (K.faults out.old) (K.faults out.new) result.status result.closed }
 {
     match read {
@@ -130,7 +153,8 @@ fn load<R: Threads + Sync, K: Sink, G: Gate + Send>(
     gate: &G,
     blocks: u32,
 ) -> Finished
-    ensures { Ends (Reports IsLegal) (load_input blocks) (K.taken out.old) (K.taken out.new) (K.faults out.old) (K.faults out.new) result.status result.closed }
+    ensures answers { Ends (Reports IsLegal) (load_input blocks) (K.taken out.old) (K.taken out.new) (K.faults out.old) (K.faults out.new) result.status result.closed }
+    ensures verdicts { Ends ReportsVerdicts (load_input blocks) (K.taken out.old) (K.taken out.new) (K.faults out.old) (K.faults out.new) result.status result.closed }
 {
     match generated_store(alloc, blocks) {
         Ok(mut store) => run_at_once(

@@ -1,5 +1,5 @@
 //! From the trace's file to what each CPU has to do.
-ghost use Rattle.std.specs.Prelude.{◌≡◌, ◌≤◌, ◌⊎◌, length, IfOk};
+ghost use Rattle.std.specs.Prelude.{◌≡◌, ◌<◌, ◌≤◌, ◌+◌, ◌⊎◌, [], length, IfOk, IfErr, OnOk};
 ghost use Rattle.rv_bind.specs.Outcomes.{Comes, Names, of_file, of_name, accepted};
 ghost use Rattle.rv_bind.specs.BoundViews.{bound_value};
 ghost use Rattle.rv_bind.specs.WellFormed.{IsWellFormed, kinds_of};
@@ -10,9 +10,10 @@ ghost use Rattle.rv_text.specs.Readings.{and_then};
 ghost use Rattle.rv_trace.specs.Traces.{trace_of};
 ghost use Rattle.rv_route.specs.Fitting.{WorksFit};
 ghost use Rattle.rv_tool.specs.Inputs.{routed_in};
-ghost use Rattle.rv_tool.specs.Faults.{IsFaultIn, Tells};
+ghost use Rattle.rv_tool.specs.Faults.{IsFaultIn, Tells, FaultComes, FaultNames};
+ghost use Rattle.rv_tool.specs.Feeding.{IsOpen, IsFed, IsAll, IsPieceOf};
 
-use crate::routing::routed;
+use crate::routing::Routing;
 use rv_bind::{BindFault, Bound};
 use rv_io::{READ_LIMIT, ReadError, Store};
 use rv_model::Name;
@@ -20,7 +21,10 @@ use rv_route::Routed;
 use rv_text::Refused;
 use std::alloc::Global;
 
-/// The bytes of the trace.
+/// How many bytes of a trace are read at a time.
+const PIECE: usize = 65_536;
+
+/// The bytes of a file.
 #[tactic(auto, using(rv_bind::proofs::ReachedLemmas::unread_named))]
 pub(crate) fn read_text<S: Store>(
     alloc: Global,
@@ -62,20 +66,99 @@ pub(crate) fn refused(alloc: Global, name: &str, fault: Refused) -> BindFault
     }
 }
 
-/// The front of the bytes, at most so many.
-fn front(bytes: &[u8], most: usize) -> &[u8]
-    ensures few { length result.now ≤ most }
-    ensures same { length bytes.now ≤ most → result.now ≡ bytes.now }
+/// Puts the bytes of the trace from a place on into the front of the buffer, and answers how many.
+#[tactic(auto, using(rv_bind::proofs::ReachedLemmas::unread_named))]
+fn fetch<S: Store>(
+    alloc: Global,
+    store: &mut S,
+    trace: &str,
+    place: u64,
+    buffer: &mut [u8],
+) -> Result<usize, BindFault>
+    ensures kept { S.files store.new ≡ S.files store.old }
+    ensures later { S.faults store.old ≤ S.faults store.new }
+    ensures room { IfOk result (λ count. count ≤ length buffer.old) }
+    ensures len { length buffer.new ≡ length buffer.old }
+    ensures piece { IfOk result (λ count. IsPieceOf (S.files store.old) trace.now place buffer.old buffer.new count) }
+    ensures fault { IfErr result (λ fault. FaultComes (S.files store.old) (S.faults store.old) (S.faults store.new) fault (λ files. of_name files trace.now accepted)) }
+    ensures named { IfErr result (λ fault. FaultNames (S.files store.old) fault (λ files. of_name files trace.now accepted)) }
 {
-    if bytes.len() <= most {
-        bytes
-    } else {
-        &bytes[..most]
+    match store.piece(alloc, trace, place, buffer) {
+        Ok(count) => Ok(count),
+        Err(ReadError::Memory) => Err(BindFault::Memory),
+        Err(_) => Err(unread(alloc, trace)),
     }
 }
 
-/// Reads the trace and routes it. A store that does not tell its files may give more than one read does.
-#[tactic(auto, using(crate::proofs::NamedLemmas::trace_named, crate::proofs::NamedLemmas::tells_named))]
+/// Routes the next piece of the trace, and answers how many bytes it has.
+fn take_next<S: Store>(
+    alloc: Global,
+    store: &mut S,
+    trace: &str,
+    bound: &Bound,
+    place: usize,
+    buffer: &mut [u8],
+    routing: &mut Routing,
+) -> Result<usize, BindFault>
+    requires room { place + length buffer.old ≤ READ_LIMIT }
+    requires open { IsOpen bound.now.bindings routing.old }
+    requires fed { IsFed (S.files store.old) trace.now place routing.old.lines.fed }
+    ensures kept { S.files store.new ≡ S.files store.old }
+    ensures later { S.faults store.old ≤ S.faults store.new }
+    ensures count { IfOk result (λ count. count ≤ length buffer.old) }
+    ensures open { OnOk result (IsOpen bound.now.bindings routing.new) }
+    ensures fed { IfOk result (λ count. IsFed (S.files store.old) trace.now (place + count) routing.new.lines.fed) }
+    ensures all { IfOk result (λ count. count ≡ 0 → 0 < length buffer.old → IsAll (S.files store.old) trace.now routing.new.lines.fed) }
+    ensures fault { IfErr result (λ fault. FaultComes (S.files store.old) (S.faults store.old) (S.faults store.new) fault (λ files. routed_in files trace.now (bound_value bound.now))) }
+    ensures named { IfErr result (λ fault. FaultNames (S.files store.old) fault (λ files. routed_in files trace.now (bound_value bound.now))) }
+{
+    let count = fetch(alloc, store, trace, place as u64, buffer)?;
+    match routing.take_piece(&bound.bindings, &buffer[..count]) {
+        Ok(()) => Ok(count),
+        Err(fault) => Err(refused(alloc, trace, fault)),
+    }
+}
+
+/// Routes the trace piece by piece, up to its end or to the limit of a read.
+fn take_pieces<S: Store>(
+    alloc: Global,
+    store: &mut S,
+    trace: &str,
+    bound: &Bound,
+    buffer: &mut [u8],
+    routing: &mut Routing,
+) -> Result<(), BindFault>
+    requires room { 0 < length buffer.old }
+    requires open { IsOpen bound.now.bindings routing.old }
+    requires fed { routing.old.lines.fed ≡ [] }
+    ensures kept { S.files store.new ≡ S.files store.old }
+    ensures later { S.faults store.old ≤ S.faults store.new }
+    ensures open { OnOk result (IsOpen bound.now.bindings routing.new) }
+    ensures all { OnOk result (IsAll (S.files store.old) trace.now routing.new.lines.fed) }
+    ensures fault { IfErr result (λ fault. FaultComes (S.files store.old) (S.faults store.old) (S.faults store.new) fault (λ files. routed_in files trace.now (bound_value bound.now))) }
+    ensures named { IfErr result (λ fault. FaultNames (S.files store.old) fault (λ files. routed_in files trace.now (bound_value bound.now))) }
+{
+    let mut place = 0;
+    while place < READ_LIMIT {
+        let room = buffer.len().min(READ_LIMIT - place);
+        let count = take_next(
+            alloc,
+            store,
+            trace,
+            bound,
+            place,
+            &mut buffer[..room],
+            routing,
+        )?;
+        if count == 0 {
+            return Ok(());
+        }
+        place += count;
+    }
+    Ok(())
+}
+
+/// Reads the trace in pieces and routes it.
 pub(crate) fn read_routed<S: Store>(
     alloc: Global,
     store: &mut S,
@@ -89,18 +172,35 @@ pub(crate) fn read_routed<S: Store>(
     ensures value { Comes routed_value (S.files store.old) (S.faults store.old) (S.faults store.new) result (λ files. routed_in files trace.now (bound_value bound.now)) }
     ensures named { Names (S.files store.old) result (λ files. routed_in files trace.now (bound_value bound.now)) }
 {
-    let text = read_text(alloc, store, trace)?;
-    route_text(alloc, trace, bound, front(text.as_slice(), READ_LIMIT))
+    let (Ok(mut routing), Ok(mut buffer)) = (
+        Routing::new(alloc, &bound.bindings),
+        vec![in alloc; 0u8; PIECE],
+    ) else {
+        return Err(BindFault::Memory);
+    };
+    take_pieces(
+        alloc,
+        store,
+        trace,
+        bound,
+        buffer.as_mut_slice(),
+        &mut routing,
+    )?;
+    end_routing(alloc, trace, bound, routing)
 }
 
-/// Routes the text of a trace.
-fn route_text(alloc: Global, name: &str, bound: &Bound, text: &[u8]) -> Result<Routed, BindFault>
-    requires size { length text.now ≤ 134217729 }
-    requires formed { IsWellFormed (bound_value bound.now) }
+/// What the whole trace is routed to.
+fn end_routing(
+    alloc: Global,
+    name: &str,
+    bound: &Bound,
+    routing: Routing,
+) -> Result<Routed, BindFault>
+    requires { IsOpen bound.now.bindings routing }
     ensures fit { IfOk result (λ routed. WorksFit (kinds_of bound.now.bindings.monitors.items) (length routed.tasks) routed.works.items) }
-    ensures value { Tells routed_value result (of_file name.now (and_then (trace_of text.now) (route_of bound.now.bindings.monitors.items bound.now.bindings.rules.items text.now))) }
+    ensures value { Tells routed_value result (of_file name.now (and_then (trace_of routing.lines.fed) (route_of bound.now.bindings.monitors.items bound.now.bindings.rules.items routing.lines.fed))) }
 {
-    match routed(alloc, &bound.bindings, text) {
+    match routing.end(&bound.bindings) {
         Ok(routed) => Ok(routed),
         Err(fault) => Err(refused(alloc, name, fault)),
     }

@@ -1,9 +1,10 @@
 //! What the words of the command line ask for.
-ghost use Rattle.rv_tool.specs.Words.{load, load_of, verb_of, command_with, command_of, command_value, kind_of, texts_of};
-ghost use Rattle.std.specs.Prelude.{◌≡◌, ◌∷◌, [], Some, option_map, bytes_eq};
+ghost use Rattle.rv_tool.specs.Words.{load, load_of, verb_of, command_with, command_of, command_value, kind_of, header_of, texts_of, IsWellNamed};
+ghost use Rattle.std.specs.Prelude.{◌≡◌, ◌∷◌, [], Some, option_map, bytes_eq, IfSome};
 ghost use Rattle.rv_text.specs.Decimal.{decimal_of};
 
 use rv_gen::MAX_BLOCKS;
+use rv_header::is_header_name;
 use rv_text::decimal;
 
 /// The kinds of specifications.
@@ -26,16 +27,41 @@ pub enum Verb {
     Control,
     /// The table of a specification.
     Table,
+    /// The C tables of an automaton.
+    Header,
 }
 
 /// A command, and the files that it names.
 #[derive(Clone, Copy, Debug, Drop)]
 pub(crate) enum Command<'a> {
-    Replay { bindings: &'a str, trace: &'a str },
-    Feed { bindings: &'a str, trace: &'a str },
-    Control { bindings: &'a str, script: &'a str },
-    Table { kind: Kind, file: &'a str },
-    Load { blocks: u32 },
+    Replay {
+        bindings: &'a str,
+        trace: &'a str,
+    },
+    Feed {
+        bindings: &'a str,
+        trace: &'a str,
+    },
+    FeedBeside {
+        bindings: &'a str,
+        trace: &'a str,
+        script: &'a str,
+    },
+    Control {
+        bindings: &'a str,
+        script: &'a str,
+    },
+    Table {
+        kind: Kind,
+        file: &'a str,
+    },
+    Header {
+        name: &'a str,
+        file: &'a str,
+    },
+    Load {
+        blocks: u32,
+    },
 }
 
 /// Whether the word is this one.
@@ -70,14 +96,28 @@ fn verb_of(word: &str) -> Option<Verb>
         Some(Verb::Control)
     } else if is(word, "table") {
         Some(Verb::Table)
+    } else if is(word, "header") {
+        Some(Verb::Header)
     } else {
         None
     }
 }
 
+/// The command `header`, if the word may be the name of C tables.
+fn header_with<'a>(name: &'a str, file: &'a str) -> Option<Command<'a>>
+    ensures value { option_map command_value result ≡ header_of name.now file.now }
+    ensures named { IfSome result IsWellNamed }
+{
+    if !is_header_name(name.as_bytes()) {
+        return None;
+    }
+    Some(Command::Header { name, file })
+}
+
 /// The command of two further words, if they make one.
 fn command_with<'a>(verb: Verb, first: &'a str, second: &'a str) -> Option<Command<'a>>
-    ensures { option_map command_value result ≡ command_with (Some verb) first.now second.now }
+    ensures value { option_map command_value result ≡ command_with (Some verb) first.now second.now }
+    ensures named { IfSome result IsWellNamed }
 {
     match verb {
         Verb::Replay => Some(Command::Replay {
@@ -96,6 +136,7 @@ fn command_with<'a>(verb: Verb, first: &'a str, second: &'a str) -> Option<Comma
             Some(kind) => Some(Command::Table { kind, file: second }),
             None => None,
         },
+        Verb::Header => header_with(first, second),
     }
 }
 
@@ -111,7 +152,8 @@ fn blocks_of(number: &str) -> Option<u32>
 
 /// The command of one further word, if they make one.
 fn load_with<'a>(word: &str, number: &str) -> Option<Command<'a>>
-    ensures { option_map command_value result ≡ command_of (word.now ∷ number.now ∷ []) }
+    ensures value { option_map command_value result ≡ command_of (word.now ∷ number.now ∷ []) }
+    ensures named { IfSome result IsWellNamed }
 {
     if !is(word, "load") {
         return None;
@@ -122,12 +164,41 @@ fn load_with<'a>(word: &str, number: &str) -> Option<Command<'a>>
     }
 }
 
+/// The command of three further words, if they make one.
+fn feed_beside<'a>(
+    word: &str,
+    bindings: &'a str,
+    trace: &'a str,
+    script: &'a str,
+) -> Option<Command<'a>>
+    ensures value { option_map command_value result ≡ command_of (word.now ∷ bindings.now ∷ trace.now ∷ script.now ∷ []) }
+    ensures named { IfSome result IsWellNamed }
+{
+    if !is(word, "feed") {
+        return None;
+    }
+    Some(Command::FeedBeside {
+        bindings,
+        trace,
+        script,
+    })
+}
+
 /// The command that the words are, if they are one.
 pub(crate) fn read_words(words: &[String]) -> Option<Command<'_>>
-    ensures { option_map command_value result ≡ command_of (texts_of words.now) }
+    ensures value { option_map command_value result ≡ command_of (texts_of words.now) }
+    ensures named { IfSome result IsWellNamed }
 {
     if words.len() == 2 {
         return load_with(words[0].as_str(), words[1].as_str());
+    }
+    if words.len() == 4 {
+        return feed_beside(
+            words[0].as_str(),
+            words[1].as_str(),
+            words[2].as_str(),
+            words[3].as_str(),
+        );
     }
     if words.len() != 3 {
         return None;

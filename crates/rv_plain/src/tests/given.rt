@@ -172,7 +172,8 @@ pub fn rows(
 }
 
 /// The formula of a text in which an operator follows its operands: atoms `A` and so on, `1` and `0` for the constants,
-/// `!` not, `n` next, `a` always, `e` eventually, `&` and, `|` or, `>` imply, `=` equivalent, `u` until.
+/// `!` not, `n` next, `a` always, `e` eventually, `&` and, `|` or, `>` imply, `=` equivalent, `u` until,
+/// `r` release, `w` weak until.
 pub fn formula(rt: &impl Abort, alloc: Global, text: &str) -> Result<Formula, AllocError> {
     let mut stack: Vec<Formula> = Vec::new(alloc);
     for byte in text.as_bytes() {
@@ -214,6 +215,8 @@ fn binary(alloc: Global, byte: u8, left: Formula, right: Formula) -> Result<Form
         b'|' => Formula::Or(left, right),
         b'>' => Formula::Imply(left, right),
         b'=' => Formula::Equivalent(left, right),
+        b'r' => Formula::Release(left, right),
+        b'w' => Formula::WeakUntil(left, right),
         _ => Formula::Until(left, right),
     })
 }

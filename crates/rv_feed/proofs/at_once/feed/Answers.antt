@@ -5,6 +5,7 @@ use Rattle.rv_model.specs.Histories.{AreJudges}
 use Rattle.rv_model.specs.Setups.{Setup}
 use Rattle.rv_core.specs.Setup.{judges_of}
 use Rattle.rv_core.proofs.JudgedLemmas.{are-judges}
+use Rattle.rv_board.specs.Seats.{SeatValue}
 use Rattle.rv_feed.specs.declared.feeder.Feeder.{Feeder}
 use Rattle.rv_feed.specs.AtOnce.{input_with, IsLegalOf, lanes_of}
 use Rattle.rv_feed.specs.Feeders.{RunsFeeder}
@@ -41,8 +42,8 @@ returns-clause-legal g c = λ specs mean.
     let fs' : List (Feeder g.row.G.Denot) = take c.in_ok-feeders.feeders.len (c.run_all.new.feeders ++ drop (length c.run_all.new.feeders) fs) in
     let are = c.in_ok-feeders.ensures.feeders in
     let ran = lent (RunsFeeder panics) c.in_ok-feeders.feeders.len fs c.as_mut_slice.result.now c.run_all.new.feeders c.in_ok-feeders.feeders.ok.0 c.as_mut_slice.ensures.value c.run_all.ensures.feeders in
-    let fed = fed-from board panics c.close.result c.seat_lanes.new.seat c.split.new.seat c.split.result c.run_all.new.changer.seat c.join.new.into c.join_all.new.into changes c.args.lanes.items fs fs'
-    are c.split.ensures.old c.split.ensures.new ran c.run_all.ensures.changer.does c.join.ensures c.join_all.ensures.into c.join_all.ensures.seats c.join_all.ensures.board c.close.ensures in
+    let fed = fed-from board c.in_ok-board.field-0.seat.part.end panics c.close.result c.seat_lanes.new.seat c.split.new.seat c.split.result c.run_all.new.changer.seat c.join.new.into c.join_all.new.into changes c.args.lanes.items fs fs'
+    are (ap (λ (s : SeatValue). s.part.end) c.in_ok-board.ensures.seat) c.split.ensures.old c.split.ensures.new ran c.run_all.ensures.changer.does c.join.ensures c.join_all.ensures.into c.join_all.ensures.seats c.join_all.ensures.board c.close.ensures in
     let setup_is : board.setup ≡ setup = c.in_ok-board.ensures.board in
     let back : c.join_all.new.lanes.items ≡ lanes_of fs' = c.join_all.ensures.lanes ∙ ap (λ (z : List LaneValue). z ++ lanes_of fs') c.in_ok-feeders.ensures.empty in
     let judges : AreJudges specs board.setup.tables (judges_of board.setup) = subst (λ (s : Setup). AreJudges specs s.tables (judges_of s)) (sym setup_is) (are-judges specs setup.tables c.known.ensures.are_tables mean) in
@@ -57,7 +58,7 @@ returns-clause-works g c =
     let fs' : List (Feeder g.row.G.Denot) = take c.in_ok-feeders.feeders.len (c.run_all.new.feeders ++ drop (length c.run_all.new.feeders) fs) in
     let are = c.in_ok-feeders.ensures.feeders in
     let ran = lent (RunsFeeder panics) c.in_ok-feeders.feeders.len fs c.as_mut_slice.result.now c.run_all.new.feeders c.in_ok-feeders.feeders.ok.0 c.as_mut_slice.ensures.value c.run_all.ensures.feeders in
-    let fed = fed-from board panics c.close.result c.seat_lanes.new.seat c.split.new.seat c.split.result c.run_all.new.changer.seat c.join.new.into c.join_all.new.into c.args.changes.items c.args.lanes.items fs fs'
-    are c.split.ensures.old c.split.ensures.new ran c.run_all.ensures.changer.does c.join.ensures c.join_all.ensures.into c.join_all.ensures.seats c.join_all.ensures.board c.close.ensures in
+    let fed = fed-from board c.in_ok-board.field-0.seat.part.end panics c.close.result c.seat_lanes.new.seat c.split.new.seat c.split.result c.run_all.new.changer.seat c.join.new.into c.join_all.new.into c.args.changes.items c.args.lanes.items fs fs'
+    are (ap (λ (s : SeatValue). s.part.end) c.in_ok-board.ensures.seat) c.split.ensures.old c.split.ensures.new ran c.run_all.ensures.changer.does c.join.ensures c.join_all.ensures.into c.join_all.ensures.seats c.join_all.ensures.board c.close.ensures in
     let back : c.join_all.new.lanes.items ≡ lanes_of fs' = c.join_all.ensures.lanes ∙ ap (λ (z : List LaneValue). z ++ lanes_of fs') c.in_ok-feeders.ensures.empty in
     ap works_of back ∙ fed-works board panics c.close.result c.split.new.seat c.split.result c.run_all.new.changer.seat c.args.changes.items fs fs' fed ∙ ap works_of (sym are.lanes_are)

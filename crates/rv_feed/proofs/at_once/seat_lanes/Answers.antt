@@ -1,5 +1,5 @@
 -- A lane is seated, after those behind it.
-use Rattle.std.proofs.Common.{List, [], ◌∷◌, ◌++◌, ap, ◌∙◌, sym, subst, arith, refl}
+use Rattle.std.proofs.Common.{ℕ, List, [], ◌∷◌, ◌++◌, ap, ◌∙◌, sym, subst, arith, refl}
 use Rattle.rv_board.specs.Seats.{SeatValue}
 use Rattle.rv_feed.specs.declared.feeder.Feeder.{Feeder}
 use Rattle.rv_feed.specs.AtOnce.{AreSeated}
@@ -12,8 +12,8 @@ loop-lane-init g c =
     let board = c.args.board.now in
     let lanes : List LaneValue = c.args.lanes.now.items in
     record {
-      seated = subst (AreSeated {G = g.row.G.Denot} board c.args.seat.now lanes lanes) (sym c.in_ok-feeders.ensures.items) (seated-none board c.args.seat.now lanes c.requires.seat);
-      can = can-start board c.args.seat.now lanes c.requires.seat c.requires.fit c.requires.ascend;
+      seated = subst (AreSeated {G = g.row.G.Denot} board c.args.seat.now.part.end c.args.seat.now lanes lanes) (sym c.in_ok-feeders.ensures.items) (seated-none board c.args.seat.now lanes c.requires.seat);
+      can = can-start board c.args.seat.now lanes c.requires.end c.requires.fit c.requires.ascend;
       room = refl;
     }
 
@@ -34,11 +34,12 @@ loop-lane-preserved g c =
     let all : List LaneValue = c.args.lanes.now.items in
     let fs : List (Feeder g.row.G.Denot) = c.loop-lane.feeders.items in
     let can : CanSeat board.setup old (left ++ c.in-Some.lane ∷ []) = subst (CanSeat board.setup old) c.in-Some.ensures.items i.can in
-    let are : AreSeated board old all (left ++ c.in-Some.lane ∷ []) fs = subst (λ (z : List LaneValue). AreSeated board old all z fs) c.in-Some.ensures.items i.seated in
+    let end : ℕ = c.args.seat.now.part.end in
+    let are : AreSeated board end old all (left ++ c.in-Some.lane ∷ []) fs = subst (λ (z : List LaneValue). AreSeated board end old all z fs) c.in-Some.ensures.items i.seated in
     let made = c.seat_lane.ensures in
-    let more = seated-more board old new left c.in-Some.lane can all fs c.seat_lane.result are made.lane made.new made.old in
+    let more = seated-more board old new left c.in-Some.lane can end all fs c.seat_lane.result are made.lane made.new made.old in
     record {
-      seated = subst (AreSeated board new all left) (sym c.in_ok-push.ensures.items) more;
+      seated = subst (AreSeated board end new all left) (sym c.in_ok-push.ensures.items) more;
       can = can-more board old new left c.in-Some.lane can (ap (λ (s : SeatValue). s.part.end) made.old);
       room = c.in-Some.ensures.capacity ∙ i.room;
     }

@@ -6,7 +6,7 @@ use Rattle.rv_feed.proofs.at_once.seat_lanes.Given as goal
 
 abbrev pub invariant-loop-lane : goal.invariant-loop-lane
 invariant-loop-lane g l = record {
-  seated : AreSeated l.board l.seat l.fn.lanes.items l.lanes.items l.feeders.items;
+  seated : AreSeated l.board l.fn.seat.part.end l.seat l.fn.lanes.items l.lanes.items l.feeders.items;
   can : CanSeat l.board.setup l.seat l.lanes.items;
   room : l.lanes.cap ≡ l.fn.lanes.cap;
 }

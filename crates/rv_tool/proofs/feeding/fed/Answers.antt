@@ -1,4 +1,4 @@
-use Rattle.std.proofs.Common.{◌≡◌, List, [], refl, ap, ◌∙◌}
+use Rattle.std.proofs.Common.{List, refl, ap, ◌∙◌}
 use Rattle.rv_model.specs.Histories.{IsLegal}
 use Rattle.rv_model.specs.Records.{sort_records, status_of}
 use Rattle.rv_model.specs.Reports.{report_text}
@@ -6,14 +6,14 @@ use Rattle.rv_feed.specs.Lane.{LaneValue}
 use Rattle.rv_feed.specs.One.{lane_records}
 use Rattle.rv_report.specs.Shown.{reported_of}
 use Rattle.rv_tool.specs.Ready.{ready_value}
-use Rattle.rv_tool.proofs.ReportedLemmas.{reported_without_changes}
+use Rattle.rv_tool.proofs.ReportedLemmas.{reported_is}
 use Rattle.rv_tool.proofs.feeding.fed.Goals as goal
 
 pub returns : goal.returns
 returns g c =
     let ready = c.args.ready in
     let run = c.in_ok-run.run' in
-    reported_without_changes IsLegal (ready_value ready) ready.setup c.as_slice.result.now ready.lanes.items c.requires.setup (c.as_slice.ensures.value ∙ c.requires.reactors) refl
-    c.new-changes.result.items (lane_records run.lanes.items) run.closed c.in_ok-text.text.items c.lanes_status-status.result c.new-changes.ensures.items (c.in_ok-run.ensures.legal _ c.requires.mean)
+    reported_is IsLegal (ready_value ready) ready.setup c.as_slice.result.now ready.lanes.items ready.changes.items c.requires.setup (c.as_slice.ensures.value ∙ c.requires.reactors) refl refl
+    (lane_records run.lanes.items) run.closed c.in_ok-text.text.items c.lanes_status-status.result (c.in_ok-run.ensures.legal _ c.requires.mean)
     (c.in_ok-text.ensures ∙ ap (λ (ls : List LaneValue). report_text (reported_of ready.bindings) ready.tasks (sort_records (lane_records ls))) c.as_slice-2.ensures.value)
     (c.lanes_status-status.ensures ∙ ap (λ (ls : List LaneValue). status_of (lane_records ls)) c.as_slice-3.ensures.value)

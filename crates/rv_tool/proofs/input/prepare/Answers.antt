@@ -1,4 +1,7 @@
-use Rattle.std.proofs.Common.{length, map, ap, ◌∙◌}
+use Rattle.std.proofs.Common.{length, map, sym, ap, ◌∙◌, subst}
+use Rattle.std.specs.Prelude.{All}
+use Rattle.std.proofs.lemmas.List.Elements.{All-nil}
+use Rattle.rv_feed.specs.Changes.{IsBelowHalt}
 use Rattle.rv_bind.specs.declared.bindings.Monitor.{Monitor}
 use Rattle.rv_tool.proofs.ReadyLemmas.{ready_made}
 use Rattle.rv_tool.proofs.input.prepare.Goals as goal
@@ -7,4 +10,14 @@ pub returns-clause-ready : goal.returns-clause-ready
 returns-clause-ready c =
     let made = ready_made c.args.bound.bindings.monitors.items c.as_slice.result.now c.args.bound.tables.items c.in_ok-setup.setup c.len.result (length c.args.routed.tasks) c.args.routed.works.items c.in_ok-lanes.lanes.items
     c.requires.formed.tables c.requires.fit c.in_ok-setup.ensures c.as_slice.ensures.value c.len.ensures.length c.in_ok-lanes.ensures.0 c.in_ok-lanes.ensures.1 in
-    record { setup = made.again; reactors = c.in_ok-reactors.ensures ∙ ap (map (λ (m : Monitor). m.reactor)) c.as_slice-2.ensures.value; mean = made.mean; lanes = made.fit; ascend = made.ascend }
+    record {
+      setup = made.again;
+      reactors = c.in_ok-reactors.ensures ∙ ap (map (λ (m : Monitor). m.reactor)) c.as_slice-2.ensures.value;
+      mean = made.mean;
+      lanes = made.fit;
+      ascend = made.ascend;
+      by_cpu = made.by_cpu;
+      below_halt = subst (All IsBelowHalt) (sym c.new.ensures.items) (All-nil IsBelowHalt);
+      few_monitors = c.requires.formed.few_monitors;
+      few_containers = c.requires.formed.few_containers;
+    }

@@ -2,40 +2,87 @@ use Rattle.std.proofs.Common.{sym, ap, ◌∙◌}
 use Rattle.std.specs.Prelude.{Some}
 use Rattle.rv_model.specs.Histories.{IsOneHistory, IsLegal}
 use Rattle.rv_tool.specs.Headline.{Reports}
+use Rattle.rv_tool.specs.Changes.{input_beside}
 use Rattle.rv_tool.specs.Inputs.{run_input}
 use Rattle.rv_tool.specs.Ready.{ready_value}
 use Rattle.rv_tool.specs.Runs.{Prints, PrintsSession}
 use Rattle.rv_tool.specs.Sessions.{control_in}
 use Rattle.rv_tool.specs.SessionValues.{session_value}
+use Rattle.rv_tool.specs.HeaderFiles.{header_in}
 use Rattle.rv_tool.specs.Tables.{table_in}
+use Rattle.rv_tool.specs.Verdicts.{ReportsVerdicts}
 use Rattle.rv_tool.specs.Words.{command_value}
 use Rattle.rv_tool.proofs.AnswerLemmas.{no_report, no_text, read_answers, words_answer}
+use Rattle.rv_tool.proofs.VerdictLemmas.{runs_verdicts, no_verdicts, words_verdict}
 use Rattle.rv_tool.proofs.top.rv.Goals as goal
 
 pub returns-in-Some-Replay-clause-answers : goal.returns-in-Some-Replay-clause-answers
 returns-in-Some-Replay-clause-answers g c =
-    words_answer _ _ _ _ _ _ _ _ (g.S.Store.files c.args.store.now) _ _ (sym (ap (λ v. Some (command_value v)) c.in-Some-Replay.field-0-is) ∙ c.in-Some-Replay.ensures)
+    words_answer _ _ _ _ _ _ _ _ (g.S.Store.files c.args.store.now) _ _ (sym (ap (λ v. Some (command_value v)) c.in-Some-Replay.field-0-is) ∙ c.in-Some-Replay.ensures.value)
     (read_answers _ _ _ _ _ _ ready_value (Reports IsOneHistory) (λ files. run_input files _ _) (no_report _ _ _ _ _ _ IsOneHistory) (g.S.Store.files c.args.store.now) _ _
     c.read_input.result c.read_input.ensures.value c.read_input.ensures.named c.run.ensures)
 
 pub returns-in-Some-Feed-clause-answers : goal.returns-in-Some-Feed-clause-answers
 returns-in-Some-Feed-clause-answers g c =
-    words_answer _ _ _ _ _ _ _ _ (g.S.Store.files c.args.store.now) _ _ (sym (ap (λ v. Some (command_value v)) c.in-Some-Feed.field-0-is) ∙ c.in-Some-Feed.ensures)
+    words_answer _ _ _ _ _ _ _ _ (g.S.Store.files c.args.store.now) _ _ (sym (ap (λ v. Some (command_value v)) c.in-Some-Feed.field-0-is) ∙ c.in-Some-Feed.ensures.value)
     (read_answers _ _ _ _ _ _ ready_value (Reports IsLegal) (λ files. run_input files _ _) (no_report _ _ _ _ _ _ IsLegal) (g.S.Store.files c.args.store.now) _ _
     c.read_input-in-Some-Feed.result c.read_input-in-Some-Feed.ensures.value c.read_input-in-Some-Feed.ensures.named c.run_at_once.ensures)
 
+pub returns-in-Some-FeedBeside-clause-answers : goal.returns-in-Some-FeedBeside-clause-answers
+returns-in-Some-FeedBeside-clause-answers g c =
+    words_answer _ _ _ _ _ _ _ _ (g.S.Store.files c.args.store.now) _ _ (sym (ap (λ v. Some (command_value v)) c.in-Some-FeedBeside.field-0-is) ∙ c.in-Some-FeedBeside.ensures.value)
+    (read_answers _ _ _ _ _ _ ready_value (Reports IsLegal) (λ files. input_beside files _ _ _) (no_report _ _ _ _ _ _ IsLegal) (g.S.Store.files c.args.store.now) _ _
+    c.read_beside.result c.read_beside.ensures.value c.read_beside.ensures.named c.run_at_once-in-Some-FeedBeside.ensures)
+
 pub returns-in-Some-Control-clause-answers : goal.returns-in-Some-Control-clause-answers
 returns-in-Some-Control-clause-answers g c =
-    words_answer _ _ _ _ _ _ _ _ (g.S.Store.files c.args.store.now) _ _ (sym (ap (λ v. Some (command_value v)) c.in-Some-Control.field-0-is) ∙ c.in-Some-Control.ensures)
+    words_answer _ _ _ _ _ _ _ _ (g.S.Store.files c.args.store.now) _ _ (sym (ap (λ v. Some (command_value v)) c.in-Some-Control.field-0-is) ∙ c.in-Some-Control.ensures.value)
     (read_answers _ _ _ _ _ _ session_value PrintsSession (λ files. control_in files _ _) (λ p. no_text _ _ _ _ _ _ p.text p.status) (g.S.Store.files c.args.store.now) _ _
     c.read_control.result c.read_control.ensures.value c.read_control.ensures.named c.tell_session.ensures)
 
 pub returns-in-Some-Load-clause-answers : goal.returns-in-Some-Load-clause-answers
 returns-in-Some-Load-clause-answers g c =
-    words_answer _ _ _ _ _ _ _ _ (g.S.Store.files c.args.store.now) _ _ (sym (ap (λ v. Some (command_value v)) c.in-Some-Load.field-0-is) ∙ c.in-Some-Load.ensures) (λ files known. c.load.ensures)
+    words_answer _ _ _ _ _ _ _ _ (g.S.Store.files c.args.store.now) _ _ (sym (ap (λ v. Some (command_value v)) c.in-Some-Load.field-0-is) ∙ c.in-Some-Load.ensures.value) (λ files known. c.load.ensures.answers)
 
 pub returns-in-Some-Table-clause-answers : goal.returns-in-Some-Table-clause-answers
 returns-in-Some-Table-clause-answers g c =
-    words_answer _ _ _ _ _ _ _ _ (g.S.Store.files c.args.store.now) _ _ (sym (ap (λ v. Some (command_value v)) c.in-Some-Table.field-0-is) ∙ c.in-Some-Table.ensures)
+    words_answer _ _ _ _ _ _ _ _ (g.S.Store.files c.args.store.now) _ _ (sym (ap (λ v. Some (command_value v)) c.in-Some-Table.field-0-is) ∙ c.in-Some-Table.ensures.value)
     (read_answers _ _ _ _ _ _ (λ text. text.items) Prints (λ files. table_in files _ _) (λ text. no_text _ _ _ _ _ _ text 0) (g.S.Store.files c.args.store.now) _ _
     c.read_table.result c.read_table.ensures.value c.read_table.ensures.named c.print.ensures)
+
+pub returns-in-Some-Header-clause-answers : goal.returns-in-Some-Header-clause-answers
+returns-in-Some-Header-clause-answers g c =
+    words_answer _ _ _ _ _ _ _ _ (g.S.Store.files c.args.store.now) _ _ (sym (ap (λ v. Some (command_value v)) c.in-Some-Header.field-0-is) ∙ c.in-Some-Header.ensures.value)
+    (read_answers _ _ _ _ _ _ (λ text. text.items) Prints (λ files. header_in files _ _) (λ text. no_text _ _ _ _ _ _ text 0) (g.S.Store.files c.args.store.now) _ _
+    c.read_header.result c.read_header.ensures.value c.read_header.ensures.named c.print-in-Some-Header.ensures)
+
+pub returns-in-Some-Replay-clause-verdicts : goal.returns-in-Some-Replay-clause-verdicts
+returns-in-Some-Replay-clause-verdicts g c =
+    words_verdict _ _ _ _ _ _ _ _ (g.S.Store.files c.args.store.now) _ _ (sym (ap (λ v. Some (command_value v)) c.in-Some-Replay.field-0-is) ∙ c.in-Some-Replay.ensures.value) (λ files known. tt)
+
+pub returns-in-Some-Feed-clause-verdicts : goal.returns-in-Some-Feed-clause-verdicts
+returns-in-Some-Feed-clause-verdicts g c =
+    let read = c.read_input-in-Some-Feed in
+    words_verdict _ _ _ _ _ _ _ _ (g.S.Store.files c.args.store.now) _ _ (sym (ap (λ v. Some (command_value v)) c.in-Some-Feed.field-0-is) ∙ c.in-Some-Feed.ensures.value)
+    (read_answers _ _ _ _ _ _ ready_value ReportsVerdicts (λ files. run_input files _ _) (no_verdicts _ _ _ _ _ _) (g.S.Store.files c.args.store.now) _ _ read.result read.ensures.value read.ensures.named
+    (runs_verdicts _ _ _ _ _ _ read.result read.ensures.ready read.ensures.unchanged c.run_at_once.ensures))
+
+pub returns-in-Some-FeedBeside-clause-verdicts : goal.returns-in-Some-FeedBeside-clause-verdicts
+returns-in-Some-FeedBeside-clause-verdicts g c =
+    words_verdict _ _ _ _ _ _ _ _ (g.S.Store.files c.args.store.now) _ _ (sym (ap (λ v. Some (command_value v)) c.in-Some-FeedBeside.field-0-is) ∙ c.in-Some-FeedBeside.ensures.value) (λ files known. tt)
+
+pub returns-in-Some-Control-clause-verdicts : goal.returns-in-Some-Control-clause-verdicts
+returns-in-Some-Control-clause-verdicts g c =
+    words_verdict _ _ _ _ _ _ _ _ (g.S.Store.files c.args.store.now) _ _ (sym (ap (λ v. Some (command_value v)) c.in-Some-Control.field-0-is) ∙ c.in-Some-Control.ensures.value) (λ files known. tt)
+
+pub returns-in-Some-Load-clause-verdicts : goal.returns-in-Some-Load-clause-verdicts
+returns-in-Some-Load-clause-verdicts g c =
+    words_verdict _ _ _ _ _ _ _ _ (g.S.Store.files c.args.store.now) _ _ (sym (ap (λ v. Some (command_value v)) c.in-Some-Load.field-0-is) ∙ c.in-Some-Load.ensures.value) (λ files known. c.load.ensures.verdicts)
+
+pub returns-in-Some-Table-clause-verdicts : goal.returns-in-Some-Table-clause-verdicts
+returns-in-Some-Table-clause-verdicts g c =
+    words_verdict _ _ _ _ _ _ _ _ (g.S.Store.files c.args.store.now) _ _ (sym (ap (λ v. Some (command_value v)) c.in-Some-Table.field-0-is) ∙ c.in-Some-Table.ensures.value) (λ files known. tt)
+
+pub returns-in-Some-Header-clause-verdicts : goal.returns-in-Some-Header-clause-verdicts
+returns-in-Some-Header-clause-verdicts g c =
+    words_verdict _ _ _ _ _ _ _ _ (g.S.Store.files c.args.store.now) _ _ (sym (ap (λ v. Some (command_value v)) c.in-Some-Header.field-0-is) ∙ c.in-Some-Header.ensures.value) (λ files known. tt)

@@ -1,18 +1,23 @@
-use Rattle.std.proofs.Common.{ℕ, List, sym, ap, ◌∙◌, subst}
-use Rattle.rv_bind.specs.Outcomes.{Outcome, accepted}
+use Rattle.std.proofs.Common.{subst}
+use Rattle.rv_bind.specs.Outcomes.{Outcome}
 use Rattle.rv_bind.specs.BoundViews.{bound_value}
 use Rattle.rv_route.specs.Routed.{routed_value}
 use Rattle.rv_route.specs.Routing.{RoutedValue, route_of}
 use Rattle.rv_trace.specs.Traces.{trace_of}
 use Rattle.rv_tool.specs.Faults.{Tells}
+use Rattle.rv_tool.specs.Inputs.{routed_in}
 use Rattle.rv_tool.proofs.ComesLemmas.{routed_comes}
+use Rattle.rv_tool.proofs.NamedLemmas.{tells_named}
 use Rattle.rv_tool.proofs.PiecesLemmas.{of_file-and_then}
 use Rattle.rv_tool.proofs.trace_text.read_routed.Goals as goal
 
 pub returns-clause-value : goal.returns-clause-value
 returns-clause-value g c =
-    routed_comes (g.S.Store.files c.args.store.now) c.args.trace.now c.as_slice.result.now c.front.result.now (bound_value c.args.bound.now)
-    (λ files known. c.in_ok-text.ensures.text files known ∙ ap (λ (text : List ℕ). accepted text) (sym c.as_slice.ensures.value)) c.front.ensures.same
-    routed_value _ _ c.route_text.result
-    (subst (λ (o : Outcome RoutedValue). Tells routed_value c.route_text.result o)
-    (of_file-and_then c.args.trace.now (trace_of c.front.result.now) (route_of c.args.bound.now.bindings.monitors.items c.args.bound.now.bindings.rules.items c.front.result.now)) c.route_text.ensures.value)
+    let bound = c.args.bound.now.bindings in
+    let text = c.take_pieces.new.routing.lines.fed in
+    routed_comes (g.S.Store.files c.args.store.now) c.args.trace.now text (bound_value c.args.bound.now) c.in_ok-take_pieces.ensures.all
+    routed_value (g.S.Store.faults c.args.store.now) (g.S.Store.faults c.take_pieces.new.store) c.end_routing.result
+    (subst (λ (o : Outcome RoutedValue). Tells routed_value c.end_routing.result o) (of_file-and_then c.args.trace.now (trace_of text) (route_of bound.monitors.items bound.rules.items text)) c.end_routing.ensures.value)
+
+pub returns-clause-named : goal.returns-clause-named
+returns-clause-named g c = tells_named (g.S.Store.files c.args.store.now) routed_value c.end_routing.result _ (λ files. routed_in files c.args.trace.now (bound_value c.args.bound.now)) c.end_routing.ensures.value

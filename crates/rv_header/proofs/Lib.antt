@@ -1,0 +1,14 @@
+pub mod ListSteps
+pub mod Written
+pub mod Zips
+pub mod Grid
+pub mod Cuts
+pub mod Listed
+pub mod RowsBack
+pub mod CellsBack
+pub mod NamesBack
+pub mod MarksBack
+pub mod TextBack
+pub mod Back
+pub mod HeadersBack
+pub mod FilesTaken

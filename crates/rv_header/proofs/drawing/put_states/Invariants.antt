@@ -1,0 +1,9 @@
+use Rattle.std.proofs.Common.{◌≡◌, ◌++◌, ℕ, List, drop, map}
+use Rattle.std.specs.List.{flat_map, zip}
+use Rattle.rv_dot.specs.Sets.{bytes_of}
+use Rattle.rv_dot.specs.Canonical.{state_line}
+use Rattle.rv_header.specs.Taking.{state_by}
+use Rattle.rv_header.proofs.drawing.put_states.Given as goal
+
+abbrev pub invariant-states : goal.invariant-states
+invariant-states l = l.out ++ flat_map (λ (p : List ℕ × List ℕ). state_line (state_by p.0 p.1)) (zip (drop l.place (map bytes_of l.states)) (drop l.place (map bytes_of l.marks))) ≡ l.initial.out ++ flat_map (λ (p : List ℕ × List ℕ). state_line (state_by p.0 p.1)) (zip (map bytes_of l.states) (map bytes_of l.marks))

@@ -1,0 +1,113 @@
+//! From a header's text to its name and automaton.
+ghost use Rattle.std.specs.Prelude.{◌≡◌, List, ℕ, IfOk, map};
+ghost use Rattle.rv_dot.specs.Sets.{bytes_of};
+ghost use Rattle.rv_header.specs.Taking.{name_in, are_few, file_in};
+ghost use Rattle.rv_header.specs.declared.reading.Header.{Header as HeaderValue};
+ghost use Rattle.rv_header.specs.Headers.{IsHeaderOf, Finds, Yields};
+
+use crate::drawing::{Drawing, drawn};
+use crate::naming::{has_no_tables, is_header_name};
+use crate::tables::written;
+use crate::taking::{are_short, behind, behind_two, members_in, piece, pieces, quoted_in, text_at};
+use rv_dot::read_dot;
+use rv_model::{Automaton, Name};
+use rv_text::{HEADER_SYNTAX, Line, Refusal, Refused};
+use std::alloc::{AllocError, Global};
+
+/// The most states of an automaton.
+const MOST_STATES: usize = 31;
+/// The most events of an automaton.
+const MOST_EVENTS: usize = 64;
+
+/// What C tables are of.
+#[derive(Drop)]
+pub struct Header {
+    pub name: Name,
+    pub automaton: Automaton,
+}
+
+/// The refusal of a text that is no header's.
+fn refused() -> Refused
+    ensures { result ≡ Refused.Because (record { number = HEADER_SYNTAX; line = 0 }) }
+{
+    Refused::Because(Refusal::whole(HEADER_SYNTAX))
+}
+
+/// The header's name in the text.
+fn name_in<'a>(alloc: Global, bytes: &'a [u8]) -> Result<&'a [u8], AllocError>
+    ensures { IfOk result (λ name. name.now ≡ name_in bytes.now) }
+{
+    let text = piece(alloc, bytes, b' ', 1)?;
+    Ok(behind(text, b"states_".len()))
+}
+
+/// As many names as an automaton may have, and none too long.
+fn are_few(names: &[&[u8]], most: usize) -> bool
+    ensures { result ≡ are_few most (map bytes_of names.now) }
+{
+    names.len() <= most && are_short(names)
+}
+
+/// The text of an automaton file that draws the same, where it is no longer than such a text may be.
+#[tactic(auto, unfolding(crate::specs::Taking::piece))]
+fn file_in(alloc: Global, bytes: &[u8], name: &[u8]) -> Result<Option<Line>, AllocError>
+    requires { name.now ≡ name_in bytes.now }
+    ensures { IfOk result (λ text. text ≡ file_in bytes.now) }
+{
+    let texts = pieces(alloc, bytes, b'.')?;
+    let states = quoted_in(alloc, text_at(&texts, 1))?;
+    let events = quoted_in(alloc, text_at(&texts, 2))?;
+    if !are_few(&states, MOST_STATES) || !are_few(&events, MOST_EVENTS) {
+        return Ok(None);
+    }
+    let lines = pieces(alloc, text_at(&texts, 3), b'{')?;
+    let marks = members_in(alloc, piece(alloc, text_at(&texts, 5), b'{', 1)?)?;
+    let drawing = Drawing {
+        name,
+        states: &states,
+        events: &events,
+        rows: behind_two(&lines),
+        marks: &marks,
+    };
+    Ok(Some(drawn(alloc, drawing)?))
+}
+
+/// The automaton, where the text is a header's.
+fn automaton_in(alloc: Global, bytes: &[u8], name: &[u8]) -> Result<Automaton, Refused>
+    requires { name.now ≡ name_in bytes.now }
+    ensures { (h : HeaderValue) → IsHeaderOf bytes.now h → Yields (λ a. a) h.automaton result }
+{
+    let Some(text) = file_in(alloc, bytes, name)? else {
+        return Err(refused());
+    };
+    read_dot(alloc, text.bytes())
+}
+
+/// The name and the automaton of a text, or its refusal.
+pub fn read_header(alloc: Global, bytes: &[u8]) -> Result<Header, Refused>
+    ensures { Finds (IsHeaderOf bytes.now) HEADER_SYNTAX result }
+{
+    let name = name_in(alloc, bytes)?;
+    if !is_header_name(name) {
+        return Err(refused());
+    }
+    let automaton = match automaton_in(alloc, bytes, name) {
+        Ok(automaton) => automaton,
+        Err(Refused::Memory) => return Err(Refused::Memory),
+        Err(Refused::Because(_)) => return Err(refused()),
+    };
+    if has_no_tables(&automaton) {
+        return Err(refused());
+    }
+    let text = written(alloc, name, &automaton)?;
+    if text.as_slice() != bytes {
+        return Err(refused());
+    }
+    let name = Name::new(alloc, name)?;
+    Ok(Header { name, automaton })
+}
+
+/// A text is the C tables of one name and one automaton only.
+pub fn headers_are_read_again()
+    ensures { (bytes : List ℕ) (g h : HeaderValue) → IsHeaderOf bytes g → IsHeaderOf bytes h → g ≡ h }
+{}

@@ -1,0 +1,33 @@
+-- A piece of a file: what a store may answer that is asked for the bytes from a place on.
+use Rattle.std.specs.Prelude.{◌≡◌, ◌⊎◌, ℕ, ◌-◌, ◌≤◌, List, [], ◌++◌, length, take, drop, Option, Some, None, Result, Ok, Err}
+use Rattle.rv_io.specs.declared.store.ReadError.{ReadError}
+use Rattle.rv_io.specs.declared.store.ReadError.TheVariants.{NoFile, Failed, Memory}
+use Rattle.rv_io.specs.Files.{Files, Rose}
+
+-- so many of the bytes from a place on stand at the front, and the rest is as it was; there are none only without room, or without a byte
+pub record IsPiece (bytes : List ℕ) (from : ℕ) (old new : List ℕ) (count : ℕ) : Type 0 where
+  pub room : count ≤ length old
+  pub within : count ≤ length bytes - from
+  pub front : new ≡ take count (drop from bytes) ++ drop count old
+  pub none : count ≡ 0 → (old ≡ []) ⊎ (length bytes ≤ from)
+
+-- a piece where the files are told: of that file's bytes, or what there is of them
+abbrev pub PiecesTold : Option (List ℕ) → ℕ → List ℕ → List ℕ → ℕ → ℕ → Result ℕ ReadError → Type 0
+PiecesTold (Some bytes) from old new before now (Ok count) = IsPiece bytes from old new count
+PiecesTold None from old new before now (Ok count) = ⊥
+PiecesTold (Some bytes) from old new before now (Err NoFile) = ⊥
+PiecesTold None from old new before now (Err NoFile) = (new ≡ old) × (now ≡ before)
+PiecesTold _ from old new before now (Err Failed) = (new ≡ old) × Rose before now
+PiecesTold _ from old new before now (Err Memory) = new ≡ old
+
+-- a piece where the files are not told: no error without a fault, but for want of memory
+abbrev pub PiecesUntold : List ℕ → List ℕ → ℕ → ℕ → Result ℕ ReadError → Type 0
+PiecesUntold old new before now (Ok count) = (count ≤ length old) × (length new ≡ length old)
+PiecesUntold old new before now (Err NoFile) = (new ≡ old) × Rose before now
+PiecesUntold old new before now (Err Failed) = (new ≡ old) × Rose before now
+PiecesUntold old new before now (Err Memory) = new ≡ old
+
+-- what a piece of a name may be, by what the store tells
+abbrev pub Pieces : Option Files → List ℕ → ℕ → List ℕ → List ℕ → ℕ → ℕ → Result ℕ ReadError → Type 0
+Pieces (Some files) name from old new before now result = PiecesTold (files name) from old new before now result
+Pieces None name from old new before now result = PiecesUntold old new before now result

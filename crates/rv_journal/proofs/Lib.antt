@@ -1,0 +1,13 @@
+pub mod CountLemmas
+pub mod CountedCallLemmas
+pub mod CountedDeliveryLemmas
+pub mod CountedRaceLemmas
+pub mod CountedSeatLemmas
+pub mod CountedStepLemmas
+pub mod CountedWordLemmas
+pub mod NarrowLemmas
+pub mod NumberLemmas
+pub mod PieceLemmas
+pub mod ReadingLemmas
+pub mod ThenLemmas
+pub mod WidthLemmas

@@ -1,0 +1,15 @@
+-- The word takes 32 bits, so none is lost.
+use Rattle.std.proofs.Common.{◌≡◌, ◌+◌, ◌*◌, ◌^◌, refl}
+use Rattle.rv_journal.specs.CountedWords.{narrow}
+use Rattle.rv_journal.proofs.NarrowLemmas.{narrow-lt, packs}
+use Rattle.rv_journal.proofs.words.counted_word.Goals as goal
+
+pub overflow_add-narrow : goal.overflow_add-narrow
+overflow_add-narrow c =
+    let all : c.atoms_of.result * 2 ^ c.args.rows + c.set_of.result ≡ narrow c.args.rows c.args.word = rw (c.atoms_of.ensures.atoms, c.set_of.ensures.set) refl in
+    record { fits = (packs (c.atoms_of.result * 2 ^ c.args.rows) c.set_of.result c.args.count (narrow c.args.rows c.args.word) all (narrow-lt c.args.rows c.args.word c.requires.rows c.requires.narrow) c.ranges.count.fits).0 }
+
+pub returns : goal.returns
+returns c =
+    let all : c.atoms_of.result * 2 ^ c.args.rows + c.set_of.result ≡ narrow c.args.rows c.args.word = rw (c.atoms_of.ensures.atoms, c.set_of.ensures.set) refl in
+    (packs (c.atoms_of.result * 2 ^ c.args.rows) c.set_of.result c.args.count (narrow c.args.rows c.args.word) all (narrow-lt c.args.rows c.args.word c.requires.rows c.requires.narrow) c.ranges.count.fits).1

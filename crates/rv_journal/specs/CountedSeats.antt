@@ -1,0 +1,70 @@
+-- Seats of a counted board as plain data, and what a counted delivery tells.
+use Rattle.std.specs.Prelude.{◌≡◌, ℕ, suc, ◌+◌, ◌<◌, ◌≤◌, ◌^◌, List, [], ◌∷◌, ◌++◌, filter, length, slice_index, slice_index_or}
+use Rattle.std.specs.Coded.{Coded, code_by, coded×, coded_ℕ}
+use Rattle.std.proofs.Common.{refl}
+use Rattle.atomic_table.specs.Table.{Me}
+use Rattle.rv_model.specs.declared.entry.Act.{Act}
+use Rattle.rv_model.specs.declared.entry.Entry.{Entry}
+use Rattle.rv_model.specs.declared.record.Delivered.TheVariants.{Racing}
+use Rattle.rv_model.specs.Histories.{changed}
+use Rattle.rv_model.specs.Seats.{is_in, known_of, entries_of}
+use Rattle.rv_model.specs.Setups.{Setup}
+use Rattle.rv_model.specs.Table.{Table, first_row}
+use Rattle.rv_table.specs.Rows.{row_count}
+use Rattle.rv_core.specs.Setup.{no_table}
+use Rattle.rv_board.specs.declared.view.View.{View}
+use Rattle.rv_board.specs.Seats.{SeatValue, coded_seat, IsUsable}
+use Rattle.rv_journal.specs.declared.counted.Counted.{Counted}
+use Rattle.rv_journal.specs.declared.words.Width.{Width}
+use Rattle.rv_journal.specs.CountedWords.{count_on, entries_by, most_entries, IsCounted}
+
+-- what a seat knows, and how many entries it may still make
+pub record CountedValue : Type 0 where
+  pub seat : SeatValue
+  pub left : ℕ
+
+-- its parts, from the code of an entry
+abbrev pub coded_counted : Coded Entry → Coded CountedValue
+coded_counted entry = code_by (SeatValue × ℕ) (coded× (coded_seat entry) coded_ℕ) (λ s. (s.seat, s.left)) (λ p. record { seat = p.0; left = p.1 }) (λ _. refl)
+
+-- the seat of these
+abbrev pub counted_value : SeatValue → ℕ → CountedValue
+counted_value seat left = record { seat = seat; left = left }
+
+-- a seat between two calls
+pub record IsCountedSeat (number end left : ℕ) (me : Me Act View) : Type 0 where
+  pub usable : IsUsable number end me
+  pub counted : IsCounted me.0.setup me.0.part.seen
+  pub room : entries_by me.0.part.number me.0.part.seen + left ≤ most_entries
+  pub unused : entries_of (is_in (suc me.0.part.number) me.0.part.end) me.0.part.seen ≡ []
+
+-- ---- widths
+
+-- no bits
+abbrev pub no_width : Width
+no_width = record { rows = 0; atoms = 0 }
+
+-- the rows of the table and the levels take 32 bits together, and the start row is one of the rows
+pub record IsWidth (t : Table) (start : ℕ) (w : Width) : Type 0 where
+  pub wide : w.rows ≡ row_count t
+  pub begins : first_row t < row_count t
+  pub fits : w.rows + w.atoms ≤ 32
+  pub levels : start < 2 ^ w.atoms
+
+-- one for each monitor
+pub record AreWidths (s : Setup) (widths : List Width) : Type 0 where
+  pub many : length widths ≡ length s.tables
+  pub each : (m : ℕ) → m < length s.tables → IsWidth (slice_index_or s.tables m no_table) (slice_index s.starts m) (slice_index_or widths m no_width)
+
+-- ---- deliveries
+
+-- the list grows to what was there at the call's first load, then up to the call's own entry, at its end; the counts are the slot's
+pub record Counts (old new : SeatValue) (slot : ℕ) (told : Counted) : Type 0 where
+  pub earlier : List Entry
+  pub since : List Entry
+  pub list : new.part.seen ≡ ((old.part.seen ++ earlier) ++ since) ++ told.entry ∷ []
+  pub others : entries_of (known_of old.part) (earlier ++ since) ≡ []
+  pub first : told.first ≡ count_on slot (old.part.seen ++ earlier)
+  pub count : told.count ≡ count_on slot ((old.part.seen ++ earlier) ++ since)
+  -- where it was stopped, three entries changed the slot's word since the first load
+  pub racing : told.outcome ≡ Racing → 3 ≤ length (filter (changed slot) since)

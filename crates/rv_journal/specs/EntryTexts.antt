@@ -1,0 +1,77 @@
+-- The text of an entry (this project's choice: docs/FORMATS.md, "The journal"): its words, one blank apart.
+use Rattle.std.specs.Prelude.{ℕ, ◌^◌, ◌<◌, List, [], ◌∷◌, ◌++◌, flat_map, codes, decimal}
+use Rattle.rv_model.specs.declared.entry.Act.{Act}
+use Rattle.rv_model.specs.declared.entry.Act.TheVariants.{Deliver, Stop, Look, Raise, Lower, Clear}
+use Rattle.rv_model.specs.declared.entry.Entry.{Entry}
+use Rattle.rv_model.specs.declared.hit.Mode.{Mode}
+use Rattle.rv_model.specs.declared.hit.Mode.TheVariants.{Event, Start, StartRun}
+use Rattle.rv_model.specs.declared.hit.What.{What}
+use Rattle.rv_model.specs.declared.hit.What.TheVariants.{Da, Ltl}
+
+-- ---- words
+
+-- a mode, as bindings write it
+abbrev pub mode_word : Mode → List ℕ
+mode_word Event = codes "event"
+mode_word Start = codes "start"
+mode_word StartRun = codes "start_run"
+
+-- an automaton's event, or what becomes of a rule's atoms
+abbrev pub what_words : What → List (List ℕ)
+what_words (Da event) = codes "da" ∷ decimal event ∷ []
+what_words (Ltl on off pulse) = codes "ltl" ∷ decimal on ∷ decimal off ∷ decimal pulse ∷ []
+
+-- an act, by its name
+abbrev pub act_words : Act → List (List ℕ)
+act_words (Deliver slot hit) = codes "deliver" ∷ decimal slot ∷ mode_word hit.mode ∷ what_words hit.what
+act_words (Stop slot) = codes "stop" ∷ decimal slot ∷ []
+act_words Look = codes "look" ∷ []
+act_words (Raise bits) = codes "raise" ∷ decimal bits ∷ []
+act_words (Lower bits) = codes "lower" ∷ decimal bits ∷ []
+act_words (Clear slot) = codes "clear" ∷ decimal slot ∷ []
+
+-- who acted, what it was, and the word before and after it
+abbrev pub entry_words : Entry → List (List ℕ)
+entry_words e = decimal e.seat ∷ (act_words e.act ++ decimal e.before ∷ decimal e.after ∷ [])
+
+-- ---- texts
+
+-- each word behind a blank
+abbrev pub behind_blanks : List (List ℕ) → List ℕ
+behind_blanks words = flat_map (λ word. 32 ∷ word) words
+
+-- the words, one blank apart
+abbrev pub one_apart : List (List ℕ) → List ℕ
+one_apart [] = []
+one_apart (word ∷ words) = word ++ behind_blanks words
+
+-- the text of an entry
+abbrev pub entry_text : Entry → List ℕ
+entry_text e = one_apart (entry_words e)
+
+-- a line for each entry
+abbrev pub journal_of : List Entry → List ℕ
+journal_of entries = flat_map (λ e. entry_text e ++ 10 ∷ []) entries
+
+-- ---- which entries there are
+
+-- the event or the sets of atoms are those of a hit
+abbrev pub IsWhat : What → Type 0
+IsWhat (Da event) = event < 2 ^ 8
+IsWhat (Ltl on off pulse) = (on < 2 ^ 32) × (off < 2 ^ 32) × (pulse < 2 ^ 32)
+
+-- the slot or the bits are those of an act
+abbrev pub IsAct : Act → Type 0
+IsAct (Deliver slot hit) = (slot < 2 ^ 32) × IsWhat hit.what
+IsAct (Stop slot) = slot < 2 ^ 32
+IsAct Look = Unit {0}
+IsAct (Raise bits) = bits < 2 ^ 64
+IsAct (Lower bits) = bits < 2 ^ 64
+IsAct (Clear slot) = slot < 2 ^ 32
+
+-- all its numbers are those of an entry
+pub record IsEntry (e : Entry) : Type 0 where
+  pub seat : e.seat < 2 ^ 32
+  pub act : IsAct e.act
+  pub before : e.before < 2 ^ 64
+  pub after : e.after < 2 ^ 64

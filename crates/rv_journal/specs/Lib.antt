@@ -1,0 +1,6 @@
+pub mod CountedSeats
+pub mod CountedSteps
+pub mod CountedWords
+pub mod EntryReadings
+pub mod EntryTexts
+pub mod Openings

@@ -1,0 +1,75 @@
+//! The names of acts, of modes and of kinds of letters.
+ghost use Rattle.std.specs.Prelude.{◌≡◌};
+ghost use Rattle.rv_journal.specs.EntryReadings.{mode_in, kind_in, verb_in};
+
+use rv_model::Mode;
+
+/// What is done.
+#[derive(Clone, Copy, Debug, Drop, PartialEq, Eq)]
+pub(crate) enum Verb {
+    Deliver,
+    Stop,
+    Look,
+    Raise,
+    Lower,
+    Clear,
+}
+
+/// What kind of letter is run: an automaton's event, or a rule's atoms.
+#[derive(Clone, Copy, Debug, Drop, PartialEq, Eq)]
+pub(crate) enum Kind {
+    Da,
+    Ltl,
+}
+
+/// The mode that bindings write so.
+#[tactic(auto, unfolding(crate::specs::EntryReadings::mode_in))]
+pub(crate) fn mode_in(word: &[u8]) -> Option<Mode>
+    ensures { result ≡ mode_in word.now }
+{
+    if word == b"event".as_slice() {
+        Some(Mode::Event)
+    } else if word == b"start".as_slice() {
+        Some(Mode::Start)
+    } else if word == b"start_run".as_slice() {
+        Some(Mode::StartRun)
+    } else {
+        None
+    }
+}
+
+/// The kind that bindings write so.
+#[tactic(auto, unfolding(crate::specs::EntryReadings::kind_in))]
+pub(crate) fn kind_in(word: &[u8]) -> Option<Kind>
+    ensures { result ≡ kind_in word.now }
+{
+    if word == b"da".as_slice() {
+        Some(Kind::Da)
+    } else if word == b"ltl".as_slice() {
+        Some(Kind::Ltl)
+    } else {
+        None
+    }
+}
+
+/// What an act is called.
+#[tactic(auto, unfolding(crate::specs::EntryReadings::verb_in))]
+pub(crate) fn verb_in(word: &[u8]) -> Option<Verb>
+    ensures { result ≡ verb_in word.now }
+{
+    if word == b"deliver".as_slice() {
+        Some(Verb::Deliver)
+    } else if word == b"stop".as_slice() {
+        Some(Verb::Stop)
+    } else if word == b"look".as_slice() {
+        Some(Verb::Look)
+    } else if word == b"raise".as_slice() {
+        Some(Verb::Raise)
+    } else if word == b"lower".as_slice() {
+        Some(Verb::Lower)
+    } else if word == b"clear".as_slice() {
+        Some(Verb::Clear)
+    } else {
+        None
+    }
+}

@@ -1,0 +1,114 @@
+//! Entries are read back from their lines.
+ghost use Rattle.std.specs.Prelude.{◌≡◌, Some, IfSome};
+ghost use Rattle.rv_model.specs.declared.entry.Entry.{Entry as Told};
+ghost use Rattle.rv_journal.specs.EntryTexts.{entry_text, IsEntry};
+ghost use Rattle.rv_journal.specs.EntryReadings.{most_32, number_from, event_from, sets_from, what_from, deliver_from, act_from, entry_from, Reads};
+
+use crate::names::{Kind, Verb};
+use crate::pieces::Pieces;
+use rv_model::{Act, Entry, Hit, What};
+
+/// A number of 32 bits.
+fn small(words: &mut Pieces<'_>) -> Option<u32>
+    ensures { Reads (number_from most_32) words.old words.new result }
+{
+    let n = words.next_number(u32::MAX as u64)?;
+    Some(n as u32)
+}
+
+/// An automaton's event.
+fn event(words: &mut Pieces<'_>) -> Option<What>
+    ensures { Reads event_from words.old words.new result }
+{
+    let event = words.next_number(u8::MAX as u64)?;
+    Some(What::Da { event: event as u8 })
+}
+
+/// What becomes of a rule's atoms.
+fn sets(words: &mut Pieces<'_>) -> Option<What>
+    ensures { Reads sets_from words.old words.new result }
+{
+    let on = small(words)?;
+    let off = small(words)?;
+    let pulse = small(words)?;
+    Some(What::Ltl { on, off, pulse })
+}
+
+/// What is run, by its kind.
+fn what(words: &mut Pieces<'_>) -> Option<What>
+    ensures { Reads what_from words.old words.new result }
+{
+    let kind = words.next_kind()?;
+    match kind {
+        Kind::Da => event(words),
+        Kind::Ltl => sets(words),
+    }
+}
+
+/// A delivery, behind its name.
+fn deliver(words: &mut Pieces<'_>) -> Option<Act>
+    ensures { Reads deliver_from words.old words.new result }
+{
+    let slot = small(words)?;
+    let mode = words.next_mode()?;
+    let what = what(words)?;
+    Some(Act::Deliver {
+        slot,
+        hit: Hit { mode, what },
+    })
+}
+
+/// An act, by its name.
+fn act(words: &mut Pieces<'_>) -> Option<Act>
+    ensures { Reads act_from words.old words.new result }
+{
+    let verb = words.next_verb()?;
+    match verb {
+        Verb::Deliver => deliver(words),
+        Verb::Stop => {
+            let stopped = small(words)?;
+            Some(Act::Stop { slot: stopped })
+        }
+        Verb::Look => Some(Act::Look),
+        Verb::Raise => {
+            let raised = words.next_number(u64::MAX)?;
+            Some(Act::Raise { bits: raised })
+        }
+        Verb::Lower => {
+            let lowered = words.next_number(u64::MAX)?;
+            Some(Act::Lower { bits: lowered })
+        }
+        Verb::Clear => {
+            let cleared = small(words)?;
+            Some(Act::Clear { slot: cleared })
+        }
+    }
+}
+
+/// The entry of all words.
+fn entry(words: &mut Pieces<'_>) -> Option<Entry>
+    ensures { result ≡ entry_from words.old }
+{
+    let seat = small(words)?;
+    let act = act(words)?;
+    let before = words.next_number(u64::MAX)?;
+    let after = words.next_number(u64::MAX)?;
+    match words.next_piece() {
+        Some(_) => None,
+        None => Some(Entry {
+            seat,
+            act,
+            before,
+            after,
+        }),
+    }
+}
+
+/// The entry whose text the line is, where there is one. The line is given without its line end.
+pub fn read_entry(line: &[u8]) -> Option<Entry>
+    ensures some { IfSome result (λ e. entry_text e ≡ line.now) }
+    ensures every { (e : Told) → IsEntry e → entry_text e ≡ line.now → result ≡ Some e }
+{
+    let mut words = Pieces::new(line);
+    entry(&mut words)
+}

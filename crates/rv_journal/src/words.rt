@@ -1,0 +1,43 @@
+//! Words with a count in their low half, and an instance's word in their high half.
+ghost use Rattle.std.specs.Prelude.{◌≡◌, ◌≤◌, ◌<◌, ◌^◌};
+ghost use Rattle.rv_journal.specs.CountedWords.{IsNarrow, counted_word, word_in, count_in};
+
+use rv_word::{atoms_of, pack, set_of};
+
+/// The bits of a monitor's words: so many for the rows of its table, row 0 too, and so many for the levels of its
+/// atoms.
+#[derive(Clone, Copy, Debug, Drop, PartialEq, Eq)]
+pub struct Width {
+    pub rows: u8,
+    pub atoms: u8,
+}
+
+/// The bits of a count.
+pub(crate) const COUNT: u64 = 0xffff_ffff;
+
+/// The counted word of an instance's word.
+pub(crate) fn counted_word(rows: u32, word: u64, count: u32) -> u64
+    requires rows { rows ≤ 32 }
+    requires narrow { IsNarrow rows word }
+    ensures { result ≡ counted_word rows word count }
+{
+    let narrow = ((atoms_of(word) as u64) << rows) + set_of(word) as u64;
+    (narrow << 32) + count as u64
+}
+
+/// The instance's word of a counted word.
+pub(crate) fn word_in(rows: u32, counted: u64) -> u64
+    requires { rows ≤ 32 }
+    ensures { result ≡ word_in rows counted }
+{
+    let narrow = counted >> 32;
+    let set = narrow & ((1 << rows) - 1);
+    pack(set as u32, (narrow >> rows) as u32)
+}
+
+/// The count of a counted word.
+pub(crate) fn count_in(counted: u64) -> u32
+    ensures { result ≡ count_in counted }
+{
+    (counted & COUNT) as u32
+}

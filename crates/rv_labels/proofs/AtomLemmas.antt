@@ -1,0 +1,75 @@
+-- Sets of atoms as numbers.
+use Rattle.std.proofs.Common.{◌≡◌, ℕ, zero, suc, ◌^◌, ◌<◌, ◌==◌, ◌||◌, max, min, bit_and, bit_or, true, false, ◌⊎◌, inl, inr, arith, refl, sym, ap, ◌∙◌}
+use Rattle.std.specs.Int.{bit_at}
+use Rattle.std.proofs.lemmas.Bool.{eqb-true, eq-eqb, cases_eq, false≢true}
+use Rattle.std.proofs.lemmas.Nat.Bits.{bit_at-lt, bit_at-zero, bit_at_and, bit_at_or, bit_at-pow_same, bit_at-pow_other, same_from_bits}
+use Rattle.rv_model.specs.Numbers.{has_bit}
+
+-- one bit of a union
+has_max : (m n : ℕ) → m < 2 → n < 2 → (max m n == 1) ≡ (m == 1 || n == 1)
+has_max zero zero h k = refl
+has_max zero (suc zero) h k = refl
+has_max (suc zero) zero h k = refl
+has_max (suc zero) (suc zero) h k = refl
+has_max (suc (suc m)) n h k = absurd (omega arith)
+has_max zero (suc (suc n)) h k = absurd (omega arith)
+has_max (suc zero) (suc (suc n)) h k = absurd (omega arith)
+
+-- the members of a union
+pub has_or : (s t k : ℕ) → has_bit (bit_or s t) k ≡ (has_bit s k || has_bit t k)
+has_or s t k = ap (λ n. n == 1) (bit_at_or s t k) ∙ has_max (bit_at s k) (bit_at t k) (bit_at-lt s k) (bit_at-lt t k)
+
+-- the empty set has no member
+pub has_none : (k : ℕ) → has_bit 0 k ≡ false
+has_none k = ap (λ n. n == 1) (bit_at-zero k)
+
+-- a set of one has that one
+pub has_same : (k : ℕ) → has_bit (2 ^ k) k ≡ true
+has_same k = ap (λ n. n == 1) (bit_at-pow_same k)
+
+-- and no other
+pub only_same : (k i : ℕ) → has_bit (2 ^ k) i ≡ true → i ≡ k
+only_same k i h = go (cases_eq i k)
+  where
+    go : (i ≡ k) ⊎ (i ≡ k → ⊥) → i ≡ k
+    go (inl e) = e
+    go (inr n) = absurd (false≢true (sym (ap (λ b. b == 1) (bit_at-pow_other k i n)) ∙ h))
+
+-- of two bits, the second asks for the first
+asked : (m n : ℕ) → m < 2 → min m n ≡ n → n ≡ 1 → m ≡ 1
+asked m n h e k = omega arith
+
+-- and the other way round
+least : (m n : ℕ) → n < 2 → (n ≡ 1 → m ≡ 1) → min m n ≡ n
+least m zero h k = omega arith
+least m (suc zero) h k = let e = k refl in omega arith
+least m (suc (suc n)) h k = absurd (omega arith)
+
+-- of two bits, not both are on
+apart : (m n : ℕ) → min m n ≡ 0 → n ≡ 1 → m ≡ 1 → ⊥
+apart m n e h k = omega arith
+
+-- and the other way round
+not_both : (m n : ℕ) → m < 2 → n < 2 → (n ≡ 1 → m ≡ 1 → ⊥) → min m n ≡ 0
+not_both zero n h k apart = omega arith
+not_both (suc zero) zero h k apart = omega arith
+not_both (suc zero) (suc zero) h k apart = absurd (apart refl refl)
+not_both (suc (suc m)) n h k apart = absurd (omega arith)
+not_both (suc zero) (suc (suc n)) h k apart = absurd (omega arith)
+
+module _ (s t : ℕ) where
+  -- a set that is its part in another one lies in it
+  pub within_from : bit_and s t ≡ t → (a : ℕ) → has_bit t a ≡ true → has_bit s a ≡ true
+  within_from e a h = eq-eqb (bit_at s a) 1 (asked (bit_at s a) (bit_at t a) (bit_at-lt s a) (sym (bit_at_and s t a) ∙ ap (λ n. bit_at n a) e) (eqb-true _ _ h))
+
+  -- and the other way round
+  pub within_to : ((a : ℕ) → has_bit t a ≡ true → has_bit s a ≡ true) → bit_and s t ≡ t
+  within_to each = same_from_bits (bit_and s t) t (λ a. bit_at_and s t a ∙ least (bit_at s a) (bit_at t a) (bit_at-lt t a) (λ one. eqb-true _ _ (each a (eq-eqb _ _ one))))
+
+  -- sets whose common part is empty share no member
+  pub apart_from : bit_and s t ≡ 0 → (a : ℕ) → has_bit t a ≡ true → has_bit s a ≡ true → ⊥
+  apart_from e a h k = apart (bit_at s a) (bit_at t a) (sym (bit_at_and s t a) ∙ ap (λ n. bit_at n a) e ∙ bit_at-zero a) (eqb-true _ _ h) (eqb-true _ _ k)
+
+  -- and the other way round
+  pub apart_to : ((a : ℕ) → has_bit t a ≡ true → has_bit s a ≡ true → ⊥) → bit_and s t ≡ 0
+  apart_to each = same_from_bits (bit_and s t) 0 (λ a. bit_at_and s t a ∙ not_both (bit_at s a) (bit_at t a) (bit_at-lt s a) (bit_at-lt t a) (λ one other. each a (eq-eqb _ _ one) (eq-eqb _ _ other)) ∙ sym (bit_at-zero a))

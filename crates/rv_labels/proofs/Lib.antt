@@ -1,0 +1,4 @@
+pub mod AtomLemmas
+pub mod CubesSay
+pub mod MeetLemmas
+pub mod SizeLemmas

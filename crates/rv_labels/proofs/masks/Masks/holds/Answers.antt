@@ -1,0 +1,15 @@
+use Rattle.std.proofs.Common.{ap, ◌∙◌}
+use Rattle.std.specs.List.{list_any}
+use Rattle.rv_model.specs.Formulas.{ltl}
+use Rattle.rv_model.specs.Meaning.{true_on}
+use Rattle.rv_labels.specs.Holding.{meets}
+use Rattle.rv_labels.proofs.CubesSay.{few_say}
+use Rattle.rv_labels.proofs.masks.Masks.holds.Goals as goal
+
+pub returns-in-Some : goal.returns-in-Some
+returns-in-Some c =
+    let few = rw c.in-Some.is at c.self.invariant.1 in
+    c.some_holds.ensures
+    ∙ ap (list_any (meets c.args.atoms)) c.deref.ensures.value
+    ∙ few_say (ltl c.self.inside.label) c.in-Some.cubes.items c.args.atoms few
+    ∙ ap (true_on c.args.atoms) c.self.view_is

@@ -1,0 +1,4 @@
+pub mod Cubes
+pub mod Holding
+pub mod Labels
+pub mod Sizes

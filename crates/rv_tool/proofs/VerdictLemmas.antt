@@ -1,0 +1,107 @@
+-- What is told of lone slots follows from what was read.
+use Rattle.std.proofs.Common.{◌≡◌, ◌≢◌, ℕ, zero, suc, false, List, [], ◌∷◌, map, inl, inr, refl, sym, ap, ◌∙◌, subst}
+use Rattle.std.specs.Prelude.{Option, Some, All, Result, Ok, Err, IfOk}
+use Rattle.std.proofs.lemmas.List.Elements.{All-head, All-tail}
+use Rattle.rv_io.specs.Files.{Files}
+use Rattle.rv_model.specs.declared.entry.Act.TheVariants.{Stop}
+use Rattle.rv_model.specs.declared.entry.Entry.{Entry}
+use Rattle.rv_model.specs.declared.reactor.Reactor.{Reactor}
+use Rattle.rv_model.specs.declared.reactor.Reactor.TheVariants as reactors
+use Rattle.rv_model.specs.Cuts.{AtEach}
+use Rattle.rv_model.specs.Histories.{IsLegal, IsOneHistory, AreJudges}
+use Rattle.rv_model.specs.Judging.{Judge}
+use Rattle.rv_model.specs.Records.{records_of, status_of}
+use Rattle.rv_model.specs.Reports.{report_text}
+use Rattle.rv_model.specs.Setups.{slot_of}
+use Rattle.rv_model.proofs.UniqueLemmas.{lists-same}
+use Rattle.rv_bind.specs.declared.bindings.Monitor.{Monitor}
+use Rattle.rv_bind.specs.declared.fault.BindFault.{BindFault}
+use Rattle.rv_feed.specs.Lane.{panics_of, is_panic_reactor}
+use Rattle.rv_report.specs.Shown.{reported}
+use Rattle.rv_verdicts.specs.Verdicts.{IsSteady, AgreeOnLone}
+use Rattle.rv_verdicts.proofs.StatusLemmas.{all_lone_give_no_six}
+use Rattle.rv_verdicts.proofs.StopLemmas.{lone_has_no_stop}
+use Rattle.rv_verdicts.proofs.VerdictLemmas.{lone_records_are_one, all_records_are_one}
+use Rattle.rv_tool.specs.declared.input.Ready.{Ready}
+use Rattle.rv_tool.specs.Headline.{GivesUp, IsReported}
+use Rattle.rv_tool.specs.Inputs.{InputValue, run_of}
+use Rattle.rv_tool.specs.Ready.{ready_value, IsReady}
+use Rattle.rv_tool.specs.Runs.{EndsRead, Runs}
+use Rattle.rv_tool.specs.Verdicts.{IsLoneIn, HasNoPanic, HasVerdicts, ReportsVerdicts, Verdicts}
+use Rattle.rv_tool.specs.Words.{CommandValue}
+use Rattle.rv_tool.proofs.CpuLemmas.{FitCpus, ready_routed, cpu_is_lone, all_are_lone}
+
+-- ---- reactors
+
+-- another reactor is not panic
+calm-one : (r : Reactor) → r ≢ reactors.Panic → is_panic_reactor (Some r) ≡ false
+calm-one reactors.Nop other = refl
+calm-one reactors.Printk other = refl
+calm-one reactors.Panic other = absurd (other refl)
+
+-- where no reactor is panic, none of a number is
+calm : (monitors : List Monitor) → All (λ (m : Monitor). m.reactor ≢ reactors.Panic) monitors → (number : ℕ) → panics_of (map (λ (m : Monitor). m.reactor) monitors) number ≡ false
+calm [] none number = refl
+calm (m ∷ monitors) none zero = calm-one m.reactor (All-head (λ (m : Monitor). m.reactor ≢ reactors.Panic) m monitors none)
+calm (m ∷ monitors) none (suc number) = calm monitors (All-tail (λ (m : Monitor). m.reactor ≢ reactors.Panic) m monitors none) number
+
+-- ---- a report
+module _ (i : InputValue) (unchanged : i.changes ≡ []) (h : List Entry) (text : List ℕ) (status : ℕ) (is : IsReported IsLegal i h text status) where
+  -- a run without panic is steady
+  steady : HasNoPanic i → IsSteady (run_of i)
+  steady none = record { no_changes = unchanged; no_panics = calm i.bound.monitors none }
+
+  -- nothing stops a lone slot
+  no_stop : (slot : ℕ) → IsLoneIn i slot → AtEach (λ before e. ¬ (e.act ≡ Stop slot)) h
+  no_stop slot lone = lone_has_no_stop (run_of i) is.judges h slot is.history unchanged lone
+
+  -- where all slots are lone the status is not 6
+  no_six : ((slot : ℕ) → IsLoneIn i slot) → status ≢ 6
+  no_six lone six = all_lone_give_no_six (run_of i) is.judges h is.history unchanged lone (sym is.status_is ∙ six)
+
+  -- the records of a lone slot are those of one thread
+  lone_as_one : HasNoPanic i → (judges : List Judge) (k : List Entry) → AreJudges (run_of i).specs (run_of i).setup.tables judges → IsOneHistory (run_of i) judges k → AgreeOnLone (run_of i) judges judges h k
+  lone_as_one none judges k are one =
+      let same : is.judges ≡ judges = lists-same (run_of i).specs (run_of i).setup.tables is.judges judges is.are_judges are in
+      let agree = lone_records_are_one (run_of i) is.judges judges h k (steady none) (record { judges = is.are_judges; other_judges = are; history = is.history; other = one }) in
+      subst (λ (js : List Judge). AgreeOnLone (run_of i) js judges h k) same agree
+
+  -- where all slots are lone the report is that of one thread
+  all_as_one : HasNoPanic i → ((slot : ℕ) → IsLoneIn i slot) → (k : List Entry) (other : List ℕ) (said : ℕ) → IsReported IsOneHistory i k other said → (text ≡ other) × (status ≡ said)
+  all_as_one none lone k other said one =
+      let same : records_of (run_of i) is.judges h ≡ records_of (run_of i) one.judges k =
+      all_records_are_one (run_of i) is.judges one.judges h k (steady none) (record { judges = is.are_judges; other_judges = one.are_judges; history = is.history; other = one.history }) lone in
+      (is.text_is ∙ ap (report_text (map (reported i.bound.containers) i.bound.monitors) i.routed.tasks) same ∙ sym one.text_is, is.status_is ∙ ap status_of same ∙ sym one.status_is)
+
+  -- the report of a run at once has its verdicts
+  has_verdicts : FitCpus i → HasVerdicts i h text status
+  has_verdicts routed = record {
+    not_stopped = no_stop;
+    not_six = no_six;
+    lone = lone_as_one;
+    all = all_as_one;
+    by_cpu = record {
+      own = routed.by_cpu;
+      not_stopped = λ monitor cpu has below. no_stop (slot_of (run_of i).setup.shape monitor cpu) (cpu_is_lone i routed monitor cpu has below);
+      not_six = λ all. no_six (all_are_lone i routed all);
+      each = λ none judges k are one monitor cpu has below. lone_as_one none judges k are one monitor cpu (cpu_is_lone i routed monitor cpu has below);
+      all = λ none all. all_as_one none (all_are_lone i routed all);
+    };
+  }
+
+-- ---- the top call
+module _ (old new : Option (List ℕ)) (before now status : ℕ) (h : List Entry) where
+  -- a run at once that was read has its verdicts
+  pub runs_verdicts : (read : Result Ready BindFault) → IfOk read IsReady → IfOk read (λ ready. ready.changes.items ≡ []) → Runs IsLegal read old new before now status h → EndsRead ready_value ReportsVerdicts read old new before now status h
+  runs_verdicts (Ok ready) is unchanged (inl (text, said, reported, told)) = inl (text, said, reported, has_verdicts (ready_value ready) unchanged h text said reported (ready_routed ready is), told)
+  runs_verdicts (Ok ready) is unchanged (inr up) = inr up
+  runs_verdicts (Err fault) is unchanged fails = fails
+
+  -- want of memory ends a run at once
+  pub no_verdicts : (i : InputValue) → GivesUp old new status h → ReportsVerdicts i old new before now status h
+  no_verdicts i up = inr up
+
+  -- the words ask for the command that was read
+  pub words_verdict : (asked said : Option CommandValue) (told : Option Files) (first last : ℕ) → said ≡ asked
+      → ((files : Files) → told ≡ Some files → Verdicts said files first last old new before now status h) → (files : Files) → told ≡ Some files → Verdicts asked files first last old new before now status h
+  words_verdict asked said told first last same verdicts files known = subst (λ (o : Option CommandValue). Verdicts o files first last old new before now status h) same (verdicts files known)

@@ -1,0 +1,64 @@
+-- What a run at once tells of slots that only one CPU has deliveries for: what one thread tells of them.
+use Rattle.std.specs.Prelude.{◌≡◌, ◌≢◌, ◌⊎◌, ◌<◌, ℕ, List, Option, Some, All}
+use Rattle.rv_io.specs.Files.{Files}
+use Rattle.rv_model.specs.declared.entry.Act.TheVariants.{Stop}
+use Rattle.rv_model.specs.declared.entry.Entry.{Entry}
+use Rattle.rv_model.specs.declared.reactor.Reactor.TheVariants.{Panic}
+use Rattle.rv_model.specs.declared.work.Scope.TheVariants.{Cpu}
+use Rattle.rv_model.specs.Cuts.{AtEach}
+use Rattle.rv_model.specs.Histories.{IsLegal, IsOneHistory, AreJudges}
+use Rattle.rv_model.specs.Judging.{Judge}
+use Rattle.rv_model.specs.Records.{records_of}
+use Rattle.rv_model.specs.Setups.{slot_of}
+use Rattle.rv_slots.specs.declared.shape.TheConstants.{CPUS}
+use Rattle.rv_verdicts.specs.Lone.{IsLone, IsByCpu}
+use Rattle.rv_verdicts.specs.Verdicts.{AgreeOnLone, records_on}
+use Rattle.rv_tool.specs.Headline.{Ending, GivesUp, IsReported, Ends}
+use Rattle.rv_tool.specs.Inputs.{InputValue, run_input, run_of, HasCpus}
+use Rattle.rv_tool.specs.Loaded.{load_input}
+use Rattle.rv_tool.specs.Output.{Told}
+use Rattle.rv_tool.specs.Runs.{AnswersBy}
+use Rattle.rv_tool.specs.Words.{CommandValue, feed, load}
+
+-- only one CPU has deliveries for the slot
+abbrev pub IsLoneIn : InputValue → ℕ → Type 0
+IsLoneIn i slot = IsLone (run_of i).setup.shape (run_of i).works slot
+
+-- no monitor's reactor is panic
+abbrev pub HasNoPanic : InputValue → Type 0
+HasNoPanic i = All (λ m. m.reactor ≢ Panic) i.bound.monitors
+
+-- ---- monitors by CPU
+
+-- all monitors are by CPU
+abbrev pub AllHaveCpus : InputValue → Type 0
+AllHaveCpus i = All (λ m. m.scope ≡ Cpu) i.bound.monitors
+
+-- a CPU delivers to its own instance alone of a monitor by CPU, and nothing stops it; without panic its records are those of one thread; and where all monitors are by CPU the text and the status are too, which is never 6
+pub record HasCpuVerdicts (i : InputValue) (h : List Entry) (text : List ℕ) (status : ℕ) : Type 0 where
+  pub own : (monitor : ℕ) → HasCpus i.bound.monitors monitor → IsByCpu (run_of i).works monitor
+  pub not_stopped : (monitor cpu : ℕ) → HasCpus i.bound.monitors monitor → cpu < CPUS → AtEach (λ before e. ¬ (e.act ≡ Stop (slot_of (run_of i).setup.shape monitor cpu))) h
+  pub not_six : AllHaveCpus i → status ≢ 6
+  pub each : HasNoPanic i → (judges : List Judge) (k : List Entry) → AreJudges (run_of i).specs (run_of i).setup.tables judges → IsOneHistory (run_of i) judges k
+      → (monitor cpu : ℕ) → HasCpus i.bound.monitors monitor → cpu < CPUS → records_on monitor cpu (records_of (run_of i) judges h) ≡ records_on monitor cpu (records_of (run_of i) judges k)
+  pub all : HasNoPanic i → AllHaveCpus i → (k : List Entry) (other : List ℕ) (said : ℕ) → IsReported IsOneHistory i k other said → (text ≡ other) × (status ≡ said)
+
+-- ---- all of them
+
+-- nothing stops a lone slot; without panic its records are those of one thread; and where all slots are lone the text and the status are too, which is never 6
+pub record HasVerdicts (i : InputValue) (h : List Entry) (text : List ℕ) (status : ℕ) : Type 0 where
+  pub not_stopped : (slot : ℕ) → IsLoneIn i slot → AtEach (λ before e. ¬ (e.act ≡ Stop slot)) h
+  pub not_six : ((slot : ℕ) → IsLoneIn i slot) → status ≢ 6
+  pub lone : HasNoPanic i → (judges : List Judge) (k : List Entry) → AreJudges (run_of i).specs (run_of i).setup.tables judges → IsOneHistory (run_of i) judges k → AgreeOnLone (run_of i) judges judges h k
+  pub all : HasNoPanic i → ((slot : ℕ) → IsLoneIn i slot) → (k : List Entry) (other : List ℕ) (said : ℕ) → IsReported IsOneHistory i k other said → (text ≡ other) × (status ≡ said)
+  pub by_cpu : HasCpuVerdicts i h text status
+
+-- a run at once is reported, and has these verdicts
+abbrev pub ReportsVerdicts : InputValue → Ending
+ReportsVerdicts i old new before now status h = ((text : List ℕ) × (said : ℕ) × IsReported IsLegal i h text said × HasVerdicts i h text said × Told old new before now text said status) ⊎ GivesUp old new status h
+
+-- what the commands that run at once answer
+abbrev pub Verdicts : Option CommandValue → Files → ℕ → ℕ → Ending
+Verdicts (Some (feed bindings trace)) files first last old new before now status h = AnswersBy ReportsVerdicts (λ files. run_input files bindings trace) files first last old new before now status h
+Verdicts (Some (load blocks)) files first last old new before now status h = Ends ReportsVerdicts (load_input blocks) old new before now status h
+Verdicts _ files first last old new before now status h = Unit {0}

@@ -1,0 +1,11 @@
+pub mod AnswerLemmas
+pub mod CpuLemmas
+pub mod FilterLemmas
+pub mod LikeLemmas
+pub mod OwnerLemmas
+pub mod PastLemmas
+pub mod StatusLemmas
+pub mod StopLemmas
+pub mod SwitchLemmas
+pub mod ToldLemmas
+pub mod VerdictLemmas

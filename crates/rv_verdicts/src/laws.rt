@@ -1,0 +1,28 @@
+//! Laws of the definitions, each the contract of a call that does nothing.
+ghost use Rattle.rv_verdicts.specs.Lone.{LoneHasNoStop, AllLoneHaveNoStop, AllLoneGiveNoSix, CpuSlotsAreLone, AllByCpuAreLone};
+ghost use Rattle.rv_verdicts.specs.Verdicts.{LoneRecordsAgree, AllRecordsAgree, LoneRecordsAreOne, AllRecordsAreOne};
+
+/// Without changes, nobody stops a slot that only one CPU has deliveries for.
+pub fn lone_slots_are_not_stopped()
+    ensures slot { LoneHasNoStop }
+    ensures all { AllLoneHaveNoStop }
+    ensures status { AllLoneGiveNoSix }
+{}
+
+/// Only one CPU has deliveries for a slot of a monitor whose instances are the CPUs.
+pub fn cpu_slots_are_lone()
+    ensures slot { CpuSlotsAreLone }
+    ensures all { AllByCpuAreLone }
+{}
+
+/// Without changes and panics, what CPUs do at once is not seen in the records of such a slot.
+pub fn lone_records_agree()
+    ensures slot { LoneRecordsAgree }
+    ensures all { AllRecordsAgree }
+{}
+
+/// So the records of such a slot are those of one thread.
+pub fn lone_records_are_one()
+    ensures slot { LoneRecordsAreOne }
+    ensures all { AllRecordsAreOne }
+{}

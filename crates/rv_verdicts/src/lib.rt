@@ -1,0 +1,8 @@
+//! Laws of histories on slots that only one CPU's deliveries are for.
+#![tactic(auto)]
+
+mod laws;
+
+pub use laws::{
+    cpu_slots_are_lone, lone_records_agree, lone_records_are_one, lone_slots_are_not_stopped,
+};
