@@ -1,9 +1,13 @@
 pub mod AnswerLemmas
+pub mod ControlLemmas
 pub mod CpuLemmas
+pub mod ExitLemmas
 pub mod FilterLemmas
 pub mod LikeLemmas
+pub mod OutcomeLemmas
 pub mod OwnerLemmas
 pub mod PastLemmas
+pub mod ShownLemmas
 pub mod StatusLemmas
 pub mod StopLemmas
 pub mod SwitchLemmas

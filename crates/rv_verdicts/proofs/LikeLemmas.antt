@@ -47,15 +47,15 @@ module _ (s : Setup) (d : Delivery) (p : Played) (makes : Makes s d p) where
   made-no_look = elim makes [ inl act ↦ rw act refl | inr act ↦ rw act refl ]
 
   -- it makes a delivery
-  made-delivery : is_delivery p ≡ true
+  pub made-delivery : is_delivery p ≡ true
   made-delivery = elim makes [ inl act ↦ rw act refl | inr act ↦ rw act refl ]
 
   -- its record comes before those of the rest of the turn
-  made-record : (line look : ℕ) (ds : List Delivery) (ps : List Played) → records_in line look (d ∷ ds) (until_look (p ∷ ps)) ≡ record_of line look (d, p) ∷ records_in line look ds (until_look ps)
+  pub made-record : (line look : ℕ) (ds : List Delivery) (ps : List Played) → records_in line look (d ∷ ds) (until_look (p ∷ ps)) ≡ record_of line look (d, p) ∷ records_in line look ds (until_look ps)
   made-record line look ds ps = rw (made-no_look, made-delivery) refl
 
   -- the next turn comes after the rest of the turn
-  made-from : (ps : List Played) → from_look (p ∷ ps) ≡ from_look ps
+  pub made-from : (ps : List Played) → from_look (p ∷ ps) ≡ from_look ps
   made-from ps = rw made-no_look refl
 
 -- where its slot is not stopped, it is delivered
@@ -67,6 +67,12 @@ made-act s d p slot (inr act) at free = absurd (free (act ∙ ap Stop at))
 made-off : (s : Setup) (d : Delivery) (p : Played) (slot : ℕ) → Makes s d p → (slot_of s.shape d.monitor d.instance == slot) ≡ false → is_on slot p.0.act ≡ false
 made-off s d p slot (inl act) off = ap (is_on slot) act ∙ off
 made-off s d p slot (inr act) off = ap (is_on slot) act ∙ off
+
+-- a script begins with a look, or is empty
+pub begins : (s : Setup) (panics : ℕ → Bool) (turns : List (List Delivery)) (ps : List Played) → PlaysTurns s panics turns ps → from_look ps ≡ ps
+begins s panics [] ps h = rw h refl
+begins s panics (turn ∷ turns) [] h = absurd h
+begins s panics (turn ∷ turns) (p ∷ ps) h = let is : is_look p ≡ true = rw h.1 refl in rw is refl
 
 module _ (s : Setup) (js : List Judge) (panics : ℕ → Bool) (calm : (monitor : ℕ) → panics monitor ≡ false) (slot : ℕ) where
   -- two entries of a delivery, after the same acts on the slot
@@ -108,18 +114,12 @@ module _ (s : Setup) (js : List Judge) (panics : ℕ → Bool) (calm : (monitor 
     tells : Tells s js slot past (from_look ps)
     tells' : Tells s js slot past (from_look qs)
 
-  -- a script begins with a look, or is empty
-  begins : (turns : List (List Delivery)) (ps : List Played) → PlaysTurns s panics turns ps → from_look ps ≡ ps
-  begins [] ps h = rw h refl
-  begins (turn ∷ turns) [] h = absurd h
-  begins (turn ∷ turns) (p ∷ ps) h = let is : is_look p ≡ true = rw h.1 refl in rw is refl
-
   -- what two scripts do in a turn, and after it
   like-turn : (line : ℕ) (turns : List (List Delivery)) (ds : List Delivery) (past : List Entry) (ps qs : List Played) → Delivers s panics (opening_word s) ds (PlaysTurns s panics turns) ps → Delivers s panics (opening_word s) ds (PlaysTurns s panics turns) qs
       → Tells s js slot past ps → Tells s js slot past qs → IsLikeTurn line ds turns ps qs
   like-turn line turns [] past ps qs h g t u =
-      let from : ps ≡ from_look ps = sym (begins turns ps h) in
-      let from' : qs ≡ from_look qs = sym (begins turns qs g) in
+      let from : ps ≡ from_look ps = sym (begins s panics turns ps h) in
+      let from' : qs ≡ from_look qs = sym (begins s panics turns qs g) in
       record { like = tt; past = past; plays = subst (PlaysTurns s panics turns) from h; plays' = subst (PlaysTurns s panics turns) from' g; tells = subst (Tells s js slot past) from t; tells' = subst (Tells s js slot past) from' u }
   like-turn line turns (d ∷ ds) past [] qs h g t u = absurd h
   like-turn line turns (d ∷ ds) past (p ∷ ps) [] h g t u = absurd g

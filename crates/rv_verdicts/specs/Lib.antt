@@ -1,2 +1,4 @@
+pub mod Exits
 pub mod Lone
+pub mod Shown
 pub mod Verdicts

@@ -1,5 +1,7 @@
 //! Laws of the definitions, each the contract of a call that does nothing.
 ghost use Rattle.rv_verdicts.specs.Lone.{LoneHasNoStop, AllLoneHaveNoStop, AllLoneGiveNoSix, CpuSlotsAreLone, AllByCpuAreLone};
+ghost use Rattle.rv_verdicts.specs.Exits.{StatusIsSeen};
+ghost use Rattle.rv_verdicts.specs.Shown.{ShownIsEnough};
 ghost use Rattle.rv_verdicts.specs.Verdicts.{LoneRecordsAgree, AllRecordsAgree, LoneRecordsAreOne, AllRecordsAreOne};
 
 /// Without changes, nobody stops a slot that only one CPU has deliveries for.
@@ -25,4 +27,14 @@ pub fn lone_records_agree()
 pub fn lone_records_are_one()
     ensures slot { LoneRecordsAreOne }
     ensures all { AllRecordsAreOne }
+{}
+
+/// Without changes and panics, a history of the deliveries that the opening switches show on is a history of all.
+pub fn shown_deliveries_are_enough()
+    ensures { ShownIsEnough }
+{}
+
+/// The status can be seen in the history, without the works and their records.
+pub fn status_is_seen()
+    ensures { StatusIsSeen }
 {}
