@@ -12,18 +12,16 @@ use Rattle.rv_tool.specs.declared.replaying.Done.{Done}
 use Rattle.rv_tool.specs.Inputs.{InputValue}
 use Rattle.rv_tool.specs.Output.{refusal_text, missing_text}
 use Rattle.rv_tool.specs.Words.{CommandValue}
-use Rattle.rv_tool.specs.Headline.{Histories, IsReported, Ending, GivesUp, Says, Reports, Ends}
+use Rattle.rv_tool.specs.Headline.{Histories, IsReported, Ending, GivesUp, Says, TellsOf, Reports, Ends}
 use Rattle.rv_tool.specs.Runs.{Ended, Fails, EndsRead, AnswersBy, Answers}
 
 module _ (old new : Option (List ℕ)) (before now status : ℕ) (h : List Entry) where
-  -- the report of a run
-  pub ended_reports : (Is : Histories) (i : InputValue) (done : Result Done AllocError) → IfOk done (λ done. IsReported Is i done.closed done.text.items done.status) → Ended done old new before now status h → Reports Is i old new before now status h
-  ended_reports Is i (Ok done) is ended = inl (done.text.items, done.status, subst (λ (k : List Entry). IsReported Is i k done.text.items done.status) (sym ended.1) is, ended.0)
-  ended_reports Is i (Err fault) is ended = inr ended
-
   -- want of memory ends a run
+  pub no_telling : (Goes : List Entry → List ℕ → ℕ → Type 0) → GivesUp old new status h → TellsOf Goes old new before now status h
+  no_telling Goes up = inr up
+
   pub no_report : (Is : Histories) (i : InputValue) → GivesUp old new status h → Reports Is i old new before now status h
-  no_report Is i up = inr up
+  no_report Is i = no_telling (IsReported Is i)
 
   -- and a text
   pub no_text : (text : List ℕ) (said : ℕ) → GivesUp old new status h → Says text said old new before now status h

@@ -13,3 +13,4 @@ pub mod SaysLemmas
 pub mod SessionLemmas
 pub mod TableLemmas
 pub mod VerdictLemmas
+pub mod WatchLemmas

@@ -34,9 +34,13 @@ GivesUp old new status h = (status ≡ 5) × (new ≡ old) × (h ≡ [])
 abbrev pub Says : List ℕ → ℕ → Ending
 Says text said old new before now status h = (Told old new before now text said status × (h ≡ [])) ⊎ GivesUp old new status h
 
+-- there is a text that goes with a status and the history, and it was told
+abbrev pub TellsOf : (List Entry → List ℕ → ℕ → Type 0) → Ending
+TellsOf Goes old new before now status h = ((text : List ℕ) × (said : ℕ) × Goes h text said × Told old new before now text said status) ⊎ GivesUp old new status h
+
 -- an accepted input is run
 abbrev pub Reports : Histories → InputValue → Ending
-Reports Is i old new before now status h = ((text : List ℕ) × (said : ℕ) × IsReported Is i h text said × Told old new before now text said status) ⊎ GivesUp old new status h
+Reports Is i = TellsOf (IsReported Is i)
 
 -- by what the words and files come to: what is accepted ends in its own way, and else the refusal or the missing file is said
 abbrev pub Ends : {Y : Type 0} → (Y → Ending) → Outcome Y → Ending

@@ -15,4 +15,6 @@ pub mod SessionValues
 pub mod Sessions
 pub mod Tables
 pub mod Verdicts
+pub mod WatchReports
+pub mod Watched
 pub mod Words

@@ -15,11 +15,14 @@ use Rattle.rv_tool.specs.Inputs.{run_input}
 use Rattle.rv_tool.specs.Loaded.{load_input}
 use Rattle.rv_tool.specs.Output.{Told, refusal_text, missing_text}
 use Rattle.rv_model.specs.Histories.{IsOneHistory, IsLegal}
-use Rattle.rv_tool.specs.Words.{CommandValue, replay, feed, feed_beside, table, header, control, load}
+use Rattle.rv_tool.specs.Words.{CommandValue, replay, feed, feed_beside, watch, table, header, control, load}
 use Rattle.rv_tool.specs.Ready.{ready_value}
 use Rattle.rv_tool.specs.HeaderFiles.{header_in}
 use Rattle.rv_tool.specs.Tables.{table_in}
 use Rattle.rv_tool.specs.declared.session.Session.{Session}
+use Rattle.rv_tool.specs.declared.watching.ToWatch.{ToWatch}
+use Rattle.rv_tool.specs.Watched.{watched_input}
+use Rattle.rv_tool.specs.WatchReports.{Watches, watch_value}
 use Rattle.rv_tool.specs.Sessions.{Printed, control_in}
 use Rattle.rv_tool.specs.SessionValues.{session_value}
 use Rattle.rv_tool.specs.Headline.{Histories, Ending, GivesUp, Says, Reports, Ends}
@@ -53,6 +56,10 @@ Prints text = Says text 0
 abbrev pub PrintsRead : Result (Vec ℕ Global) BindFault → Ending
 PrintsRead = EndsRead (λ text. text.items) Prints
 
+-- a run is reported, with the words of a slot
+abbrev pub WatchesRead : Result ToWatch BindFault → Ending
+WatchesRead = EndsRead watch_value Watches
+
 -- the texts of a script's commands are printed
 abbrev pub PrintsSession : Printed → Ending
 PrintsSession p = Says p.text p.status
@@ -77,6 +84,7 @@ Answers None files first last = Says (refusal_text None (record { number = USAGE
 Answers (Some (replay bindings trace)) files first last = AnswersBy (Reports IsOneHistory) (λ files. run_input files bindings trace) files first last
 Answers (Some (feed bindings trace)) files first last = AnswersBy (Reports IsLegal) (λ files. run_input files bindings trace) files first last
 Answers (Some (feed_beside bindings trace script)) files first last = AnswersBy (Reports IsLegal) (λ files. input_beside files bindings trace script) files first last
+Answers (Some (watch bindings trace monitor instance)) files first last = AnswersBy Watches (λ files. watched_input files bindings trace monitor instance) files first last
 Answers (Some (load blocks)) files first last = Ends (Reports IsLegal) (load_input blocks)
 Answers (Some (table kind file)) files first last = AnswersBy Prints (λ files. table_in files kind file) files first last
 Answers (Some (header name file)) files first last = AnswersBy Prints (λ files. header_in files name file) files first last

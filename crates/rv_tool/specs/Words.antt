@@ -21,6 +21,8 @@ pub data CommandValue : Type 0 where
   feed : List ℕ → List ℕ → CommandValue
   -- the bindings, the trace, and the script beside the CPUs
   feed_beside : List ℕ → List ℕ → List ℕ → CommandValue
+  -- the bindings, the trace, and the monitor and the instance that are watched
+  watch : List ℕ → List ℕ → List ℕ → List ℕ → CommandValue
   -- the bindings and the script
   control : List ℕ → List ℕ → CommandValue
   -- how many blocks of the generated input
@@ -34,6 +36,7 @@ abbrev pub command_value : Command → CommandValue
 command_value (commands.Replay bindings trace) = replay bindings.now trace.now
 command_value (commands.Feed bindings trace) = feed bindings.now trace.now
 command_value (commands.FeedBeside bindings trace script) = feed_beside bindings.now trace.now script.now
+command_value (commands.Watch bindings trace monitor instance) = watch bindings.now trace.now monitor.now instance.now
 command_value (commands.Control bindings script) = control bindings.now script.now
 command_value (commands.Load blocks) = load blocks
 command_value (commands.Table kind file) = table kind file.now
@@ -76,11 +79,18 @@ abbrev pub load_of : Option ℕ → Option CommandValue
 load_of None = None
 load_of (Some blocks) = if nat_lt 0 blocks && not (nat_lt MAX_BLOCKS blocks) then Some (load blocks) else None
 
--- `replay BINDINGS TRACE`, `feed BINDINGS TRACE`, `feed BINDINGS TRACE CONTROL`, `control BINDINGS SCRIPT`, `load N`, a table or C tables
+-- `feed BINDINGS TRACE CONTROL`
+abbrev pub command_with_third : List ℕ → List ℕ → List ℕ → List ℕ → Option CommandValue
+command_with_third word bindings trace third =
+    if bytes_eq word (codes "feed") then Some (feed_beside bindings trace third)
+    else None
+
+-- `replay BINDINGS TRACE`, `feed BINDINGS TRACE`, `control BINDINGS SCRIPT`, `load N`, a table, C tables, or a command of three or four further words
 abbrev pub command_of : List (List ℕ) → Option CommandValue
 command_of (word ∷ number ∷ []) = if bytes_eq word (codes "load") then load_of (decimal_of number) else None
 command_of (word ∷ first ∷ second ∷ []) = command_with (verb_of word) first second
-command_of (word ∷ bindings ∷ trace ∷ script ∷ []) = if bytes_eq word (codes "feed") then Some (feed_beside bindings trace script) else None
+command_of (word ∷ bindings ∷ trace ∷ third ∷ []) = command_with_third word bindings trace third
+command_of (word ∷ bindings ∷ trace ∷ monitor ∷ instance ∷ []) = if bytes_eq word (codes "watch") then Some (watch bindings trace monitor instance) else None
 command_of _ = None
 
 -- C tables may have the name that the command gives them

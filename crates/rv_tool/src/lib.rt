@@ -25,6 +25,9 @@ mod tables;
 mod tests;
 mod top;
 mod trace_text;
+mod watching;
+#[cfg(test)]
+mod watching_tests;
 mod words;
 
 pub use top::{Finished, rv};

@@ -6,7 +6,8 @@ ghost use Rattle.rv_tool.specs.Loaded.{load_input};
 ghost use Rattle.rv_tool.specs.Output.{refusal_text, missing_text};
 ghost use Rattle.rv_io.specs.Files.{Files};
 ghost use Rattle.rv_tool.specs.Headline.{Says, Reports, Ends};
-ghost use Rattle.rv_tool.specs.Runs.{Ended, Fails, Runs, PrintsRead, SaysSession, Answers};
+ghost use Rattle.rv_tool.specs.Runs.{Ended, Fails, Runs, WatchesRead, PrintsRead, SaysSession, Answers};
+ghost use Rattle.rv_tool.specs.WatchReports.{IsToWatch};
 ghost use Rattle.rv_tool.specs.Verdicts.{ReportsVerdicts, Verdicts};
 ghost use Rattle.rv_tool.specs.Words.{command_of, texts_of};
 ghost use Rattle.rv_tool.specs.Ready.{ready_value, IsReady};
@@ -20,6 +21,7 @@ use crate::output::{missing_line, refusal_line, tell};
 use crate::replaying::{Done, replayed};
 use crate::session::{Session, read_control};
 use crate::tables::read_table;
+use crate::watching::{ToWatch, read_watched, watched};
 use crate::words::{Command, read_words};
 use rv_bind::BindFault;
 use rv_io::{Gate, Sink, Store};
@@ -88,6 +90,20 @@ pub fn rv<R: Threads + Sync, S: Store, K: Sink, G: Gate + Send>(
             gate,
             read_beside(alloc, store, bindings, trace, script),
         ),
+        Some(
+            Command::Watch {
+                bindings,
+                trace,
+                monitor,
+                instance,
+            },
+        ) => run_watched(
+            rt,
+            alloc,
+            out,
+            gate,
+            read_watched(alloc, store, bindings, trace, monitor, instance),
+        ),
         Some(Command::Table { kind, file }) => print(
             alloc,
             out,
@@ -141,6 +157,23 @@ fn run_at_once<R: Threads + Sync, K: Sink, G: Gate + Send>(
 {
     match read {
         Ok(ready) => end(out, fed(rt, alloc, gate, ready)),
+        Err(fault) => failed(alloc, out, fault),
+    }
+}
+
+/// Runs what was read with a reader of one slot beside the CPUs, or says why there is nothing to run.
+fn run_watched<R: Threads + Sync, K: Sink, G: Gate + Send>(
+    rt: &R,
+    alloc: Global,
+    out: &mut K,
+    gate: &G,
+    read: Result<ToWatch, BindFault>,
+) -> Finished
+    requires { ForOk read IsToWatch }
+    ensures { WatchesRead read (K.taken out.old) (K.taken out.new) (K.faults out.old) (K.faults out.new) result.status result.closed }
+{
+    match read {
+        Ok(to_watch) => end(out, watched(rt, alloc, gate, to_watch)),
         Err(fault) => failed(alloc, out, fault),
     }
 }

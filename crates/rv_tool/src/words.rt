@@ -47,6 +47,12 @@ pub(crate) enum Command<'a> {
         trace: &'a str,
         script: &'a str,
     },
+    Watch {
+        bindings: &'a str,
+        trace: &'a str,
+        monitor: &'a str,
+        instance: &'a str,
+    },
     Control {
         bindings: &'a str,
         script: &'a str,
@@ -165,22 +171,45 @@ fn load_with<'a>(word: &str, number: &str) -> Option<Command<'a>>
 }
 
 /// The command of three further words, if they make one.
-fn feed_beside<'a>(
+fn with_third<'a>(
     word: &str,
     bindings: &'a str,
     trace: &'a str,
-    script: &'a str,
+    third: &'a str,
 ) -> Option<Command<'a>>
-    ensures value { option_map command_value result ≡ command_of (word.now ∷ bindings.now ∷ trace.now ∷ script.now ∷ []) }
+    ensures value { option_map command_value result ≡ command_of (word.now ∷ bindings.now ∷ trace.now ∷ third.now ∷ []) }
     ensures named { IfSome result IsWellNamed }
 {
-    if !is(word, "feed") {
+    if is(word, "feed") {
+        Some(Command::FeedBeside {
+            bindings,
+            trace,
+            script: third,
+        })
+    } else {
+        None
+    }
+}
+
+/// The command of four further words, if they make one.
+fn watch_with<'a>(
+    word: &str,
+    bindings: &'a str,
+    trace: &'a str,
+    monitor: &'a str,
+    instance: &'a str,
+) -> Option<Command<'a>>
+    ensures value { option_map command_value result ≡ command_of (word.now ∷ bindings.now ∷ trace.now ∷ monitor.now ∷ instance.now ∷ []) }
+    ensures named { IfSome result IsWellNamed }
+{
+    if !is(word, "watch") {
         return None;
     }
-    Some(Command::FeedBeside {
+    Some(Command::Watch {
         bindings,
         trace,
-        script,
+        monitor,
+        instance,
     })
 }
 
@@ -193,11 +222,20 @@ pub(crate) fn read_words(words: &[String]) -> Option<Command<'_>>
         return load_with(words[0].as_str(), words[1].as_str());
     }
     if words.len() == 4 {
-        return feed_beside(
+        return with_third(
             words[0].as_str(),
             words[1].as_str(),
             words[2].as_str(),
             words[3].as_str(),
+        );
+    }
+    if words.len() == 5 {
+        return watch_with(
+            words[0].as_str(),
+            words[1].as_str(),
+            words[2].as_str(),
+            words[3].as_str(),
+            words[4].as_str(),
         );
     }
     if words.len() != 3 {

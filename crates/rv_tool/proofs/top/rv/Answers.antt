@@ -11,8 +11,10 @@ use Rattle.rv_tool.specs.SessionValues.{session_value}
 use Rattle.rv_tool.specs.HeaderFiles.{header_in}
 use Rattle.rv_tool.specs.Tables.{table_in}
 use Rattle.rv_tool.specs.Verdicts.{ReportsVerdicts}
+use Rattle.rv_tool.specs.Watched.{watched_input}
+use Rattle.rv_tool.specs.WatchReports.{IsWatchReport, Watches, watch_value}
 use Rattle.rv_tool.specs.Words.{command_value}
-use Rattle.rv_tool.proofs.AnswerLemmas.{no_report, no_text, read_answers, words_answer}
+use Rattle.rv_tool.proofs.AnswerLemmas.{no_telling, no_report, no_text, read_answers, words_answer}
 use Rattle.rv_tool.proofs.VerdictLemmas.{runs_verdicts, no_verdicts, words_verdict}
 use Rattle.rv_tool.proofs.top.rv.Goals as goal
 
@@ -33,6 +35,12 @@ returns-in-Some-FeedBeside-clause-answers g c =
     words_answer _ _ _ _ _ _ _ _ (g.S.Store.files c.args.store.now) _ _ (sym (ap (λ v. Some (command_value v)) c.in-Some-FeedBeside.field-0-is) ∙ c.in-Some-FeedBeside.ensures.value)
     (read_answers _ _ _ _ _ _ ready_value (Reports IsLegal) (λ files. input_beside files _ _ _) (no_report _ _ _ _ _ _ IsLegal) (g.S.Store.files c.args.store.now) _ _
     c.read_beside.result c.read_beside.ensures.value c.read_beside.ensures.named c.run_at_once-in-Some-FeedBeside.ensures)
+
+pub returns-in-Some-Watch-clause-answers : goal.returns-in-Some-Watch-clause-answers
+returns-in-Some-Watch-clause-answers g c =
+    words_answer _ _ _ _ _ _ _ _ (g.S.Store.files c.args.store.now) _ _ (sym (ap (λ v. Some (command_value v)) c.in-Some-Watch.field-0-is) ∙ c.in-Some-Watch.ensures.value)
+    (read_answers _ _ _ _ _ _ watch_value Watches (λ files. watched_input files _ _ _ _) (λ w. no_telling _ _ _ _ _ _ (IsWatchReport w)) (g.S.Store.files c.args.store.now) _ _
+    c.read_watched.result c.read_watched.ensures.value c.read_watched.ensures.named c.run_watched.ensures)
 
 pub returns-in-Some-Control-clause-answers : goal.returns-in-Some-Control-clause-answers
 returns-in-Some-Control-clause-answers g c =
@@ -70,6 +78,10 @@ returns-in-Some-Feed-clause-verdicts g c =
 pub returns-in-Some-FeedBeside-clause-verdicts : goal.returns-in-Some-FeedBeside-clause-verdicts
 returns-in-Some-FeedBeside-clause-verdicts g c =
     words_verdict _ _ _ _ _ _ _ _ (g.S.Store.files c.args.store.now) _ _ (sym (ap (λ v. Some (command_value v)) c.in-Some-FeedBeside.field-0-is) ∙ c.in-Some-FeedBeside.ensures.value) (λ files known. tt)
+
+pub returns-in-Some-Watch-clause-verdicts : goal.returns-in-Some-Watch-clause-verdicts
+returns-in-Some-Watch-clause-verdicts g c =
+    words_verdict _ _ _ _ _ _ _ _ (g.S.Store.files c.args.store.now) _ _ (sym (ap (λ v. Some (command_value v)) c.in-Some-Watch.field-0-is) ∙ c.in-Some-Watch.ensures.value) (λ files known. tt)
 
 pub returns-in-Some-Control-clause-verdicts : goal.returns-in-Some-Control-clause-verdicts
 returns-in-Some-Control-clause-verdicts g c =

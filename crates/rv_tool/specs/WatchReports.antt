@@ -1,0 +1,32 @@
+-- How `watch` ends.
+use Rattle.std.specs.Prelude.{◌≡◌, ◌<◌, ℕ, List, [], ◌∷◌, ◌++◌, sum}
+use Rattle.rv_model.specs.declared.entry.Entry.{Entry}
+use Rattle.rv_watch.specs.Runs.{IsWatched}
+use Rattle.rv_watch.specs.Texts.{words_text}
+use Rattle.rv_tool.specs.declared.watching.ToWatch.{ToWatch}
+use Rattle.rv_tool.specs.Headline.{Ending, IsReported, TellsOf}
+use Rattle.rv_tool.specs.Ready.{IsReady, ready_value}
+use Rattle.rv_tool.specs.Watched.{WatchValue}
+
+-- a report of a legal history of the input, and behind it the slot's words at places of this history that never fall, the last of which is its end
+pub record IsWatchReport (w : WatchValue) (h : List Entry) (text : List ℕ) (status : ℕ) : Type 0 where
+  pub words : List ℕ
+  pub last : ℕ
+  pub report : List ℕ
+  pub reported : IsReported (IsWatched w.slot words last) w.input h report status
+  pub text_is : text ≡ report ++ words_text (words ++ last ∷ [])
+
+-- an accepted input is run and watched
+abbrev pub Watches : WatchValue → Ending
+Watches w = TellsOf (IsWatchReport w)
+
+-- ---- what is read
+
+abbrev pub watch_value : ToWatch → WatchValue
+watch_value w = record { input = ready_value w.ready; slot = w.slot }
+
+-- it is ready, nothing changes beside the CPUs, and the slot is the setup's
+pub record IsToWatch (w : ToWatch) : Type 0 where
+  pub ready : IsReady w.ready
+  pub unchanged : w.ready.changes.items ≡ []
+  pub slot : w.slot < sum w.ready.setup.shape

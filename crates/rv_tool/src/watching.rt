@@ -1,0 +1,105 @@
+//! A run on several threads, with a reader of one slot beside them.
+ghost use Rattle.std.specs.Prelude.{◌≡◌, ◌≤◌, [], IfOk};
+ghost use Rattle.rv_bind.specs.Outcomes.{Comes, Names, of_file};
+ghost use Rattle.rv_tool.specs.Faults.{Tells};
+ghost use Rattle.rv_tool.specs.Ready.{ready_value, IsReady};
+ghost use Rattle.rv_tool.specs.Watched.{watched_slot, watched_by, watched_input};
+ghost use Rattle.rv_tool.specs.WatchReports.{IsWatchReport, watch_value, IsToWatch};
+
+use crate::input::{Ready, read_input};
+use crate::replaying::Done;
+use crate::trace_text::refused;
+use rv_bind::BindFault;
+use rv_io::{Gate, Store};
+use rv_report::{lanes_status, report_lanes};
+use rv_text::{Refusal, Refused};
+use rv_watch::{feed_watched, watch_lines, watched_slot};
+use std::alloc::{AllocError, Global};
+use std::thread::Threads;
+
+/// The monitor is no shown name, or it does not have the instance.
+pub const NO_INSTANCE: u8 = 37;
+
+/// What a watched run begins with.
+#[derive(Drop)]
+pub(crate) struct ToWatch {
+    pub(crate) ready: Ready,
+    pub(crate) slot: u32,
+}
+
+/// What is ready, with the slot that the words name.
+fn find_slot(
+    alloc: Global,
+    trace: &str,
+    ready: Ready,
+    monitor: &str,
+    instance: &str,
+) -> Result<ToWatch, BindFault>
+    requires ready { IsReady ready }
+    requires unchanged { ready.changes.items ≡ [] }
+    ensures ready { IfOk result IsToWatch }
+    ensures value { Tells watch_value result (of_file trace.now (watched_by (ready_value ready) (watched_slot (ready_value ready) monitor.now instance.now))) }
+{
+    let slot = watched_slot(
+        &ready.bindings,
+        &ready.tasks,
+        &ready.setup.shape,
+        monitor.as_bytes(),
+        instance.as_bytes(),
+    );
+    match slot {
+        Some(slot) => Ok(ToWatch { ready, slot }),
+        None => Err(refused(alloc, trace, Refused::Because(Refusal::whole(NO_INSTANCE)))),
+    }
+}
+
+/// Reads the bindings and the trace, and finds the slot that the words name.
+#[tactic(auto, using(crate::proofs::WatchLemmas::watch_named))]
+pub(crate) fn read_watched<S: Store>(
+    alloc: Global,
+    store: &mut S,
+    bindings: &str,
+    trace: &str,
+    monitor: &str,
+    instance: &str,
+) -> Result<ToWatch, BindFault>
+    ensures kept { S.files store.new ≡ S.files store.old }
+    ensures later { S.faults store.old ≤ S.faults store.new }
+    ensures ready { IfOk result IsToWatch }
+    ensures value { Comes watch_value (S.files store.old) (S.faults store.old) (S.faults store.new) result (λ files. watched_input files bindings.now trace.now monitor.now instance.now) }
+    ensures named { Names (S.files store.old) result (λ files. watched_input files bindings.now trace.now monitor.now instance.now) }
+{
+    let ready = read_input(alloc, store, bindings, trace)?;
+    find_slot(alloc, trace, ready, monitor, instance)
+}
+
+/// The whole run, a thread for each CPU and one for the reader of the slot, its report, and the words that were read.
+pub(crate) fn watched<R: Threads + Sync, G: Gate + Send>(
+    rt: &R,
+    alloc: Global,
+    gate: &G,
+    to_watch: ToWatch,
+) -> Result<Done, AllocError>
+    requires { IsToWatch to_watch }
+    ensures { IfOk result (λ done. IsWatchReport (watch_value to_watch) done.closed done.text.items done.status) }
+{
+    let ToWatch { ready, slot } = to_watch;
+    let Ready {
+        bindings,
+        tasks,
+        setup,
+        reactors,
+        lanes,
+        changes: _changes,
+    } = ready;
+    let run = feed_watched(rt, alloc, setup, reactors.as_slice(), lanes, slot, gate)?;
+    let mut text = report_lanes(alloc, &bindings, &tasks, run.lanes.as_slice())?;
+    let lines = watch_lines(alloc, run.words.as_slice(), run.last)?;
+    text.extend_from_slice(lines.as_slice())?;
+    let status = lanes_status(run.lanes.as_slice());
+    Ok(Done {
+        status,
+        text,
+        closed: run.closed,
+    })
+}

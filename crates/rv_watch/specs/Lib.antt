@@ -1,0 +1,5 @@
+pub mod Instances
+pub mod Runs
+pub mod Texts
+pub mod Watching
+pub mod Words

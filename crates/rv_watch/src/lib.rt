@@ -1,0 +1,16 @@
+//! A reader of one slot's words, beside the scripts of the CPUs.
+#![tactic(auto)]
+
+#[cfg(test)]
+mod instance_tests;
+mod instances;
+mod printing;
+mod running;
+#[cfg(test)]
+mod tests;
+mod watcher;
+
+pub use instances::watched_slot;
+pub use printing::watch_lines;
+pub use running::{Watched, feed_watched};
+pub use watcher::{Watcher, watch};
