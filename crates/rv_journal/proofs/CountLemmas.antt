@@ -11,7 +11,7 @@ use Rattle.rv_model.specs.Judging.{Judge}
 use Rattle.rv_model.specs.Histories.{IsSound, changed, is_on}
 use Rattle.rv_model.specs.Seats.{entries_of}
 use Rattle.rv_core.specs.Setup.{place_of}
-use Rattle.rv_journal.specs.CountedWords.{is_deliver, counts, count_on, entries_by, most_entries, IsCounted}
+use Rattle.rv_journal.specs.CountedWords.{is_deliver, counts, count_on, entries_by, most_entries}
 
 -- how many pass a test, with one entry more
 passed : (p : Entry → Bool) (history : List Entry) (e : Entry) → length (filter p (history ++ e ∷ [])) ≡ length (filter p history) + (if p e then 1 else 0)

@@ -1,5 +1,5 @@
 -- What a call of a counted board owes for its step, and what it tells by it.
-use Rattle.std.proofs.Common.{◌≡◌, ℕ, suc, ◌+◌, ◌-◌, ◌<◌, ◌≤◌, ◌==◌, Bool, true, false, List, [], ◌∷◌, ◌++◌, refl, ap, sym, ◌∙◌, subst, arith, append_assoc}
+use Rattle.std.proofs.Common.{◌≡◌, ℕ, suc, ◌+◌, ◌-◌, ◌<◌, ◌≤◌, ◌==◌, true, false, List, [], ◌∷◌, ◌++◌, refl, ap, sym, ◌∙◌, subst, arith}
 use Rattle.std.proofs.lemmas.Bool.Decides.{nat_tests}
 use Rattle.rv_model.specs.declared.entry.Act.{Act}
 use Rattle.rv_model.specs.declared.entry.Entry.{Entry}
@@ -8,11 +8,10 @@ use Rattle.rv_model.specs.Seats.{Seat, is_in, entries_of}
 use Rattle.rv_core.specs.Setup.{place_of}
 use Rattle.rv_board.specs.declared.view.View.{View}
 use Rattle.rv_board.specs.Known.{knows, Begun}
-use Rattle.rv_board.specs.Rule.{word_at, with_seen, first_view, cut_left, cut_right}
+use Rattle.rv_board.specs.Rule.{word_at, with_seen}
 use Rattle.rv_board.specs.Seats.{IsUsable}
 use Rattle.rv_board.specs.Steps.{Ours, Saw, Made, made_after}
 use Rattle.rv_board.proofs.Knowing.{none_of, none_append, knows_own}
-use Rattle.rv_board.proofs.NumberLemmas.{range_left, range_right}
 use Rattle.rv_board.proofs.ViewLemmas.{range_within, range_not_own}
 use Rattle.rv_board.proofs.CallLemmas.{usable}
 use Rattle.rv_journal.specs.CountedWords.{counted_at, entries_by, most_entries, IsCounted}

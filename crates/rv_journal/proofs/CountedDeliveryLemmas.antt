@@ -1,10 +1,9 @@
--- What a counted delivery that was made tells. (Not yet checked.)
-use Rattle.std.proofs.Common.{◌≡◌, ℕ, ◌+◌, ◌<◌, List, [], ◌∷◌, ◌++◌, reverse, sum, refl, ap, sym, ◌∙◌, subst}
+-- What a counted delivery that was made tells.
+use Rattle.std.proofs.Common.{◌≡◌, ℕ, ◌+◌, ◌<◌, [], ◌∷◌, ◌++◌, sum, ap, sym, ◌∙◌, subst}
 use Rattle.atomic_table.specs.Seated.{TableId}
 use Rattle.rv_model.specs.declared.entry.Act.{Act}
 use Rattle.rv_model.specs.declared.entry.Act.TheVariants.{Deliver}
 use Rattle.rv_model.specs.declared.entry.Answer.{Answer}
-use Rattle.rv_model.specs.declared.entry.Entry.{Entry}
 use Rattle.rv_model.specs.declared.hit.Hit.{Hit}
 use Rattle.rv_model.specs.Setups.{Setup}
 use Rattle.rv_model.specs.Histories.{IsSound}
@@ -25,10 +24,10 @@ use Rattle.rv_journal.proofs.CountedRaceLemmas.{LostCounted, lost-longer}
 
 module _ (old : SeatValue) (u w x : View) (slot first lost raw found : ℕ) (s : SawCounted (opened old) u (slot + 1) first) (l : LostCounted u w slot lost raw) (low : slot < sum old.board.setup.shape) where
   -- the setup is that of the board
-  u-setup : u.setup ≡ old.board.setup
+  pub u-setup : u.setup ≡ old.board.setup
   u-setup = ap (λ (z : View). z.setup) s.0.same
 
-  w-setup : w.setup ≡ old.board.setup
+  pub w-setup : w.setup ≡ old.board.setup
   w-setup = ap (λ (z : View). z.setup) l.plain.same ∙ u-setup
 
   -- the tries were lost since the call began

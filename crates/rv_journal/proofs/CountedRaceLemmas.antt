@@ -1,31 +1,26 @@
 -- What a seat of a counted board has seen after some lost tries, and what its delivery tells.
-use Rattle.std.proofs.Common.{◌≡◌, ◌≢◌, ℕ, zero, suc, ◌+◌, ◌-◌, ◌<◌, ◌≤◌, ◌==◌, Bool, true, false, List, [], ◌∷◌, ◌++◌, length, reverse, sum, refl, ap, sym, ◌∙◌, subst, arith, append_assoc, add-one}
+use Rattle.std.proofs.Common.{◌≡◌, ◌≢◌, ℕ, zero, suc, ◌+◌, ◌<◌, ◌≤◌, List, [], ◌++◌, length, reverse, sum, refl, ap, sym, ◌∙◌, subst, arith, append_assoc}
 use Rattle.std.specs.Prelude.{filter}
 use mathlib.Core.Logic.{dite}
 use native.Mathlib.Decide.{ℕ_discrete}
-use Rattle.std.proofs.lemmas.Bool.Decides.{nat_tests}
 use Rattle.std.proofs.lemmas.List.{append-nil}
-use Rattle.rv_model.specs.declared.entry.Act.{Act}
-use Rattle.rv_model.specs.declared.entry.Act.TheVariants.{Deliver, Stop}
 use Rattle.rv_model.specs.declared.entry.Entry.{Entry}
-use Rattle.rv_model.specs.declared.hit.Hit.{Hit}
-use Rattle.rv_model.specs.declared.record.Delivered.TheVariants.{Done, Racing}
 use Rattle.rv_model.specs.Setups.{Setup}
 use Rattle.rv_model.specs.SharedWords.{word_of}
 use Rattle.rv_model.specs.Histories.{IsSound, changed}
-use Rattle.rv_model.specs.Seats.{known_of, entries_of}
+use Rattle.rv_model.specs.Seats.{entries_of}
 use Rattle.rv_core.specs.Setup.{judges_of}
 use Rattle.rv_board.specs.declared.view.View.{View}
 use Rattle.rv_board.specs.Known.{knows}
 use Rattle.rv_board.specs.Rule.{word_at, with_seen}
-use Rattle.rv_board.specs.Steps.{Saw, Made, made_after}
-use Rattle.rv_board.proofs.Knowing.{none_append, known_is}
-use Rattle.rv_board.proofs.SoundLemmas.{changes, filter_append, sound-front}
+use Rattle.rv_board.specs.Steps.{Saw}
+use Rattle.rv_board.proofs.Knowing.{none_append}
+use Rattle.rv_board.proofs.SoundLemmas.{changes, filter_append}
 use Rattle.rv_board.proofs.RaceLemmas.{Lost}
-use Rattle.rv_journal.specs.CountedWords.{counted_word, word_in, count_in, count_on, rows_at, counted_at, IsCounted}
-use Rattle.rv_journal.specs.CountedSteps.{SawCounted, MadeCounted}
+use Rattle.rv_journal.specs.CountedWords.{counted_word, word_in, count_on, rows_at, counted_at, IsCounted}
+use Rattle.rv_journal.specs.CountedSteps.{SawCounted}
 use Rattle.rv_journal.proofs.CountLemmas.{count-append, counted-changes}
-use Rattle.rv_journal.proofs.CountedWordLemmas.{at-slot, slot-word, found-word, found-count}
+use Rattle.rv_journal.proofs.CountedWordLemmas.{at-slot, slot-word, found-word}
 
 -- where the counted word has changed, an entry changed the slot's word
 pub counted-word-changes : (s : Setup) (history more : List Entry) (slot : ℕ) → IsSound s (judges_of s) (history ++ more) → counted_at s (history ++ more) (slot + 1) ≢ counted_at s history (slot + 1) → 1 ≤ length (filter (changed slot) more)

@@ -1,12 +1,12 @@
 -- What seats of a counted board keep as they are split and joined.
-use Rattle.std.proofs.Common.{◌≡◌, ℕ, suc, ◌+◌, ◌-◌, ◌<◌, ◌≤◌, true, List, [], ◌∷◌, ◌++◌, refl, ap, sym, ◌∙◌, subst, arith}
+use Rattle.std.proofs.Common.{◌≡◌, ℕ, suc, ◌+◌, ◌<◌, ◌≤◌, true, [], refl, ap, sym, ◌∙◌, subst, arith}
 use Rattle.std.proofs.lemmas.Bool.Decides.{nat_tests}
 use Rattle.rv_model.specs.Setups.{Setup}
 use Rattle.rv_model.specs.Histories.{IsSound}
 use Rattle.rv_model.specs.Seats.{is_in, entries_of}
 use Rattle.rv_core.specs.Setup.{judges_of}
 use Rattle.rv_board.specs.declared.view.View.{View}
-use Rattle.rv_board.specs.Rule.{with_seen, first_view, cut_left, cut_right, joined}
+use Rattle.rv_board.specs.Rule.{first_view, cut_left, cut_right, joined}
 use Rattle.rv_board.specs.Steps.{Ours}
 use Rattle.rv_board.proofs.Knowing.{none_of}
 use Rattle.rv_board.proofs.NumberLemmas.{range_left, range_right}

@@ -1,5 +1,5 @@
 -- Each kind of step of a counted board is allowed.
-use Rattle.std.proofs.Common.{◌≡◌, ℕ, ◌+◌, ◌-◌, ◌*◌, ◌%◌, ◌^◌, ◌<◌, ◌≤◌, ◌==◌, Bool, true, false, List, [], ◌∷◌, ◌++◌, sum, set, refl, ap, sym, ◌∙◌, subst, arith}
+use Rattle.std.proofs.Common.{◌≡◌, ℕ, ◌+◌, ◌-◌, ◌<◌, ◌==◌, Bool, true, false, List, [], ◌∷◌, ◌++◌, sum, refl, ap, sym, ◌∙◌, subst, arith}
 use Rattle.std.specs.Prelude.{slice_index, bit_and}
 use mathlib.Core.Option.{some, none}
 use lib.ListN.{get_elem?}
@@ -16,13 +16,13 @@ use Rattle.rv_model.specs.Setups.{Setup}
 use Rattle.rv_core.specs.Setup.{place_of, table_at}
 use Rattle.rv_board.specs.declared.view.View.{View}
 use Rattle.rv_board.specs.Known.{knows}
-use Rattle.rv_board.specs.Rule.{width, Kept, with_seen}
-use Rattle.rv_board.specs.Steps.{Ours, Saw, Made, made_after}
+use Rattle.rv_board.specs.Rule.{width, with_seen}
+use Rattle.rv_board.specs.Steps.{Ours, made_after}
 use Rattle.rv_board.proofs.Knowing.{knows_own}
 use Rattle.rv_board.proofs.WordSteps.{place-within, Acted, acts}
 use Rattle.rv_board.proofs.ViewLemmas.{St}
 use Rattle.rv_board.proofs.KeepLemmas.{CanMake, sees_with, makes_with}
-use Rattle.rv_journal.specs.CountedWords.{IsNarrow, IsBelow, count_in, rows_at, counted_at, entries_by, most_entries, IsCounted, also_counted, KeptCounted}
+use Rattle.rv_journal.specs.CountedWords.{IsNarrow, IsBelow, rows_at, counted_at, entries_by, most_entries, IsCounted, also_counted, KeptCounted}
 use Rattle.rv_journal.specs.CountedSteps.{SawCounted, MadeCounted, Sees, Tries, Stops, next_counted}
 use Rattle.rv_journal.proofs.CountLemmas.{by-append, by-none}
 use Rattle.rv_journal.proofs.WidthLemmas.{rows-few}
@@ -45,7 +45,7 @@ no-end [] y e = cc
 no-end (x ∷ b) y e = cc
 
 -- what stands before the last entry
-snoc-front : (a b : List Entry) (x y : Entry) → a ++ x ∷ [] ≡ b ++ y ∷ [] → a ≡ b
+pub snoc-front : (a b : List Entry) (x y : Entry) → a ++ x ∷ [] ≡ b ++ y ∷ [] → a ≡ b
 snoc-front [] [] x y e = refl
 snoc-front [] (b ∷ bs) x y e = absurd (let f : [] ≡ bs ++ y ∷ [] = cc in no-end bs y f)
 snoc-front (a ∷ as_more) [] x y e = absurd (let f : as_more ++ x ∷ [] ≡ [] = cc in no-end as_more x (sym f))
@@ -53,6 +53,13 @@ snoc-front (a ∷ as_more) (b ∷ bs) x y e =
     let head : a ≡ b = cc in
     let tail : as_more ++ x ∷ [] ≡ bs ++ y ∷ [] = cc in
     (λ i. head i ∷ snoc-front as_more bs x y tail i)
+
+-- and the last entry
+pub snoc-last : (a b : List Entry) (x y : Entry) → a ++ x ∷ [] ≡ b ++ y ∷ [] → x ≡ y
+snoc-last [] [] x y e = cc
+snoc-last [] (b ∷ bs) x y e = absurd (let f : [] ≡ bs ++ y ∷ [] = cc in no-end bs y f)
+snoc-last (a ∷ as_more) [] x y e = absurd (let f : as_more ++ x ∷ [] ≡ [] = cc in no-end as_more x (sym f))
+snoc-last (a ∷ as_more) (b ∷ bs) x y e = let tail : as_more ++ x ∷ [] ≡ bs ++ y ∷ [] = cc in snoc-last as_more bs x y tail
 
 -- a number that has room in what its seat has seen has room in the history
 has-room : (k : Setup) (id : ℕ) (v : View) (s : St) (r : KeptCounted k s) → get_elem? s.views id ≡ some v → v.part.number < v.part.end → entries_by v.part.number v.part.seen < most_entries → entries_by v.part.number r.history < most_entries

@@ -1,5 +1,5 @@
 -- What an act makes of the counted words.
-use Rattle.std.proofs.Common.{pow_mono, ◌≡◌, ◌≢◌, ◌⊎◌, inl, inr, ℕ, zero, suc, ◌+◌, ◌-◌, ◌*◌, ◌/◌, ◌%◌, ◌^◌, ◌<◌, ◌≤◌, ◌==◌, not, Bool, true, false, List, [], ◌∷◌, ◌++◌, length, reverse, sum, refl, sym, ap, ◌∙◌, subst, arith, add-one, if◌then◌else◌}
+use Rattle.std.proofs.Common.{pow_mono, ◌≡◌, ◌≢◌, ℕ, zero, suc, ◌+◌, ◌-◌, ◌*◌, ◌^◌, ◌<◌, ◌≤◌, ◌==◌, not, Bool, true, false, List, [], ◌∷◌, ◌++◌, reverse, sum, refl, sym, ap, ◌∙◌, subst, arith, add-one, if◌then◌else◌}
 use mathlib.Core.Logic.{dite}
 use native.Mathlib.Decide.{ℕ_discrete}
 use Rattle.std.proofs.lemmas.Bool.Decides.{nat_tests}
@@ -11,17 +11,17 @@ use Rattle.rv_model.specs.declared.hit.Hit.{Hit}
 use Rattle.rv_model.specs.Setups.{Setup}
 use Rattle.rv_model.specs.SharedWords.{word_of}
 use Rattle.rv_model.specs.Histories.{IsSound}
-use Rattle.rv_word.specs.Words.{packed, set_in, atoms_in}
+use Rattle.rv_word.specs.Words.{set_in, atoms_in}
 use Rattle.rv_core.specs.Setup.{place_of, table_at, judges_of}
 use Rattle.rv_core.specs.Advance.{advanced}
-use Rattle.rv_board.specs.Rule.{width, word_at}
+use Rattle.rv_board.specs.Rule.{word_at}
 use Rattle.rv_board.specs.Steps.{made_after}
 use Rattle.rv_board.proofs.WordSteps.{Acted}
-use Rattle.rv_journal.specs.CountedWords.{IsNarrow, IsBelow, counted_word, word_in, count_in, is_deliver, counts, count_on, rows_at, counted_at, entries_by, most_entries, IsCounted}
-use Rattle.rv_journal.specs.CountedSteps.{next_word, next_counted}
+use Rattle.rv_journal.specs.CountedWords.{IsNarrow, IsBelow, counted_word, word_in, count_in, counts, count_on, rows_at, counted_at, entries_by, most_entries, IsCounted}
+use Rattle.rv_journal.specs.CountedSteps.{next_counted}
 use Rattle.rv_journal.proofs.NarrowLemmas.{narrow-zero, halves-back, count-back, word-back}
-use Rattle.rv_journal.proofs.WidthLemmas.{rows-few, one-below, advanced-narrow}
-use Rattle.rv_journal.proofs.CountLemmas.{count-snoc, counts-other, counts-calm, counts-deliver, few-snoc, count-fits}
+use Rattle.rv_journal.proofs.WidthLemmas.{advanced-narrow}
+use Rattle.rv_journal.proofs.CountLemmas.{count-snoc, counts-other, counts-deliver, few-snoc, count-fits}
 
 -- the counted word of a slot, at its place
 pub at-slot : (s : Setup) (h : List Entry) (slot : ℕ) → counted_at s h (slot + 1) ≡ counted_word (rows_at s slot) (word_at s h (slot + 1)) (count_on slot h)

@@ -1,5 +1,5 @@
 -- What a hit makes of a word that takes 32 bits takes no more.
-use Rattle.std.proofs.Common.{pow_mono, ◌≡◌, ◌≢◌, ℕ, zero, suc, ◌+◌, ◌-◌, ◌*◌, ◌/◌, ◌%◌, ◌^◌, ◌<◌, ◌≤◌, ◌==◌, nat_lt, bit_and, bit_or, ◌⊎◌, inl, inr, Bool, true, false, ◌&&◌, ◌||◌, cond, List, length, Option, None, refl, sym, ap, ◌∙◌, subst, arith, true≢false, if◌then◌else◌}
+use Rattle.std.proofs.Common.{pow_mono, ◌≡◌, ℕ, zero, suc, ◌-◌, ◌*◌, ◌^◌, ◌<◌, ◌≤◌, ◌==◌, nat_lt, bit_and, inl, inr, Bool, true, false, ◌&&◌, ◌||◌, cond, length, refl, sym, subst, arith, true≢false}
 use Rattle.std.specs.Int.{bit_not, w32}
 use Rattle.std.proofs.lemmas.Bool.{and_parts}
 use Rattle.std.proofs.lemmas.Bool.Decides.{nat_tests}
@@ -22,7 +22,6 @@ use Rattle.rv_model.proofs.MeansLemmas.{is_next-true}
 use Rattle.rv_table.specs.Rows.{IsRows, row_count}
 use Rattle.rv_table.proofs.RowLemmas.{entry-rows}
 use Rattle.rv_word.specs.Words.{packed, set_in, atoms_in}
-use Rattle.rv_core.specs.Levels.{new_levels}
 use Rattle.rv_core.specs.Advance.{levels_after, letter_by, begins, goes_on, from_waiting, set_turn, moved, advanced}
 use Rattle.rv_core.proofs.LevelLemmas.{levels_are_bits}
 use Rattle.rv_board.proofs.Knowing.{not_true}
@@ -53,9 +52,9 @@ number_of-below : (has : ℕ → Bool) (n m : ℕ) → ((b : ℕ) → n ≤ b �
 unfolding number_of
 number_of-below has n zero none low = let first : n ≡ 0 = omega arith in subst (λ (k : ℕ). 0 < 2 ^ k) (sym first) (omega arith)
 number_of-below has n (suc m) none low = elim (nat_lt_or n (suc m) low) [
-    | inl less ↦ (let off : has m ≡ false = none m (omega arith) in rw off (let below = number_of-below has n m none (omega arith) in omega arith))
-    | inr same ↦ (rw same (number_of-lt has (suc m)))
-  ]
+  | inl less ↦ (let off : has m ≡ false = none m (omega arith) in rw off (let below = number_of-below has n m none (omega arith) in omega arith))
+  | inr same ↦ (rw same (number_of-lt has (suc m)))
+]
 
 -- how many rows a table has
 pub rows-few : (t : Table) → IsRows t → row_count t ≤ 32

@@ -1,3 +1,5 @@
+pub mod CountedFeeders
+pub mod CountedLanes
 pub mod CountedSeats
 pub mod CountedSteps
 pub mod CountedWords

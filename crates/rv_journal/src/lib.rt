@@ -1,16 +1,29 @@
-//! Histories as texts: a line for each entry, printed and read back.
+//! Words with counts that threads share, and histories as texts: a line for each entry, printed and read back.
 #![tactic(auto)]
 
+mod board;
 mod counted;
+mod delivery;
+mod feeding;
+mod lane;
 mod names;
 mod pieces;
 mod printing;
+#[cfg(test)]
+mod races;
 mod reading;
+mod rule;
+mod seat;
+mod sharing;
 #[cfg(test)]
 mod tests;
 mod words;
 
+pub use board::{CountedBoard, CountedStart};
 pub use counted::Counted;
+pub use feeding::{CountedFeeder, run_counted};
+pub use lane::CountedLane;
 pub use printing::journal_text;
 pub use reading::read_entry;
+pub use seat::{CountedSeat, MAX_ENTRIES};
 pub use words::Width;

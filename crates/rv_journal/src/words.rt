@@ -1,5 +1,5 @@
 //! Words with a count in their low half, and an instance's word in their high half.
-ghost use Rattle.std.specs.Prelude.{◌≡◌, ◌≤◌, ◌<◌, ◌^◌};
+ghost use Rattle.std.specs.Prelude.{◌≡◌, ◌≤◌, ◌<◌, ◌+◌, ◌^◌, ◌==◌, if◌then◌else◌};
 ghost use Rattle.rv_journal.specs.CountedWords.{IsNarrow, counted_word, word_in, count_in};
 
 use rv_word::{atoms_of, pack, set_of};
@@ -40,4 +40,12 @@ pub(crate) fn count_in(counted: u64) -> u32
     ensures { result ≡ count_in counted }
 {
     (counted & COUNT) as u32
+}
+
+/// The count after a delivery that found one word and left another.
+pub(crate) fn count_after(count: u32, before: u64, after: u64) -> u32
+    requires { count + 1 < 2 ^ 32 }
+    ensures { result ≡ count + (if before == after then 0 else 1) }
+{
+    if before == after { count } else { count + 1 }
 }

@@ -61,7 +61,8 @@ impl Gate for Held<'_> {
 }
 
 #[test]
-fn a_slot_is_read_while_its_cpu_runs(rt: HostRuntime, alloc: Global) -> Result<(), Fail> {
+fn a_slot_is_read_while_its_cpu_runs(rt: HostRuntime) -> Result<(), Fail> {
+    let alloc = rt.alloc();
     let mut words = Vec::new(alloc);
     for word in ["watch", "wip.rv", "wip.txt", "wip", "0"] {
         words.push(String::from_str(alloc, word)?)?;

@@ -1,12 +1,11 @@
 -- Seats of a watched run that make no entry, and numbers that nobody uses.
-use Rattle.std.proofs.Common.{◌≡◌, ◌⊎◌, inl, inr, ℕ, ◌<◌, ◌==◌, Bool, true, false, List, [], ◌∷◌, ◌++◌, arith, refl, sym, ap, ◌∙◌, subst}
+use Rattle.std.proofs.Common.{◌≡◌, ◌⊎◌, inl, inr, ℕ, ◌==◌, Bool, true, false, List, [], ◌∷◌, ◌++◌, arith, refl, ap, ◌∙◌}
 use Rattle.std.proofs.lemmas.Bool.Decides.{nat_tests}
 use Rattle.rv_model.specs.declared.entry.Entry.{Entry}
 use Rattle.rv_model.specs.Seats.{Seat, is_in, is_among, known_of, entries_of}
-use Rattle.rv_board.specs.Known.{known_by, part}
+use Rattle.rv_board.specs.Known.{known_by}
 use Rattle.rv_board.specs.Seats.{SeatValue, SeatGrows, Follows}
 use Rattle.rv_board.proofs.GrowLemmas.{same_known}
-use Rattle.rv_board.proofs.Knowing.{known_is}
 use Rattle.rv_feed.specs.AtOnce.{Holds}
 use Rattle.rv_feed.proofs.JoinAllLemmas.{follows-then}
 

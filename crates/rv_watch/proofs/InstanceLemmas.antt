@@ -1,12 +1,11 @@
 -- The slot that two words name, from the place of the monitor.
-use Rattle.std.proofs.Common.{◌≡◌, ℕ, ◌<◌, Bool, true, List, length, map, get_or, sym, ap, ◌∙◌, subst}
-use Rattle.std.specs.Prelude.{Option, Some, position, slice_index, slice_index_or, slice_get}
+use Rattle.std.proofs.Common.{◌≡◌, ℕ, ◌<◌, List, length, map, get_or, sym, ap, ◌∙◌, subst}
+use Rattle.std.specs.Prelude.{Some, position, slice_index, slice_index_or, slice_get}
 use Rattle.std.specs.Option.{option_and_then}
 use Rattle.std.proofs.lemmas.List.{get_or-map, length-map}
 use Rattle.std.proofs.lemmas.List.Quantifiers.{position-Some}
 use Rattle.std.proofs.lemmas.Option.{slice_get-get_or}
 use Rattle.rv_model.specs.declared.record.Task.{Task}
-use Rattle.rv_model.specs.declared.work.Scope.{Scope}
 use Rattle.rv_slots.specs.Shapes.{count_of}
 use Rattle.rv_bind.specs.declared.bindings.Monitor.{Monitor}
 use Rattle.rv_watch.specs.Instances.{is_named, shape_of, slot_in, slot_named}

@@ -1,13 +1,13 @@
 -- A watched run: its history is legal, and the words are the slot's along it.
-use Rattle.std.proofs.Common.{◌≡◌, ◌⊎◌, inl, inr, ℕ, ◌+◌, ◌<◌, Bool, true, List, [], ◌∷◌, ◌++◌, length, reverse, arith, refl, sym, ap, ◌∙◌, subst}
-use Rattle.std.specs.Prelude.{All, Any}
+use Rattle.std.proofs.Common.{◌≡◌, inl, inr, ℕ, ◌<◌, Bool, true, List, [], ◌∷◌, length, reverse, arith, refl, sym, ap, ◌∙◌, subst}
+use Rattle.std.specs.Prelude.{All}
 use Rattle.std.specs.List.{AllZip}
 use Rattle.std.proofs.lemmas.List.{take_all}
 use Rattle.std.proofs.lemmas.List.Elements.{All-weaker}
 use Rattle.rv_model.specs.declared.entry.Entry.{Entry}
 use Rattle.rv_model.specs.declared.formula.Spec.{Spec}
 use Rattle.rv_model.specs.declared.record.Record.{Record}
-use Rattle.rv_model.specs.Histories.{Input, IsSound, IsLegal, AreJudges}
+use Rattle.rv_model.specs.Histories.{Input, IsSound, AreJudges}
 use Rattle.rv_model.specs.Seats.{known_of, entries_of}
 use Rattle.rv_model.specs.Setups.{Setup}
 use Rattle.rv_model.specs.SharedWords.{word_of}
@@ -23,7 +23,6 @@ use Rattle.rv_feed.specs.AtOnce.{input_with, IsLegalOf, Holds, IsSeated, lanes_o
 use Rattle.rv_feed.specs.Feeders.{RunsFeeder}
 use Rattle.rv_feed.specs.Lane.{LaneValue, works_of}
 use Rattle.rv_feed.specs.One.{lane_records}
-use Rattle.rv_feed.specs.Runs.{IsRunOf}
 use Rattle.rv_feed.proofs.AtOnceLemmas.{IsFed, fed-says, fed-works}
 use Rattle.rv_feed.proofs.ChangeLemmas.{does-none}
 use Rattle.rv_feed.proofs.JoinAllLemmas.{follows-then, holds-itself, holds-still, holds-joined}

@@ -1,8 +1,8 @@
 -- A watcher after so many readings.
-use Rattle.std.proofs.Common.{◌≡◌, ◌⊎◌, inl, inr, ℕ, ◌+◌, ◌<◌, ◌≤◌, Bool, List, [], ◌∷◌, ◌++◌, length, reverse, arith, refl, sym, ap, ◌∙◌, subst, append_assoc}
-use Rattle.std.specs.Prelude.{All, vec_capacity}
+use Rattle.std.proofs.Common.{◌≡◌, inl, inr, ℕ, ◌<◌, ◌≤◌, Bool, List, [], ◌∷◌, ◌++◌, length, reverse, arith, refl, sym, ap, ◌∙◌, subst, append_assoc}
+use Rattle.std.specs.Prelude.{vec_capacity}
 use Rattle.std.proofs.lemmas.List.{length-append, length_push}
-use Rattle.std.proofs.lemmas.List.Elements.{All-nil, filter-append}
+use Rattle.std.proofs.lemmas.List.Elements.{All-nil}
 use Rattle.rv_model.specs.declared.entry.Entry.{Entry}
 use Rattle.rv_model.specs.Histories.{IsSound}
 use Rattle.rv_model.specs.Seats.{known_of, entries_of}
@@ -16,7 +16,7 @@ use Rattle.rv_board.proofs.GrowLemmas.{same_known, grows_none}
 use Rattle.rv_board.proofs.Knowing.{none_append}
 use Rattle.rv_watch.specs.declared.watcher.Watcher.{Watcher}
 use Rattle.rv_watch.specs.Watching.{word_seen, CanWatch, Watches, CanRead, Reads}
-use Rattle.rv_watch.specs.Words.{AreWords, AreApart, IsSeen, Keeps, last_of}
+use Rattle.rv_watch.specs.Words.{AreWords, AreApart, IsSeen, last_of}
 use Rattle.rv_watch.proofs.WordLemmas.{words-none, words-later, words-push, last-push, apart-push}
 
 -- a list grows twice by no entry of its seat's own

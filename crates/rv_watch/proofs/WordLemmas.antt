@@ -1,7 +1,6 @@
 -- Words of a slot while its history grows, and words that are kept.
-use Rattle.std.proofs.Common.{◌≡◌, ◌≢◌, ◌⊎◌, inl, inr, ℕ, ◌+◌, ◌-◌, ◌<◌, ◌≤◌, List, [], ◌∷◌, ◌++◌, length, map, take, reverse, get_or, arith, refl, sym, ap, ◌∙◌, subst}
+use Rattle.std.proofs.Common.{◌≡◌, ◌≢◌, inl, inr, ℕ, ◌+◌, ◌-◌, ◌<◌, ◌≤◌, List, [], ◌∷◌, ◌++◌, length, map, reverse, arith, refl, sym, ap, ◌∙◌}
 use Rattle.std.specs.Prelude.{All, slice_index}
-use Rattle.std.specs.List.Sorted.{IsNonDecreasing}
 use Rattle.std.proofs.lemmas.List.{length-append, length_push, map-append, take_all, take-append-le, get_or_append_left, get_or_at}
 use Rattle.std.proofs.lemmas.List.Elements.{All-nil, All-head, All-tail, All-push, All-weaker}
 use Rattle.std.proofs.lemmas.List.Sorted.{IsNonDecreasingBy-short, IsNonDecreasingBy-push}
@@ -10,7 +9,7 @@ use Rattle.rv_model.specs.Judging.{Judge}
 use Rattle.rv_model.specs.Setups.{Setup}
 use Rattle.rv_model.specs.SharedWords.{word_of}
 use Rattle.rv_model.proofs.NumberLemmas.{nat_lt_or}
-use Rattle.rv_watch.specs.Words.{word_after, AreWords, last_of, AreApart, IsSeen, Keeps}
+use Rattle.rv_watch.specs.Words.{word_after, AreWords, last_of, AreApart}
 
 -- functions that agree on a list map it alike
 map-same : {X Y : Type 0} (f g : X → Y) (xs : List X) → All (λ x. f x ≡ g x) xs → map f xs ≡ map g xs

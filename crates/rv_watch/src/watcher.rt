@@ -12,7 +12,7 @@ use std::sync::atomic::{AtomicBool, Ordering};
 pub(crate) const WATCHER: u32 = 65;
 
 /// How many words a watcher keeps.
-pub(crate) const KEPT: usize = 1_024;
+const KEPT: usize = 1_024;
 
 /// How often a watcher reads where nobody tells it to end.
 const READINGS: u64 = 100_000_000;

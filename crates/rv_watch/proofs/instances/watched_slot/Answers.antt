@@ -1,7 +1,5 @@
 -- The monitor's place is the first one of that name.
-use Rattle.std.proofs.Common.{◌≡◌, ◌∙◌, sym}
-use Rattle.std.specs.Prelude.{position, Some}
-use Rattle.rv_watch.specs.Instances.{is_named}
+use Rattle.std.proofs.Common.{◌∙◌, sym}
 use Rattle.rv_watch.proofs.InstanceLemmas.{scope-at, named-at}
 use Rattle.rv_watch.proofs.instances.watched_slot.Goals as goal
 

@@ -1,5 +1,5 @@
 -- The board's history is that of the run, and the watcher's words are the slot's along it.
-use Rattle.std.proofs.Common.{◌≡◌, Bool, ℕ, List, ◌++◌, length, sym, ap, ◌∙◌, arith}
+use Rattle.std.proofs.Common.{◌≡◌, Bool, ℕ, List, ◌++◌, length, ap, ◌∙◌, arith}
 use Rattle.std.specs.Prelude.{take, drop}
 use Rattle.rv_core.proofs.JudgedLemmas.{are-judges}
 use Rattle.rv_feed.specs.declared.feeder.Feeder.{Feeder}

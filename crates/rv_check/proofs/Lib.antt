@@ -1,0 +1,9 @@
+pub mod BeginningLemmas
+pub mod JournalLemmas
+pub mod LostLemmas
+pub mod MoveLemmas
+pub mod PlaceLemmas
+pub mod RunLemmas
+pub mod SettleLemmas
+pub mod StartLemmas
+pub mod Walks

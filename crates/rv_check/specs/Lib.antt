@@ -1,0 +1,5 @@
+pub mod Beginnings
+pub mod Checker
+pub mod Nexts
+pub mod Run
+pub mod Starts

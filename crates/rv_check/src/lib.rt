@@ -1,0 +1,15 @@
+//! The judge of a journal: whether its lines so far are those of a history that has begun, and whether they are those of
+//! a legal one. The input has no changes, so no entry is the control actor's.
+#![tactic(auto)]
+
+mod act;
+mod checker;
+mod given;
+mod next;
+mod run;
+mod script;
+#[cfg(test)]
+mod tests;
+mod work;
+
+pub use checker::Checker;

@@ -1,0 +1,183 @@
+//! A script, one entry on.
+ghost use Rattle.std.specs.Prelude.{◌≡◌, ◌+◌, ◌<◌, ◌≤◌, ◌&&◌, ℕ, Bool, true, false, All, length, slice_index_or};
+ghost use Rattle.rv_model.specs.Numbers.{has_bit};
+ghost use Rattle.rv_model.specs.Scripts.{is_shown, fails};
+ghost use Rattle.rv_model.specs.declared.entry.Answer.{Answer};
+ghost use Rattle.rv_check.specs.declared.next.Next.{Next};
+ghost use Rattle.rv_check.specs.declared.next.Next.TheVariants.{Look, Deliver};
+ghost use Rattle.rv_check.specs.Beginnings.{FitsDelivery};
+ghost use Rattle.rv_check.specs.Nexts.{IsNext, HasPlace, IsDue, IsHalt, Serves, Allows, MayEnd, Settles, Moves, CanMove, watched};
+
+use crate::act::changes;
+use crate::next::{Due, Next};
+use crate::work::{delivery_at, turn_at, turn_count};
+use rv_core::{Setup, Step};
+use rv_model::{Act, Answer, CpuWork, Delivery, Entry, Turn};
+
+/// The switches with the halted bit alone.
+const HALTED: u64 = 17_179_869_184;
+
+/// Three lost tries stop an instance.
+const TRIES: u8 = 3;
+
+/// Whether the word has this bit.
+fn has_switch(word: u64, bit: u8) -> bool
+    ensures { result ≡ has_bit word bit }
+{
+    bit < 64 && (word >> bit) & 1 == 1
+}
+
+/// Whether a look shows the delivery on.
+fn is_shown(word: u64, delivery: &Delivery) -> bool
+    ensures { result ≡ is_shown word delivery.now }
+{
+    has_switch(word, 32) && has_switch(word, delivery.monitor)
+}
+
+/// Whether the letter was not allowed.
+fn fails(answer: Answer) -> bool
+    ensures { result ≡ fails answer }
+{
+    matches!(answer, Answer::Failed(_))
+}
+
+/// Whether the act raises the halted bit alone.
+fn is_halt(act: &Act) -> bool
+    ensures yes { result ≡ true → IsHalt act.now }
+    ensures no { result ≡ false → ¬ IsHalt act.now }
+{
+    match *act {
+        Act::Raise { bits } => bits == HALTED,
+        _ => false,
+    }
+}
+
+/// The first delivery from this place on that the look shows on, or what follows the turn.
+fn settle(setup: &Setup, work: &CpuWork, look: u64, place: u32, to: u32, turn: usize) -> Next
+    requires fit { All (FitsDelivery setup.now) work.now.deliveries }
+    requires in_list { to ≤ length work.now.deliveries }
+    ensures { Settles setup.now work.now look place to turn result }
+{
+    for at in place..to {
+        let delivery = delivery_at(work, at);
+        if is_shown(look, &delivery) {
+            let slot = setup.shape.slot(delivery.monitor, delivery.instance);
+            return Next::Deliver(Due {
+                look,
+                place: at,
+                to,
+                turn,
+                slot,
+                lost: 0,
+            });
+        }
+    }
+    Next::Look(turn)
+}
+
+/// Whether the act is the delivery, or a stop of its slot that was lost three times.
+fn serves(work: &CpuWork, due: &Due, act: &Act) -> bool
+    requires { due.now.place < length work.now.deliveries }
+    ensures yes { result ≡ true → Serves work.now due.now act.now }
+    ensures no { result ≡ false → ¬ Serves work.now due.now act.now }
+{
+    match *act {
+        Act::Deliver { slot, hit } => slot == due.slot && hit == delivery_at(work, due.place).hit,
+        Act::Stop { slot } => slot == due.slot && due.lost >= TRIES,
+        _ => false,
+    }
+}
+
+/// Whether the act may be the next one.
+pub fn allows(work: &CpuWork, next: &Next, act: &Act) -> bool
+    requires { HasPlace work.now next.now }
+    ensures yes { result ≡ true → Allows work.now next.now act.now }
+    ensures no { result ≡ false → ¬ Allows work.now next.now act.now }
+{
+    match *next {
+        Next::Look(turn) => matches!(*act, Act::Look) && turn < turn_count(work),
+        Next::Deliver(due) => serves(work, &due, act),
+        Next::Raise => is_halt(act),
+        Next::Over => false,
+    }
+}
+
+/// What is next after a look of this word.
+fn after_look(setup: &Setup, work: &CpuWork, turn: usize, word: u64) -> Next
+    requires fit { All (FitsDelivery setup.now) work.now.deliveries }
+    requires turn { turn < length work.now.turns }
+    ensures { (panics : ℕ → Bool) (a : Answer) → Moves setup.now panics work.now (Look turn) word a result }
+{
+    if has_switch(word, 34) {
+        return Next::Over;
+    }
+    let Turn { from, to, .. } = turn_at(work, turn);
+    settle(setup, work, word, from, to, turn + 1)
+}
+
+/// What is next after a delivery with this answer, or after its stop.
+fn after_delivery(setup: &Setup, panics: u32, work: &CpuWork, due: &Due, answer: Answer) -> Next
+    requires fit { All (FitsDelivery setup.now) work.now.deliveries }
+    requires due { IsDue setup.now work.now due.now }
+    ensures { (word : ℕ) → Moves setup.now (has_bit panics) work.now (Deliver due.now) word answer result }
+{
+    let monitor = delivery_at(work, due.place).monitor;
+    if fails(answer) && (has_switch(panics as u64, monitor) && has_switch(due.look, 33)) {
+        return Next::Raise;
+    }
+    settle(setup, work, due.look, due.place + 1, due.to, due.turn)
+}
+
+/// What is next after an act that may be the next one.
+pub fn after(setup: &Setup, panics: u32, work: &CpuWork, next: &Next, step: &Step) -> Next
+    requires fit { All (FitsDelivery setup.now) work.now.deliveries }
+    requires next { IsNext setup.now work.now next.now }
+    requires turn { CanMove work.now next.now }
+    ensures { Moves setup.now (has_bit panics) work.now next.now step.now.word step.now.answer result }
+{
+    match *next {
+        Next::Look(turn) => after_look(setup, work, turn, step.word),
+        Next::Deliver(due) => after_delivery(setup, panics, work, &due, step.answer),
+        Next::Raise | Next::Over => Next::Over,
+    }
+}
+
+/// What is next after an entry of another seat.
+fn watch(next: &Next, entry: &Entry) -> Next
+    ensures { result ≡ watched entry.now next.now }
+{
+    match *next {
+        Next::Deliver(due) => {
+            let lost = if changes(entry, due.slot) && due.lost < TRIES {
+                due.lost + 1
+            } else {
+                due.lost
+            };
+            Next::Deliver(Due { lost, ..due })
+        }
+        other => other,
+    }
+}
+
+/// What is next for each seat after an entry of another one.
+pub fn watch_all(nexts: &mut Vec<Next>, entry: &Entry)
+    ensures count { length nexts.new.items ≡ length nexts.old.items }
+    ensures watched { (k : ℕ) (d : Next) → k < length nexts.old.items → slice_index_or nexts.new.items k d ≡ watched entry.now (slice_index_or nexts.old.items k d) }
+{
+    for place in 0..nexts.len() {
+        let next = nexts[place];
+        nexts[place] = watch(&next, entry);
+    }
+}
+
+/// Whether the script may end here.
+pub fn may_end(work: &CpuWork, next: &Next) -> bool
+    ensures yes { result ≡ true → MayEnd work.now next.now }
+    ensures no { result ≡ false → ¬ MayEnd work.now next.now }
+{
+    match *next {
+        Next::Look(turn) => turn_count(work) <= turn,
+        Next::Deliver(_) | Next::Raise => false,
+        Next::Over => true,
+    }
+}

@@ -1,0 +1,253 @@
+//! The checker on the journal of a rule's monitor that fails, and on journals beside it.
+ghost use Rattle.std.specs.Prelude.{◌≡◌, ◌<◌, ◌^◌, [], ◌∷◌, IfOk, All};
+ghost use Rattle.rv_core.specs.Advance.{FitsTable};
+ghost use Rattle.rv_core.specs.Setup.{table_at};
+ghost use Rattle.rv_check.specs.Starts.{start_hit, IsStart};
+
+use crate::Checker;
+use rv_core::Setup;
+use rv_model::{CpuWork, Delivery, Hit, Mode, Scope, Turn, What};
+use rv_slots::Shape;
+use rv_table::{Node, Table};
+use std::alloc::{AllocError, Global};
+use std::test::Fail;
+
+/// The table of `next false`: one letter is good, and two are not.
+fn next_false(alloc: Global) -> Result<Table, AllocError>
+    ensures { IfOk result (λ table. FitsTable table start_hit) }
+{
+    let mut nodes = Vec::new(alloc);
+    nodes.push(Node {
+        labels: Vec::new(alloc),
+        next: 0,
+    })?;
+    Table::from_nodes(alloc, 2, nodes)
+}
+
+/// One instance of it, with monitoring, reacting and the monitor on.
+fn one_instance(alloc: Global) -> Result<Setup, AllocError>
+    ensures shape { IfOk result (λ setup. setup.shape ≡ 1 ∷ []) }
+    ensures table { IfOk result (λ setup. FitsTable (table_at setup 0) start_hit) }
+{
+    let shape = Shape::new(alloc, &[Scope::Global], 0)?;
+    let mut tables = Vec::new(alloc);
+    tables.push(next_false(alloc)?)?;
+    let mut starts = Vec::new(alloc);
+    starts.push(0)?;
+    Ok(Setup {
+        shape,
+        tables,
+        starts,
+        switches: 12_884_901_889,
+    })
+}
+
+/// A start by a letter without atoms.
+fn start(order: u32) -> Delivery
+    ensures { IsStart result }
+{
+    Delivery {
+        order,
+        monitor: 0,
+        instance: 0,
+        hit: Hit {
+            mode: Mode::StartRun,
+            what: What::Ltl {
+                on: 0,
+                off: 0,
+                pulse: 0,
+            },
+        },
+    }
+}
+
+/// CPU 0 has two turns with a start each.
+fn two_starts(alloc: Global) -> Result<CpuWork, AllocError>
+    ensures cpu { IfOk result (λ work. work.cpu ≡ 0) }
+    ensures starts { IfOk result (λ work. All IsStart work.deliveries) }
+{
+    let mut turns = Vec::new(alloc);
+    turns.push(Turn {
+        line: 1,
+        from: 0,
+        to: 1,
+    })?;
+    turns.push(Turn {
+        line: 2,
+        from: 1,
+        to: 2,
+    })?;
+    let mut deliveries = Vec::new(alloc);
+    deliveries.push(start(0))?;
+    deliveries.push(start(1))?;
+    Ok(CpuWork {
+        cpu: 0,
+        turns,
+        deliveries,
+    })
+}
+
+/// A CPU has one turn with three starts.
+fn three_starts(alloc: Global, cpu: u8) -> Result<CpuWork, AllocError>
+    ensures cpu { IfOk result (λ work. work.cpu ≡ cpu) }
+    ensures starts { IfOk result (λ work. All IsStart work.deliveries) }
+{
+    let mut turns = Vec::new(alloc);
+    turns.push(Turn {
+        line: 1,
+        from: 0,
+        to: 3,
+    })?;
+    let mut deliveries = Vec::new(alloc);
+    deliveries.push(start(0))?;
+    deliveries.push(start(1))?;
+    deliveries.push(start(2))?;
+    Ok(CpuWork {
+        cpu,
+        turns,
+        deliveries,
+    })
+}
+
+/// The checker of one monitor that may be panic, and one CPU with two turns.
+fn one_cpu(alloc: Global, panics: u32) -> Result<Checker, AllocError> {
+    let setup = one_instance(alloc)?;
+    let mut works = Vec::new(alloc);
+    let work = two_starts(alloc)?;
+    works.push(work)?;
+    Checker::new(alloc, setup, panics, works)
+}
+
+/// The checker of one monitor and two CPUs.
+fn two_cpus(alloc: Global) -> Result<Checker, AllocError> {
+    let setup = one_instance(alloc)?;
+    let mut works = Vec::new(alloc);
+    let first = three_starts(alloc, 0)?;
+    let second = three_starts(alloc, 1)?;
+    works.push(first)?;
+    works.push(second)?;
+    Checker::new(alloc, setup, 0, works)
+}
+
+/// Nothing where the journal of these lines is whole, and else the line that is missing.
+fn missing(checker: &Checker, lines: usize) -> Option<usize>
+    requires { lines < 2 ^ 63 }
+{
+    if checker.whole() {
+        None
+    } else {
+        Some(lines + 1)
+    }
+}
+
+/// The first line that is bad, or the one that is missing. An empty line ends the journal.
+fn verdict(mut checker: Checker, journal: &[&str]) -> Option<usize> {
+    for (place, line) in journal.iter().enumerate() {
+        if line.is_empty() {
+            return missing(&checker, place);
+        }
+        if !checker.line(line.as_bytes()) {
+            return Some(place + 1);
+        }
+    }
+    missing(&checker, journal.len())
+}
+
+const LOOK: &str = "2 look 12884901889 12884901889";
+
+const STARTS: &str = "2 deliver 0 start_run ltl 0 0 0 4294967296 8589934592";
+
+const FAILS: &str = "2 deliver 0 start_run ltl 0 0 0 8589934592 4294967296";
+
+#[test]
+fn only_the_journal_of_the_script_is_whole(rt: HostRuntime) -> Result<(), Fail> {
+    let unfailed = "2 deliver 0 start_run ltl 0 0 0 8589934592 8589934592";
+    let cases = [
+        ([LOOK, STARTS, LOOK, FAILS, ""], None),
+        ([LOOK, STARTS, LOOK, unfailed, ""], Some(4)),
+        ([LOOK, STARTS, LOOK, "", ""], Some(4)),
+        (["", "", "", "", ""], Some(1)),
+        ([LOOK, STARTS, LOOK, FAILS, LOOK], Some(5)),
+    ];
+    for (journal, bad) in cases {
+        let checker = one_cpu(rt.alloc(), 0)?;
+        assert_eq!(rt; verdict(checker, &journal), bad);
+    }
+    Ok(())
+}
+
+#[test]
+fn a_line_is_judged_by_its_act_and_its_words(rt: HostRuntime) -> Result<(), Fail> {
+    let event = "2 deliver 0 event ltl 0 0 0 4294967296 4294967296";
+    let cases = [
+        ([LOOK, LOOK, "", "", ""], Some(2)),
+        (["2 look 12884901889 12884901888", "", "", "", ""], Some(1)),
+        (["2 look 4294967297 4294967297", "", "", "", ""], Some(1)),
+        ([LOOK, event, "", "", ""], Some(2)),
+        ([LOOK, "2 look", "", "", ""], Some(2)),
+    ];
+    for (journal, bad) in cases {
+        let checker = one_cpu(rt.alloc(), 0)?;
+        assert_eq!(rt; verdict(checker, &journal), bad);
+    }
+    Ok(())
+}
+
+#[test]
+fn only_a_seat_with_a_work_acts(rt: HostRuntime) -> Result<(), Fail> {
+    let cases = [
+        (["3 look 12884901889 12884901889", "", "", "", ""], Some(1)),
+        (
+            ["1 raise 4 12884901889 12884901893", "", "", "", ""],
+            Some(1),
+        ),
+        ([LOOK, "2 stop 0 4294967296 0", "", "", ""], Some(2)),
+    ];
+    for (journal, bad) in cases {
+        let checker = one_cpu(rt.alloc(), 0)?;
+        assert_eq!(rt; verdict(checker, &journal), bad);
+    }
+    Ok(())
+}
+
+#[test]
+fn a_panic_needs_its_halt(rt: HostRuntime) -> Result<(), Fail> {
+    let halt = "2 raise 17179869184 12884901889 30064771073";
+    let cases = [
+        ([LOOK, STARTS, LOOK, FAILS, ""], 1, Some(5)),
+        ([LOOK, STARTS, LOOK, FAILS, halt], 1, None),
+        ([LOOK, STARTS, LOOK, FAILS, halt], 0, Some(5)),
+    ];
+    for (journal, panics, bad) in cases {
+        let checker = one_cpu(rt.alloc(), panics)?;
+        assert_eq!(rt; verdict(checker, &journal), bad);
+    }
+    Ok(())
+}
+
+const OTHER_LOOK: &str = "3 look 12884901889 12884901889";
+
+const OTHER_STARTS: &str = "3 deliver 0 start_run ltl 0 0 0 4294967296 8589934592";
+
+const PASSED: &str = "2 deliver 0 start_run ltl 0 0 0 0 0";
+
+const STOPS: &str = "3 stop 0 8589934592 0";
+
+#[test]
+fn a_stop_needs_three_changes_of_others_since_the_last_entry(rt: HostRuntime) -> Result<(), Fail> {
+    let early = "3 stop 0 4294967296 0";
+    let cases = [
+        ([LOOK, OTHER_LOOK, STARTS, FAILS, STARTS, STOPS], Some(7)),
+        ([LOOK, STARTS, OTHER_LOOK, FAILS, STARTS, STOPS], Some(6)),
+        ([LOOK, OTHER_LOOK, STARTS, FAILS, early, PASSED], Some(5)),
+        (
+            [OTHER_LOOK, OTHER_STARTS, LOOK, FAILS, STARTS, STOPS],
+            Some(6),
+        ),
+    ];
+    for (journal, bad) in cases {
+        let checker = two_cpus(rt.alloc())?;
+        assert_eq!(rt; verdict(checker, &journal), bad);
+    }
+    Ok(())
+}

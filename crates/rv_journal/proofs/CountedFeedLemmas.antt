@@ -1,0 +1,163 @@
+-- What a feeder adds, delivery by delivery.
+use Rattle.std.proofs.Common.{◌≡◌, ℕ, ◌+◌, ◌<◌, ◌≤◌, Bool, List, [], ◌∷◌, ◌++◌, length, reverse, take, drop, get_or, refl, sym, ap, ◌∙◌, subst, arith, append_assoc, add-one, length-append, drop-cons}
+use Rattle.std.specs.List.{AllZip}
+use Rattle.std.proofs.lemmas.List.{map-append, take_more}
+use Rattle.rv_model.specs.declared.entry.Entry.{Entry}
+use Rattle.rv_model.specs.declared.record.Delivered.{Delivered}
+use Rattle.rv_model.specs.declared.record.Delivered.TheVariants.{Done, Racing}
+use Rattle.rv_model.specs.declared.work.Delivery.{Delivery}
+use Rattle.rv_model.specs.declared.work.Turn.{Turn}
+use Rattle.rv_model.specs.Histories.{IsSound}
+use Rattle.rv_model.specs.Seats.{known_of}
+use Rattle.rv_model.specs.Setups.{Setup}
+use Rattle.rv_model.specs.SharedWords.{answer_at}
+use Rattle.rv_model.specs.Works.{NamesEach}
+use Rattle.rv_core.specs.Setup.{judges_of}
+use Rattle.rv_board.specs.Deliveries.{Delivers}
+use Rattle.rv_board.specs.Seats.{BoardId, SeatValue, SeatGrows}
+use Rattle.rv_board.proofs.GrowLemmas.{same_known, grows_none, grows_then}
+use Rattle.rv_board.proofs.Knowing.{none_after}
+use Rattle.rv_journal.specs.declared.counted.Counted.{Counted}
+use Rattle.rv_journal.specs.CountedSeats.{CountedValue, Counts}
+use Rattle.rv_journal.specs.CountedLanes.{CountedLaneValue, IsNewCountedLane, slot_at, EndsAs, IsTold, entries_told, FeedsCounted, KeepsTold}
+use Rattle.rv_journal.proofs.CountedStepLemmas.{snoc-front, snoc-last}
+
+-- ---- one delivery
+
+-- it ends as the board's call says, by its entry at the end of the list
+ends-as : (old new : SeatValue) (d : Delivery) (told : Counted) (outcome : Delivered) → told.outcome ≡ outcome → (counts : Counts old new (slot_at old.board.setup d) told) → Delivers old new (slot_at old.board.setup d) d.hit outcome
+    → SeatGrows old new (told.entry ∷ []) × EndsAs old.board.setup (slot_at old.board.setup d) d ((old.part.seen ++ counts.earlier) ++ counts.since) counts.since told.entry outcome
+ends-as old new d told (Done answer) is counts made =
+    let same : made.entry ≡ told.entry = snoc-last made.before ((old.part.seen ++ counts.earlier) ++ counts.since) made.entry told.entry (sym made.list ∙ counts.list) in
+    let front : made.before ≡ (old.part.seen ++ counts.earlier) ++ counts.since = snoc-front made.before ((old.part.seen ++ counts.earlier) ++ counts.since) made.entry told.entry (sym made.list ∙ counts.list) in (
+      subst (λ (e : Entry). SeatGrows old new (e ∷ [])) same made.acts.grows,
+      (ap (λ (e : Entry). e.act) (sym same) ∙ made.acts.act_is, made.answer_is ∙ (λ i. answer_at old.board.setup (judges_of old.board.setup) (reverse (front i)) (same i) ((same i).act))),
+    )
+ends-as old new d told Racing is counts given =
+    let same : given.entry ≡ told.entry = snoc-last (old.part.seen ++ given.added) ((old.part.seen ++ counts.earlier) ++ counts.since) given.entry told.entry (sym given.list ∙ counts.list) in (
+      subst (λ (e : Entry). SeatGrows old new (e ∷ [])) same given.acts.grows,
+      (ap (λ (e : Entry). e.act) (sym same) ∙ given.acts.act_is, counts.racing is),
+    )
+
+-- what the board's call tells is so in the seat's list
+pub fed-one : (old new : CountedValue) (d : Delivery) (told : Counted) → Counts old.seat new.seat (slot_at old.seat.board.setup d) told → Delivers old.seat new.seat (slot_at old.seat.board.setup d) d.hit told.outcome → new.left + 1 ≡ old.left
+    → FeedsCounted old new (d ∷ []) (told ∷ [])
+fed-one old new d told counts delivers left =
+    let does = ends-as old.seat new.seat d told told.outcome refl counts delivers in record {
+      grows = does.0;
+      told = (
+        record {
+          earlier = old.seat.part.seen ++ counts.earlier;
+          since = counts.since;
+          later = [];
+          list_is = counts.list;
+          others = none_after (known_of old.seat.part) counts.earlier counts.since counts.others;
+          first = counts.first;
+          count = counts.count;
+          ends = does.1;
+        },
+        tt,
+      );
+      left = left;
+    }
+
+-- ---- one after another
+
+-- what was told is so in every list that goes on from the list
+told-longer : (s : Setup) (known : ℕ → Bool) (list more : List Entry) (d : Delivery) (told : Counted) → IsTold s known list d told → IsTold s known (list ++ more) d told
+told-longer s known list more d told i = record {
+  earlier = i.earlier;
+  since = i.since;
+  later = i.later ++ more;
+  list_is = ap (λ z. z ++ more) i.list_is ∙ append_assoc (i.earlier ++ i.since) (told.entry ∷ i.later) more;
+  others = i.others;
+  first = i.first;
+  count = i.count;
+  ends = i.ends;
+}
+
+-- of each
+all-longer : (s : Setup) (known : ℕ → Bool) (list more : List Entry) (ds : List Delivery) (cs : List Counted) → AllZip (IsTold s known list) ds cs → AllZip (IsTold s known (list ++ more)) ds cs
+all-longer s known list more [] [] all = tt
+all-longer s known list more [] (c ∷ cs) all = absurd all
+all-longer s known list more (d ∷ ds) [] all = absurd all
+all-longer s known list more (d ∷ ds) (c ∷ cs) all = (told-longer s known list more d c all.0, all-longer s known list more ds cs all.1)
+
+-- one more goes together
+zip-push : (R : Delivery → Counted → Type 0) (ds : List Delivery) (cs : List Counted) (d : Delivery) (c : Counted) → AllZip R ds cs → R d c → AllZip R (ds ++ d ∷ []) (cs ++ c ∷ [])
+zip-push R [] [] d c all one = (one, tt)
+zip-push R [] (y ∷ cs) d c all one = absurd all
+zip-push R (x ∷ ds) [] d c all one = absurd all
+zip-push R (x ∷ ds) (y ∷ cs) d c all one = (all.0, zip-push R ds cs d c all.1 one)
+
+-- no delivery adds nothing
+pub fed-none : (old : CountedValue) → IsSound old.seat.board.setup (judges_of old.seat.board.setup) old.seat.part.seen → FeedsCounted old old [] []
+fed-none old sound = record { grows = grows_none old.seat sound; told = tt; left = omega arith }
+
+-- one delivery after others
+pub fed-more : (a b c : CountedValue) (ds : List Delivery) (cs : List Counted) (d : Delivery) (told : Counted) → FeedsCounted a b ds cs → FeedsCounted b c (d ∷ []) (told ∷ []) → FeedsCounted a c (ds ++ d ∷ []) (cs ++ told ∷ [])
+fed-more a b c ds cs d told one two =
+    let own : entries_told (cs ++ told ∷ []) ≡ entries_told cs ++ told.entry ∷ [] = map-append (λ (t : Counted). t.entry) cs (told ∷ []) in
+    let known = same_known a.seat b.seat (entries_told cs) one.grows in
+    let setup : b.seat.board.setup ≡ a.seat.board.setup = ap (λ (x : BoardId). x.setup) one.grows.board in
+    let last : IsTold a.seat.board.setup (known_of a.seat.part) c.seat.part.seen d told = subst (λ (z : Setup × (ℕ → Bool)). IsTold z.0 z.1 c.seat.part.seen d told) (λ i. (setup i, known i)) two.told.0 in
+    let before : AllZip (IsTold a.seat.board.setup (known_of a.seat.part) c.seat.part.seen) ds cs =
+    subst (λ (l : List Entry). AllZip (IsTold a.seat.board.setup (known_of a.seat.part) l) ds cs) (sym two.grows.grows.list) (all-longer a.seat.board.setup (known_of a.seat.part) b.seat.part.seen two.grows.grows.rest ds cs one.told) in
+    let count = length-append ds (d ∷ []) in
+    let first = one.left in
+    let second = two.left in record {
+      grows = subst (SeatGrows a.seat c.seat) (sym own) (grows_then a.seat b.seat c.seat (entries_told cs) [] told.entry one.grows two.grows);
+      told = zip-push (IsTold a.seat.board.setup (known_of a.seat.part) c.seat.part.seen) ds cs d told before last;
+      left = omega arith;
+    }
+
+-- ---- lanes
+
+-- the deliveries before this place were made, and the lane has what they told
+pub record FedTo (old cur : CountedValue) (lane lane' : CountedLaneValue) (place : ℕ) : Type 0 where
+  pub feeds : FeedsCounted old cur (take place lane.work.deliveries) lane'.counted
+  pub work_is : lane'.work ≡ lane.work
+  pub room : length lane.work.deliveries ≤ lane'.room
+  pub count : length lane'.counted ≡ place
+
+-- the turns before this place were made, and the others name the deliveries that are left
+pub record FedTurns (old cur : CountedValue) (lane lane' : CountedLaneValue) (turn : ℕ) : Type 0 where
+  pub place : ℕ
+  pub fed : FedTo old cur lane lane' place
+  pub names : NamesEach place (drop turn lane.work.turns) (length lane.work.deliveries)
+
+-- turns name no more deliveries than there are
+pub names-within : (place count : ℕ) (turns : List Turn) → NamesEach place turns count → place ≤ count
+names-within place count [] names = omega arith
+names-within place count (turn ∷ turns) names = let rest = names-within turn.to count turns names.2 in let order = names.1 in let from = names.0 in omega arith
+
+-- the next turn goes on where those before it ended
+pub next-turn : (place count at : ℕ) (turns : List Turn) (turn : Turn) → at < length turns → turn ≡ get_or turns at turn → NamesEach place (drop at turns) count
+    → (turn.from ≡ place) × (turn.from ≤ turn.to) × NamesEach turn.to (drop (at + 1) turns) count
+next-turn place count at turns turn low is names =
+    let whole : drop at turns ≡ turn ∷ drop (at + 1) turns = drop-cons turns at turn low ∙ (λ i. sym is i ∷ drop (sym (add-one at) i) turns) in
+    subst (λ (l : List Turn). NamesEach place l count) whole names
+
+-- no delivery was made
+pub fed-start : (old : CountedValue) (lane : CountedLaneValue) → IsSound old.seat.board.setup (judges_of old.seat.board.setup) old.seat.part.seen → IsNewCountedLane lane.work lane → NamesEach 0 lane.work.turns (length lane.work.deliveries) → FedTurns old old lane lane 0
+fed-start old lane sound new names = record {
+  place = 0;
+  fed = record { feeds = subst (FeedsCounted old old []) (sym new.nothing_told) (fed-none old sound); work_is = refl; room = new.room; count = ap length new.nothing_told };
+  names = names;
+}
+
+-- one more delivery was made
+pub fed-next : (old cur next : CountedValue) (lane lane' lane'' : CountedLaneValue) (place : ℕ) (d : Delivery) (told : Counted) → FedTo old cur lane lane' place → place < length lane.work.deliveries → d ≡ get_or lane.work.deliveries place d
+    → FeedsCounted cur next (d ∷ []) (told ∷ []) → KeepsTold lane' lane'' told → FedTo old next lane lane'' (place + 1)
+fed-next old cur next lane lane' lane'' place d told fed low is feeds kept =
+    let more : take place lane.work.deliveries ++ d ∷ [] ≡ take (place + 1) lane.work.deliveries = ap (λ (x : Delivery). take place lane.work.deliveries ++ x ∷ []) is ∙ sym (take_more lane.work.deliveries place d low) in
+    let all = fed-more old cur next (take place lane.work.deliveries) lane'.counted d told fed.feeds feeds in
+    let room = fed.room in
+    let wider = kept.room in
+    let count = fed.count in
+    let longer : length lane''.counted ≡ length lane'.counted + 1 = ap length kept.counted_is ∙ length-append lane'.counted (told ∷ []) in record {
+      feeds = subst (λ (z : List Delivery × List Counted). FeedsCounted old next z.0 z.1) (λ i. (more i, sym kept.counted_is i)) all;
+      work_is = kept.work_is ∙ fed.work_is;
+      room = omega arith;
+      count = omega arith;
+    }

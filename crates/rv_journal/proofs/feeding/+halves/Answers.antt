@@ -1,0 +1,21 @@
+-- A list of feeders ran where both its halves did.
+use Rattle.std.proofs.Common.{List, ◌++◌, sym, subst}
+use Rattle.std.specs.Prelude.{All}
+use Rattle.std.specs.List.{AllZip}
+use Rattle.rv_journal.specs.declared.feeding.CountedFeeder.{CountedFeeder}
+use Rattle.rv_journal.specs.CountedFeeders.{FitsCountedFeeder, RunsCounted}
+use Rattle.rv_journal.proofs.CountedFeederLemmas.{All-parts, AllZip-append}
+use Rattle.rv_journal.proofs.feeding.+halves.Goals as goal
+
+pub run_counted-run_both-requires-clause-low : goal.run_counted-run_both-requires-clause-low
+run_counted-run_both-requires-clause-low g t c κs within =
+    (All-parts (FitsCountedFeeder c.args.board.now) c.split_at_mut-low.result.0.now c.split_at_mut-low.result.1.now (subst (All (FitsCountedFeeder {G = g.row.G.Denot} c.args.board.now)) c.split_at_mut-low.ensures.value c.requires.feeders)).0
+
+pub run_counted-run_both-requires-clause-high : goal.run_counted-run_both-requires-clause-high
+run_counted-run_both-requires-clause-high g t c κs within =
+    (All-parts (FitsCountedFeeder c.args.board.now) c.split_at_mut-low.result.0.now c.split_at_mut-low.result.1.now (subst (All (FitsCountedFeeder {G = g.row.G.Denot} c.args.board.now)) c.split_at_mut-low.ensures.value c.requires.feeders)).1
+
+pub run_counted-returns : goal.run_counted-returns
+run_counted-returns g t c =
+    let ran : CountedFeeder g.row.G.Denot → CountedFeeder g.row.G.Denot → Type 0 = RunsCounted in
+    subst (λ (l : List (CountedFeeder g.row.G.Denot)). AllZip ran l (c.run_both.new.low ++ c.run_both.new.high)) (sym c.split_at_mut-low.ensures.value) (AllZip-append ran _ _ _ _ c.run_both.ensures.low c.run_both.ensures.high)

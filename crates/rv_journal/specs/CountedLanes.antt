@@ -1,0 +1,74 @@
+-- A CPU's lane of counted deliveries, and what a feeder adds to it.
+use Rattle.std.specs.Prelude.{◌≡◌, ℕ, ◌+◌, ◌-◌, ◌<◌, ◌≤◌, Bool, List, [], ◌∷◌, ◌++◌, filter, map, length, reverse, slice_index}
+use Rattle.std.specs.List.{AllZip}
+use Rattle.rv_model.specs.declared.entry.Act.TheVariants.{Deliver, Stop}
+use Rattle.rv_model.specs.declared.entry.Entry.{Entry}
+use Rattle.rv_model.specs.declared.record.Delivered.{Delivered}
+use Rattle.rv_model.specs.declared.record.Delivered.TheVariants.{Done, Racing}
+use Rattle.rv_model.specs.declared.work.Delivery.{Delivery}
+use Rattle.rv_model.specs.Histories.{changed}
+use Rattle.rv_model.specs.Seats.{known_of, entries_of}
+use Rattle.rv_model.specs.Setups.{Setup, slot_of}
+use Rattle.rv_model.specs.SharedWords.{answer_at}
+use Rattle.rv_model.specs.Works.{Work}
+use Rattle.rv_core.specs.Advance.{FitsTable}
+use Rattle.rv_core.specs.Setup.{table_at, judges_of}
+use Rattle.rv_board.specs.Seats.{SeatGrows}
+use Rattle.rv_journal.specs.declared.counted.Counted.{Counted}
+use Rattle.rv_journal.specs.CountedWords.{count_on, rows_at, IsBelow}
+use Rattle.rv_journal.specs.CountedSeats.{CountedValue}
+
+-- a lane's work, what its deliveries told, and how many of them it has room for
+pub record CountedLaneValue : Type 0 where
+  pub work : Work
+  pub counted : List Counted
+  pub room : ℕ
+
+-- nothing was told, and there is room for one of each delivery
+pub record IsNewCountedLane (work : Work) (lane : CountedLaneValue) : Type 0 where
+  pub work_is : lane.work ≡ work
+  pub nothing_told : lane.counted ≡ []
+  pub room : length work.deliveries ≤ lane.room
+
+-- the slot of a delivery
+abbrev pub slot_at : Setup → Delivery → ℕ
+slot_at s d = slot_of s.shape d.monitor d.instance
+
+-- the monitor and the instance are the setup's, the hit fits the monitor's table, and its atoms fit the words
+pub record FitsCounted (s : Setup) (d : Delivery) : Type 0 where
+  pub monitor : d.monitor < length s.shape
+  pub instance_fits : d.instance < slice_index s.shape d.monitor
+  pub hit : FitsTable (table_at s (slot_at s d)) d.hit
+  pub levels : IsBelow (32 - rows_at s (slot_at s d)) d.hit.what
+
+-- the entry delivers with the answer that the entries before it give, or it stops the slot and three entries since the first load changed its word
+abbrev pub EndsAs : Setup → ℕ → Delivery → List Entry → List Entry → Entry → Delivered → Type 0
+EndsAs s slot d before since entry (Done answer) = (entry.act ≡ Deliver slot d.hit) × (answer ≡ answer_at s (judges_of s) (reverse before) entry entry.act)
+EndsAs s slot d before since entry Racing = (entry.act ≡ Stop slot) × (3 ≤ length (filter (changed slot) since))
+
+-- what the delivery told is so in the list: all entries of known numbers before its own stand before the first load
+pub record IsTold (s : Setup) (known : ℕ → Bool) (list : List Entry) (d : Delivery) (told : Counted) : Type 0 where
+  pub earlier : List Entry
+  pub since : List Entry
+  pub later : List Entry
+  pub list_is : list ≡ (earlier ++ since) ++ told.entry ∷ later
+  pub others : entries_of known since ≡ []
+  pub first : told.first ≡ count_on (slot_at s d) earlier
+  pub count : told.count ≡ count_on (slot_at s d) (earlier ++ since)
+  pub ends : EndsAs s (slot_at s d) d (earlier ++ since) since told.entry told.outcome
+
+-- the entries of what was told
+abbrev pub entries_told : List Counted → List Entry
+entries_told counted = map (λ told. told.entry) counted
+
+-- the seat's list grows by one entry for each of these deliveries, in order, and the lane has what each of them told
+pub record FeedsCounted (old new : CountedValue) (deliveries : List Delivery) (counted : List Counted) : Type 0 where
+  pub grows : SeatGrows old.seat new.seat (entries_told counted)
+  pub told : AllZip (IsTold old.seat.board.setup (known_of old.seat.part) new.seat.part.seen) deliveries counted
+  pub left : new.left + length deliveries ≡ old.left
+
+-- what the lane keeps of one delivery more
+pub record KeepsTold (lane lane' : CountedLaneValue) (told : Counted) : Type 0 where
+  pub work_is : lane'.work ≡ lane.work
+  pub counted_is : lane'.counted ≡ lane.counted ++ told ∷ []
+  pub room : lane.room ≤ lane'.room

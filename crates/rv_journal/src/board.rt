@@ -1,0 +1,109 @@
+//! The counted words that threads share.
+ghost use Rattle.std.specs.Prelude.{◌≡◌, ◌<◌, [], IfOk, All, sum};
+ghost use Rattle.rv_board.specs.Known.{part};
+ghost use Rattle.rv_board.specs.Seats.{seat_value};
+ghost use Rattle.rv_journal.specs.CountedSeats.{AreWidths, counted_value};
+ghost use Rattle.rv_journal.specs.CountedWords.{rows_at};
+ghost use Rattle.rv_journal.specs.Openings.{OpensCounted};
+
+use crate::rule::CountedLaw;
+use crate::seat::{CountedSeat, MAX_ENTRIES};
+use crate::words::{Width, counted_word};
+use atomic_table::Table;
+use rv_board::{SEATS, View};
+use rv_core::Setup;
+use rv_model::Act;
+use rv_slots::Shape;
+use std::alloc::{AllocError, Global};
+use std::marker::Model;
+
+/// The switches, and a counted word for each slot of the setup. Contracts see which board it is, and what it began
+/// with.
+#[derive(Drop)]
+pub struct CountedBoard {
+    pub(crate) table: Table<Act, View, Setup, CountedLaw, Global>,
+    pub(crate) setup: Setup,
+}
+
+impl Model for CountedBoard {
+    ghost use Rattle.std.specs.Prelude.{◌≡◌};
+    ghost use Rattle.rv_board.specs.Rule.{width};
+    ghost use Rattle.rv_board.specs.Seats.{BoardId, coded_board};
+
+    ghost Value = { BoardId };
+
+    ghost coded = { coded_board };
+
+    ghost view = { λ b. record { table = b.table.shared.table_id; setup = b.setup } };
+
+    ghost invariant = { λ b. (b.table.shared.key ≡ b.setup) × (b.table.shared.table_id.words ≡ width b.setup) };
+}
+
+/// A new board, and its first seat, which has all numbers.
+#[derive(Drop)]
+pub struct CountedStart {
+    pub board: CountedBoard,
+    pub seat: CountedSeat,
+}
+
+/// How many bits the rows of a slot's words take: one for each row of its table, row 0 too.
+pub(crate) fn rows_of(setup: &Setup, slot: u32) -> u32
+    requires { slot < sum setup.now.shape }
+    ensures { result ≡ rows_at setup.now slot }
+{
+    setup.table(slot).rows() + 1
+}
+
+/// The switches, and then each slot's opening word, which no entry has changed.
+fn opening_words(alloc: Global, setup: &Setup, _widths: &[Width]) -> Result<Vec<u64>, AllocError>
+    requires { AreWidths setup.now _widths.now }
+    ensures { IfOk result (λ words. OpensCounted setup.now words.items) }
+{
+    setup.known();
+    let slots = setup.shape.slots();
+    let mut words = Vec::new(alloc);
+    words.push(setup.switches)?;
+    for slot in 0..slots {
+        let table = setup.table(slot);
+        table.known();
+        let rows = rows_of(setup, slot);
+        words.push(counted_word(rows, setup.opening(slot), 0))?;
+    }
+    Ok(words)
+}
+
+impl CountedBoard {
+    /// Every slot waits, and the seat has seen nothing. There is a width for each monitor: the rows of its table and
+    /// its levels take 32 bits together.
+    pub fn new(alloc: Global, setup: Setup, widths: Vec<Width>) -> Result<CountedStart, AllocError>
+        requires { AreWidths setup widths.items }
+        ensures board { IfOk result (λ start. start.board.setup ≡ setup) }
+        ensures seat { IfOk result (λ start. start.seat ≡ counted_value (seat_value (part 0 67 [] []) start.board) 4000000) }
+    {
+        let words = opening_words(alloc, &setup, &widths)?;
+        let (table, token) = Table::of_words(alloc, words.as_slice(), &setup)?;
+        Ok(CountedStart {
+            board: CountedBoard { table, setup },
+            seat: CountedSeat {
+                token,
+                number: 0,
+                end: SEATS,
+                left: MAX_ENTRIES,
+            },
+        })
+    }
+
+    /// The setup that it was made with. It is no step.
+    pub fn setup(&self) -> &Setup
+        ensures { result.now ≡ self.now.setup }
+    {
+        &self.setup
+    }
+
+    /// The shape of its setup. It is no step.
+    pub fn shape(&self) -> &Shape
+        ensures { result.now ≡ self.now.setup.shape }
+    {
+        &self.setup.shape
+    }
+}

@@ -1,0 +1,84 @@
+//! What one CPU has to do on a counted board, and what its deliveries told.
+ghost use Rattle.std.specs.Prelude.{◌≡◌, ◌<◌, length, slice_index_or, IfOk};
+ghost use Rattle.rv_model.specs.declared.work.Delivery.{Delivery};
+ghost use Rattle.rv_model.specs.declared.work.Turn.{Turn};
+ghost use Rattle.rv_model.specs.Works.{IsWork};
+ghost use Rattle.rv_journal.specs.CountedLanes.{IsNewCountedLane, KeepsTold};
+
+use crate::counted::Counted;
+use rv_model::{CpuWork, Delivery, Turn};
+use std::alloc::{AllocError, Global};
+use std::marker::Model;
+
+/// The work of one CPU, and what its deliveries told, in the order in which they were made.
+#[derive(Drop)]
+pub struct CountedLane {
+    pub work: CpuWork,
+    pub counted: Vec<Counted>,
+}
+
+impl Model for CountedLane {
+    ghost use Rattle.rv_journal.specs.CountedLanes.{CountedLaneValue};
+
+    ghost Value = { CountedLaneValue };
+
+    ghost view = { λ l. record { work = l.work; counted = l.counted.items; room = l.counted.cap } };
+}
+
+impl CountedLane {
+    /// The lane of this work, of which nothing was told yet, and room for one of each delivery.
+    pub fn new(alloc: Global, work: CpuWork) -> Result<CountedLane, AllocError>
+        ensures { IfOk result (λ lane. IsNewCountedLane work lane) }
+    {
+        let counted = Vec::with_capacity(alloc, work.deliveries.len())?;
+        Ok(CountedLane { work, counted })
+    }
+}
+
+/// What is known of every lane.
+pub(crate) fn known(lane: &CountedLane)
+    ensures { IsWork lane.now.work }
+{
+    let _ = &lane.work.turns;
+}
+
+/// Keeps what a delivery told, for which there is room.
+pub(crate) fn keep(lane: &mut CountedLane, told: Counted)
+    requires { length lane.old.counted < lane.old.room }
+    ensures { KeepsTold lane.old lane.new told }
+{
+    match lane.counted.push(told) {
+        Ok(()) => (),
+        Err(_) => unreachable!(),
+    }
+}
+
+/// The lane's CPU.
+pub(crate) fn cpu_of(lane: &CountedLane) -> u32
+    ensures { result ≡ lane.now.work.cpu }
+{
+    lane.work.cpu as u32
+}
+
+/// The delivery at this place.
+pub(crate) fn delivery_at(lane: &CountedLane, place: u32) -> Delivery
+    requires { place < length lane.now.work.deliveries }
+    ensures { (d : Delivery) → result ≡ slice_index_or lane.now.work.deliveries place d }
+{
+    lane.work.deliveries[place as usize]
+}
+
+/// How many turns there are.
+pub(crate) fn turn_count(lane: &CountedLane) -> usize
+    ensures { result ≡ length lane.now.work.turns }
+{
+    lane.work.turns.len()
+}
+
+/// The turn at this place.
+pub(crate) fn turn_at(lane: &CountedLane, place: usize) -> Turn
+    requires { place < length lane.now.work.turns }
+    ensures { (t : Turn) → result ≡ slice_index_or lane.now.work.turns place t }
+{
+    lane.work.turns[place]
+}
