@@ -1,7 +1,9 @@
 -- A front of a beginning is one, and a legal history is a beginning whose scripts are whole.
-use Rattle.std.proofs.Common.{◌≡◌, ◌≢◌, ℕ, ◌+◌, ◌<◌, ◌⊎◌, inl, inr, Bool, true, false, ◌==◌, List, [], ◌∷◌, ◌++◌, reverse, get_or, arith, refl, sym, ap, ◌∙◌, subst, append_assoc, append-nil, All}
+use Rattle.std.proofs.Common.{◌≡◌, ◌≢◌, ℕ, ◌+◌, ◌<◌, ◌⊎◌, inl, inr, Bool, true, false, ◌==◌, List, [], ◌∷◌, ◌++◌, length, reverse, get_or, arith, refl, sym, ap, ◌∙◌, subst, append_assoc, append-nil, All}
 use Rattle.std.specs.Prelude.{Any}
 use Rattle.std.proofs.lemmas.List.{reverse-append}
+use Rattle.rv_model.specs.declared.entry.Act.{Act}
+use Rattle.rv_model.specs.declared.entry.Answer.{Answer}
 use Rattle.rv_model.specs.declared.entry.Entry.{Entry}
 use Rattle.rv_model.specs.declared.formula.Spec.{Spec}
 use Rattle.rv_model.specs.Cuts.{AtEach}
@@ -49,6 +51,11 @@ module _ (s : Setup) (js : List Judge) (panics : ℕ → Bool) (works : List Wor
     cpus = λ k d lt. begun-front (get_or works k d) h e (b.cpus k d lt);
     nobody_else = at_each-front (λ before f. Any (λ w. f.seat ≡ 2 + w.cpu) works) h (e ∷ []) b.nobody_else;
   }
+
+  -- nor does it need the entries behind a place
+  pub begins-before : (rest h : List Entry) → IsBeginning s js panics works (h ++ rest) → IsBeginning s js panics works h
+  begins-before [] h b = subst (IsBeginning s js panics works) (append-nil h) b
+  begins-before (e ∷ rest) h b = begins-front h e (begins-before rest (h ++ e ∷ []) (subst (IsBeginning s js panics works) (sym (append_assoc h (e ∷ []) rest)) b))
 
   -- nobody has seat 1, where each seat is a CPU's
   no-acts : (h : List Entry) → AtEach (λ before e. Any (λ w. e.seat ≡ 2 + w.cpu) works) h → acts_of 1 h ≡ []

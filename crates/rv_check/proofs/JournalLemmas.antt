@@ -1,7 +1,8 @@
 -- Journals with one more line.
-use Rattle.std.proofs.Common.{◌≡◌, ℕ, zero, suc, ◌<◌, Bool, true, false, List, [], ◌∷◌, ◌++◌, map, get_or, arith, refl, sym, ap, ◌∙◌, subst, All}
+use Rattle.std.proofs.Common.{◌≡◌, ℕ, zero, suc, ◌+◌, ◌<◌, Bool, true, false, List, [], ◌∷◌, ◌++◌, map, length, get_or, arith, refl, sym, ap, ◌∙◌, subst, All}
+use Rattle.std.specs.Prelude.{MatchBool}
 use Rattle.std.proofs.lemmas.List.{map-append}
-use Rattle.std.proofs.lemmas.List.Elements.{All-append, All-from_get_or}
+use Rattle.std.proofs.lemmas.List.Elements.{All-append, All-get_or, All-from_get_or}
 use Rattle.rv_model.specs.declared.entry.Entry.{Entry}
 use Rattle.rv_model.specs.declared.formula.Spec.{Spec}
 use Rattle.rv_model.specs.Numbers.{has_bit}
@@ -20,23 +21,23 @@ pub record Last (lines : List (List ℕ)) (line : List ℕ) (h : List Entry) : T
   pub fits : IsEntry entry
   pub text : entry_text entry ≡ line
 
-all-head : (e : Entry) (h : List Entry) → All IsEntry (e ∷ h) → IsEntry e
+pub all-head : (e : Entry) (h : List Entry) → All IsEntry (e ∷ h) → IsEntry e
 all-head e h all = all 0 e (omega arith)
 
-all-tail : (e : Entry) (h : List Entry) → All IsEntry (e ∷ h) → All IsEntry h
+pub all-tail : (e : Entry) (h : List Entry) → All IsEntry (e ∷ h) → All IsEntry h
 all-tail e h all = λ k d lt. subst (λ (x : Entry). IsEntry x) (up k d) (all (suc k) d (omega arith))
   where
     up : (k : ℕ) (d : Entry) → get_or (e ∷ h) (suc k) d ≡ get_or h k d
     up k d = refl
 
-all-one : (e : Entry) → IsEntry e → All IsEntry (e ∷ [])
+pub all-one : (e : Entry) → IsEntry e → All IsEntry (e ∷ [])
 all-one e fits = All-from_get_or IsEntry (e ∷ []) e one
   where
     one : (i : ℕ) → i < 1 → IsEntry (get_or (e ∷ []) i e)
     one zero lt = fits
     one (suc i) lt = absurd (omega arith)
 
-all-cons : (e : Entry) (h : List Entry) → IsEntry e → All IsEntry h → All IsEntry (e ∷ h)
+pub all-cons : (e : Entry) (h : List Entry) → IsEntry e → All IsEntry h → All IsEntry (e ∷ h)
 all-cons e h fits all = All-append IsEntry (e ∷ []) h (all-one e fits) all
 
 -- a journal of one more line
@@ -59,7 +60,7 @@ last-line (x ∷ lines) line (e ∷ h) all is =
     }
 
 -- one more line
-journal-more : (lines : List (List ℕ)) (line : List ℕ) (h : List Entry) (e : Entry) → IsJournalOf lines h → IsEntry e → entry_text e ≡ line → IsJournalOf (lines ++ line ∷ []) (h ++ e ∷ [])
+pub journal-more : (lines : List (List ℕ)) (line : List ℕ) (h : List Entry) (e : Entry) → IsJournalOf lines h → IsEntry e → entry_text e ≡ line → IsJournalOf (lines ++ line ∷ []) (h ++ e ∷ [])
 journal-more lines line h e j fits text = record {
   entries = All-append IsEntry h (e ∷ []) j.entries (all-one e fits);
   texts = map-append entry_text h (e ∷ []) ∙ ap (λ (z : List (List ℕ)). z ++ entry_text e ∷ []) j.texts ∙ ap (λ (l : List ℕ). lines ++ l ∷ []) text;

@@ -3,7 +3,10 @@ pub mod JournalLemmas
 pub mod LostLemmas
 pub mod MoveLemmas
 pub mod PlaceLemmas
+pub mod ReaderLemmas
 pub mod RunLemmas
 pub mod SettleLemmas
 pub mod StartLemmas
+pub mod TextLemmas
+pub mod VerdictLemmas
 pub mod Walks

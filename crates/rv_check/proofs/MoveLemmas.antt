@@ -1,5 +1,5 @@
 -- What may follow an entry of a seat's own.
-use Rattle.std.proofs.Common.{◌≡◌, ℕ, ◌+◌, ◌^◌, ◌<◌, ◌≤◌, Bool, true, false, List, [], ◌∷◌, inl, inr, suc, length, map, get_or, drop, arith, refl, sym, ap, ◌∙◌, subst, add-one, length-drop}
+use Rattle.std.proofs.Common.{◌≡◌, ℕ, ◌+◌, ◌-◌, ◌^◌, ◌<◌, ◌≤◌, Bool, true, false, ◌&&◌, List, [], ◌∷◌, ◌++◌, inl, inr, suc, length, map, get_or, drop, arith, refl, sym, ap, ◌∙◌, subst, add-one, length-drop}
 use Rattle.std.specs.Prelude.{filter, MatchBool, slice_range}
 use Rattle.std.proofs.lemmas.List.{length-map, get_or-map}
 use Rattle.std.proofs.Math.ListN.{drop_of_length-le}
@@ -9,10 +9,11 @@ use Rattle.rv_model.specs.declared.entry.Act.TheVariants.{Deliver, Stop, Look, R
 use Rattle.rv_model.specs.declared.entry.Answer.{Answer}
 use Rattle.rv_model.specs.declared.entry.Answer.TheVariants.{Looked, Stopped, Switched}
 use Rattle.rv_model.specs.declared.entry.Entry.{Entry}
+use Rattle.rv_model.specs.declared.hit.Hit.{Hit}
 use Rattle.rv_model.specs.declared.work.Delivery.{Delivery}
 use Rattle.rv_model.specs.declared.work.Turn.{Turn}
 use Rattle.rv_model.specs.Numbers.{has_bit}
-use Rattle.rv_model.specs.Scripts.{Played, is_shown, Makes, Delivers, PlaysTurns, turns_of}
+use Rattle.rv_model.specs.Scripts.{Played, is_shown, fails, Makes, Delivers, PlaysTurns, turns_of}
 use Rattle.rv_model.specs.Setups.{Setup, slot_of}
 use Rattle.rv_model.specs.Works.{Work}
 use Rattle.rv_model.proofs.AgreeLemmas.{match-one}

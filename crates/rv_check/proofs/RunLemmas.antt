@@ -12,6 +12,7 @@ use Rattle.rv_model.specs.Cuts.{AtEach}
 use Rattle.rv_model.specs.Histories.{FitsWords, changed, LostThrice, IsEarnedBy, IsHeldBy, IsSound}
 use Rattle.rv_model.specs.Judging.{Judge}
 use Rattle.rv_model.specs.Numbers.{has_bit}
+use Rattle.rv_model.specs.Phases.{level_after, level, phase_after, phase_of}
 use Rattle.rv_model.specs.Scripts.{Played, played, Plays}
 use Rattle.rv_model.specs.Setups.{Setup}
 use Rattle.rv_model.specs.SharedWords.{word_on, answer_at}

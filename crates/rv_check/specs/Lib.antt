@@ -1,5 +1,7 @@
 pub mod Beginnings
 pub mod Checker
 pub mod Nexts
+pub mod Readings
 pub mod Run
 pub mod Starts
+pub mod Verdicts

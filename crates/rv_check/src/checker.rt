@@ -130,6 +130,13 @@ impl Checker {
         self.run.judged();
     }
 
+    /// Before the first line it had begun.
+    pub fn begins(&self)
+        ensures { IsBegun (record self.now { lines = [] }) }
+    {
+        self.run.known();
+    }
+
     /// The next line, which is given without its line end: whether the lines so far are those of a history that has begun.
     pub fn line(&mut self, line: &[u8]) -> bool
         ensures lines { self.new ≡ record self.old { lines = self.old.lines ++ line.now ∷ [] } }

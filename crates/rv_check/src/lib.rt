@@ -6,6 +6,7 @@ mod act;
 mod checker;
 mod given;
 mod next;
+mod reading;
 mod run;
 mod script;
 #[cfg(test)]
@@ -13,3 +14,4 @@ mod tests;
 mod work;
 
 pub use checker::Checker;
+pub use reading::{JournalReader, Verdict, one_verdict};

@@ -4,7 +4,7 @@ ghost use Rattle.rv_core.specs.Advance.{FitsTable};
 ghost use Rattle.rv_core.specs.Setup.{table_at};
 ghost use Rattle.rv_check.specs.Starts.{start_hit, IsStart};
 
-use crate::Checker;
+use crate::{Checker, JournalReader, Verdict};
 use rv_core::Setup;
 use rv_model::{CpuWork, Delivery, Hit, Mode, Scope, Turn, What};
 use rv_slots::Shape;
@@ -110,7 +110,9 @@ fn three_starts(alloc: Global, cpu: u8) -> Result<CpuWork, AllocError>
 }
 
 /// The checker of one monitor that may be panic, and one CPU with two turns.
-fn one_cpu(alloc: Global, panics: u32) -> Result<Checker, AllocError> {
+fn one_cpu(alloc: Global, panics: u32) -> Result<Checker, AllocError>
+    ensures { IfOk result (λ checker. checker.lines ≡ []) }
+{
     let setup = one_instance(alloc)?;
     let mut works = Vec::new(alloc);
     let work = two_starts(alloc)?;
@@ -249,5 +251,60 @@ fn a_stop_needs_three_changes_of_others_since_the_last_entry(rt: HostRuntime) ->
         let checker = two_cpus(rt.alloc())?;
         assert_eq!(rt; verdict(checker, &journal), bad);
     }
+    Ok(())
+}
+
+/// The verdict on a text that is fed in pieces of this size. One that has stopped is fed to the end too.
+fn judged(alloc: Global, checker: Checker, text: &[u8], size: usize) -> Result<Verdict, AllocError>
+    requires made { checker.lines ≡ [] }
+    requires some { 0 < size }
+{
+    let mut reader = JournalReader::new(alloc, checker)?;
+    for piece in text.chunks(size) {
+        reader.feed(piece)?;
+    }
+    Ok(reader.verdict())
+}
+
+#[test]
+fn a_text_is_judged_in_pieces(rt: HostRuntime) -> Result<(), Fail> {
+    let whole =
+        "2 look 12884901889 12884901889\n2 deliver 0 start_run ltl 0 0 0 4294967296 8589934592\n2 look 12884901889 12884901889\n2 deliver 0 start_run ltl 0 0 0 8589934592 4294967296\n";
+    let (unended, _) = whole.split_at(whole.len() - 1);
+    let (begun, _) = whole.split_at(31);
+    let twice = "2 look 12884901889 12884901889\n2 look 12884901889 12884901889\n3 look";
+    let blank = "2 look 12884901889 12884901889\n\n";
+    let cases = [
+        (whole, Verdict::Yes),
+        ("", Verdict::No { line: 1 }),
+        (begun, Verdict::No { line: 2 }),
+        (unended, Verdict::No { line: 4 }),
+        (twice, Verdict::No { line: 2 }),
+        (blank, Verdict::No { line: 2 }),
+        ("2 look", Verdict::No { line: 1 }),
+    ];
+    for (text, verdict) in cases {
+        for size in [1, 7, 1000] {
+            let checker = one_cpu(rt.alloc(), 0)?;
+            assert_eq!(rt;
+                judged(rt.alloc(), checker, text.as_bytes(), size)?,
+                verdict,
+                "in pieces of {size}"
+            );
+        }
+    }
+    Ok(())
+}
+
+#[test]
+fn a_line_of_201_bytes_is_bad_before_its_end(rt: HostRuntime) -> Result<(), Fail> {
+    let checker = one_cpu(rt.alloc(), 0)?;
+    let mut reader = JournalReader::new(rt.alloc(), checker)?;
+    assert_eq!(rt; reader.feed(b"2 look 12884901889 12884901889\n")?, true);
+    assert_eq!(rt; reader.feed(&[b'9'; 200])?, true);
+    assert_eq!(rt; reader.feed(b"")?, true);
+    assert_eq!(rt; reader.feed(b"9")?, false);
+    assert_eq!(rt; reader.feed(b"\n2 look")?, false);
+    assert_eq!(rt; reader.verdict(), Verdict::No { line: 2 });
     Ok(())
 }

@@ -1,14 +1,14 @@
 -- What a feeder adds, delivery by delivery.
 use Rattle.std.proofs.Common.{◌≡◌, ℕ, ◌+◌, ◌<◌, ◌≤◌, Bool, List, [], ◌∷◌, ◌++◌, length, reverse, take, drop, get_or, refl, sym, ap, ◌∙◌, subst, arith, append_assoc, add-one, length-append, drop-cons}
-use Rattle.std.specs.List.{AllZip}
-use Rattle.std.proofs.lemmas.List.{map-append, take_more}
+use Rattle.std.proofs.lemmas.List.{append-nil, map-append, take_more}
+use Rattle.std.proofs.lemmas.List.Elements.{filter-append}
 use Rattle.rv_model.specs.declared.entry.Entry.{Entry}
 use Rattle.rv_model.specs.declared.record.Delivered.{Delivered}
 use Rattle.rv_model.specs.declared.record.Delivered.TheVariants.{Done, Racing}
 use Rattle.rv_model.specs.declared.work.Delivery.{Delivery}
 use Rattle.rv_model.specs.declared.work.Turn.{Turn}
 use Rattle.rv_model.specs.Histories.{IsSound}
-use Rattle.rv_model.specs.Seats.{known_of}
+use Rattle.rv_model.specs.Seats.{known_of, entries_of}
 use Rattle.rv_model.specs.Setups.{Setup}
 use Rattle.rv_model.specs.SharedWords.{answer_at}
 use Rattle.rv_model.specs.Works.{NamesEach}
@@ -16,10 +16,10 @@ use Rattle.rv_core.specs.Setup.{judges_of}
 use Rattle.rv_board.specs.Deliveries.{Delivers}
 use Rattle.rv_board.specs.Seats.{BoardId, SeatValue, SeatGrows}
 use Rattle.rv_board.proofs.GrowLemmas.{same_known, grows_none, grows_then}
-use Rattle.rv_board.proofs.Knowing.{none_after}
+use Rattle.rv_board.proofs.Knowing.{none_before, none_after}
 use Rattle.rv_journal.specs.declared.counted.Counted.{Counted}
 use Rattle.rv_journal.specs.CountedSeats.{CountedValue, Counts}
-use Rattle.rv_journal.specs.CountedLanes.{CountedLaneValue, IsNewCountedLane, slot_at, EndsAs, IsTold, entries_told, FeedsCounted, KeepsTold}
+use Rattle.rv_journal.specs.CountedLanes.{CountedLaneValue, IsNewCountedLane, slot_at, EndsAs, IsTold, AllToldAfter, entries_told, FeedsCounted, KeepsTold}
 use Rattle.rv_journal.proofs.CountedStepLemmas.{snoc-front, snoc-last}
 
 -- ---- one delivery
@@ -39,6 +39,10 @@ ends-as old new d told Racing is counts given =
       (ap (λ (e : Entry). e.act) (sym same) ∙ given.acts.act_is, counts.racing is),
     )
 
+-- entries without known numbers add none
+pub none-more : (known : ℕ → Bool) (list more : List Entry) → entries_of known more ≡ [] → entries_of known (list ++ more) ≡ entries_of known list
+none-more known list more none = filter-append (λ (e : Entry). known e.seat) list more ∙ (ap (λ (z : List Entry). entries_of known list ++ z) none ∙ append-nil (entries_of known list))
+
 -- what the board's call tells is so in the seat's list
 pub fed-one : (old new : CountedValue) (d : Delivery) (told : Counted) → Counts old.seat new.seat (slot_at old.seat.board.setup d) told → Delivers old.seat new.seat (slot_at old.seat.board.setup d) d.hit told.outcome → new.left + 1 ≡ old.left
     → FeedsCounted old new (d ∷ []) (told ∷ [])
@@ -51,6 +55,7 @@ fed-one old new d told counts delivers left =
           since = counts.since;
           later = [];
           list_is = counts.list;
+          own_are = none-more (known_of old.seat.part) old.seat.part.seen counts.earlier (none_before (known_of old.seat.part) counts.earlier counts.since counts.others);
           others = none_after (known_of old.seat.part) counts.earlier counts.since counts.others;
           first = counts.first;
           count = counts.count;
@@ -63,32 +68,35 @@ fed-one old new d told counts delivers left =
 
 -- ---- one after another
 
--- what was told is so in every list that goes on from the list
-told-longer : (s : Setup) (known : ℕ → Bool) (list more : List Entry) (d : Delivery) (told : Counted) → IsTold s known list d told → IsTold s known (list ++ more) d told
-told-longer s known list more d told i = record {
-  earlier = i.earlier;
-  since = i.since;
-  later = i.later ++ more;
-  list_is = ap (λ z. z ++ more) i.list_is ∙ append_assoc (i.earlier ++ i.since) (told.entry ∷ i.later) more;
-  others = i.others;
-  first = i.first;
-  count = i.count;
-  ends = i.ends;
-}
+module _ (s : Setup) (known : ℕ → Bool) where
+  -- what was told is so in every list that goes on from the list
+  told-longer : (list more own : List Entry) (d : Delivery) (told : Counted) → IsTold s known list own d told → IsTold s known (list ++ more) own d told
+  told-longer list more own d told i = record {
+    earlier = i.earlier;
+    since = i.since;
+    later = i.later ++ more;
+    list_is = ap (λ z. z ++ more) i.list_is ∙ append_assoc (i.earlier ++ i.since) (told.entry ∷ i.later) more;
+    own_are = i.own_are;
+    others = i.others;
+    first = i.first;
+    count = i.count;
+    ends = i.ends;
+  }
 
--- of each
-all-longer : (s : Setup) (known : ℕ → Bool) (list more : List Entry) (ds : List Delivery) (cs : List Counted) → AllZip (IsTold s known list) ds cs → AllZip (IsTold s known (list ++ more)) ds cs
-all-longer s known list more [] [] all = tt
-all-longer s known list more [] (c ∷ cs) all = absurd all
-all-longer s known list more (d ∷ ds) [] all = absurd all
-all-longer s known list more (d ∷ ds) (c ∷ cs) all = (told-longer s known list more d c all.0, all-longer s known list more ds cs all.1)
+  -- of each
+  all-longer : (list more own : List Entry) (ds : List Delivery) (cs : List Counted) → AllToldAfter s known list own ds cs → AllToldAfter s known (list ++ more) own ds cs
+  all-longer list more own [] [] all = tt
+  all-longer list more own [] (c ∷ cs) all = absurd all
+  all-longer list more own (d ∷ ds) [] all = absurd all
+  all-longer list more own (d ∷ ds) (c ∷ cs) all = (told-longer list more own d c all.0, all-longer list more (own ++ c.entry ∷ []) ds cs all.1)
 
--- one more goes together
-zip-push : (R : Delivery → Counted → Type 0) (ds : List Delivery) (cs : List Counted) (d : Delivery) (c : Counted) → AllZip R ds cs → R d c → AllZip R (ds ++ d ∷ []) (cs ++ c ∷ [])
-zip-push R [] [] d c all one = (one, tt)
-zip-push R [] (y ∷ cs) d c all one = absurd all
-zip-push R (x ∷ ds) [] d c all one = absurd all
-zip-push R (x ∷ ds) (y ∷ cs) d c all one = (all.0, zip-push R ds cs d c all.1 one)
+  -- one more, behind the entries of all before it
+  told-push : (list own : List Entry) (ds : List Delivery) (cs : List Counted) (d : Delivery) (c : Counted) → AllToldAfter s known list own ds cs → IsTold s known list (own ++ entries_told cs) d c → AllToldAfter s known list own (ds ++ d ∷ []) (cs ++ c ∷ [])
+  told-push list own [] [] d c all one = (subst (λ (z : List Entry). IsTold s known list z d c) (append-nil own) one, tt)
+  told-push list own [] (y ∷ cs) d c all one = absurd all
+  told-push list own (x ∷ ds) [] d c all one = absurd all
+  told-push list own (x ∷ ds) (y ∷ cs) d c all one =
+      (all.0, told-push list (own ++ y.entry ∷ []) ds cs d c all.1 (subst (λ (z : List Entry). IsTold s known list z d c) (sym (append_assoc own (y.entry ∷ []) (entries_told cs))) one))
 
 -- no delivery adds nothing
 pub fed-none : (old : CountedValue) → IsSound old.seat.board.setup (judges_of old.seat.board.setup) old.seat.part.seen → FeedsCounted old old [] []
@@ -100,14 +108,20 @@ fed-more a b c ds cs d told one two =
     let own : entries_told (cs ++ told ∷ []) ≡ entries_told cs ++ told.entry ∷ [] = map-append (λ (t : Counted). t.entry) cs (told ∷ []) in
     let known = same_known a.seat b.seat (entries_told cs) one.grows in
     let setup : b.seat.board.setup ≡ a.seat.board.setup = ap (λ (x : BoardId). x.setup) one.grows.board in
-    let last : IsTold a.seat.board.setup (known_of a.seat.part) c.seat.part.seen d told = subst (λ (z : Setup × (ℕ → Bool)). IsTold z.0 z.1 c.seat.part.seen d told) (λ i. (setup i, known i)) two.told.0 in
-    let before : AllZip (IsTold a.seat.board.setup (known_of a.seat.part) c.seat.part.seen) ds cs =
-    subst (λ (l : List Entry). AllZip (IsTold a.seat.board.setup (known_of a.seat.part) l) ds cs) (sym two.grows.grows.list) (all-longer a.seat.board.setup (known_of a.seat.part) b.seat.part.seen two.grows.grows.rest ds cs one.told) in
+    let s = a.seat.board.setup in
+    let knows : ℕ → Bool = known_of a.seat.part in
+    let before : List Entry = entries_of knows a.seat.part.seen in
+    let so_far : entries_of (known_of b.seat.part) b.seat.part.seen ≡ before ++ entries_told cs =
+    (λ i. entries_of (known i) (one.grows.grows.list i)) ∙ (filter-append (λ (e : Entry). knows e.seat) a.seat.part.seen one.grows.grows.rest ∙ ap (λ (z : List Entry). before ++ z) one.grows.grows.known) in
+    let last : IsTold s knows c.seat.part.seen (before ++ entries_told cs) d told =
+    subst (λ (z : Setup × ((ℕ → Bool) × List Entry)). IsTold z.0 z.1.0 c.seat.part.seen z.1.1 d told) (λ i. (setup i, (known i, so_far i))) two.told.0 in
+    let first_ones : AllToldAfter s knows c.seat.part.seen before ds cs =
+    subst (λ (l : List Entry). AllToldAfter s knows l before ds cs) (sym two.grows.grows.list) (all-longer s knows b.seat.part.seen two.grows.grows.rest before ds cs one.told) in
     let count = length-append ds (d ∷ []) in
     let first = one.left in
     let second = two.left in record {
       grows = subst (SeatGrows a.seat c.seat) (sym own) (grows_then a.seat b.seat c.seat (entries_told cs) [] told.entry one.grows two.grows);
-      told = zip-push (IsTold a.seat.board.setup (known_of a.seat.part) c.seat.part.seen) ds cs d told before last;
+      told = told-push s knows c.seat.part.seen before ds cs d told first_ones last;
       left = omega arith;
     }
 

@@ -5,4 +5,10 @@ pub mod CountedSteps
 pub mod CountedWords
 pub mod EntryReadings
 pub mod EntryTexts
+pub mod MergeRuns
+pub mod MergeStates
+pub mod MergeSteps
+pub mod MergeWaits
+pub mod Merging
 pub mod Openings
+pub mod Running

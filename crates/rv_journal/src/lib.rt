@@ -4,8 +4,10 @@
 mod board;
 mod counted;
 mod delivery;
+mod entries;
 mod feeding;
 mod lane;
+mod merging;
 mod names;
 mod pieces;
 mod printing;
@@ -13,17 +15,23 @@ mod printing;
 mod races;
 mod reading;
 mod rule;
+mod running;
 mod seat;
 mod sharing;
+mod steps;
 #[cfg(test)]
 mod tests;
+mod told;
+mod waits;
 mod words;
 
 pub use board::{CountedBoard, CountedStart};
 pub use counted::Counted;
 pub use feeding::{CountedFeeder, run_counted};
 pub use lane::CountedLane;
+pub use merging::merge;
 pub use printing::journal_text;
 pub use reading::read_entry;
+pub use running::{Recorded, record_run};
 pub use seat::{CountedSeat, MAX_ENTRIES};
 pub use words::Width;

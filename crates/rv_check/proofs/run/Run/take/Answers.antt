@@ -1,13 +1,16 @@
 -- One entry more, where it goes on with what has begun.
-use Rattle.std.proofs.Common.{◌≡◌, ℕ, ◌<◌, ◌^◌, List, [], ◌∷◌, ◌++◌, length, get_or, set, sym, ap, subst, ◌∙◌, arith, length-set, get_or-set_same, get_or-set_other}
+use Rattle.std.proofs.Common.{◌≡◌, ◌≢◌, ℕ, ◌+◌, ◌<◌, ◌^◌, List, [], ◌∷◌, ◌++◌, length, get_or, set, refl, sym, ap, subst, ◌∙◌, arith, length-set, get_or-set_same, get_or-set_other, true, false, All}
 use Rattle.std.proofs.lemmas.List.{get_or_default}
 use Rattle.rv_model.specs.declared.entry.Answer.{Answer}
 use Rattle.rv_model.specs.declared.entry.Entry.{Entry}
+use Rattle.rv_model.specs.declared.work.Delivery.{Delivery}
 use Rattle.rv_model.specs.Numbers.{has_bit}
+use Rattle.rv_model.specs.Setups.{Setup}
 use Rattle.rv_model.specs.Works.{Work}
 use Rattle.rv_core.specs.Setup.{FitsAct, place_of}
 use Rattle.rv_check.specs.declared.next.Next.{Next}
 use Rattle.rv_check.specs.declared.next.Next.TheVariants as next
+use Rattle.rv_check.specs.Beginnings.{FitsDelivery}
 use Rattle.rv_check.specs.Nexts.{Allows, Moves}
 use Rattle.rv_check.specs.Run.{RunValue, BeginsRun, IsRun}
 use Rattle.rv_check.proofs.RunLemmas.{found-work, stand-at, fits-at, begun-allowed, allowed-fits, begun-before, begun-after, run-takes, place-in, has-place, can-move}

@@ -1,0 +1,227 @@
+-- A reader's text as it grows, and what it comes to.
+use Rattle.std.proofs.Common.{◌≡◌, ◌≢◌, inl, inr, ℕ, suc, Bool, true, false, not, cond, ◌+◌, ◌<◌, ◌≤◌, List, [], ◌∷◌, ◌++◌, length, map, refl, sym, ap, ◌∙◌, subst, arith, append_assoc, append-nil, length-append}
+use Rattle.std.proofs.lemmas.List.{length-map}
+use Rattle.std.proofs.lemmas.Grind.{flat_map-append}
+use Rattle.std.proofs.lemmas.List.Folds.{flat_map-map}
+use Rattle.rv_model.specs.declared.entry.Entry.{Entry}
+use Rattle.rv_model.specs.declared.formula.Spec.{Spec}
+use Rattle.rv_journal.specs.EntryTexts.{entry_text, journal_of, IsEntry}
+use Rattle.rv_check.specs.Checker.{IsJournalOf, CheckerValue, IsBegun, IsWhole}
+use Rattle.rv_check.specs.Readings.{joined, journal_by, longer, has_no_end, ended, IsStopped, IsOpen, IsReader, SameMaking, Takes, one_more}
+use Rattle.rv_check.specs.Verdicts.{Journal, Begins, IsYes, IsStuck, IsNo}
+use Rattle.rv_check.proofs.JournalLemmas.{journal-more}
+use Rattle.rv_check.proofs.TextLemmas.{no_end-append, end-in, one-line, long-line, entry-unended, entry-short}
+
+-- pieces and one more
+pub joined-more : (pieces : List (List ℕ)) (piece : List ℕ) → joined (pieces ++ piece ∷ []) ≡ joined pieces ++ piece
+joined-more pieces piece = flat_map-append (λ (p : List ℕ). p) pieces (piece ∷ []) ∙ ap (λ (t : List ℕ). joined pieces ++ t) (append-nil piece)
+
+-- lines and one more
+ended-more : (lines : List (List ℕ)) (line : List ℕ) → ended (lines ++ line ∷ []) ≡ ended lines ++ (line ++ 10 ∷ [])
+ended-more lines line = flat_map-append (λ (l : List ℕ). l ++ 10 ∷ []) lines (line ∷ []) ∙ ap (λ (t : List ℕ). ended lines ++ t) (append-nil (line ++ 10 ∷ []))
+
+-- the lines of a journal are its text
+ended-journal : (lines : List (List ℕ)) (h : List Entry) → IsJournalOf lines h → ended lines ≡ journal_of h
+ended-journal lines h j = ap ended (sym j.texts) ∙ flat_map-map (λ (l : List ℕ). l ++ 10 ∷ []) entry_text h
+
+-- and are as many as its entries
+lines-count : (lines : List (List ℕ)) (h : List Entry) → IsJournalOf lines h → length lines ≡ length h
+lines-count lines h j = ap length (sym j.texts) ∙ length-map h entry_text
+
+-- a long text is not empty
+long-some : (text : List ℕ) → 200 < length text → text ≢ []
+long-some text long none = absurd (let zero : length text ≡ 0 = ap length none in omega arith)
+
+-- nor is one with a line end
+end-some : (a b : List ℕ) → a ++ 10 ∷ b ≢ []
+end-some [] b is = absurd (let same : 10 ∷ b ≡ [] = is in cc)
+end-some (c ∷ a) b is = absurd (let same : c ∷ (a ++ 10 ∷ b) ≡ [] = is in cc)
+
+-- one that has stopped stays so
+pub stop-more : (j : Journal) (line : ℕ) (more : List ℕ) → IsStopped j line → IsStopped (longer j more) line
+stop-more j line more s = record {
+  front = s.front;
+  back = s.back ++ more;
+  entries = s.entries;
+  text = ap (λ (t : List ℕ). t ++ more) s.text ∙ append_assoc (journal_of s.front) s.back more;
+  begins = s.begins;
+  count = s.count;
+  some = λ none. s.some (left-none s.back none);
+  stuck = λ after e rest is_e is. s.stuck (more ++ after) e rest is_e (sym (append_assoc s.back more after) ∙ is);
+}
+  where
+    left-none : (a : List ℕ) → a ++ more ≡ [] → a ≡ []
+    left-none [] is = refl
+    left-none (c ∷ a) is = absurd (let same : c ∷ (a ++ more) ≡ [] = is in cc)
+
+module _ (c : CheckerValue) (tail : List ℕ) (line : ℕ) (text : List ℕ) (open_here : IsOpen c tail line text) where
+  -- it has stopped where what follows is stuck
+  stops : (more : List ℕ) → tail ++ more ≢ [] → ((h : List Entry) → IsJournalOf c.lines h → Begins (journal_by c text) h → (after : List ℕ) → IsStuck (journal_by c text) h ((tail ++ more) ++ after)) → IsStopped (journal_by c (text ++ more)) line
+  stops more some stuck =
+      let h = open_here.begun.0 in
+      let j = open_here.begun.1 in
+      let b = open_here.begun.2 in
+      record {
+        front = h;
+        back = tail ++ more;
+        entries = j.entries;
+        text = ap (λ (t : List ℕ). t ++ more) open_here.text_is ∙ append_assoc (ended c.lines) tail more ∙ ap (λ (t : List ℕ). t ++ (tail ++ more)) (ended-journal c.lines h j);
+        begins = b;
+        count = open_here.count ∙ ap suc (lines-count c.lines h j);
+        some = some;
+        stuck = stuck h j b;
+      }
+
+  -- no entry has so long a line
+  pub stop-long : (part : List ℕ) → has_no_end part ≡ true → 200 < length tail + length part → IsStopped (journal_by c (text ++ part)) line
+  stop-long part unended long =
+      let high : 200 < length (tail ++ part) = omega (arith, length-append tail part) in
+      stops part (long-some (tail ++ part) high)
+      (λ h j b after e rest is_e is begins. long-line (tail ++ part) after (entry_text e) rest (no_end-append tail part open_here.unended unended) (let l = entry-short e is_e in omega arith) is)
+
+  -- the line with its end goes on with no beginning
+  pub stop-bad : (part : List ℕ) → has_no_end part ≡ true → (IsBegun (one_more c (tail ++ part)) → ⊥) → IsStopped (journal_by c (text ++ (part ++ 10 ∷ []))) line
+  stop-bad part unended bad =
+      let split : tail ++ (part ++ 10 ∷ []) ≡ (tail ++ part) ++ 10 ∷ [] = sym (append_assoc tail part (10 ∷ [])) in
+      stops (part ++ 10 ∷ []) (λ none. end-some (tail ++ part) [] (sym split ∙ none))
+      (λ h j b after e rest is_e is begins.
+      let whole : (tail ++ part) ++ 10 ∷ after ≡ entry_text e ++ 10 ∷ rest = sym (append_assoc (tail ++ part) (10 ∷ []) after) ∙ ap (λ (t : List ℕ). t ++ after) (sym split) ∙ is in
+      let lines = one-line (tail ++ part) (entry_text e) after rest (no_end-append tail part open_here.unended unended) (entry-unended e is_e) whole in
+      bad (h ++ e ∷ [], journal-more c.lines (tail ++ part) h e j is_e (sym lines.0), begins))
+
+  -- the line with its end is good
+  pub open-next : (part : List ℕ) → IsBegun (one_more c (tail ++ part)) → IsOpen (one_more c (tail ++ part)) [] (line + 1) (text ++ (part ++ 10 ∷ []))
+  open-next part begun = record {
+    begun = begun;
+    text_is =
+        ap (λ (t : List ℕ). t ++ (part ++ 10 ∷ [])) open_here.text_is
+        ∙ append_assoc (ended c.lines) tail (part ++ 10 ∷ [])
+        ∙ ap (λ (t : List ℕ). ended c.lines ++ t) (sym (append_assoc tail part (10 ∷ [])))
+        ∙ sym (ended-more c.lines (tail ++ part))
+        ∙ sym (append-nil (ended (c.lines ++ (tail ++ part) ∷ [])));
+    count = (let was = open_here.count in let more = length-append c.lines ((tail ++ part) ∷ []) in omega arith);
+    unended = refl;
+    short = omega arith;
+  }
+
+  -- the line goes on
+  pub open-keep : (part : List ℕ) → has_no_end part ≡ true → length tail + length part ≤ 200 → IsOpen c (tail ++ part) line (text ++ part)
+  open-keep part unended short = record {
+    begun = open_here.begun;
+    text_is = ap (λ (t : List ℕ). t ++ part) open_here.text_is ∙ append_assoc (ended c.lines) tail part;
+    count = open_here.count;
+    unended = no_end-append tail part open_here.unended unended;
+    short = omega (arith, length-append tail part);
+  }
+
+  -- ---- what it comes to
+
+  -- a last line without its line end is bad
+  pub no-tail : (specs : List Spec) → tail ≢ [] → IsNo (journal_by c text) specs line
+  no-tail specs some =
+      let h = open_here.begun.0 in
+      let j = open_here.begun.1 in
+      let b = open_here.begun.2 in
+      record {
+        front = h;
+        back = tail;
+        entries = j.entries;
+        text = open_here.text_is ∙ ap (λ (t : List ℕ). t ++ tail) (ended-journal c.lines h j);
+        begins = b;
+        count = open_here.count ∙ ap suc (lines-count c.lines h j);
+        why = inr (some, λ e rest is_e is begins. end-in (entry_text e) rest (subst (λ (t : List ℕ). has_no_end t ≡ true) is open_here.unended));
+      }
+
+  -- the lines are over, and not whole
+  pub no-over : (specs : List Spec) → tail ≡ [] → (IsWhole c specs → ⊥) → IsNo (journal_by c text) specs line
+  no-over specs none bad =
+      let h = open_here.begun.0 in
+      let j = open_here.begun.1 in
+      let b = open_here.begun.2 in
+      record {
+        front = h;
+        back = tail;
+        entries = j.entries;
+        text = open_here.text_is ∙ ap (λ (t : List ℕ). t ++ tail) (ended-journal c.lines h j);
+        begins = b;
+        count = open_here.count ∙ ap suc (lines-count c.lines h j);
+        why = inl (none, λ legal. bad (h, j, legal));
+      }
+
+  -- they are whole
+  pub yes-whole : (specs : List Spec) → tail ≡ [] → IsWhole c specs → IsYes (journal_by c text) specs
+  yes-whole specs none (h, j, legal) = record {
+    history = h;
+    entries = j.entries;
+    text = open_here.text_is ∙ ap (λ (t : List ℕ). ended c.lines ++ t) none ∙ append-nil (ended c.lines) ∙ ended-journal c.lines h j;
+    legal = legal;
+  }
+
+-- it has stopped
+pub no-stopped : (j : Journal) (line : ℕ) (specs : List Spec) → IsStopped j line → IsNo j specs line
+no-stopped j line specs s = record {
+  front = s.front;
+  back = s.back;
+  entries = s.entries;
+  text = s.text;
+  begins = s.begins;
+  count = s.count;
+  why = inr (s.some, λ e rest is_e is begins. s.stuck [] e rest is_e (append-nil s.back ∙ is) begins);
+}
+
+-- ---- what it keeps
+
+-- it goes on
+pub reader-open : (c new : CheckerValue) (tail now : List ℕ) (line : ℕ) (stopped : Bool) (text later : List ℕ) → new ≡ c → now ≡ tail → stopped ≡ false → later ≡ text → IsOpen c tail line text → IsReader new now line stopped later
+reader-open c new tail now line stopped text later is_c is_tail going is_text o =
+    subst (λ (b : Bool). IsReader new now line b later) (sym going)
+    (subst (λ (d : CheckerValue). IsOpen d now line later) (sym is_c)
+    (subst (λ (t : List ℕ). IsOpen c t line later) (sym is_tail)
+    (subst (λ (t : List ℕ). IsOpen c tail line t) (sym is_text) o)))
+
+-- it has stopped
+pub reader-stopped : (c new : CheckerValue) (tail : List ℕ) (line : ℕ) (stopped : Bool) (text later : List ℕ) → SameMaking c new → stopped ≡ true → later ≡ text → IsStopped (journal_by c text) line → IsReader new tail line stopped later
+reader-stopped c new tail line stopped text later same over is_text s =
+    subst (λ (b : Bool). IsReader new tail line b later) (sym over)
+    (subst (λ (t : List ℕ). IsStopped (journal_by new t) line) (sym is_text)
+    (subst (λ (d : CheckerValue). IsStopped (journal_by d text) line) (sym same) s))
+
+-- what it keeps where it goes on, and where it has stopped
+pub open-of : (c : CheckerValue) (tail : List ℕ) (line : ℕ) (stopped : Bool) (text : List ℕ) → stopped ≡ false → IsReader c tail line stopped text → IsOpen c tail line text
+open-of c tail line stopped text going r = subst (λ (b : Bool). IsReader c tail line b text) going r
+
+pub stopped-of : (c : CheckerValue) (tail : List ℕ) (line : ℕ) (stopped : Bool) (text : List ℕ) → stopped ≡ true → IsReader c tail line stopped text → IsStopped (journal_by c text) line
+stopped-of c tail line stopped text over r = subst (λ (b : Bool). IsReader c tail line b text) over r
+
+-- by its length a list is empty, or not
+pub none-of : (text : List ℕ) → length text ≡ 0 → text ≡ []
+none-of [] is = refl
+none-of (c ∷ text) is = absurd (omega arith)
+
+pub some-of : (text : List ℕ) → length text ≢ 0 → text ≢ []
+some-of text some none = some (ap length none)
+
+-- no text yet
+pub open-none : (c : CheckerValue) → c.lines ≡ [] → IsBegun (record c { lines = [] }) → IsOpen c [] 1 []
+open-none c none begun = record {
+  begun = subst (λ (lines : List (List ℕ)). IsBegun (record c { lines = lines })) (sym none) begun;
+  text_is = sym (ap (λ (lines : List (List ℕ)). ended lines ++ []) none);
+  count = sym (ap (λ (lines : List (List ℕ)). suc (length lines)) none);
+  unended = refl;
+  short = omega arith;
+}
+
+-- a line has ended
+pub reader-ended : (c new : CheckerValue) (tail now : List ℕ) (line next number : ℕ) (good : Bool) (text later part : List ℕ) → IsOpen c tail line text → has_no_end part ≡ true → Takes c (tail ++ part) good new now → next ≡ line + 1 → number ≡ cond good next line → later ≡ text ++ (part ++ 10 ∷ []) → IsReader new now number (not good) later
+reader-ended c new tail now line next number true text later part o unended takes next_is number_is is_text =
+    reader-open (one_more c (tail ++ part)) new [] now number false (text ++ (part ++ 10 ∷ [])) later takes.1.0 takes.1.2 refl is_text
+    (subst (λ (n : ℕ). IsOpen (one_more c (tail ++ part)) [] n (text ++ (part ++ 10 ∷ []))) (sym (number_is ∙ next_is))
+    (open-next c tail line text o part (subst IsBegun takes.1.0 takes.1.1)))
+reader-ended c new tail now line next number false text later part o unended takes next_is number_is is_text =
+    reader-stopped c new now number true (text ++ (part ++ 10 ∷ [])) later takes.0 refl is_text
+    (subst (λ (n : ℕ). IsStopped (journal_by c (text ++ (part ++ 10 ∷ []))) n) (sym number_is)
+    (elim takes.1 [
+      | inl long ↦ subst (λ (t : List ℕ). IsStopped (journal_by c t) line) (append_assoc text part (10 ∷ []))
+          (stop-more (journal_by c (text ++ part)) line (10 ∷ []) (stop-long c tail line text o part unended (omega (arith, long, length-append tail part))))
+      | inr bad ↦ stop-bad c tail line text o part unended bad
+    ]))

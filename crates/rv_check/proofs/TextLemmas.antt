@@ -1,0 +1,207 @@
+-- The text of an entry is short and has no line end, so that a journal's text is that of one history.
+use Rattle.std.proofs.Common.{◌≡◌, ◌≢◌, ℕ, zero, suc, ◌+◌, ◌^◌, ◌<◌, ◌≤◌, ◌%◌, Bool, true, not, ◌&&◌, ◌==◌, List, [], ◌∷◌, ◌++◌, length, get_or, take, drop, Option, Some, None, codes, add-one, refl, sym, ap, ◌∙◌, subst, arith, append_assoc, length-append}
+use Rattle.std.specs.Prelude.{decimal, IfSome, IfNone}
+use Rattle.memchr.specs.Find.{IsFirstByte, is_byte}
+use Rattle.std.proofs.lemmas.Bool.{ne_eqb, eq-eqb, eqb-true, and_parts, and_from}
+use Rattle.std.proofs.lemmas.Fmt.{length-decimal-le, decimal_by_steps}
+use Rattle.rv_model.specs.declared.entry.Act.{Act}
+use Rattle.rv_model.specs.declared.entry.Act.TheVariants.{Deliver, Stop, Look, Raise, Lower, Clear}
+use Rattle.rv_model.specs.declared.entry.Entry.{Entry}
+use Rattle.rv_model.specs.declared.hit.Mode.{Mode}
+use Rattle.rv_model.specs.declared.hit.Mode.TheVariants.{Event, Start, StartRun}
+use Rattle.rv_model.specs.declared.hit.What.{What}
+use Rattle.rv_model.specs.declared.hit.What.TheVariants.{Da, Ltl}
+use Rattle.rv_journal.specs.EntryTexts.{mode_word, what_words, act_words, entry_words, behind_blanks, entry_text, IsWhat, IsAct, IsEntry}
+use Rattle.rv_journal.proofs.ReadingLemmas.{line-reads}
+use Rattle.rv_check.specs.Readings.{has_no_end}
+
+-- ---- line ends
+
+-- a byte that begins a text without line ends is none
+byte-of : (byte : ℕ) (bytes : List ℕ) → has_no_end (byte ∷ bytes) ≡ true → byte ≢ 10
+byte-of byte bytes is = λ same. let there : (byte == 10) ≡ true = eq-eqb byte 10 same in cc (rw there at is)
+
+-- and so have the others none
+bytes-of : (byte : ℕ) (bytes : List ℕ) → has_no_end (byte ∷ bytes) ≡ true → has_no_end bytes ≡ true
+bytes-of byte bytes is = (and_parts (not (byte == 10)) (has_no_end bytes) is).1
+
+-- said of each place
+pub no_end-each : (text : List ℕ) → ((k : ℕ) → k < length text → get_or text k 0 ≢ 10) → has_no_end text ≡ true
+no_end-each [] other = refl
+no_end-each (byte ∷ bytes) other = and_from _ _ (ap not (ne_eqb byte 10 (other 0 (omega arith)))) (no_end-each bytes (λ k l. other (suc k) (omega arith)))
+
+-- of two texts
+pub no_end-append : (a b : List ℕ) → has_no_end a ≡ true → has_no_end b ≡ true → has_no_end (a ++ b) ≡ true
+no_end-append [] b left right = right
+no_end-append (byte ∷ bytes) b left right = and_from _ _ (and_parts (not (byte == 10)) (has_no_end bytes) left).0 (no_end-append bytes b (bytes-of byte bytes left) right)
+
+-- a text with a line end has one
+pub end-in : (a b : List ℕ) → has_no_end (a ++ 10 ∷ b) ≡ true → ⊥
+end-in [] b is = byte-of 10 b is refl
+end-in (byte ∷ bytes) b is = end-in bytes b (bytes-of byte (bytes ++ 10 ∷ b) is)
+
+-- the first line of a text, and the rest
+pub one-line : (a b x y : List ℕ) → has_no_end a ≡ true → has_no_end b ≡ true → a ++ 10 ∷ x ≡ b ++ 10 ∷ y → (a ≡ b) × (x ≡ y)
+one-line [] [] x y left right is = (refl, let same : 10 ∷ x ≡ 10 ∷ y = is in cc)
+one-line [] (c ∷ b) x y left right is = absurd (byte-of c b right (let same : 10 ∷ x ≡ c ∷ (b ++ 10 ∷ y) = is in cc))
+one-line (c ∷ a) [] x y left right is = absurd (byte-of c a left (let same : c ∷ (a ++ 10 ∷ x) ≡ 10 ∷ y = is in cc))
+one-line (c ∷ a) (d ∷ b) x y left right is =
+    let heads : c ≡ d = cc in
+    let tails : a ++ 10 ∷ x ≡ b ++ 10 ∷ y = cc in
+    let rest = one-line a b x y (bytes-of c a left) (bytes-of d b right) tails in
+    (cc (heads, rest.0), rest.1)
+
+-- a long text without a line end begins with no short line
+pub long-line : (long more short rest : List ℕ) → has_no_end long ≡ true → length short < length long → long ++ more ≡ short ++ 10 ∷ rest → ⊥
+long-line [] more short rest left longer is = omega arith
+long-line (c ∷ long) more [] rest left longer is = byte-of c long left (let same : c ∷ (long ++ more) ≡ 10 ∷ rest = is in cc)
+long-line (c ∷ long) more (d ∷ short) rest left longer is =
+    let tails : long ++ more ≡ short ++ 10 ∷ rest = cc in
+    long-line long more short rest (bytes-of c long left) (omega arith) tails
+
+-- ---- words
+
+-- at most so many bytes, and no line end
+record Fits (most : ℕ) (text : List ℕ) : Type 0 where
+  short : length text ≤ most
+  unended : has_no_end text ≡ true
+
+-- one behind the other
+fits-append : (m n : ℕ) (a b : List ℕ) → Fits m a → Fits n b → Fits (m + n) (a ++ b)
+fits-append m n a b left right = record { short = omega (arith, length-append a b, left.short, right.short); unended = no_end-append a b left.unended right.unended }
+
+-- behind a blank
+fits-blank : (m n : ℕ) (word : List ℕ) (words : List (List ℕ)) → Fits m word → Fits n (behind_blanks words) → Fits (m + 1 + n) (behind_blanks (word ∷ words))
+fits-blank m n word words left right =
+    let first : Fits (m + 1) (32 ∷ word) = record { short = (let l = left.short in omega arith); unended = left.unended } in
+    fits-append (m + 1) n (32 ∷ word) (behind_blanks words) first right
+
+-- no word
+fits-none : Fits 0 (behind_blanks [])
+fits-none = record { short = omega arith; unended = refl }
+
+-- with room to spare
+fits-more : (m n : ℕ) (text : List ℕ) → Fits m text → m ≤ n → Fits n text
+fits-more m n text fits low = record { short = (let l = fits.short in omega arith); unended = fits.unended }
+
+-- digits are no line ends
+decimal-unended : (n : ℕ) → n < 2 ^ 64 → has_no_end (decimal n) ≡ true
+decimal-unended = decimal_by_steps (λ n ds. has_no_end ds ≡ true) one more
+  where
+    one : (n : ℕ) → n < 10 → has_no_end ((48 + n) ∷ []) ≡ true
+    one n low = no_end-each ((48 + n) ∷ []) (λ k l. single n k l)
+      where
+        single : (m k : ℕ) → k < 1 → get_or ((48 + m) ∷ []) k 0 ≢ 10
+        single m zero l = λ is. absurd (let e : 48 + m ≡ 10 = is in omega arith)
+        single m (suc k) l = absurd (omega arith)
+
+    more : (n : ℕ) (ds : List ℕ) → 10 ≤ n → has_no_end ds ≡ true → has_no_end (ds ++ ((48 + n % 10) ∷ [])) ≡ true
+    more n ds high is = no_end-append ds ((48 + n % 10) ∷ []) is (no_end-each ((48 + n % 10) ∷ []) (λ k l. single (n % 10) k l))
+      where
+        single : (m k : ℕ) → k < 1 → get_or ((48 + m) ∷ []) k 0 ≢ 10
+        single m zero l = λ is. absurd (let e : 48 + m ≡ 10 = is in omega arith)
+        single m (suc k) l = absurd (omega arith)
+
+-- a number of 32 bits
+fits-32 : (n : ℕ) → n < 2 ^ 32 → Fits 10 (decimal n)
+fits-32 n low = record { short = length-decimal-le 10 n (omega arith) (omega arith) (omega arith); unended = decimal-unended n (omega arith) }
+
+-- a number of 64 bits
+fits-64 : (n : ℕ) → n < 2 ^ 64 → Fits 20 (decimal n)
+fits-64 n low = record { short = length-decimal-le 20 n (omega arith) (omega arith) low; unended = decimal-unended n low }
+
+-- a mode
+fits-mode : (mode : Mode) → Fits 9 (mode_word mode)
+fits-mode Event = record { short = omega arith; unended = refl }
+fits-mode Start = record { short = omega arith; unended = refl }
+fits-mode StartRun = record { short = omega arith; unended = refl }
+
+-- the word of a name of at most 7 bytes
+fits-name : (name : List ℕ) → length name ≤ 7 → has_no_end name ≡ true → Fits 7 name
+fits-name name low is = record { short = low; unended = is }
+
+-- what is run
+fits-what : (what : What) → IsWhat what → Fits 41 (behind_blanks (what_words what))
+fits-what (Da event) is =
+    fits-more 19 41 _ (fits-blank 7 11 (codes "da") (decimal event ∷ []) (fits-name (codes "da") (omega arith) refl)
+    (fits-blank 10 0 (decimal event) [] (fits-32 event (omega arith)) fits-none)) (omega arith)
+fits-what (Ltl on off pulse) (a, b, c) =
+    fits-blank 7 33 (codes "ltl") (decimal on ∷ decimal off ∷ decimal pulse ∷ []) (fits-name (codes "ltl") (omega arith) refl)
+    (fits-blank 10 22 (decimal on) (decimal off ∷ decimal pulse ∷ []) (fits-32 on a)
+    (fits-blank 10 11 (decimal off) (decimal pulse ∷ []) (fits-32 off b)
+    (fits-blank 10 0 (decimal pulse) [] (fits-32 pulse c) fits-none)))
+
+-- a name and a number
+fits-named : (name : List ℕ) (n : ℕ) → length name ≤ 7 → has_no_end name ≡ true → n < 2 ^ 64 → Fits 70 (behind_blanks (name ∷ decimal n ∷ []))
+fits-named name n low is small =
+    fits-more 29 70 _ (fits-blank 7 21 name (decimal n ∷ []) (fits-name name low is) (fits-blank 20 0 (decimal n) [] (fits-64 n small) fits-none)) (omega arith)
+
+-- an act
+fits-act : (act : Act) → IsAct act → Fits 70 (behind_blanks (act_words act))
+fits-act (Deliver slot hit) (low, what) =
+    fits-blank 7 62 (codes "deliver") (decimal slot ∷ mode_word hit.mode ∷ what_words hit.what) (fits-name (codes "deliver") (omega arith) refl)
+    (fits-blank 10 51 (decimal slot) (mode_word hit.mode ∷ what_words hit.what) (fits-32 slot low)
+    (fits-blank 9 41 (mode_word hit.mode) (what_words hit.what) (fits-mode hit.mode) (fits-what hit.what what)))
+fits-act (Stop slot) is = fits-named (codes "stop") slot (omega arith) refl (omega arith)
+fits-act Look is = fits-more 8 70 _ (fits-blank 7 0 (codes "look") [] (fits-name (codes "look") (omega arith) refl) fits-none) (omega arith)
+fits-act (Raise bits) is = fits-named (codes "raise") bits (omega arith) refl is
+fits-act (Lower bits) is = fits-named (codes "lower") bits (omega arith) refl is
+fits-act (Clear slot) is = fits-named (codes "clear") slot (omega arith) refl (omega arith)
+
+-- two lists of words
+blanks-append : (xs ys : List (List ℕ)) → behind_blanks (xs ++ ys) ≡ behind_blanks xs ++ behind_blanks ys
+blanks-append [] ys = refl
+blanks-append (x ∷ xs) ys = ap (λ (t : List ℕ). (32 ∷ x) ++ t) (blanks-append xs ys) ∙ sym (append_assoc (32 ∷ x) (behind_blanks xs) (behind_blanks ys))
+
+-- an entry
+fits-entry : (e : Entry) → IsEntry e → Fits 122 (entry_text e)
+fits-entry e is =
+    let words = decimal e.before ∷ decimal e.after ∷ [] in
+    let last : Fits 42 (behind_blanks words) = fits-blank 20 21 (decimal e.before) (decimal e.after ∷ []) (fits-64 e.before is.before) (fits-blank 20 0 (decimal e.after) [] (fits-64 e.after is.after) fits-none) in
+    let rest : Fits 112 (behind_blanks (act_words e.act ++ words)) = subst (Fits 112) (sym (blanks-append (act_words e.act) words)) (fits-append 70 42 (behind_blanks (act_words e.act)) (behind_blanks words) (fits-act e.act is.act) last) in
+    fits-append 10 112 (decimal e.seat) (behind_blanks (act_words e.act ++ words)) (fits-32 e.seat is.seat) rest
+
+-- its text has no line end
+pub entry-unended : (e : Entry) → IsEntry e → has_no_end (entry_text e) ≡ true
+entry-unended e is = (fits-entry e is).unended
+
+-- and at most 200 bytes
+pub entry-short : (e : Entry) → IsEntry e → length (entry_text e) ≤ 200
+entry-short e is = let l = (fits-entry e is).short in omega arith
+
+-- and is no other entry's
+pub entry-one : (e f : Entry) → IsEntry e → IsEntry f → entry_text e ≡ entry_text f → e ≡ f
+entry-one e f is_e is_f same =
+    let both : Some e ≡ Some f = sym (line-reads (entry_text f) e is_e same) ∙ line-reads (entry_text f) f is_f refl in
+    cc
+
+-- ---- the first line end
+
+-- what stands before it
+no_end-before : (text : List ℕ) (n : ℕ) → ((k : ℕ) → k < n → k < length text → get_or text k 0 ≢ 10) → has_no_end (take n text) ≡ true
+no_end-before text zero other = refl
+no_end-before [] (suc n) other = refl
+no_end-before (byte ∷ bytes) (suc n) other = and_from _ _ (ap not (ne_eqb byte 10 (other 0 (omega arith) (omega arith)))) (no_end-before bytes n (λ k l m. other (suc k) (omega arith) (omega arith)))
+
+-- and what is behind it
+split-at : (text : List ℕ) (n : ℕ) → n < length text → get_or text n 0 ≡ 10 → text ≡ take n text ++ 10 ∷ drop (suc n) text
+split-at [] n inside is = absurd (omega arith)
+split-at (byte ∷ bytes) zero inside is = ap (λ (b : ℕ). b ∷ bytes) is
+split-at (byte ∷ bytes) (suc n) inside is = ap (λ (t : List ℕ). byte ∷ t) (split-at bytes n (omega arith) is)
+
+-- by a search for it
+pub end-inside : (text : List ℕ) (r : Option ℕ) → IsFirstByte (is_byte 10) text r → IfSome r (λ end. end < length text)
+end-inside text None first = tt
+end-inside text (Some end) first = first.0.high
+
+pub end-before : (text : List ℕ) (r : Option ℕ) → IsFirstByte (is_byte 10) text r → IfSome r (λ end. has_no_end (take end text) ≡ true)
+end-before text None first = tt
+end-before text (Some end) first = no_end-before text end (λ k l m is. first.0.before k (omega arith) l (eq-eqb _ _ is))
+
+pub end-split : (text : List ℕ) (r : Option ℕ) → IsFirstByte (is_byte 10) text r → IfSome r (λ end. text ≡ take end text ++ 10 ∷ drop (end + 1) text)
+end-split text None first = tt
+end-split text (Some end) first = split-at text end first.0.high (eqb-true _ _ first.1) ∙ ap (λ n. take end text ++ 10 ∷ drop n text) (sym (add-one end))
+
+pub end-none : (text : List ℕ) (r : Option ℕ) → IsFirstByte (is_byte 10) text r → IfNone r (has_no_end text ≡ true)
+end-none text None first = no_end-each text (λ k l is. first k (omega arith) l (eq-eqb _ _ is))
+end-none text (Some end) first = tt

@@ -1,0 +1,5 @@
+use Rattle.rv_journal.specs.MergeRuns.{NewLanes}
+use Rattle.rv_journal.proofs.merging.Merging.new.Given as goal
+
+abbrev pub invariant-loop-lane : goal.invariant-loop-lane
+invariant-loop-lane g l = NewLanes l.lanes l.lane-index l.cursors.items l.waits

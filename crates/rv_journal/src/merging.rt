@@ -1,0 +1,200 @@
+//! One legal history out of the lists of all CPUs: entries are placed one at a time, always of the lowest CPU whose next
+//! entry is ready. A look is ready. Any other entry is where its slot has the word and the count that it found, and,
+//! where it changes the word, nothing else has to be placed while that word stands.
+ghost use Rattle.std.specs.Prelude.{◌≡◌, ◌+◌, ◌<◌, ◌^◌, ℕ, List, [], length, sum, All, IfOk, OnOk, MatchOption, slice_index};
+ghost use Rattle.rv_model.specs.declared.entry.Entry.{Entry};
+ghost use Rattle.rv_model.specs.Works.{IsWork};
+ghost use Rattle.rv_journal.specs.MergeSteps.{rest_of, IsCursor, GoesTo};
+ghost use Rattle.rv_journal.specs.MergeRuns.{run_of, lane_at, IsMerging, InSlots, IsReadyAt, NoneReady, steps_left};
+ghost use Rattle.rv_journal.specs.MergeWaits.{is_ready, changes_after};
+ghost use Rattle.rv_journal.specs.Merging.{CanMerge, IsMergeOf, NumbersFit, seat_of};
+
+use crate::lane::CountedLane;
+use crate::seat::CountedSeat;
+use crate::steps::{Cursor, Next, Step, entry_of, gap_of, leaves, slot_of};
+use crate::told::{items, known, seat_of};
+use crate::waits::{Waits, hold_items, settle, waiting};
+use rv_core::Setup;
+use rv_model::Entry;
+use std::alloc::{AllocError, Global};
+use std::collections::HashMap;
+
+/// A history that is being merged.
+#[derive(Drop)]
+pub struct Merging {
+    /// What is placed.
+    pub placed: Vec<Entry>,
+    /// How far each lane has come.
+    pub cursors: Vec<Cursor>,
+    /// How many placed entries changed the word of each slot.
+    pub changes: Vec<u64>,
+    /// For how many things each gap has to stay open.
+    pub waits: Waits,
+}
+
+/// What is known of all lanes.
+fn known_lanes(lanes: &[CountedLane])
+    ensures works { All (λ l. IsWork l.work) lanes.now }
+    ensures numbers { All (λ l. All NumbersFit l.counted) lanes.now }
+{
+    for lane in lanes {
+        known(lane);
+    }
+}
+
+/// How many slots there are.
+fn slots_of(setup: &Setup) -> usize
+    ensures { result ≡ sum setup.now.shape }
+{
+    setup.shape.slots() as usize
+}
+
+/// The opening switches.
+fn switches_of(setup: &Setup) -> u64
+    ensures { result ≡ setup.now.switches }
+{
+    setup.switches
+}
+
+/// The step's change of its slot is counted.
+fn count(changes: &mut Vec<u64>, step: &Step)
+    requires slot { InSlots (length changes.old.items) step.now }
+    requires room { (slot : ℕ) → slice_index changes.old.items slot + 1 < 2 ^ 64 }
+    ensures { changes.new.items ≡ changes_after changes.old.items step.now }
+{
+    if let Step::Item(item) = step
+        && !leaves(&item.entry)
+    {
+        changes[slot_of(&item.entry.act) as usize] += 1;
+    }
+}
+
+/// The next step of the lane at this place, which has come so far.
+fn next_from(cursor: &Cursor, lanes: &[CountedLane], place: usize) -> Option<Next>
+    requires low { place < length lanes.now }
+    requires cursor { IsCursor (lane_at lanes.now place) cursor.now }
+    ensures { MatchOption result (rest_of (lane_at lanes.now place) cursor.now ≡ []) (λ next. GoesTo (lane_at lanes.now place) cursor.now next.step next.cursor) }
+{
+    cursor.next(&lanes[place])
+}
+
+/// The seat of the lane at this place.
+fn seat_at(lanes: &[CountedLane], place: usize) -> u32
+    requires { place < length lanes.now }
+    ensures { result ≡ seat_of (lane_at lanes.now place) }
+{
+    seat_of(&lanes[place])
+}
+
+impl Merging {
+    /// Nothing is placed.
+    fn new(alloc: Global, setup: &Setup, lanes: &[CountedLane]) -> Result<Merging, AllocError>
+        ghost seen: { List Entry }
+        requires { CanMerge setup.now seen lanes.now }
+        ensures { IfOk result (λ m. IsMerging (run_of setup.now seen) lanes.now m.placed.items m.cursors.items m.changes.items m.waits) }
+    {
+        setup.known();
+        known_lanes(lanes);
+        let mut waits = HashMap::new(alloc);
+        let mut cursors = Vec::new(alloc);
+        for lane in lanes {
+            hold_items(&mut waits, items(lane))?;
+            cursors.push(Cursor { turns: 0, items: 0 })?;
+        }
+        let changes = vec![in alloc; 0; slots_of(setup)]?;
+        Ok(Merging {
+            placed: Vec::new(alloc),
+            cursors,
+            changes,
+            waits,
+        })
+    }
+
+    /// Whether the step may be placed now.
+    fn is_ready(&self, step: &Step) -> bool
+        requires { InSlots (length self.now.changes.items) step.now }
+        ensures { result ≡ is_ready self.now.changes.items self.now.waits step.now }
+    {
+        match step {
+            Step::Opens => true,
+            Step::Item(item) => {
+                let gap = gap_of(item);
+                self.changes[gap.slot as usize] == gap.rank
+                    && (leaves(&item.entry) || waiting(&self.waits, gap) == 0)
+            }
+        }
+    }
+
+    /// The first lane whose next step is ready.
+    fn ready_lane(&self, _setup: &Setup, lanes: &[CountedLane]) -> Option<usize>
+        ghost seen: { List Entry }
+        requires { IsMerging (run_of _setup.now seen) lanes.now self.now.placed.items self.now.cursors.items self.now.changes.items self.now.waits }
+        ensures { MatchOption result (NoneReady lanes.now self.now.placed.items self.now.cursors.items) (λ place. IsReadyAt lanes.now self.now.placed.items self.now.cursors.items place) }
+    {
+        for place in 0..lanes.len() {
+            if let Some(next) = next_from(&self.cursors[place], lanes, place) {
+                if self.is_ready(&next.step) {
+                    return Some(place);
+                }
+            }
+        }
+        None
+    }
+
+    /// The lane's next step is placed.
+    fn place(
+        &mut self,
+        setup: &Setup,
+        lanes: &[CountedLane],
+        place: usize,
+    ) -> Result<(), AllocError>
+        ghost seen: { List Entry }
+        requires merging { IsMerging (run_of setup.now seen) lanes.now self.old.placed.items self.old.cursors.items self.old.changes.items self.old.waits }
+        requires ready { IsReadyAt lanes.now self.old.placed.items self.old.cursors.items place }
+        ensures merging { OnOk result (IsMerging (run_of setup.now seen) lanes.now self.new.placed.items self.new.cursors.items self.new.changes.items self.new.waits) }
+        ensures fewer { OnOk result (steps_left lanes.now self.new.cursors.items < steps_left lanes.now self.old.cursors.items) }
+    {
+        let Some(next) = next_from(&self.cursors[place], lanes, place) else {
+            unreachable!()
+        };
+        let then = next_from(&next.cursor, lanes, place);
+        settle(&mut self.waits, &next.step, &then)?;
+        let seat = seat_at(lanes, place);
+        self.placed
+            .push(entry_of(&next.step, seat, switches_of(setup)))?;
+        self.cursors[place] = next.cursor;
+        count(&mut self.changes, &next.step);
+        Ok(())
+    }
+}
+
+/// One legal history out of the lists of all CPUs. `seen` is the history of which the lanes have parts.
+fn merge_lanes(
+    alloc: Global,
+    setup: &Setup,
+    _seat: &CountedSeat,
+    lanes: &[CountedLane],
+) -> Result<Vec<Entry>, AllocError>
+    ghost seen: { List Entry }
+    requires { CanMerge setup.now seen lanes.now }
+    ensures { IfOk result (λ merged. IsMergeOf setup.now seen lanes.now merged.items) }
+{
+    let mut merging = Merging::new(alloc, setup, lanes)?;
+    while let Some(place) = merging.ready_lane(setup, lanes) {
+        merging.place(setup, lanes, place)?;
+    }
+    Ok(merging.placed)
+}
+
+/// One legal history out of the lists of all CPUs, which are parts of what the seat has seen.
+pub fn merge(
+    alloc: Global,
+    setup: &Setup,
+    _seat: &CountedSeat,
+    lanes: &[CountedLane],
+) -> Result<Vec<Entry>, AllocError>
+    requires { CanMerge setup.now _seat.now.seat.part.seen lanes.now }
+    ensures { IfOk result (λ merged. IsMergeOf setup.now _seat.now.seat.part.seen lanes.now merged.items) }
+{
+    merge_lanes(alloc, setup, _seat, lanes)
+}

@@ -1,0 +1,130 @@
+//! What the lanes put into the merged history, one step after another.
+ghost use Rattle.std.specs.Prelude.{◌≡◌, [], MatchOption};
+ghost use Rattle.rv_journal.specs.MergeSteps.{rest_of, IsCursor, GoesTo, slot_in, leaves, step_entry};
+ghost use Rattle.rv_journal.specs.MergeWaits.{gap_in, lost_gap};
+
+use crate::counted::Counted;
+use crate::lane::{CountedLane, turn_at, turn_count};
+use crate::told::{item_at, item_count};
+use rv_model::{Act, Entry};
+
+/// What a lane puts into the merged history next.
+#[derive(Clone, Copy, Debug, Drop, PartialEq, Eq)]
+pub enum Step {
+    /// A turn opens, with a look.
+    Opens,
+    /// A delivery, or the stop in its place.
+    Item(Counted),
+}
+
+/// How far a lane has come.
+#[derive(Clone, Copy, Debug, Drop, PartialEq, Eq)]
+pub struct Cursor {
+    /// Turns that are open.
+    pub turns: usize,
+    /// Items that are placed.
+    pub items: usize,
+}
+
+/// A lane's next step, and how far it has come with it.
+#[derive(Clone, Copy, Debug, Drop, PartialEq, Eq)]
+pub struct Next {
+    pub step: Step,
+    pub cursor: Cursor,
+}
+
+/// The stretch of a slot's history after so many entries that changed its word.
+#[derive(Clone, Copy, Debug, Drop, PartialEq, Eq, Hash)]
+pub struct Gap {
+    pub slot: u32,
+    pub rank: u64,
+}
+
+impl Cursor {
+    /// The lane's next step, if one is left.
+    pub fn next(&self, lane: &CountedLane) -> Option<Next>
+        requires { IsCursor lane.now self.now }
+        ensures { MatchOption result (rest_of lane.now self.now ≡ []) (λ next. GoesTo lane.now self.now next.step next.cursor) }
+    {
+        if self.turns < turn_count(lane) {
+            if turn_at(lane, self.turns).from as usize == self.items {
+                return Some(Next {
+                    step: Step::Opens,
+                    cursor: Cursor {
+                        turns: self.turns + 1,
+                        items: self.items,
+                    },
+                });
+            }
+        }
+        if self.items >= item_count(lane) {
+            return None;
+        }
+        Some(Next {
+            step: Step::Item(item_at(lane, self.items)),
+            cursor: Cursor {
+                turns: self.turns,
+                items: self.items + 1,
+            },
+        })
+    }
+}
+
+/// The slot that an act is on, and 0 where it is on the switches.
+pub fn slot_of(act: &Act) -> u32
+    ensures { result ≡ slot_in act.now }
+{
+    match *act {
+        Act::Deliver { slot, .. } => slot,
+        Act::Stop { slot } => slot,
+        Act::Clear { slot } => slot,
+        Act::Look | Act::Raise { .. } | Act::Lower { .. } => 0,
+    }
+}
+
+/// The gap in which the item's entry found its slot. A word of 0 is that of a stopped instance, whose Stop no count
+/// tells.
+pub fn gap_of(item: &Counted) -> Gap
+    ensures { result ≡ gap_in item.now }
+{
+    let stopped = if item.entry.before == 0 { 1 } else { 0 };
+    Gap {
+        slot: slot_of(&item.entry.act),
+        rank: item.count as u64 + stopped,
+    }
+}
+
+/// The gap that has to stay open until a Stop is the next step of its lane.
+pub fn lost_from(item: &Counted) -> Option<Gap>
+    ensures { result ≡ lost_gap item.now.entry.act item.now.first }
+{
+    match item.entry.act {
+        Act::Stop { slot } => Some(Gap {
+            slot,
+            rank: item.first as u64,
+        }),
+        _ => None,
+    }
+}
+
+/// Whether the entry left its word as it was.
+pub fn leaves(entry: &Entry) -> bool
+    ensures { result ≡ leaves entry.now }
+{
+    entry.before == entry.after
+}
+
+/// The entry of a step, by the seat and the switches.
+pub fn entry_of(step: &Step, seat: u32, switches: u64) -> Entry
+    ensures { result ≡ step_entry seat switches step.now }
+{
+    match step {
+        Step::Opens => Entry {
+            seat,
+            act: Act::Look,
+            before: switches,
+            after: switches,
+        },
+        Step::Item(item) => item.entry,
+    }
+}
