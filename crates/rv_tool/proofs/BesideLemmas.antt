@@ -19,7 +19,7 @@ abbrev made : BoundValue → RoutedValue → Outcome InputValue
 made bound routed = accepted (record { bound = bound; routed = routed; changes = [] })
 
 -- without a file the bindings and the trace come to that file, or to what they are
-input-local : (bindings trace : List ℕ) → IsLocal (λ files. run_input files bindings trace)
+pub input-local : (bindings trace : List ℕ) → IsLocal (λ files. run_input files bindings trace)
 input-local bindings trace =
     reading-local (λ files. bound_of files bindings) (λ files bound. reading (routed_in files trace bound) (made bound)) (bound-local bindings)
     (λ bound. reading-local (λ files. routed_in files trace bound) (λ files. made bound) (of_name-local trace (λ files. routed_text trace bound) (λ text files file. inr refl)) (λ routed files file. inr refl))

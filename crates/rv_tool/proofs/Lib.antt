@@ -1,6 +1,7 @@
 pub mod AnswerLemmas
 pub mod BesideLemmas
 pub mod ChangesLemmas
+pub mod CheckLemmas
 pub mod ComesLemmas
 pub mod CpuLemmas
 pub mod FeedingLemmas

@@ -90,6 +90,17 @@ hit_fits (specs.Ltl rule) t mode what is fits =
 hit_fits (specs.Da a) t mode (whats.Da event) is fits = subst (λ (u : Table). FitsKind u mode (whats.Da event)) (sym is) fits
 hit_fits (specs.Da a) t mode (whats.Ltl on off pulse) is fits = absurd fits
 
+-- the work of a lane
+pub get_or-works : (lanes : List LaneValue) (i : ℕ) (d : LaneValue) → get_or (works_of lanes) i d.work ≡ (get_or lanes i d).work
+get_or-works [] i d = refl
+get_or-works (lane ∷ lanes) zero d = refl
+get_or-works (lane ∷ lanes) (suc i) d = get_or-works lanes i d
+
+-- there is a work for each lane
+pub works_counted : (lanes : List LaneValue) → length (works_of lanes) ≡ length lanes
+works_counted [] = refl
+works_counted (lane ∷ lanes) = ap (λ n. suc n) (works_counted lanes)
+
 module _ (monitors : List Monitor) (tables : List Table) (tasks : ℕ) (have : HaveTables (kinds_of monitors) tables) where
   delivery_fits : (cpu : ℕ) (d : Delivery) → FitsKindOf (kinds_of monitors) tasks cpu d → FitsDelivery (opened monitors tables tasks) d
   delivery_fits cpu d f =
@@ -109,15 +120,6 @@ module _ (monitors : List Monitor) (tables : List Table) (tasks : ℕ) (have : H
   all_works : (P : Work → Type 0) (lanes : List LaneValue) → All P (works_of lanes) → All (λ (l : LaneValue). P l.work) lanes
   all_works P [] all = All-nil (λ (l : LaneValue). P l.work)
   all_works P (lane ∷ lanes) all = All-cons (λ (l : LaneValue). P l.work) lane lanes (All-head P lane.work (works_of lanes) all) (all_works P lanes (All-tail P lane.work (works_of lanes) all))
-
-  get_or-works : (lanes : List LaneValue) (i : ℕ) (d : LaneValue) → get_or (works_of lanes) i d.work ≡ (get_or lanes i d).work
-  get_or-works [] i d = refl
-  get_or-works (lane ∷ lanes) zero d = refl
-  get_or-works (lane ∷ lanes) (suc i) d = get_or-works lanes i d
-
-  works_counted : (lanes : List LaneValue) → length (works_of lanes) ≡ length lanes
-  works_counted [] = refl
-  works_counted (lane ∷ lanes) = ap (λ n. suc n) (works_counted lanes)
 
   pair_works : (lanes : List LaneValue) → AllPairs (λ (w v : Work). w.cpu < v.cpu) (works_of lanes) → AllPairs (λ (l m : LaneValue). l.work.cpu < m.work.cpu) lanes
   pair_works lanes pairs i j d lt within =

@@ -1,11 +1,13 @@
 pub mod AutomatonTexts
 pub mod Changes
+pub mod Checks
 pub mod Faults
 pub mod Feeding
 pub mod FormulaTexts
 pub mod HeaderFiles
 pub mod Headline
 pub mod Inputs
+pub mod JournalPieces
 pub mod Loaded
 pub mod Output
 pub mod Pieces

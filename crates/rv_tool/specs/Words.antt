@@ -21,6 +21,8 @@ pub data CommandValue : Type 0 where
   feed : List ℕ → List ℕ → CommandValue
   -- the bindings, the trace, and the script beside the CPUs
   feed_beside : List ℕ → List ℕ → List ℕ → CommandValue
+  -- the bindings, the trace, and the journal that is judged
+  check : List ℕ → List ℕ → List ℕ → CommandValue
   -- the bindings, the trace, and the monitor and the instance that are watched
   watch : List ℕ → List ℕ → List ℕ → List ℕ → CommandValue
   -- the bindings and the script
@@ -36,6 +38,7 @@ abbrev pub command_value : Command → CommandValue
 command_value (commands.Replay bindings trace) = replay bindings.now trace.now
 command_value (commands.Feed bindings trace) = feed bindings.now trace.now
 command_value (commands.FeedBeside bindings trace script) = feed_beside bindings.now trace.now script.now
+command_value (commands.Check bindings trace journal) = check bindings.now trace.now journal.now
 command_value (commands.Watch bindings trace monitor instance) = watch bindings.now trace.now monitor.now instance.now
 command_value (commands.Control bindings script) = control bindings.now script.now
 command_value (commands.Load blocks) = load blocks
@@ -79,10 +82,11 @@ abbrev pub load_of : Option ℕ → Option CommandValue
 load_of None = None
 load_of (Some blocks) = if nat_lt 0 blocks && not (nat_lt MAX_BLOCKS blocks) then Some (load blocks) else None
 
--- `feed BINDINGS TRACE CONTROL`
+-- `feed BINDINGS TRACE CONTROL` or `check BINDINGS TRACE JOURNAL`
 abbrev pub command_with_third : List ℕ → List ℕ → List ℕ → List ℕ → Option CommandValue
 command_with_third word bindings trace third =
     if bytes_eq word (codes "feed") then Some (feed_beside bindings trace third)
+    else if bytes_eq word (codes "check") then Some (check bindings trace third)
     else None
 
 -- `replay BINDINGS TRACE`, `feed BINDINGS TRACE`, `control BINDINGS SCRIPT`, `load N`, a table, C tables, or a command of three or four further words

@@ -5,6 +5,7 @@ mod automaton_text;
 #[cfg(test)]
 mod beside_tests;
 mod changes;
+mod checking;
 #[cfg(test)]
 mod failing_tests;
 mod feeding;

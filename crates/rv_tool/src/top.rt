@@ -6,13 +6,14 @@ ghost use Rattle.rv_tool.specs.Loaded.{load_input};
 ghost use Rattle.rv_tool.specs.Output.{refusal_text, missing_text};
 ghost use Rattle.rv_io.specs.Files.{Files};
 ghost use Rattle.rv_tool.specs.Headline.{Says, Reports, Ends};
-ghost use Rattle.rv_tool.specs.Runs.{Ended, Fails, Runs, WatchesRead, PrintsRead, SaysSession, Answers};
+ghost use Rattle.rv_tool.specs.Runs.{Ended, Fails, Runs, WatchesRead, PrintsRead, SaysVerdict, SaysSession, Answers};
 ghost use Rattle.rv_tool.specs.WatchReports.{IsToWatch};
 ghost use Rattle.rv_tool.specs.Verdicts.{ReportsVerdicts, Verdicts};
 ghost use Rattle.rv_tool.specs.Words.{command_of, texts_of};
 ghost use Rattle.rv_tool.specs.Ready.{ready_value, IsReady};
 
 use crate::changes::read_beside;
+use crate::checking::{read_verdict, verdict_line, verdict_status};
 use crate::feeding::fed;
 use crate::headers::read_header;
 use crate::input::{Ready, read_input};
@@ -24,6 +25,7 @@ use crate::tables::read_table;
 use crate::watching::{ToWatch, read_watched, watched};
 use crate::words::{Command, read_words};
 use rv_bind::BindFault;
+use rv_check::Verdict;
 use rv_io::{Gate, Sink, Store};
 use rv_model::Closed;
 use rv_text::{Refusal, USAGE};
@@ -103,6 +105,17 @@ pub fn rv<R: Threads + Sync, S: Store, K: Sink, G: Gate + Send>(
             out,
             gate,
             read_watched(alloc, store, bindings, trace, monitor, instance),
+        ),
+        Some(
+            Command::Check {
+                bindings,
+                trace,
+                journal,
+            },
+        ) => tell_verdict(
+            alloc,
+            out,
+            read_verdict(alloc, store, bindings, trace, journal),
         ),
         Some(Command::Table { kind, file }) => print(
             alloc,
@@ -211,6 +224,22 @@ fn print<K: Sink>(alloc: Global, out: &mut K, read: Result<Vec<u8>, BindFault>) 
             let closed = Closed::new();
             Finished { status, closed }
         }
+        Err(fault) => failed(alloc, out, fault),
+    }
+}
+
+/// Says a verdict, or why there is none.
+fn tell_verdict<K: Sink>(alloc: Global, out: &mut K, read: Result<Verdict, BindFault>) -> Finished
+    ensures { SaysVerdict read (K.taken out.old) (K.taken out.new) (K.faults out.old) (K.faults out.new) result.status result.closed }
+{
+    match read {
+        Ok(verdict) => match verdict_line(alloc, verdict) {
+            Ok(text) => Finished {
+                status: tell(out, text.as_slice(), verdict_status(verdict)),
+                closed: Closed::new(),
+            },
+            Err(AllocError) => give_up(),
+        },
         Err(fault) => failed(alloc, out, fault),
     }
 }

@@ -68,7 +68,7 @@ pub(crate) fn refused(alloc: Global, name: &str, fault: Refused) -> BindFault
 
 /// Puts the bytes of the trace from a place on into the front of the buffer, and answers how many.
 #[tactic(auto, using(rv_bind::proofs::ReachedLemmas::unread_named))]
-fn fetch<S: Store>(
+pub(crate) fn fetch<S: Store>(
     alloc: Global,
     store: &mut S,
     trace: &str,

@@ -47,6 +47,11 @@ pub(crate) enum Command<'a> {
         trace: &'a str,
         script: &'a str,
     },
+    Check {
+        bindings: &'a str,
+        trace: &'a str,
+        journal: &'a str,
+    },
     Watch {
         bindings: &'a str,
         trace: &'a str,
@@ -185,6 +190,12 @@ fn with_third<'a>(
             bindings,
             trace,
             script: third,
+        })
+    } else if is(word, "check") {
+        Some(Command::Check {
+            bindings,
+            trace,
+            journal: third,
         })
     } else {
         None

@@ -11,10 +11,12 @@ use Rattle.rv_tool.specs.SessionValues.{session_value}
 use Rattle.rv_tool.specs.HeaderFiles.{header_in}
 use Rattle.rv_tool.specs.Tables.{table_in}
 use Rattle.rv_tool.specs.Verdicts.{ReportsVerdicts}
+use Rattle.rv_tool.specs.Checks.{checked_input}
 use Rattle.rv_tool.specs.Watched.{watched_input}
 use Rattle.rv_tool.specs.WatchReports.{IsWatchReport, Watches, watch_value}
 use Rattle.rv_tool.specs.Words.{command_value}
 use Rattle.rv_tool.proofs.AnswerLemmas.{no_telling, no_report, no_text, read_answers, words_answer}
+use Rattle.rv_tool.proofs.CheckLemmas.{check_answers}
 use Rattle.rv_tool.proofs.VerdictLemmas.{runs_verdicts, no_verdicts, words_verdict}
 use Rattle.rv_tool.proofs.top.rv.Goals as goal
 
@@ -35,6 +37,11 @@ returns-in-Some-FeedBeside-clause-answers g c =
     words_answer _ _ _ _ _ _ _ _ (g.S.Store.files c.args.store.now) _ _ (sym (ap (λ v. Some (command_value v)) c.in-Some-FeedBeside.field-0-is) ∙ c.in-Some-FeedBeside.ensures.value)
     (read_answers _ _ _ _ _ _ ready_value (Reports IsLegal) (λ files. input_beside files _ _ _) (no_report _ _ _ _ _ _ IsLegal) (g.S.Store.files c.args.store.now) _ _
     c.read_beside.result c.read_beside.ensures.value c.read_beside.ensures.named c.run_at_once-in-Some-FeedBeside.ensures)
+
+pub returns-in-Some-Check-clause-answers : goal.returns-in-Some-Check-clause-answers
+returns-in-Some-Check-clause-answers g c =
+    words_answer _ _ _ _ _ _ _ _ (g.S.Store.files c.args.store.now) _ _ (sym (ap (λ v. Some (command_value v)) c.in-Some-Check.field-0-is) ∙ c.in-Some-Check.ensures.value)
+    (check_answers _ _ _ _ _ _ (λ files. checked_input files _ _ _) (g.S.Store.files c.args.store.now) _ _ c.read_verdict.result c.read_verdict.ensures.value c.read_verdict.ensures.named c.tell_verdict.ensures)
 
 pub returns-in-Some-Watch-clause-answers : goal.returns-in-Some-Watch-clause-answers
 returns-in-Some-Watch-clause-answers g c =
@@ -78,6 +85,10 @@ returns-in-Some-Feed-clause-verdicts g c =
 pub returns-in-Some-FeedBeside-clause-verdicts : goal.returns-in-Some-FeedBeside-clause-verdicts
 returns-in-Some-FeedBeside-clause-verdicts g c =
     words_verdict _ _ _ _ _ _ _ _ (g.S.Store.files c.args.store.now) _ _ (sym (ap (λ v. Some (command_value v)) c.in-Some-FeedBeside.field-0-is) ∙ c.in-Some-FeedBeside.ensures.value) (λ files known. tt)
+
+pub returns-in-Some-Check-clause-verdicts : goal.returns-in-Some-Check-clause-verdicts
+returns-in-Some-Check-clause-verdicts g c =
+    words_verdict _ _ _ _ _ _ _ _ (g.S.Store.files c.args.store.now) _ _ (sym (ap (λ v. Some (command_value v)) c.in-Some-Check.field-0-is) ∙ c.in-Some-Check.ensures.value) (λ files known. tt)
 
 pub returns-in-Some-Watch-clause-verdicts : goal.returns-in-Some-Watch-clause-verdicts
 returns-in-Some-Watch-clause-verdicts g c =
