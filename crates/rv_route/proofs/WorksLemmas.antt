@@ -2,7 +2,7 @@
 use Rattle.std.proofs.Common.{◌≡◌, ℕ, zero, suc, ◌+◌, ◌<◌, ◌≤◌, ◌==◌, ◌⊎◌, inl, inr, Bool, true, false, List, [], ◌∷◌, ◌++◌, length, get_or, refl, sym, ap, ◌∙◌, subst, arith}
 use Rattle.std.specs.Prelude.{All, AllPairs, Contains, Ok, replicate}
 use Rattle.std.proofs.lemmas.List.{get_or_default}
-use Rattle.std.proofs.lemmas.List.Elements.{All-nil, All-cons, All-push, All-weaker, Contains-append_left, Contains-append_right}
+use Rattle.std.proofs.lemmas.List.Elements.{All-nil, All-cons, All-head, All-tail, All-push, All-weaker, Contains-append_left, Contains-append_right}
 use Rattle.std.proofs.lemmas.List.Kept.{AllPairs-cons}
 use Rattle.std.proofs.lemmas.List.Quantifiers.{all_pairs_push}
 use Rattle.rv_trace.specs.declared.line.TraceLine.{TraceLine}
@@ -12,6 +12,7 @@ use Rattle.rv_model.specs.Histories.{LinesApart}
 use Rattle.rv_bind.specs.declared.bindings.Monitor.{Monitor}
 use Rattle.rv_bind.specs.RuleValues.{OnValue}
 use Rattle.rv_bind.specs.WellFormed.{Kind, kinds_of, FitsKind}
+use Rattle.rv_route.specs.declared.deliveries.TheConstants.{MAX_DELIVERIES}
 use Rattle.rv_route.specs.Lanes.{LaneValue}
 use Rattle.rv_route.specs.Routing.{Routes, no_lane, line_routes, nothing, works_from, works_of}
 use Rattle.rv_route.specs.Fitting.{IsOf, FitsKindOf, LaneFits, RoutesFit, Fits, NumbersAscend, WorksFit}
@@ -136,9 +137,26 @@ nothing_fits all kinds = record { many = refl; lanes = λ cpu. subst (λ (l : La
 pub fits_nothing : (kinds : List Kind) (start : Routes) → start ≡ nothing → Fits kinds 0 start
 fits_nothing kinds start none = subst (Fits kinds 0) (sym none) (record { lines = []; ascend = λ i j d lt within. absurd (omega arith); below = All-nil (λ (l : TraceLine). l.number < 0); fit = nothing_fits [] kinds })
 
+-- no lane has more deliveries than so many
+abbrev pub AreShort : ℕ → List LaneValue → Type 0
+AreShort most lanes = All (λ (l : LaneValue). length l.deliveries ≤ most) lanes
+
+-- so no work has more
+works_short : (most cpu : ℕ) (lanes : List LaneValue) → AreShort most lanes → All (λ (w : Work). length w.deliveries ≤ most) (works_from cpu lanes)
+works_short most cpu [] short = All-nil (λ (w : Work). length w.deliveries ≤ most)
+works_short most cpu (lane ∷ lanes) short =
+    go (length lane.deliveries == 0) refl (All-head (λ (l : LaneValue). length l.deliveries ≤ most) lane lanes short) (works_short most (cpu + 1) lanes (All-tail (λ (l : LaneValue). length l.deliveries ≤ most) lane lanes short))
+  where
+    Short : Work → Type 0
+    Short w = length w.deliveries ≤ most
+
+    go : (b : Bool) → (length lane.deliveries == 0) ≡ b → length lane.deliveries ≤ most → All Short (works_from (cpu + 1) lanes) → All Short (works_from cpu (lane ∷ lanes))
+    go true none few rest = rw none rest
+    go false some few rest = rw some (All-cons Short (record { cpu = cpu; turns = lane.turns; deliveries = lane.deliveries }) (works_from (cpu + 1) lanes) few rest)
+
 -- what is routed fits
-pub works_fit : (kinds : List Kind) (next : ℕ) (routes : Routes) → Fits kinds next routes → WorksFit kinds (length routes.tasks) (works_of routes.lanes)
-works_fit kinds next routes f =
+pub works_fit : (kinds : List Kind) (next : ℕ) (routes : Routes) → Fits kinds next routes → AreShort MAX_DELIVERIES routes.lanes → WorksFit kinds (length routes.tasks) (works_of routes.lanes)
+works_fit kinds next routes f short =
     let k : ℕ = length routes.tasks in
     let of = of_lanes f.lines kinds k next 0 routes.lanes (λ i lt. let e : i ≡ 0 + i = omega arith in subst (λ c. LaneFits f.lines kinds k next c (get_or routes.lanes i no_lane)) e (f.fit.lanes i)) in
     let count : ℕ = length routes.lanes in
@@ -150,4 +168,5 @@ works_fit kinds next routes f =
       lines = All-weaker P (λ (w : Work). AllPairs (λ (t u : Turn). t.line < u.line) w.turns) (λ w o. ascends-pairs next w.turns o.fits.ascends) (works_of routes.lanes) of.works;
       apart = works_apart f.lines kinds k next (works_of routes.lanes) count f.ascend of.works;
       deliveries = All-weaker P (λ (w : Work). All (FitsKindOf kinds k w.cpu) w.deliveries) (λ w o. o.fits.fit) (works_of routes.lanes) of.works;
+      few = works_short MAX_DELIVERIES 0 routes.lanes short;
     }

@@ -1,4 +1,4 @@
--- What routed works keep: they ascend by CPU, the lines of each ascend, no line makes turns of two CPUs, and each delivery fits its monitor and its CPU.
+-- What routed works keep: they ascend by CPU, the lines of each ascend, no line makes turns of two CPUs, each delivery fits its monitor and its CPU, and none has more deliveries than a trace may have.
 use Rattle.std.specs.Prelude.{◌≡◌, ◌<◌, ◌≤◌, ℕ, List, [], ◌∷◌, length, All, AllPairs, Contains, Some, slice_get, slice_index_or}
 use Rattle.rv_model.specs.declared.work.Delivery.{Delivery}
 use Rattle.rv_model.specs.declared.work.Scope.TheVariants.{Cpu}
@@ -8,6 +8,7 @@ use Rattle.rv_model.specs.Histories.{LinesApart}
 use Rattle.rv_slots.specs.Shapes.{count_of}
 use Rattle.rv_trace.specs.declared.line.TraceLine.{TraceLine}
 use Rattle.rv_bind.specs.WellFormed.{Kind, FitsSpec}
+use Rattle.rv_route.specs.declared.deliveries.TheConstants.{MAX_DELIVERIES}
 use Rattle.rv_route.specs.Lanes.{LaneValue}
 use Rattle.rv_route.specs.Routing.{Routes, no_lane}
 
@@ -36,6 +37,7 @@ pub record WorksFit (kinds : List Kind) (tasks : ℕ) (works : List Work) : Type
   pub lines : All (λ w. AllPairs (λ t u. t.line < u.line) w.turns) works
   pub apart : LinesApart works
   pub deliveries : All (λ w. All (FitsKindOf kinds tasks w.cpu) w.deliveries) works
+  pub few : All (λ w. length w.deliveries ≤ MAX_DELIVERIES) works
 
 -- each line is below the next one, and the last is at most this one
 abbrev pub AscendsTo : ℕ → List Turn → Type 0

@@ -1,19 +1,17 @@
 -- From how the parts of a run end to what the top call answers.
 use Rattle.std.proofs.Common.{◌≡◌, ℕ, List, sym, ap, ◌∙◌, inl, inr, subst, arith}
-use Rattle.std.specs.Prelude.{Option, Some, Result, Ok, Err, IfOk}
-use Rattle.std.specs.declared.alloc.AllocError.{AllocError}
+use Rattle.std.specs.Prelude.{Option, Some, Result, Ok, Err}
 use Rattle.rv_text.specs.declared.refusals.Refusal.{Refusal}
 use Rattle.rv_model.specs.declared.entry.Entry.{Entry}
 use Rattle.rv_io.specs.Files.{Files}
 use Rattle.rv_bind.specs.declared.fault.BindFault.{BindFault}
 use Rattle.rv_bind.specs.declared.fault.BindFault.TheVariants as faults
 use Rattle.rv_bind.specs.Outcomes.{Outcome, accepted, refused, missing, Comes, Names}
-use Rattle.rv_tool.specs.declared.replaying.Done.{Done}
 use Rattle.rv_tool.specs.Inputs.{InputValue}
 use Rattle.rv_tool.specs.Output.{refusal_text, missing_text}
 use Rattle.rv_tool.specs.Words.{CommandValue}
 use Rattle.rv_tool.specs.Headline.{Histories, IsReported, Ending, GivesUp, Says, TellsOf, Reports, Ends}
-use Rattle.rv_tool.specs.Runs.{Ended, Fails, EndsRead, AnswersBy, Answers}
+use Rattle.rv_tool.specs.Runs.{Fails, EndsRead, AnswersBy, Answers}
 
 module _ (old new : Option (List ℕ)) (before now status : ℕ) (h : List Entry) where
   -- want of memory ends a run

@@ -1,5 +1,5 @@
 -- What a journal is judged by, and how much of it has to be read.
-use Rattle.std.proofs.Common.{◌≡◌, ◌≢◌, ◌⊎◌, ℕ, zero, suc, ◌+◌, ◌-◌, ◌%◌, ◌<◌, ◌≤◌, ◌^◌, ◌==◌, Bool, true, false, List, [], ◌∷◌, ◌++◌, length, take, drop, map, get_or, refl, sym, ap, ◌∙◌, subst, inl, inr, arith, take-append-drop, append_assoc}
+use Rattle.std.proofs.Common.{◌≡◌, ◌≢◌, ◌⊎◌, ℕ, zero, suc, ◌+◌, ◌%◌, ◌<◌, ◌≤◌, ◌^◌, ◌==◌, Bool, true, false, List, [], ◌∷◌, ◌++◌, length, drop, map, get_or, refl, sym, ap, ◌∙◌, subst, inl, inr, arith, take-append-drop, append_assoc}
 use Rattle.std.specs.Prelude.{Option, Some, None, option_map, Result, Ok, Err, All, AllPairs}
 use Rattle.std.proofs.Math.Nat.{div-eq_of_lt}
 use Rattle.std.proofs.Math.Pow.{pow_mono}
@@ -23,14 +23,14 @@ use Rattle.rv_check.specs.Verdicts.{Journal, Holds}
 use Rattle.rv_bind.specs.declared.bindings.Monitor.{Monitor}
 use Rattle.rv_bind.specs.declared.fault.BindFault.{BindFault}
 use Rattle.rv_bind.specs.declared.fault.BindFault.TheVariants as faults
-use Rattle.rv_bind.specs.Outcomes.{Outcome, accepted, refused, missing, reading, of_text, of_name, without, Comes, Names}
+use Rattle.rv_bind.specs.Outcomes.{Outcome, accepted, refused, missing, reading, of_text, of_name, without, Names}
 use Rattle.rv_bind.proofs.ReachedLemmas.{step_named, behind_named}
 use Rattle.rv_tool.specs.declared.input.Ready.{Ready}
 use Rattle.rv_tool.specs.Ready.{ready_value, IsReady}
 use Rattle.rv_tool.specs.Checks.{CheckedValue, checked_input, panic_bits, judged, IsJudged, verdict_text, verdict_status, IsCheckReport, Checks, JudgesRead}
 use Rattle.rv_tool.specs.Faults.{FaultComes, FaultNames}
 use Rattle.rv_tool.specs.Feeding.{FedOf, IsFed, PieceIn, IsPieceOf}
-use Rattle.rv_tool.specs.Headline.{GivesUp, Says, Ends}
+use Rattle.rv_tool.specs.Headline.{Says, Ends}
 use Rattle.rv_tool.specs.Inputs.{InputValue, run_input, run_of}
 use Rattle.rv_tool.specs.JournalPieces.{IsSameRun, EnoughOf, IsEnough}
 use Rattle.rv_tool.specs.Runs.{EndsRead, AnswersBy}

@@ -1,14 +1,11 @@
 -- From what a store tells to what a reading comes to.
-use Rattle.std.proofs.Common.{◌≡◌, ℕ, ◌≤◌, List, length, sym, ap, ◌∙◌, arith, subst}
-use Rattle.std.specs.Prelude.{Option, Some, None, Result, Ok, Err, option_map, take}
-use Rattle.std.proofs.lemmas.List.{length-take}
-use Rattle.std.specs.Prelude.{min}
-use Rattle.rv_io.specs.Files.{Files, front_read}
-use Rattle.rv_io.specs.declared.store.TheConstants.{READ_LIMIT}
+use Rattle.std.proofs.Common.{◌≡◌, ℕ, List, ap, ◌∙◌}
+use Rattle.std.specs.Prelude.{Option, Some, Result, Ok, Err}
+use Rattle.rv_io.specs.Files.{Files}
 use Rattle.rv_bind.specs.declared.fault.BindFault.{BindFault}
 use Rattle.rv_bind.specs.declared.fault.BindFault.TheVariants as faults
 use Rattle.rv_bind.specs.Values.{BoundValue}
-use Rattle.rv_bind.specs.Outcomes.{accepted, reading, of_text, of_name, Comes}
+use Rattle.rv_bind.specs.Outcomes.{accepted, reading, of_name, Comes}
 use Rattle.rv_bind.proofs.OutcomeLemmas.{of_name-reading}
 use Rattle.rv_route.specs.Routing.{RoutedValue}
 use Rattle.rv_tool.specs.Faults.{Tells}

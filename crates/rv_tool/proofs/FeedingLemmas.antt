@@ -1,6 +1,6 @@
 -- A trace that is read from a store piece by piece comes to what its whole file comes to.
-use Rattle.std.proofs.Common.{◌≡◌, ℕ, ◌+◌, ◌-◌, ◌<◌, ◌≤◌, ◌⊎◌, inl, inr, List, [], ◌++◌, length, take, drop, refl, sym, ap, ◌∙◌, subst, arith, length-append, take-append-drop}
-use Rattle.std.specs.Prelude.{Option, Some, None, option_map, Result, Ok, Err, true, false}
+use Rattle.std.proofs.Common.{◌≡◌, ℕ, ◌+◌, ◌-◌, ◌<◌, ◌≤◌, ◌⊎◌, inl, inr, List, [], ◌++◌, length, take, drop, refl, sym, ap, ◌∙◌, subst, arith}
+use Rattle.std.specs.Prelude.{Option, Some, None, option_map, Result, Ok, Err, false}
 use Rattle.std.proofs.Math.Seq.{take-add}
 use Rattle.std.proofs.lemmas.List.{take_all, take-take, length-take-le, take-append-le, length-drop}
 use Rattle.rv_text.specs.declared.refusals.Refusal.{Refusal}
@@ -16,8 +16,8 @@ use Rattle.rv_trace.specs.Traces.{trace_of}
 use Rattle.rv_bind.specs.declared.fault.BindFault.{BindFault}
 use Rattle.rv_bind.specs.declared.fault.BindFault.TheVariants as faults
 use Rattle.rv_bind.specs.Values.{BoundValue}
-use Rattle.rv_bind.specs.Outcomes.{Outcome, accepted, refused, missing, reading, of_file, of_text, of_name}
-use Rattle.rv_bind.proofs.OutcomeLemmas.{of_name-reading, step_fault}
+use Rattle.rv_bind.specs.Outcomes.{Outcome, accepted, refused, missing, reading, of_file, of_text}
+use Rattle.rv_bind.proofs.OutcomeLemmas.{step_fault}
 use Rattle.rv_route.specs.Routing.{route_of}
 use Rattle.rv_tool.specs.Faults.{IsFaultIn, FaultComes, FaultNames}
 use Rattle.rv_tool.specs.Feeding.{FedOf, IsFed, IsAll, PieceIn, IsPieceOf}

@@ -9,6 +9,7 @@ pub mod GrowingTexts
 pub mod NamedLemmas
 pub mod PiecesLemmas
 pub mod ReadyLemmas
+pub mod RecordingLemmas
 pub mod ReportedLemmas
 pub mod SaysLemmas
 pub mod SessionLemmas

@@ -188,16 +188,21 @@ pub record Made (monitors : List Monitor) (setup : Setup) (tasks : ℕ) (lanes :
   pub fit : FitLanes setup lanes
   pub ascend : AllPairs (λ (l m : LaneValue). l.work.cpu < m.work.cpu) lanes
   pub by_cpu : (place : ℕ) → HasCpus monitors place → IsByCpu (works_of lanes) place
+  pub tables : HaveTables (kinds_of monitors) setup.tables
+  pub routed : WorksFit (kinds_of monitors) tasks (works_of lanes)
 
 pub ready_made : (monitors given : List Monitor) (tables : List Table) (setup : Setup) (n tasks : ℕ) (works : List Work) (lanes : List LaneValue) → HaveTables (kinds_of monitors) tables → WorksFit (kinds_of monitors) tasks works
     → setup ≡ opened given tables n → given ≡ monitors → n ≡ tasks → works_of lanes ≡ works → All (λ (l : LaneValue). IsNewLane l.work l) lanes → Made monitors setup tasks lanes
 ready_made monitors given tables setup n tasks works lanes have fit setup_is same many works_are new =
     let is : setup ≡ opened monitors tables tasks = setup_is ∙ ap (λ (ms : List Monitor). opened ms tables n) same ∙ ap (opened monitors tables) many in
     let tables_are : setup.tables ≡ tables = ap (λ (s : Setup). s.tables) is in
+    let routed : WorksFit (kinds_of monitors) tasks (works_of lanes) = subst (WorksFit (kinds_of monitors) tasks) (sym works_are) fit in
     record {
       again = is ∙ ap (λ (ts : List Table). opened monitors ts tasks) (sym tables_are);
       mean = subst (λ (ts : List Table). AllMean (map (λ (m : Monitor). m.spec) monitors) ts) (sym tables_are) (tables_mean monitors tables have);
       fit = subst (λ (s : Setup). FitLanes s lanes) (sym is) (lanes_fit monitors tables tasks have works lanes fit works_are new);
-      ascend = pair_works monitors tables tasks have lanes (subst (WorksFit (kinds_of monitors) tasks) (sym works_are) fit).cpus;
-      by_cpu = works_own monitors tasks (works_of lanes) (subst (WorksFit (kinds_of monitors) tasks) (sym works_are) fit);
+      ascend = pair_works monitors tables tasks have lanes routed.cpus;
+      by_cpu = works_own monitors tasks (works_of lanes) routed;
+      tables = subst (HaveTables (kinds_of monitors)) (sym tables_are) have;
+      routed = routed;
     }

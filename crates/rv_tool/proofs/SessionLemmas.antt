@@ -4,7 +4,7 @@ use Rattle.std.specs.Prelude.{slice_index_or, if◌then◌else◌}
 use Rattle.std.proofs.lemmas.List.{drop_more, append-nil}
 use Rattle.rv_control.specs.declared.script.Numbered.{Numbered}
 use Rattle.rv_control.specs.Trees.{Tree}
-use Rattle.rv_tool.specs.Sessions.{Printed, Done, status_with, done_of, before, session_of}
+use Rattle.rv_tool.specs.Sessions.{Printed, status_with, done_of, before, session_of}
 
 -- a part of a script was done: its texts, and whether a command was refused
 pub record RanSoFar (script : List ℕ) (opening : Tree) (commands : List Numbered) (place : ℕ) (tree : Tree) (text : List ℕ) (is_refused : Bool) : Type 0 where

@@ -40,7 +40,7 @@ calm-one reactors.Printk other = refl
 calm-one reactors.Panic other = absurd (other refl)
 
 -- where no reactor is panic, none of a number is
-calm : (monitors : List Monitor) → All (λ (m : Monitor). m.reactor ≢ reactors.Panic) monitors → (number : ℕ) → panics_of (map (λ (m : Monitor). m.reactor) monitors) number ≡ false
+pub calm : (monitors : List Monitor) → All (λ (m : Monitor). m.reactor ≢ reactors.Panic) monitors → (number : ℕ) → panics_of (map (λ (m : Monitor). m.reactor) monitors) number ≡ false
 calm [] none number = refl
 calm (m ∷ monitors) none zero = calm-one m.reactor (All-head (λ (m : Monitor). m.reactor ≢ reactors.Panic) m monitors none)
 calm (m ∷ monitors) none (suc number) = calm monitors (All-tail (λ (m : Monitor). m.reactor ≢ reactors.Panic) m monitors none) number

@@ -8,6 +8,7 @@ pub mod HeaderFiles
 pub mod Headline
 pub mod Inputs
 pub mod JournalPieces
+pub mod Journals
 pub mod Loaded
 pub mod Output
 pub mod Pieces

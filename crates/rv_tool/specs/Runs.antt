@@ -15,7 +15,7 @@ use Rattle.rv_tool.specs.Inputs.{run_input}
 use Rattle.rv_tool.specs.Loaded.{load_input}
 use Rattle.rv_tool.specs.Output.{Told, refusal_text, missing_text}
 use Rattle.rv_model.specs.Histories.{IsOneHistory, IsLegal}
-use Rattle.rv_tool.specs.Words.{CommandValue, replay, feed, feed_beside, check, watch, table, header, control, load}
+use Rattle.rv_tool.specs.Words.{CommandValue, replay, feed, feed_beside, journal, check, watch, table, header, control, load}
 use Rattle.rv_tool.specs.Ready.{ready_value}
 use Rattle.rv_tool.specs.HeaderFiles.{header_in}
 use Rattle.rv_tool.specs.Tables.{table_in}
@@ -23,6 +23,7 @@ use Rattle.rv_tool.specs.declared.session.Session.{Session}
 use Rattle.rv_tool.specs.declared.watching.ToWatch.{ToWatch}
 use Rattle.rv_check.specs.declared.reading.Verdict.{Verdict}
 use Rattle.rv_tool.specs.Checks.{Checks, verdict_text, verdict_status, checked_input}
+use Rattle.rv_tool.specs.Journals.{Journals, numbered_input}
 use Rattle.rv_tool.specs.Watched.{watched_input}
 use Rattle.rv_tool.specs.WatchReports.{Watches, watch_value}
 use Rattle.rv_tool.specs.Sessions.{Printed, control_in}
@@ -62,6 +63,10 @@ PrintsRead = EndsRead (λ text. text.items) Prints
 abbrev pub WatchesRead : Result ToWatch BindFault → Ending
 WatchesRead = EndsRead watch_value Watches
 
+-- a run is recorded
+abbrev pub RecordsRead : Result Ready BindFault → Ending
+RecordsRead = EndsRead ready_value Journals
+
 -- a verdict is said
 abbrev pub SaysVerdict : Result Verdict BindFault → Ending
 SaysVerdict = EndsRead (λ v. v) (λ v. Says (verdict_text v) (verdict_status v))
@@ -91,7 +96,8 @@ Answers (Some (replay bindings trace)) files first last = AnswersBy (Reports IsO
 Answers (Some (feed bindings trace)) files first last = AnswersBy (Reports IsLegal) (λ files. run_input files bindings trace) files first last
 Answers (Some (feed_beside bindings trace script)) files first last = AnswersBy (Reports IsLegal) (λ files. input_beside files bindings trace script) files first last
 Answers (Some (watch bindings trace monitor instance)) files first last = AnswersBy Watches (λ files. watched_input files bindings trace monitor instance) files first last
-Answers (Some (check bindings trace journal)) files first last = AnswersBy Checks (λ files. checked_input files bindings trace journal) files first last
+Answers (Some (journal bindings trace)) files first last = AnswersBy Journals (λ files. numbered_input files bindings trace) files first last
+Answers (Some (check bindings trace judged)) files first last = AnswersBy Checks (λ files. checked_input files bindings trace judged) files first last
 Answers (Some (load blocks)) files first last = Ends (Reports IsLegal) (load_input blocks)
 Answers (Some (table kind file)) files first last = AnswersBy Prints (λ files. table_in files kind file) files first last
 Answers (Some (header name file)) files first last = AnswersBy Prints (λ files. header_in files name file) files first last

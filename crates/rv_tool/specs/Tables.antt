@@ -1,5 +1,5 @@
 -- What `table` prints of a file.
-use Rattle.std.specs.Prelude.{ℕ, List, Option, Some, Result, Ok}
+use Rattle.std.specs.Prelude.{ℕ, List, Result, Ok}
 use Rattle.rv_text.specs.declared.refusals.Refusal.{Refusal}
 use Rattle.rv_text.specs.Readings.{and_then}
 use Rattle.rv_io.specs.Files.{Files}

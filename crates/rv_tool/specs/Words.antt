@@ -21,6 +21,8 @@ pub data CommandValue : Type 0 where
   feed : List ℕ → List ℕ → CommandValue
   -- the bindings, the trace, and the script beside the CPUs
   feed_beside : List ℕ → List ℕ → List ℕ → CommandValue
+  -- the bindings and the trace, for a run whose entries are recorded
+  journal : List ℕ → List ℕ → CommandValue
   -- the bindings, the trace, and the journal that is judged
   check : List ℕ → List ℕ → List ℕ → CommandValue
   -- the bindings, the trace, and the monitor and the instance that are watched
@@ -38,7 +40,8 @@ abbrev pub command_value : Command → CommandValue
 command_value (commands.Replay bindings trace) = replay bindings.now trace.now
 command_value (commands.Feed bindings trace) = feed bindings.now trace.now
 command_value (commands.FeedBeside bindings trace script) = feed_beside bindings.now trace.now script.now
-command_value (commands.Check bindings trace journal) = check bindings.now trace.now journal.now
+command_value (commands.Journal bindings trace) = journal bindings.now trace.now
+command_value (commands.Check bindings trace judged) = check bindings.now trace.now judged.now
 command_value (commands.Watch bindings trace monitor instance) = watch bindings.now trace.now monitor.now instance.now
 command_value (commands.Control bindings script) = control bindings.now script.now
 command_value (commands.Load blocks) = load blocks
@@ -63,6 +66,7 @@ abbrev pub verb_of : List ℕ → Option Verb
 verb_of word =
     if bytes_eq word (codes "replay") then Some verbs.Replay
     else if bytes_eq word (codes "feed") then Some verbs.Feed
+    else if bytes_eq word (codes "journal") then Some verbs.Journal
     else if bytes_eq word (codes "control") then Some verbs.Control
     else if bytes_eq word (codes "table") then Some verbs.Table
     else if bytes_eq word (codes "header") then Some verbs.Header
@@ -73,6 +77,7 @@ abbrev pub command_with : Option Verb → List ℕ → List ℕ → Option Comma
 command_with None first second = None
 command_with (Some verbs.Replay) first second = Some (replay first second)
 command_with (Some verbs.Feed) first second = Some (feed first second)
+command_with (Some verbs.Journal) first second = Some (journal first second)
 command_with (Some verbs.Control) first second = Some (control first second)
 command_with (Some verbs.Table) first second = table_of (kind_of first) second
 command_with (Some verbs.Header) first second = header_of first second
@@ -89,7 +94,7 @@ command_with_third word bindings trace third =
     else if bytes_eq word (codes "check") then Some (check bindings trace third)
     else None
 
--- `replay BINDINGS TRACE`, `feed BINDINGS TRACE`, `control BINDINGS SCRIPT`, `load N`, a table, C tables, or a command of three or four further words
+-- `replay BINDINGS TRACE`, `feed BINDINGS TRACE`, `journal BINDINGS TRACE`, `control BINDINGS SCRIPT`, `load N`, a table, C tables, or a command of three or four further words
 abbrev pub command_of : List (List ℕ) → Option CommandValue
 command_of (word ∷ number ∷ []) = if bytes_eq word (codes "load") then load_of (decimal_of number) else None
 command_of (word ∷ first ∷ second ∷ []) = command_with (verb_of word) first second

@@ -71,7 +71,7 @@ fn panic_bits(reactors: &[Reactor]) -> u32
 }
 
 /// What the lanes have to do.
-fn works(alloc: Global, lanes: Vec<Lane>) -> Result<Vec<CpuWork>, AllocError>
+pub(crate) fn works(alloc: Global, lanes: Vec<Lane>) -> Result<Vec<CpuWork>, AllocError>
     ensures { IfOk result (λ works. works.items ≡ works_of lanes.items) }
 {
     let mut works = Vec::new(alloc);

@@ -9,23 +9,25 @@ use std::thread::Threads;
 
 /// How the two CPUs are held.
 #[derive(Clone, Copy, Drop)]
-enum Plan {
+pub(crate) enum Plan {
     /// Each waits before its first turn until the other has come.
     Meet,
     /// CPU 1 waits before its turn until CPU 0 has come to its fifth delivery.
     HaltFirst,
     /// CPU 0 loses each of its three tries to a turn of CPU 1.
     Race,
+    /// CPU 1 loses each of its three tries to a turn of CPU 0.
+    Mirrored,
 }
 
 /// How far the CPUs have come.
 #[derive(Drop)]
 struct Marks {
-    /// How many turns CPU 0 has come to.
+    /// How many turns CPU 0 has come to, or CPU 1 in the mirrored plan.
     first: AtomicU64,
-    /// How many turns CPU 1 has come to.
+    /// How many turns the other CPU has come to.
     second: AtomicU64,
-    /// How many tries CPU 0 has come to.
+    /// How many tries the first of them has come to.
     tries: AtomicU64,
     /// How often a CPU gave up.
     late: AtomicU64,
@@ -49,19 +51,27 @@ impl Held<'_> {
         self.marks.late.fetch_add(1, Ordering::SeqCst);
     }
 
-    /// CPU 0 before a turn.
+    /// Whether the CPU is the one that the plan holds first.
+    fn is_first(&self, cpu: u32) -> bool {
+        match self.plan {
+            Plan::Mirrored => cpu == 1,
+            _ => cpu == 0,
+        }
+    }
+
+    /// The first CPU before a turn.
     fn pass_first(&self, turn: u64) {
         self.marks
             .first
             .store(turn.wrapping_add(1), Ordering::SeqCst);
         match self.plan {
-            Plan::Race if turn == 0 => self.wait(&self.marks.second, 2),
+            Plan::Race | Plan::Mirrored if turn == 0 => self.wait(&self.marks.second, 2),
             Plan::Meet | Plan::HaltFirst if turn == 0 => self.wait(&self.marks.second, 1),
             _ => (),
         }
     }
 
-    /// CPU 1 before a turn.
+    /// The other CPU before a turn.
     fn pass_second(&self, turn: u64) {
         self.marks
             .second
@@ -69,7 +79,9 @@ impl Held<'_> {
         match self.plan {
             Plan::Meet if turn == 0 => self.wait(&self.marks.first, 1),
             Plan::HaltFirst => self.wait(&self.marks.tries, 5),
-            Plan::Race if turn >= 1 && turn <= 3 => self.wait(&self.marks.tries, turn),
+            Plan::Race | Plan::Mirrored if turn >= 1 && turn <= 3 => {
+                self.wait(&self.marks.tries, turn)
+            }
             _ => (),
         }
     }
@@ -84,7 +96,7 @@ impl Gate for Held<'_> {
     }
 
     fn pass(&mut self, cpu: u32, turn: u64) {
-        if cpu == 0 {
+        if self.is_first(cpu) {
             self.pass_first(turn);
         } else {
             self.pass_second(turn);
@@ -92,9 +104,9 @@ impl Gate for Held<'_> {
     }
 
     fn between(&mut self, cpu: u32, lost: u32) {
-        if cpu == 0 {
+        if self.is_first(cpu) {
             self.marks.tries.fetch_add(1, Ordering::SeqCst);
-            if let Plan::Race = self.plan {
+            if let Plan::Race | Plan::Mirrored = self.plan {
                 self.wait(&self.marks.second, (lost as u64).wrapping_add(3));
             }
         }
@@ -102,7 +114,7 @@ impl Gate for Held<'_> {
 }
 
 /// One instance for all CPUs, which print nothing.
-const GLOBAL: &str = "monitor wip global da wip.dot
+pub(crate) const GLOBAL: &str = "monitor wip global da wip.dot
 on wip preempt_disable : event preempt_disable
 on wip preempt_enable : start preempt_enable
 on wip sched_waking : event sched_waking
@@ -143,7 +155,7 @@ wip: instances 2, deliveries 6, failures 1, stopped 0
 ";
 
 /// Five turns of CPU 1, and one of CPU 0.
-const RACE: &str = "t-1 [001] 1.000001: preempt_enable:
+pub(crate) const RACE: &str = "t-1 [001] 1.000001: preempt_enable:
 t-1 [001] 1.000002: preempt_disable:
 t-1 [001] 1.000003: preempt_enable:
 t-1 [001] 1.000004: preempt_disable:
@@ -153,11 +165,11 @@ t-1 [000] 1.000006: preempt_disable:
 
 /// What a run came to.
 #[derive(Drop)]
-struct Came {
-    status: u8,
-    text: String,
+pub(crate) struct Came {
+    pub(crate) status: u8,
+    pub(crate) text: String,
     /// How often a CPU gave up.
-    late: u64,
+    pub(crate) late: u64,
 }
 
 /// Feeds the trace.
@@ -168,8 +180,20 @@ fn fed<R: Threads + Sync>(
     bindings: &str,
     trace: &str,
 ) -> Result<Came, Fail> {
+    run_held(rt, alloc, plan, "feed", bindings, trace)
+}
+
+/// Does what the verb asks for with the trace, while the plan holds the CPUs.
+pub(crate) fn run_held<R: Threads + Sync>(
+    rt: &R,
+    alloc: Global,
+    plan: Plan,
+    verb: &str,
+    bindings: &str,
+    trace: &str,
+) -> Result<Came, Fail> {
     let mut words = Vec::new(alloc);
-    for word in ["feed", "wip.rv", "wip.txt"] {
+    for word in [verb, "wip.rv", "wip.txt"] {
         words.push(String::from_str(alloc, word)?)?;
     }
     let mut store = MemStore::new(alloc);

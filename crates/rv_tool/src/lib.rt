@@ -14,8 +14,11 @@ mod feeding_tests;
 mod formula_text;
 mod headers;
 mod input;
+#[cfg(test)]
+mod journal_tests;
 mod loading;
 mod output;
+mod recording;
 mod replaying;
 mod routing;
 mod session;

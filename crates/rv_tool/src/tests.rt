@@ -204,13 +204,13 @@ fn a_run_is_reported_and_a_refusal_names_its_line(rt: HostRuntime) -> Result<(),
 }
 
 /// A rule of one global instance, each of whose events has no atom.
-const NEXT: &str = "monitor m global ltl m.ltl
+pub(crate) const NEXT: &str = "monitor m global ltl m.ltl
 on m tick : start_run
 react m printk
 ";
 
 /// Two events.
-const TICKS: &str = "t-1 [000] 1.000001: tick:
+pub(crate) const TICKS: &str = "t-1 [000] 1.000001: tick:
 t-1 [000] 1.000002: tick:
 ";
 

@@ -6,7 +6,8 @@ ghost use Rattle.rv_tool.specs.Loaded.{load_input};
 ghost use Rattle.rv_tool.specs.Output.{refusal_text, missing_text};
 ghost use Rattle.rv_io.specs.Files.{Files};
 ghost use Rattle.rv_tool.specs.Headline.{Says, Reports, Ends};
-ghost use Rattle.rv_tool.specs.Runs.{Ended, Fails, Runs, WatchesRead, PrintsRead, SaysVerdict, SaysSession, Answers};
+ghost use Rattle.rv_tool.specs.Journals.{IsToRecord};
+ghost use Rattle.rv_tool.specs.Runs.{Ended, Fails, Runs, RecordsRead, WatchesRead, PrintsRead, SaysVerdict, SaysSession, Answers};
 ghost use Rattle.rv_tool.specs.WatchReports.{IsToWatch};
 ghost use Rattle.rv_tool.specs.Verdicts.{ReportsVerdicts, Verdicts};
 ghost use Rattle.rv_tool.specs.Words.{command_of, texts_of};
@@ -19,6 +20,7 @@ use crate::headers::read_header;
 use crate::input::{Ready, read_input};
 use crate::loading::{BINDINGS, TRACE, generated_store};
 use crate::output::{missing_line, refusal_line, tell};
+use crate::recording::{read_numbered, recorded};
 use crate::replaying::{Done, replayed};
 use crate::session::{Session, read_control};
 use crate::tables::read_table;
@@ -106,6 +108,13 @@ pub fn rv<R: Threads + Sync, S: Store, K: Sink, G: Gate + Send>(
             gate,
             read_watched(alloc, store, bindings, trace, monitor, instance),
         ),
+        Some(Command::Journal { bindings, trace }) => run_recorded(
+            rt,
+            alloc,
+            out,
+            gate,
+            read_numbered(alloc, store, bindings, trace),
+        ),
         Some(
             Command::Check {
                 bindings,
@@ -187,6 +196,23 @@ fn run_watched<R: Threads + Sync, K: Sink, G: Gate + Send>(
 {
     match read {
         Ok(to_watch) => end(out, watched(rt, alloc, gate, to_watch)),
+        Err(fault) => failed(alloc, out, fault),
+    }
+}
+
+/// Runs what was read, a thread for each CPU, and puts its journal, or says why there is nothing to run.
+fn run_recorded<R: Threads + Sync, K: Sink, G: Gate + Send>(
+    rt: &R,
+    alloc: Global,
+    out: &mut K,
+    gate: &G,
+    read: Result<Ready, BindFault>,
+) -> Finished
+    requires { ForOk read IsToRecord }
+    ensures { RecordsRead read (K.taken out.old) (K.taken out.new) (K.faults out.old) (K.faults out.new) result.status result.closed }
+{
+    match read {
+        Ok(ready) => end(out, recorded(rt, alloc, gate, ready)),
         Err(fault) => failed(alloc, out, fault),
     }
 }

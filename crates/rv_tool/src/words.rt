@@ -23,6 +23,8 @@ pub enum Verb {
     Replay,
     /// All scripts at once.
     Feed,
+    /// All scripts at once, each entry with a number.
+    Journal,
     /// A script on the control files.
     Control,
     /// The table of a specification.
@@ -46,6 +48,10 @@ pub(crate) enum Command<'a> {
         bindings: &'a str,
         trace: &'a str,
         script: &'a str,
+    },
+    Journal {
+        bindings: &'a str,
+        trace: &'a str,
     },
     Check {
         bindings: &'a str,
@@ -103,6 +109,8 @@ fn verb_of(word: &str) -> Option<Verb>
         Some(Verb::Replay)
     } else if is(word, "feed") {
         Some(Verb::Feed)
+    } else if is(word, "journal") {
+        Some(Verb::Journal)
     } else if is(word, "control") {
         Some(Verb::Control)
     } else if is(word, "table") {
@@ -136,6 +144,10 @@ fn command_with<'a>(verb: Verb, first: &'a str, second: &'a str) -> Option<Comma
             trace: second,
         }),
         Verb::Feed => Some(Command::Feed {
+            bindings: first,
+            trace: second,
+        }),
+        Verb::Journal => Some(Command::Journal {
             bindings: first,
             trace: second,
         }),

@@ -1,12 +1,12 @@
-use Rattle.std.proofs.Common.{◌≡◌, List, ℕ, sym, ap, ◌∙◌, subst}
+use Rattle.std.proofs.Common.{List, ℕ, ap, ◌∙◌, subst}
 use Rattle.std.specs.Prelude.{Option}
 use Rattle.std.proofs.lemmas.Result.{err_from_is_err_and}
-use Rattle.rv_bind.specs.Outcomes.{Outcome, of_text, accepted, reading}
+use Rattle.rv_bind.specs.Outcomes.{of_text, accepted, reading}
 use Rattle.rv_io.specs.Files.{Files}
 use Rattle.rv_check.specs.declared.reading.Verdict.{Verdict}
 use Rattle.rv_check.specs.Readings.{ReaderValue}
 use Rattle.rv_check.specs.Verdicts.{Journal}
-use Rattle.rv_tool.specs.Faults.{FaultComes, FaultNames}
+use Rattle.rv_tool.specs.Faults.{FaultNames}
 use Rattle.rv_tool.specs.Inputs.{InputValue}
 use Rattle.rv_tool.specs.Ready.{ready_value}
 use Rattle.rv_tool.specs.JournalPieces.{IsSameRun}

@@ -20,4 +20,6 @@ returns-clause-ready c =
       below_halt = subst (All IsBelowHalt) (sym c.new.ensures.items) (All-nil IsBelowHalt);
       few_monitors = c.requires.formed.few_monitors;
       few_containers = c.requires.formed.few_containers;
+      tables = made.tables;
+      routed = made.routed;
     }

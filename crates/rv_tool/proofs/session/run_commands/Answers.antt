@@ -1,7 +1,7 @@
-use Rattle.std.proofs.Common.{◌≡◌, ◌+◌, Bool, true, false, sym, ap, ◌∙◌, subst}
+use Rattle.std.proofs.Common.{◌≡◌, ◌+◌, Bool, true, sym, ap, ◌∙◌, subst}
 use Rattle.std.specs.Prelude.{if◌then◌else◌}
 use Rattle.std.proofs.lemmas.List.{drop_all}
-use Rattle.rv_tool.specs.Sessions.{session_of, status_with}
+use Rattle.rv_tool.specs.Sessions.{status_with}
 use Rattle.rv_tool.proofs.SessionLemmas.{RanSoFar, ran_more, ran_all}
 use Rattle.rv_tool.proofs.session.run_commands.Goals.{then-branch, else-branch, then-is_refused, else-is_refused}
 use Rattle.rv_tool.proofs.session.run_commands.Goals as goal

@@ -4,6 +4,7 @@ use Rattle.rv_model.specs.Histories.{IsOneHistory, IsLegal}
 use Rattle.rv_tool.specs.Headline.{Reports}
 use Rattle.rv_tool.specs.Changes.{input_beside}
 use Rattle.rv_tool.specs.Inputs.{run_input}
+use Rattle.rv_tool.specs.Journals.{numbered_input, IsJournalReport, Journals}
 use Rattle.rv_tool.specs.Ready.{ready_value}
 use Rattle.rv_tool.specs.Runs.{Prints, PrintsSession}
 use Rattle.rv_tool.specs.Sessions.{control_in}
@@ -37,6 +38,12 @@ returns-in-Some-FeedBeside-clause-answers g c =
     words_answer _ _ _ _ _ _ _ _ (g.S.Store.files c.args.store.now) _ _ (sym (ap (λ v. Some (command_value v)) c.in-Some-FeedBeside.field-0-is) ∙ c.in-Some-FeedBeside.ensures.value)
     (read_answers _ _ _ _ _ _ ready_value (Reports IsLegal) (λ files. input_beside files _ _ _) (no_report _ _ _ _ _ _ IsLegal) (g.S.Store.files c.args.store.now) _ _
     c.read_beside.result c.read_beside.ensures.value c.read_beside.ensures.named c.run_at_once-in-Some-FeedBeside.ensures)
+
+pub returns-in-Some-Journal-clause-answers : goal.returns-in-Some-Journal-clause-answers
+returns-in-Some-Journal-clause-answers g c =
+    words_answer _ _ _ _ _ _ _ _ (g.S.Store.files c.args.store.now) _ _ (sym (ap (λ v. Some (command_value v)) c.in-Some-Journal.field-0-is) ∙ c.in-Some-Journal.ensures.value)
+    (read_answers _ _ _ _ _ _ ready_value Journals (λ files. numbered_input files _ _) (λ i. no_telling _ _ _ _ _ _ (IsJournalReport i)) (g.S.Store.files c.args.store.now) _ _
+    c.read_numbered.result c.read_numbered.ensures.value c.read_numbered.ensures.named c.run_recorded.ensures)
 
 pub returns-in-Some-Check-clause-answers : goal.returns-in-Some-Check-clause-answers
 returns-in-Some-Check-clause-answers g c =
@@ -85,6 +92,10 @@ returns-in-Some-Feed-clause-verdicts g c =
 pub returns-in-Some-FeedBeside-clause-verdicts : goal.returns-in-Some-FeedBeside-clause-verdicts
 returns-in-Some-FeedBeside-clause-verdicts g c =
     words_verdict _ _ _ _ _ _ _ _ (g.S.Store.files c.args.store.now) _ _ (sym (ap (λ v. Some (command_value v)) c.in-Some-FeedBeside.field-0-is) ∙ c.in-Some-FeedBeside.ensures.value) (λ files known. tt)
+
+pub returns-in-Some-Journal-clause-verdicts : goal.returns-in-Some-Journal-clause-verdicts
+returns-in-Some-Journal-clause-verdicts g c =
+    words_verdict _ _ _ _ _ _ _ _ (g.S.Store.files c.args.store.now) _ _ (sym (ap (λ v. Some (command_value v)) c.in-Some-Journal.field-0-is) ∙ c.in-Some-Journal.ensures.value) (λ files known. tt)
 
 pub returns-in-Some-Check-clause-verdicts : goal.returns-in-Some-Check-clause-verdicts
 returns-in-Some-Check-clause-verdicts g c =

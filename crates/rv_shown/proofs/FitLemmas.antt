@@ -1,0 +1,173 @@
+-- What the opening switches show on of routed works fits the counted words.
+use Rattle.std.proofs.Common.{◌≡◌, ◌≢◌, ℕ, zero, suc, ◌+◌, ◌-◌, ◌<◌, ◌≤◌, ◌^◌, Bool, true, false, List, [], ◌∷◌, length, map, refl, sym, ap, subst, arith}
+use Rattle.std.specs.Prelude.{All, Some, filter, slice_get, slice_index, slice_index_or}
+use Rattle.std.specs.List.{AllZip}
+use Rattle.std.proofs.Math.Pow.{pow_mono}
+use Rattle.std.proofs.lemmas.List.Elements.{All-nil, All-cons, All-head, All-tail, All-weaker, All-filter, AllZip-get_or, length_all_zip}
+use Rattle.rv_model.specs.declared.formula.Spec.{Spec}
+use Rattle.rv_model.specs.declared.formula.Spec.TheVariants as specs
+use Rattle.rv_model.specs.declared.hit.Mode.{Mode}
+use Rattle.rv_model.specs.declared.hit.Mode.TheVariants as modes
+use Rattle.rv_model.specs.declared.hit.What.{What}
+use Rattle.rv_model.specs.declared.hit.What.TheVariants as whats
+use Rattle.rv_model.specs.declared.reactor.Reactor.TheVariants.{Panic}
+use Rattle.rv_model.specs.declared.work.Delivery.{Delivery}
+use Rattle.rv_model.specs.Scripts.{is_shown}
+use Rattle.rv_model.specs.Setups.{Setup, monitor_of, slot_of}
+use Rattle.rv_model.specs.Table.{Table, Node, of_labels}
+use Rattle.rv_model.specs.Works.{Work}
+use Rattle.rv_slots.specs.Shapes.{count_of}
+use Rattle.rv_slots.proofs.ShapeLemmas.{monitor_of-slot_of}
+use Rattle.rv_table.specs.Rows.{row_count}
+use Rattle.rv_core.specs.Advance.{IsRun, FitsKind}
+use Rattle.rv_core.specs.Setup.{no_table, table_at}
+use Rattle.rv_bind.specs.declared.bindings.Monitor.{Monitor}
+use Rattle.rv_bind.specs.Compiling.{IsTableOf}
+use Rattle.rv_bind.specs.WellFormed.{Kind, kind_of, kinds_of, FitsAtoms, FitsSpec, HasTable, HaveTables}
+use Rattle.rv_bind.proofs.TableLemmas.{labelled}
+use Rattle.rv_verdicts.specs.Shown.{IsShownOf}
+use Rattle.rv_route.specs.declared.deliveries.TheConstants.{MAX_DELIVERIES}
+use Rattle.rv_route.specs.Fitting.{FitsKindOf}
+use Rattle.rv_journal.specs.CountedLanes.{FitsCounted}
+use Rattle.rv_journal.specs.CountedWords.{IsBelow, most_entries}
+use Rattle.rv_journal.specs.Running.{FitsCountedWork}
+use Rattle.rv_shown.specs.Fitting.{IsOpened, ShownFit, ShownAscend}
+use Rattle.rv_shown.specs.Numbered.{atom_count, IsNumbered}
+use Rattle.rv_shown.specs.Shown.{IsShownWork}
+use Rattle.rv_shown.proofs.ShownLemmas.{filter-few}
+
+-- ---- one monitor
+
+-- what stands at a monitor's place
+record At (monitors : List Monitor) (tables : List Table) (tasks place : ℕ) (kind : Kind) : Type 0 where
+  below : place < length (map (count_of tasks) (map (λ (m : Monitor). m.scope) monitors))
+  count : slice_index (map (count_of tasks) (map (λ (m : Monitor). m.scope) monitors)) place ≡ count_of tasks kind.scope
+  table : HasTable kind (slice_index_or tables place no_table)
+  narrow : row_count (slice_index_or tables place no_table) + atom_count kind.spec ≤ 32
+
+at-place : (monitors : List Monitor) (tables : List Table) (tasks place : ℕ) (kind : Kind) → slice_get (kinds_of monitors) place ≡ Some kind → HaveTables (kinds_of monitors) tables → IsNumbered monitors tables → At monitors tables tasks place kind
+at-place [] tables tasks place kind there have numbered = cc
+at-place (m ∷ monitors) [] tasks place kind there have numbered = absurd have
+at-place (m ∷ monitors) (t ∷ tables) tasks zero kind there have numbered =
+    let same : kind_of m ≡ kind = cc in
+    record {
+      below = omega arith;
+      count = ap (λ (k : Kind). count_of tasks k.scope) same;
+      table = subst (λ (k : Kind). HasTable k t) same have.0;
+      narrow = subst (λ (k : Kind). row_count t + atom_count k.spec ≤ 32) same numbered.0.narrow;
+    }
+at-place (m ∷ monitors) (t ∷ tables) tasks (suc place) kind there have numbered =
+    let rest = at-place monitors tables tasks place kind there have.1 numbered.1 in
+    record { below = let b = rest.below in omega arith; count = rest.count; table = rest.table; narrow = rest.narrow }
+
+-- ---- one delivery
+
+runs : (mode : Mode) → mode ≢ modes.Start → IsRun mode
+runs modes.Event h = tt
+runs modes.Start h = absurd (h refl)
+runs modes.StartRun h = tt
+
+-- a change of atoms fits a table with labels
+label-fits : (nodes : List Node) (count : ℕ) (mode : Mode) (what : What) → mode ≢ modes.Start → FitsAtoms count what → FitsKind (of_labels nodes) mode what
+label-fits nodes count mode (whats.Da event) run fits = absurd fits
+label-fits nodes count mode (whats.Ltl on off pulse) run fits = runs mode run
+
+-- a hit that fits a specification fits its table
+hit-fits : (spec : Spec) (t : Table) (mode : Mode) (what : What) → IsTableOf spec t → FitsSpec spec (record { mode = mode; what = what }) → FitsKind t mode what
+hit-fits (specs.Ltl rule) t mode what is fits =
+    let labels = labelled rule.formula t is in
+    subst (λ (u : Table). FitsKind u mode what) (sym labels.1) (label-fits labels.0 (length rule.atoms) mode what fits.0 fits.1)
+hit-fits (specs.Da a) t mode (whats.Da event) is fits = subst (λ (u : Table). FitsKind u mode (whats.Da event)) (sym is) fits
+hit-fits (specs.Da a) t mode (whats.Ltl on off pulse) is fits = absurd fits
+
+wider : (count levels n : ℕ) → count ≤ levels → n < 2 ^ count → n < 2 ^ levels
+wider count levels n le lt = let more : 2 ^ count ≤ 2 ^ levels = pow_mono le in omega arith
+
+-- sets of atoms are below the levels that there is room for
+atoms-below : (count levels : ℕ) (what : What) → count ≤ levels → FitsAtoms count what → IsBelow levels what
+atoms-below count levels (whats.Da event) le fits = absurd fits
+atoms-below count levels (whats.Ltl on off pulse) le fits = (wider count levels on le fits.0, wider count levels off le fits.1, wider count levels pulse le fits.2)
+
+what-below : (spec : Spec) (mode : Mode) (what : What) (rows : ℕ) → rows + atom_count spec ≤ 32 → FitsSpec spec (record { mode = mode; what = what }) → IsBelow (32 - rows) what
+what-below (specs.Ltl rule) mode what rows narrow fits = atoms-below (length rule.atoms) (32 - rows) what (omega arith) fits.1
+what-below (specs.Da a) mode (whats.Da event) rows narrow fits = tt
+what-below (specs.Da a) mode (whats.Ltl on off pulse) rows narrow fits = absurd fits
+
+module _ (monitors : List Monitor) (tasks : ℕ) (s : Setup) (opened : IsOpened monitors tasks s) (numbered : IsNumbered monitors s.tables) where
+  -- a delivery to an instance of a monitor that it fits
+  delivery-fits : (cpu : ℕ) (d : Delivery) → FitsKindOf (kinds_of monitors) tasks cpu d → FitsCounted s d
+  delivery-fits cpu d f =
+      let at = at-place monitors s.tables tasks d.monitor f.kind f.there opened.tables numbered in
+      let below : d.monitor < length s.shape = subst (λ (z : List ℕ). d.monitor < length z) (sym opened.shape) at.below in
+      let small : d.instance < slice_index s.shape d.monitor =
+      subst (λ (z : List ℕ). d.instance < slice_index z d.monitor) (sym opened.shape) (subst (λ (n : ℕ). d.instance < n) (sym at.count) f.instance_fits) in
+      let monitor : monitor_of s.shape (slot_of s.shape d.monitor d.instance) ≡ d.monitor = monitor_of-slot_of s.shape d.monitor d.instance below small in
+      let table : table_at s (slot_of s.shape d.monitor d.instance) ≡ slice_index_or s.tables d.monitor no_table = ap (λ (n : ℕ). slice_index_or s.tables n no_table) monitor in
+      record {
+        monitor = below;
+        instance_fits = small;
+        hit = subst (λ (t : Table). FitsKind t d.hit.mode d.hit.what) (sym table) (hit-fits f.kind.spec (slice_index_or s.tables d.monitor no_table) d.hit.mode d.hit.what at.table.compiles.is f.hit);
+        levels = subst (λ (t : Table). IsBelow (32 - row_count t) d.hit.what) (sym table) (what-below f.kind.spec d.hit.mode d.hit.what (row_count (slice_index_or s.tables d.monitor no_table)) at.narrow f.hit);
+      }
+
+  -- ---- works
+
+  -- what passes has passed
+  all-pass : (keep : Delivery → Bool) (ds : List Delivery) → All (λ d. keep d ≡ true) (filter keep ds)
+  all-pass keep [] = All-nil (λ d. keep d ≡ true)
+  all-pass keep (d ∷ ds) = go (keep d) refl (all-pass keep ds)
+    where
+      go : (b : Bool) → keep d ≡ b → All (λ d. keep d ≡ true) (filter keep ds) → All (λ d. keep d ≡ true) (filter keep (d ∷ ds))
+      go true y rest = rw y (All-cons (λ d. keep d ≡ true) d (filter keep ds) y rest)
+      go false n rest = rw n rest
+
+  work-fits : (w v : Work) → w.cpu < 64 → length w.deliveries ≤ MAX_DELIVERIES → All (FitsKindOf (kinds_of monitors) tasks w.cpu) w.deliveries → IsShownWork s.switches w v → FitsCountedWork s v
+  work-fits w v cpu few fit shown =
+      let are = shown.deliveries_are in
+      let same : v.cpu ≡ w.cpu = shown.shown_of.cpu in
+      let keep : Delivery → Bool = is_shown s.switches in
+      record {
+        cpu = subst (λ (n : ℕ). n < 64) (sym same) cpu;
+        few = subst (λ (z : List Delivery). length z ≤ most_entries) (sym are) (let less = filter-few keep w.deliveries in omega arith);
+        fit = subst (All (FitsCounted s)) (sym are) (All-filter keep (FitsCounted s) w.deliveries (All-weaker (FitsKindOf (kinds_of monitors) tasks w.cpu) (FitsCounted s) (delivery-fits w.cpu) w.deliveries fit));
+        shown = subst (All (λ d. keep d ≡ true)) (sym are) (all-pass keep w.deliveries);
+      }
+
+  all-fit : (works shown : List Work) → All (λ (w : Work). w.cpu < 64) works → All (λ (w : Work). length w.deliveries ≤ MAX_DELIVERIES) works → All (λ (w : Work). All (FitsKindOf (kinds_of monitors) tasks w.cpu) w.deliveries) works → AllZip (IsShownWork s.switches) works shown → All (FitsCountedWork s) shown
+  all-fit [] [] cpus few fit zip = All-nil (FitsCountedWork s)
+  all-fit [] (v ∷ shown) cpus few fit zip = absurd zip
+  all-fit (w ∷ works) [] cpus few fit zip = absurd zip
+  all-fit (w ∷ works) (v ∷ shown) cpus few fit zip =
+      let Cpu : Work → Type 0 = λ (w : Work). w.cpu < 64 in
+      let Few : Work → Type 0 = λ (w : Work). length w.deliveries ≤ MAX_DELIVERIES in
+      let Fit : Work → Type 0 = λ (w : Work). All (FitsKindOf (kinds_of monitors) tasks w.cpu) w.deliveries in
+      All-cons (FitsCountedWork s) v shown (work-fits w v (All-head Cpu w works cpus) (All-head Few w works few) (All-head Fit w works fit) zip.0)
+      (all-fit works shown (All-tail Cpu w works cpus) (All-tail Few w works few) (All-tail Fit w works fit) zip.1)
+
+-- what is shown of routed works fits
+pub shown_fit : ShownFit
+shown_fit monitors tasks s works shown opened numbered fit zip = all-fit monitors tasks s opened numbered works shown fit.cpus_below fit.few fit.deliveries zip
+
+-- and it ascends by CPU
+pub shown_ascend : ShownAscend
+shown_ascend look works shown ascend zip i j d lt within =
+    let many = length_all_zip (IsShownWork look) works shown zip in
+    let below = ascend i j d lt (omega arith) in
+    let first = (AllZip-get_or (IsShownWork look) works shown i d d zip (omega arith)).shown_of.cpu in
+    let last = (AllZip-get_or (IsShownWork look) works shown j d d zip (omega arith)).shown_of.cpu in
+    omega arith
+
+-- ---- for callers
+
+-- the works are of the same CPUs, and their turns have what is shown on
+pub shown_of-works : (look : ℕ) (works shown : List Work) → AllZip (IsShownWork look) works shown → AllZip (IsShownOf look) works shown
+shown_of-works look [] [] zip = tt
+shown_of-works look [] (v ∷ shown) zip = absurd zip
+shown_of-works look (w ∷ works) [] zip = absurd zip
+shown_of-works look (w ∷ works) (v ∷ shown) zip = (zip.0.shown_of, shown_of-works look works shown zip.1)
+
+-- in a run that can be numbered no reactor is panic
+pub numbered-calm : (monitors : List Monitor) (tables : List Table) → IsNumbered monitors tables → All (λ (m : Monitor). m.reactor ≢ Panic) monitors
+numbered-calm [] tables numbered = All-nil (λ (m : Monitor). m.reactor ≢ Panic)
+numbered-calm (m ∷ monitors) [] numbered = absurd numbered
+numbered-calm (m ∷ monitors) (t ∷ tables) numbered = All-cons (λ (m : Monitor). m.reactor ≢ Panic) m monitors numbered.0.calm (numbered-calm monitors tables numbered.1)

@@ -1,0 +1,10 @@
+-- A word has no bit from 64 on.
+use Rattle.std.proofs.Common.{◌≡◌, false, refl, arith}
+use Rattle.std.proofs.lemmas.Nat.Bits.{bit_at_above}
+use Rattle.rv_model.specs.Numbers.{has_bit}
+use Rattle.rv_shown.proofs.shown.has_switch.Goals as goal
+
+pub returns-else-bit-lt64 : goal.returns-else-bit-lt64
+returns-else-bit-lt64 c =
+    let none : has_bit c.args.switches c.args.bit ≡ false = rw (bit_at_above c.args.switches 64 c.args.bit c.ranges.switches.fits c.if-bit-lt64.false) refl in
+    rw none (grind arith)

@@ -1,0 +1,4 @@
+pub mod Fitting
+pub mod Numbered
+pub mod Shown
+pub mod Whole

@@ -1,0 +1,181 @@
+-- What is read can be recorded where its monitors are narrow, and what is recorded has the journal of a legal history.
+use Rattle.std.proofs.Common.{◌≡◌, ◌≢◌, ℕ, ◌+◌, ◌<◌, ◌≤◌, ◌^◌, ◌%◌, ◌==◌, Bool, true, false, List, [], ◌∷◌, length, refl, sym, ap, ◌∙◌, subst, arith}
+use Rattle.std.specs.Prelude.{◌↔◌, IsTrue, nat_le, ◌&&◌, not, Option, Some, Err, All, AllPairs}
+use Rattle.std.specs.List.{AllZip}
+use Rattle.std.proofs.Math.Nat.{div-eq_of_lt}
+use Rattle.std.proofs.lemmas.Bool.Decides.{nat_tests}
+use Rattle.rv_text.specs.declared.refusals.Refusal.{Refusal}
+use Rattle.rv_text.specs.declared.refusals.Refused.TheVariants as refuseds
+use Rattle.rv_io.specs.Files.{Files}
+use Rattle.rv_model.specs.declared.entry.Entry.{Entry}
+use Rattle.rv_model.specs.declared.reactor.Reactor.{Reactor}
+use Rattle.rv_model.specs.declared.reactor.Reactor.TheVariants as reactors
+use Rattle.rv_model.specs.Histories.{Input, IsLegal}
+use Rattle.rv_model.specs.Numbers.{has_bit, number_of}
+use Rattle.rv_model.specs.Setups.{Setup}
+use Rattle.rv_model.specs.Table.{Table}
+use Rattle.rv_model.specs.Works.{Work}
+use Rattle.rv_model.proofs.NumberLemmas.{number_of-lt}
+use Rattle.rv_table.specs.Rows.{row_count}
+use Rattle.rv_core.specs.Setup.{judges_of}
+use Rattle.rv_bind.specs.declared.bindings.Monitor.{Monitor}
+use Rattle.rv_bind.specs.declared.fault.BindFault.{BindFault}
+use Rattle.rv_bind.specs.declared.fault.BindFault.TheVariants as faults
+use Rattle.rv_bind.specs.Outcomes.{Names, refused, of_file}
+use Rattle.rv_bind.proofs.ReachedLemmas.{step_named}
+use Rattle.rv_control.specs.Opening.{enables, opening_switches}
+use Rattle.rv_feed.specs.Lane.{works_of, is_panic_reactor}
+use Rattle.rv_journal.specs.EntryTexts.{journal_of, IsEntry}
+use Rattle.rv_journal.specs.Running.{FitsCountedWork, recorded_input, IsLegalBy}
+use Rattle.rv_shown.specs.Fitting.{IsOpened}
+use Rattle.rv_shown.specs.Numbered.{atom_count, IsNarrowMonitor, IsNumbered}
+use Rattle.rv_shown.specs.Shown.{IsShownWork}
+use Rattle.rv_shown.specs.Whole.{IsWholeRun}
+use Rattle.rv_shown.proofs.FitLemmas.{shown_fit, shown_ascend, shown_of-works, numbered-calm}
+use Rattle.rv_verdicts.specs.Exits.{exit_of}
+use Rattle.rv_verdicts.specs.Shown.{IsShownOf}
+use Rattle.rv_verdicts.specs.Verdicts.{IsSteady}
+use Rattle.rv_verdicts.proofs.ExitLemmas.{status_is_seen}
+use Rattle.rv_verdicts.proofs.ShownLemmas.{shown_is_enough}
+use Rattle.rv_tool.specs.declared.input.Ready.{Ready}
+use Rattle.rv_tool.specs.declared.recording.TheConstants.{NOT_NUMBERED}
+use Rattle.rv_tool.specs.Faults.{IsFaultIn, Tells}
+use Rattle.rv_tool.specs.Inputs.{run_input, run_of}
+use Rattle.rv_tool.specs.Journals.{is_narrow, are_narrow, numbered, numbered_input, IsJournalReport, IsToRecord}
+use Rattle.rv_tool.specs.Ready.{ready_value, IsReady}
+use Rattle.rv_tool.proofs.VerdictLemmas.{calm}
+
+-- ---- which runs are recorded
+
+both : (a b : Bool) → (a && b) ≡ true → (a ≡ true) × (b ≡ true)
+both true true e = (refl, refl)
+both true false e = absurd (cc)
+both false b e = absurd (cc)
+
+-- a reactor that the test finds to be another than panic is another
+other_reactor : (r : Reactor) → not (is_panic_reactor (Some r)) ≡ true → r ≢ reactors.Panic
+other_reactor reactors.Nop e p = cc
+other_reactor reactors.Printk e p = cc
+other_reactor reactors.Panic e p = absurd (cc)
+
+no_panic : (r : Reactor) → r ≢ reactors.Panic → not (is_panic_reactor (Some r)) ≡ true
+no_panic reactors.Nop other = refl
+no_panic reactors.Printk other = refl
+no_panic reactors.Panic other = absurd (other refl)
+
+at_most : (n most : ℕ) → nat_le n most ≡ true → n ≤ most
+at_most n most e = grind (arith, nat_tests)
+
+is_at_most : (n most : ℕ) → n ≤ most → nat_le n most ≡ true
+is_at_most n most le = grind (arith, nat_tests)
+
+-- a monitor is narrow by the test exactly where it is
+narrow_by : (m : Monitor) (t : Table) → is_narrow m t ≡ true → IsNarrowMonitor m t
+narrow_by m t e =
+    let parts = both (nat_le (row_count t + atom_count m.spec) 32) (not (is_panic_reactor (Some m.reactor))) e in
+    record { narrow = at_most (row_count t + atom_count m.spec) 32 parts.0; calm = other_reactor m.reactor parts.1 }
+
+narrow_is : (m : Monitor) (t : Table) → IsNarrowMonitor m t → is_narrow m t ≡ true
+narrow_is m t is = rw (is_at_most (row_count t + atom_count m.spec) 32 is.narrow) (no_panic m.reactor is.calm)
+
+-- and so are all
+numbered_by : (monitors : List Monitor) (tables : List Table) → are_narrow monitors tables ≡ true → IsNumbered monitors tables
+numbered_by [] [] e = tt
+numbered_by [] (t ∷ tables) e = absurd (cc)
+numbered_by (m ∷ monitors) [] e = absurd (cc)
+numbered_by (m ∷ monitors) (t ∷ tables) e =
+    let parts = both (is_narrow m t) (are_narrow monitors tables) e in
+    (narrow_by m t parts.0, numbered_by monitors tables parts.1)
+
+numbered_is : (monitors : List Monitor) (tables : List Table) → IsNumbered monitors tables → are_narrow monitors tables ≡ true
+numbered_is [] [] all = refl
+numbered_is [] (t ∷ tables) all = absurd all
+numbered_is (m ∷ monitors) [] all = absurd all
+numbered_is (m ∷ monitors) (t ∷ tables) all = rw (narrow_is m t all.0) (numbered_is monitors tables all.1)
+
+-- what is answered of them is the test
+numbered_so : (monitors : List Monitor) (tables : List Table) (told : Bool) → IsTrue told ↔ IsNumbered monitors tables → are_narrow monitors tables ≡ told
+numbered_so monitors tables true so = numbered_is monitors tables (so.0 refl)
+numbered_so monitors tables false so = go (are_narrow monitors tables) refl
+  where
+    go : (b : Bool) → are_narrow monitors tables ≡ b → are_narrow monitors tables ≡ false
+    go false e = e
+    go true e = let other : false ≡ true = so.1 (numbered_by monitors tables e) in absurd (cc)
+
+module _ (ready : Ready) (given : List Monitor) (had : List Table) (told : Bool) (given_are : given ≡ ready.bindings.monitors.items) (had_are : had ≡ ready.setup.tables) (so : IsTrue told ↔ IsNumbered given had) where
+  -- what is answered of what is ready
+  pub ready_so : are_narrow ready.bindings.monitors.items ready.setup.tables ≡ told
+  ready_so = (λ i. are_narrow (sym given_are i) (sym had_are i)) ∙ numbered_so given had told so
+
+  -- where it is yes, the run can be recorded
+  pub may_record : IsReady ready → ready.changes.items ≡ [] → told ≡ true → IsToRecord ready
+  may_record is unchanged told_so = record { ready = is; unchanged = unchanged; numbered = subst (λ (z : List Monitor × List Table). IsNumbered z.0 z.1) (λ i. (given_are i, had_are i)) (so.0 told_so) }
+
+-- ---- what a reading comes to
+
+-- a refusal that was told of the bindings is what an input comes to whose monitors are not narrow
+pub unnumbered_tells : (ready : Ready) (bindings : List ℕ) (refusal : Refusal) (fault : BindFault) → are_narrow ready.bindings.monitors.items ready.setup.tables ≡ false → refusal ≡ record { number = NOT_NUMBERED; line = 0 }
+    → IsFaultIn bindings (refuseds.Because refusal) fault → Tells ready_value (Err fault) (of_file bindings (numbered (ready_value ready)))
+unnumbered_tells ready bindings refusal faults.Memory wide is said = tt
+unnumbered_tells ready bindings refusal (faults.Refused file told) wide is said = rw wide (λ j. refused (sym said.0 j) ((sym is ∙ sym said.1) j))
+unnumbered_tells ready bindings refusal (faults.Unread file) wide is said = absurd said
+
+-- what the bindings and the trace name, the whole names
+pub numbered_named : (told : Option Files) (X Z : Type 0) (bindings trace : List ℕ) (fault : BindFault) → Names {X = X} told (Err fault) (λ files. run_input files bindings trace)
+    → Names {X = Z} told (Err fault) (λ files. numbered_input files bindings trace)
+numbered_named told X Z bindings trace fault = step_named X Z told fault (λ files. run_input files bindings trace) (λ files input. of_file bindings (numbered input)) (λ files. numbered_input files bindings trace) (λ files. refl)
+
+-- ---- what is recorded
+
+-- no switch of those that a run opens with is past the two that react and monitor
+low_switches : (monitors : List Monitor) → opening_switches monitors < 2 ^ 34
+low_switches monitors = let low : number_of (enables monitors) 32 < 2 ^ 32 = number_of-lt (enables monitors) 32 in omega arith
+
+-- so nothing is halted
+not_halted : (monitors : List Monitor) → has_bit (opening_switches monitors) 34 ≡ false
+not_halted monitors = ap (λ d. d % 2 == 1) (div-eq_of_lt (low_switches monitors))
+
+module _ (ready : Ready) (is : IsToRecord ready) (shown : List Work) (are : AllZip (IsShownWork ready.setup.switches) (works_of ready.lanes.items) shown) where
+  opened_so : IsOpened ready.bindings.monitors.items (length ready.tasks) ready.setup
+  opened_so = record { shape = ap (λ (s : Setup). s.shape) is.ready.setup; tables = is.ready.tables; starts = ap (λ (s : Setup). s.starts) is.ready.setup }
+
+  -- what is shown can be recorded
+  pub shown_fits : All (FitsCountedWork ready.setup) shown
+  shown_fits = shown_fit ready.bindings.monitors.items (length ready.tasks) ready.setup (works_of ready.lanes.items) shown opened_so is.numbered is.ready.routed are
+
+  pub shown_ascends : AllPairs (λ (v w : Work). v.cpu < w.cpu) shown
+  shown_ascends = shown_ascend ready.setup.switches (works_of ready.lanes.items) shown is.ready.routed.cpus are
+
+  pub runs_on : has_bit ready.setup.switches 34 ≡ false
+  runs_on = ap (λ (s : Setup). has_bit s.switches 34) is.ready.setup ∙ not_halted ready.bindings.monitors.items
+
+  steady : IsSteady (run_of (ready_value ready))
+  steady = record { no_changes = is.unchanged; no_panics = calm ready.bindings.monitors.items (numbered-calm ready.bindings.monitors.items ready.setup.tables is.numbered) }
+
+  -- the input of what is shown is the run's with these works
+  input_is : recorded_input ready.setup (run_of (ready_value ready)).specs shown ≡ record (run_of (ready_value ready)) { works = shown }
+  input_is = λ j. record { setup = is.ready.setup j; specs = (run_of (ready_value ready)).specs; panics = λ m. (sym (steady.no_panics m)) j; works = shown; changes = (sym is.unchanged) j }
+
+  -- a history of what is shown is one of the run
+  whole_legal : (h : List Entry) → IsLegal (recorded_input ready.setup (run_of (ready_value ready)).specs shown) (judges_of ready.setup) h → IsLegal (run_of (ready_value ready)) (judges_of ready.setup) h
+  whole_legal h legal =
+      let low = low_switches ready.bindings.monitors.items in
+      shown_is_enough (run_of (ready_value ready)) (judges_of ready.setup) shown h steady (omega arith)
+      (subst (λ (look : ℕ). AllZip (IsShownOf look) (works_of ready.lanes.items) shown) (ap (λ (s : Setup). s.switches) is.ready.setup) (shown_of-works ready.setup.switches (works_of ready.lanes.items) shown are))
+      (subst (λ (x : Input). IsLegal x (judges_of ready.setup) h) input_is legal)
+
+  -- the text and the status of what was recorded are those of a legal history of the run
+  pub recorded_report : (h entries : List Entry) (text : List ℕ) (status : ℕ) → IsWholeRun ready.setup shown h → IsLegalBy ready.setup (run_of (ready_value ready)).specs shown h → h ≡ entries → All IsEntry entries
+      → text ≡ journal_of entries → (IsWholeRun ready.setup shown entries → status ≡ exit_of ready.setup (judges_of ready.setup) entries) → IsJournalReport (ready_value ready) h text status
+  recorded_report h entries text status whole by same fit text_is exits =
+      let legal = whole_legal h by.legal in
+      record {
+        judges = judges_of ready.setup;
+        are_judges = by.are_judges;
+        history = legal;
+        entries = subst (All IsEntry) (sym same) fit;
+        text_is = text_is ∙ ap journal_of (sym same);
+        status_is =
+            exits (subst (IsWholeRun ready.setup shown) same whole) ∙ ap (exit_of ready.setup (judges_of ready.setup)) (sym same)
+            ∙ ap (λ (s : Setup). exit_of s (judges_of ready.setup) h) is.ready.setup ∙ sym (status_is_seen (run_of (ready_value ready)) (judges_of ready.setup) h legal);
+      }

@@ -1,0 +1,65 @@
+-- What `journal` prints of a run: the journal of a legal history of it.
+use Rattle.std.specs.Prelude.{◌≡◌, ℕ, ◌+◌, nat_le, Bool, true, false, ◌&&◌, not, List, [], ◌∷◌, All, Some, Result, Ok, if◌then◌else◌}
+use Rattle.rv_text.specs.declared.refusals.Refusal.{Refusal}
+use Rattle.rv_text.specs.Readings.{refused_with}
+use Rattle.rv_io.specs.Files.{Files}
+use Rattle.rv_model.specs.declared.entry.Entry.{Entry}
+use Rattle.rv_model.specs.Histories.{IsLegal, AreJudges}
+use Rattle.rv_model.specs.Judging.{Judge}
+use Rattle.rv_model.specs.Records.{records_of, status_of}
+use Rattle.rv_model.specs.Table.{Table}
+use Rattle.rv_table.specs.Rows.{row_count}
+use Rattle.rv_bind.specs.declared.bindings.Monitor.{Monitor}
+use Rattle.rv_bind.specs.Outcomes.{Outcome, reading, of_file}
+use Rattle.rv_feed.specs.Lane.{is_panic_reactor}
+use Rattle.rv_journal.specs.EntryTexts.{journal_of, IsEntry}
+use Rattle.rv_shown.specs.Numbered.{atom_count, IsNumbered}
+use Rattle.rv_tool.specs.declared.input.Ready.{Ready}
+use Rattle.rv_tool.specs.declared.recording.TheConstants.{NOT_NUMBERED}
+use Rattle.rv_tool.specs.Headline.{Ending, TellsOf}
+use Rattle.rv_tool.specs.Inputs.{InputValue, run_input, run_of}
+use Rattle.rv_tool.specs.Ready.{IsReady}
+
+-- ---- which runs are recorded
+
+-- the rows of the monitor's table, row 0 too, and its atoms are 32 together at most, and its reactor is not panic
+abbrev pub is_narrow : Monitor → Table → Bool
+is_narrow m t = nat_le (row_count t + atom_count m.spec) 32 && not (is_panic_reactor (Some m.reactor))
+
+-- each monitor is so with its table, whether it is on or off
+abbrev pub are_narrow : List Monitor → List Table → Bool
+are_narrow [] [] = true
+are_narrow [] (t ∷ tables) = false
+are_narrow (m ∷ monitors) [] = false
+are_narrow (m ∷ monitors) (t ∷ tables) = is_narrow m t && are_narrow monitors tables
+
+-- the input, where its monitors are narrow, or the refusal
+abbrev pub numbered : InputValue → Result InputValue Refusal
+numbered i = if are_narrow i.bound.monitors i.bound.tables then Ok i else refused_with NOT_NUMBERED
+
+-- the bindings and the trace, and then whether the bindings' monitors can be numbered
+abbrev pub numbered_input : Files → List ℕ → List ℕ → Outcome InputValue
+numbered_input files bindings trace = reading (run_input files bindings trace) (λ input. of_file bindings (numbered input))
+
+-- ---- how it ends
+
+-- by judges of the specifications this is a legal history of the input, the text its journal, and the status that of its records
+pub record IsJournalReport (i : InputValue) (h : List Entry) (text : List ℕ) (status : ℕ) : Type 0 where
+  pub judges : List Judge
+  pub are_judges : AreJudges (run_of i).specs (run_of i).setup.tables judges
+  pub history : IsLegal (run_of i) judges h
+  pub entries : All IsEntry h
+  pub text_is : text ≡ journal_of h
+  pub status_is : status ≡ status_of (records_of (run_of i) judges h)
+
+-- an accepted input is run and recorded
+abbrev pub Journals : InputValue → Ending
+Journals i = TellsOf (IsJournalReport i)
+
+-- ---- what is read
+
+-- it is ready, nothing changes beside the CPUs, and its monitors are narrow
+pub record IsToRecord (r : Ready) : Type 0 where
+  pub ready : IsReady r
+  pub unchanged : r.changes.items ≡ []
+  pub numbered : IsNumbered r.bindings.monitors.items r.setup.tables

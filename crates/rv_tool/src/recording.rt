@@ -1,0 +1,91 @@
+//! A run on several threads whose entries are numbered and printed.
+ghost use Rattle.std.specs.Prelude.{◌≡◌, ◌≤◌, [], true, IfOk};
+ghost use Rattle.rv_bind.specs.Outcomes.{Comes, Names, of_file};
+ghost use Rattle.rv_tool.specs.Faults.{Tells};
+ghost use Rattle.rv_tool.specs.Journals.{numbered, numbered_input, IsJournalReport, IsToRecord};
+ghost use Rattle.rv_tool.specs.Ready.{ready_value, IsReady};
+
+use crate::checking::works;
+use crate::input::{Ready, read_input};
+use crate::replaying::Done;
+use crate::trace_text::refused;
+use rv_bind::BindFault;
+use rv_io::{Gate, Store};
+use rv_journal::{journal_text, record_run};
+use rv_shown::{exit_status, is_numbered, shown_works, widths_of};
+use rv_text::{Refusal, Refused};
+use std::alloc::{AllocError, Global};
+use std::thread::Threads;
+
+/// The rows and the atoms of a monitor are more than 32 together, or its reactor is panic.
+pub const NOT_NUMBERED: u8 = 34;
+
+/// What is ready, where its monitors can be numbered.
+fn numbered(alloc: Global, bindings: &str, ready: Ready) -> Result<Ready, BindFault>
+    requires ready { IsReady ready }
+    requires unchanged { ready.changes.items ≡ [] }
+    ensures ready { IfOk result IsToRecord }
+    ensures value { Tells ready_value result (of_file bindings.now (numbered (ready_value ready))) }
+{
+    let monitors = ready.bindings.monitors.as_slice();
+    let narrow = is_numbered(monitors, ready.setup.tables.as_slice());
+    if narrow {
+        Ok(ready)
+    } else {
+        Err(refused(
+            alloc,
+            bindings,
+            Refused::Because(Refusal::whole(NOT_NUMBERED)),
+        ))
+    }
+}
+
+/// Reads the bindings and the trace, and finds whether the monitors can be numbered.
+#[tactic(auto, using(crate::proofs::RecordingLemmas::numbered_named))]
+pub(crate) fn read_numbered<S: Store>(
+    alloc: Global,
+    store: &mut S,
+    bindings: &str,
+    trace: &str,
+) -> Result<Ready, BindFault>
+    ensures kept { S.files store.new ≡ S.files store.old }
+    ensures later { S.faults store.old ≤ S.faults store.new }
+    ensures ready { IfOk result IsToRecord }
+    ensures value { Comes ready_value (S.files store.old) (S.faults store.old) (S.faults store.new) result (λ files. numbered_input files bindings.now trace.now) }
+    ensures named { Names (S.files store.old) result (λ files. numbered_input files bindings.now trace.now) }
+{
+    let ready = read_input(alloc, store, bindings, trace)?;
+    numbered(alloc, bindings, ready)
+}
+
+/// The whole run, a thread for each CPU, its history as text and the history's status.
+pub(crate) fn recorded<R: Threads + Sync, G: Gate + Send>(
+    rt: &R,
+    alloc: Global,
+    gate: &G,
+    ready: Ready,
+) -> Result<Done, AllocError>
+    requires { IsToRecord ready }
+    ensures { IfOk result (λ done. IsJournalReport (ready_value ready) done.closed done.text.items done.status) }
+{
+    let Ready {
+        bindings,
+        tasks: _tasks,
+        setup,
+        reactors: _reactors,
+        lanes,
+        changes: _changes,
+    } = ready;
+    setup.known();
+    let works = works(alloc, lanes)?;
+    let shown = shown_works(alloc, setup.switches, works)?;
+    let widths = widths_of(alloc, bindings.monitors.as_slice(), &setup)?;
+    let recorded = record_run(rt, alloc, setup, widths, shown, gate)?;
+    let text = journal_text(alloc, recorded.entries.as_slice())?;
+    let status = exit_status(recorded.entries.as_slice());
+    Ok(Done {
+        status,
+        text,
+        closed: recorded.closed,
+    })
+}
