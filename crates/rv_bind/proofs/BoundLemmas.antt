@@ -12,7 +12,7 @@ use Rattle.rv_bind.specs.declared.limits.TheConstants.{MAX_RULES}
 use Rattle.rv_bind.specs.Values.{OnValue, BoundValue}
 use Rattle.rv_bind.specs.LineReads.{after}
 use Rattle.rv_bind.specs.Forms.{Words}
-use Rattle.rv_bind.specs.Changes.{allows_what, what_of, atom_bit}
+use Rattle.rv_bind.specs.Changes.{allows_hit, brought, atom_bit}
 use Rattle.rv_bind.specs.Bound.{monitor_named, allows_by, rule_bound, changed, change_bound, beginning, begin_bound}
 
 -- a monitor is changed where it stands
@@ -66,7 +66,7 @@ module _ (b : BoundValue) (name : List ℕ) (place : ℕ) (named : monitor_named
 
   -- a rule of the monitor of this name
   pub rule_added : (m : Monitor) (event : List ℕ) (by : Option (List ℕ)) (tests : List Test) (mode : Mode) (words : Words) (what : What) (after : List OnValue)
-      → slice_get b.monitors place ≡ Some m → allows_by m.scope by ≡ true → allows_what m.spec mode words ≡ true → length b.rules < MAX_RULES → what_of m.spec words ≡ Ok what
+      → slice_get b.monitors place ≡ Some m → allows_by m.scope by ≡ true → allows_hit m.scope m.spec mode words ≡ true → length b.rules < MAX_RULES → brought m.spec mode words ≡ Ok what
       → after ≡ b.rules ++ record { monitor = place; event = event; by = by; tests = tests; hit = record { mode = mode; what = what } } ∷ []
       → rule_bound b (monitor_named b name) event by tests mode words ≡ Ok (record b { rules = after })
   rule_added m event by tests mode words what after there allowed fits room found added =

@@ -1,6 +1,6 @@
 -- What a line brings fits its specification.
 use Rattle.std.proofs.Common.{◌≡◌, ◌≢◌, ℕ, ◌+◌, ◌*◌, ◌^◌, ◌<◌, ◌≤◌, Bool, true, false, List, [], ◌∷◌, length, get_or, Bor, Some, None, refl, sym, ap, ◌∙◌, subst, arith, add-one, if◌then◌else◌}
-use Rattle.std.specs.Prelude.{Option, Result, Ok, Err, ◌&&◌, not, bytes_eq, bit_or}
+use Rattle.std.specs.Prelude.{Option, Result, Ok, Err, ◌&&◌, ◌==◌, not, bytes_eq, bit_or, MatchBool}
 use Rattle.std.specs.List.{list_all}
 use Rattle.std.proofs.lemmas.Nat.{or_lt, pow_pos}
 use Rattle.std.proofs.Math.Pow.{pow-lt}
@@ -9,17 +9,19 @@ use Rattle.rv_model.specs.declared.hit.Mode.{Mode}
 use Rattle.rv_model.specs.declared.hit.Mode.TheVariants as modes
 use Rattle.rv_model.specs.declared.hit.What.{What}
 use Rattle.rv_model.specs.declared.hit.What.TheVariants as whats
+use Rattle.rv_model.specs.declared.work.Scope.{Scope}
 use Rattle.rv_model.specs.declared.formula.Spec.{Spec}
 use Rattle.rv_model.specs.declared.formula.Spec.TheVariants as specs
 use Rattle.rv_model.specs.Numbers.{number_of}
+use Rattle.rv_model.specs.Scripts.{is_end}
 use Rattle.rv_model.proofs.NumberLemmas.{number_of-lt}
 use Rattle.rv_text.specs.declared.numbers.TheConstants.{UNKNOWN_ATOM}
 use Rattle.rv_ltl.specs.Texts.{texts}
 use Rattle.rv_bind.specs.declared.fault.LineFault.{LineFault}
 use Rattle.rv_bind.specs.LineReads.{Reads}
 use Rattle.rv_bind.specs.Forms.{Words}
-use Rattle.rv_bind.specs.Changes.{runs_its_event, is_change, stands_twice, allows_what, place_named, signed, are_known, event_at, event_of, what_of, bit_at_place, atom_bit}
-use Rattle.rv_bind.specs.WellFormed.{FitsEvents, FitsAtoms, FitsSpec, StartsIn}
+use Rattle.rv_bind.specs.Changes.{runs_its_event, is_change, stands_twice, allows_what, may_end, allows_hit, place_named, signed, are_known, event_at, event_of, what_of, brought, bit_at_place, atom_bit}
+use Rattle.rv_bind.specs.WellFormed.{FitsEvents, FitsAtoms, FitsSpec, FitsRule, StartsIn}
 
 -- ---- a set, place by place
 
@@ -60,6 +62,7 @@ mode-fits : (mode : Mode) (rest : Bool) → (runs_its_event mode && rest) ≡ tr
 mode-fits modes.Event rest e same = cc
 mode-fits modes.Start rest e same = cc
 mode-fits modes.StartRun rest e same = cc
+mode-fits modes.End rest e same = cc
 
 -- the event of one word
 event_of-one : (events : List (List ℕ)) (words : List (Bor (List ℕ))) (d : Bor (List ℕ)) → 1 ≤ length words → length words < 2 → event_of events (texts words) ≡ event_at (place_named events (get_or words 0 d).now)
@@ -73,10 +76,19 @@ pub event_of-reads : (events : List (List ℕ)) (words : List (Bor (List ℕ))) 
 event_of-reads events words d r le lt reads = subst (λ (e : Result What ℕ). Reads (λ (what : What). what) r e) (sym (event_of-one events words d le lt)) reads
 
 -- what an allowed line brings fits
-pub what_fits : (spec : Spec) (mode : Mode) (words : Words) (what : What) → allows_what spec mode words ≡ true → what_of spec words ≡ Ok what → FitsSpec spec (record { mode = mode; what = what })
+what_fits : (spec : Spec) (mode : Mode) (words : Words) (what : What) → allows_what spec mode words ≡ true → what_of spec words ≡ Ok what → FitsSpec spec (record { mode = mode; what = what })
 what_fits (specs.Da a) mode words what allowed e = event-fits a.events words what e
 what_fits (specs.Ltl rule) mode words what allowed e =
     (mode-fits mode (list_all is_change words && not (stands_twice words)) allowed, change-fits rule.atoms words what (are_known rule.atoms words) e)
+
+-- what an allowed hit brings fits the rule
+pub hit_fits : (scope : Scope) (spec : Spec) (mode : Mode) (words : Words) (what : What) → allows_hit scope spec mode words ≡ true → brought spec mode words ≡ Ok what → FitsRule spec (record { mode = mode; what = what })
+hit_fits scope spec mode words what allowed e = go (is_end mode) allowed e
+  where
+    go : (b : Bool) → (if b then may_end scope && length words == 0 else allows_what spec mode words) ≡ true → (if b then Ok whats.Nothing else what_of spec words) ≡ Ok what
+        → MatchBool b (what ≡ whats.Nothing) (FitsSpec spec (record { mode = mode; what = what }))
+    go true fits e' = let same : whats.Nothing ≡ what = cc in sym same
+    go false fits e' = what_fits spec mode words what fits e'
 
 -- ---- starting values
 

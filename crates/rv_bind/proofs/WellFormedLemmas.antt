@@ -18,11 +18,11 @@ use Rattle.rv_bind.specs.declared.limits.TheConstants.{MAX_CONTAINERS, MAX_RULES
 use Rattle.rv_bind.specs.LineReads.{after}
 use Rattle.rv_bind.specs.Values.{OnValue, BoundValue}
 use Rattle.rv_bind.specs.Forms.{Words}
-use Rattle.rv_bind.specs.Changes.{allows_what, what_of, atom_bit}
+use Rattle.rv_bind.specs.Changes.{allows_hit, brought, atom_bit}
 use Rattle.rv_bind.specs.Compiling.{Compiles}
 use Rattle.rv_bind.specs.Bound.{nothing_bound, is_taken, allows_by, with_rule, rule_at, rule_bound, changed, with_change, change_bound, beginning, begin_at, begin_bound, container_bound, items_of, with_monitor}
-use Rattle.rv_bind.specs.WellFormed.{Kind, kind_of, kinds_of, FitsSpec, HasTable, HaveTables, FitsKind, holders_of, IsHolder, IsItem, IsWellFormed}
-use Rattle.rv_bind.proofs.ChangeLemmas.{what_fits, starts_at_first, starts_more}
+use Rattle.rv_bind.specs.WellFormed.{Kind, kind_of, kinds_of, FitsRule, HasTable, HaveTables, FitsKind, holders_of, IsHolder, IsItem, IsWellFormed}
+use Rattle.rv_bind.proofs.ChangeLemmas.{hit_fits, starts_at_first, starts_more}
 
 pub nothing_formed : IsWellFormed nothing_bound
 nothing_formed = record {
@@ -89,7 +89,7 @@ fits-began bit monitors place r f =
     record {
       kind = began.other;
       there = began.there;
-      hit = subst (λ (s : Spec). FitsSpec s r.hit) (sym began.spec) f.hit;
+      hit = subst (λ (s : Spec). FitsRule s r.hit) (sym began.spec) f.hit;
       by = subst (λ (s : Scope). allows_by s r.by ≡ true) (sym began.scope) f.by;
     }
 
@@ -133,14 +133,14 @@ slice_get-map f (y ∷ ys) zero x e = let same : y ≡ x = cc in ap (λ z. Some 
 slice_get-map f (y ∷ ys) (suc i) x e = slice_get-map f ys i x e
 
 module _ (b done : BoundValue) (place : ℕ) (event : List ℕ) (by : Option (List ℕ)) (tests : List Test) (mode : Mode) (words : Words) (w : IsWellFormed b) where
-  with_rule_formed : (m : Monitor) → slice_get b.monitors place ≡ Some m → allows_by m.scope by ≡ true → allows_what m.spec mode words ≡ true → length b.rules < MAX_RULES
-      → (what : Result What ℕ) → what_of m.spec words ≡ what → with_rule b place event by tests mode what ≡ Ok done → IsWellFormed done
+  with_rule_formed : (m : Monitor) → slice_get b.monitors place ≡ Some m → allows_by m.scope by ≡ true → allows_hit m.scope m.spec mode words ≡ true → length b.rules < MAX_RULES
+      → (what : Result What ℕ) → brought m.spec mode words ≡ what → with_rule b place event by tests mode what ≡ Ok done → IsWellFormed done
   with_rule_formed m there allowed fits room (Err number) found e = cc
   with_rule_formed m there allowed fits room (Ok what) found e =
       let rule : OnValue = record { monitor = place; event = event; by = by; tests = tests; hit = record { mode = mode; what = what } } in
       let is : record b { rules = b.rules ++ rule ∷ [] } ≡ done = cc in
       let of_kind : FitsKind (kinds_of b.monitors) rule =
-      record { kind = kind_of m; there = slice_get-map kind_of b.monitors place m there; hit = what_fits m.spec mode words what fits found; by = allowed } in
+      record { kind = kind_of m; there = slice_get-map kind_of b.monitors place m there; hit = hit_fits m.scope m.spec mode words what fits found; by = allowed } in
       subst IsWellFormed is (record {
         few_containers = w.few_containers;
         few_monitors = w.few_monitors;
@@ -153,17 +153,17 @@ module _ (b done : BoundValue) (place : ℕ) (event : List ℕ) (by : Option (Li
 
   -- the rule where there is room
   abbrev in_room : Monitor → Bool → Result BoundValue ℕ
-  in_room m few = if few then with_rule b place event by tests mode (what_of m.spec words) else Err TOO_MANY_RULES
+  in_room m few = if few then with_rule b place event by tests mode (brought m.spec mode words) else Err TOO_MANY_RULES
 
   rule_at_formed : (m : Option Monitor) → slice_get b.monitors place ≡ m → rule_at b place m event by tests mode words ≡ Ok done → IsWellFormed done
   rule_at_formed None there e = cc
-  rule_at_formed (Some m) there e = by_form (allows_by m.scope by) refl (allows_what m.spec mode words) refl e
+  rule_at_formed (Some m) there e = by_form (allows_by m.scope by) refl (allows_hit m.scope m.spec mode words) refl e
     where
-      room : (t : Bool) → nat_lt (length b.rules) MAX_RULES ≡ t → allows_by m.scope by ≡ true → allows_what m.spec mode words ≡ true → in_room m t ≡ Ok done → IsWellFormed done
-      room true is allowed fits e = with_rule_formed m there allowed fits (let t = is in grind arith) (what_of m.spec words) refl e
+      room : (t : Bool) → nat_lt (length b.rules) MAX_RULES ≡ t → allows_by m.scope by ≡ true → allows_hit m.scope m.spec mode words ≡ true → in_room m t ≡ Ok done → IsWellFormed done
+      room true is allowed fits e = with_rule_formed m there allowed fits (let t = is in grind arith) (brought m.spec mode words) refl e
       room false is allowed fits e = cc
 
-      by_form : (t : Bool) → allows_by m.scope by ≡ t → (u : Bool) → allows_what m.spec mode words ≡ u → (if t && u then in_room m (nat_lt (length b.rules) MAX_RULES) else Err BIND_SYNTAX) ≡ Ok done → IsWellFormed done
+      by_form : (t : Bool) → allows_by m.scope by ≡ t → (u : Bool) → allows_hit m.scope m.spec mode words ≡ u → (if t && u then in_room m (nat_lt (length b.rules) MAX_RULES) else Err BIND_SYNTAX) ≡ Ok done → IsWellFormed done
       by_form true is true fits e = room (nat_lt (length b.rules) MAX_RULES) refl is fits e
       by_form true is false fits e = cc
       by_form false is true fits e = cc

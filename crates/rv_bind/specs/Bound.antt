@@ -20,7 +20,7 @@ use Rattle.rv_bind.specs.declared.limits.TheConstants.{TEXT_LIMIT, MAX_CONTAINER
 use Rattle.rv_bind.specs.LineReads.{after}
 use Rattle.rv_bind.specs.Values.{BoundValue}
 use Rattle.rv_bind.specs.Forms.{Words, FormValue, skipped, container, monitor, on, react, off, begin, form_of, or_syntax}
-use Rattle.rv_bind.specs.Changes.{allows_what, what_of, atom_bit}
+use Rattle.rv_bind.specs.Changes.{allows_hit, brought, atom_bit}
 use Rattle.rv_bind.specs.Compiling.{compiled_of}
 use Rattle.rv_bind.specs.Outcomes.{Outcome, accepted, reading, of_file, of_line, of_name}
 
@@ -94,8 +94,8 @@ with_rule bound place event by tests mode (Ok what) =
 abbrev pub rule_at : BoundValue → ℕ → Option Monitor → List ℕ → Option (List ℕ) → List Test → Mode → Words → Result BoundValue ℕ
 rule_at bound place None event by tests mode words = Err BIND_SYNTAX
 rule_at bound place (Some m) event by tests mode words =
-    if allows_by m.scope by && allows_what m.spec mode words
-    then (if nat_lt (length bound.rules) MAX_RULES then with_rule bound place event by tests mode (what_of m.spec words) else Err TOO_MANY_RULES)
+    if allows_by m.scope by && allows_hit m.scope m.spec mode words
+    then (if nat_lt (length bound.rules) MAX_RULES then with_rule bound place event by tests mode (brought m.spec mode words) else Err TOO_MANY_RULES)
     else Err BIND_SYNTAX
 
 abbrev pub rule_bound : BoundValue → Option ℕ → List ℕ → Option (List ℕ) → List Test → Mode → Words → Result BoundValue ℕ

@@ -1,4 +1,4 @@
--- What an `on` line brings: an automaton's event, or what becomes of a rule's atoms (this project's choice: docs/FORMATS.md, "Bindings").
+-- What an `on` line brings: an automaton's event, what becomes of a rule's atoms, or nothing where it is an end (this project's choice: docs/FORMATS.md, "Bindings").
 use Rattle.std.specs.Prelude.{ℕ, ◌^◌, Bool, true, false, not, ◌&&◌, ◌||◌, ◌==◌, List, [], ◌∷◌, length, bytes_eq, position, is_some, Option, Some, None, Result, Ok, Err, slice_index_or, if◌then◌else◌}
 use Rattle.std.specs.List.{list_all, list_any}
 use Rattle.rv_text.specs.declared.numbers.TheConstants.{BIND_SYNTAX, UNKNOWN_EVENT, UNKNOWN_ATOM}
@@ -6,9 +6,12 @@ use Rattle.rv_model.specs.declared.hit.Mode.{Mode}
 use Rattle.rv_model.specs.declared.hit.Mode.TheVariants as modes
 use Rattle.rv_model.specs.declared.hit.What.{What}
 use Rattle.rv_model.specs.declared.hit.What.TheVariants as whats
+use Rattle.rv_model.specs.declared.work.Scope.{Scope}
+use Rattle.rv_model.specs.declared.work.Scope.TheVariants as scopes
 use Rattle.rv_model.specs.declared.formula.Spec.{Spec}
 use Rattle.rv_model.specs.declared.formula.Spec.TheVariants as specs
 use Rattle.rv_model.specs.Numbers.{number_of}
+use Rattle.rv_model.specs.Scripts.{is_end}
 use Rattle.rv_bind.specs.Forms.{Words}
 
 -- ---- single words
@@ -44,6 +47,7 @@ abbrev pub runs_its_event : Mode → Bool
 runs_its_event modes.Event = true
 runs_its_event modes.Start = false
 runs_its_event modes.StartRun = true
+runs_its_event modes.End = false
 
 abbrev pub is_one : Words → Bool
 is_one [] = false
@@ -54,6 +58,16 @@ is_one (word ∷ next ∷ words) = false
 abbrev pub allows_what : Spec → Mode → Words → Bool
 allows_what (specs.Da automaton) mode words = is_one words
 allows_what (specs.Ltl rule) mode words = runs_its_event mode && (list_all is_change words && not (stands_twice words))
+
+-- an instance ends only where it is a task's
+abbrev pub may_end : Scope → Bool
+may_end scopes.Global = false
+may_end scopes.Cpu = false
+may_end scopes.Task = true
+
+-- an end brings nothing, and a task monitor alone has it
+abbrev pub allows_hit : Scope → Spec → Mode → Words → Bool
+allows_hit scope spec mode words = if is_end mode then may_end scope && length words == 0 else allows_what spec mode words
 
 -- ---- by the specification's names
 
@@ -87,6 +101,10 @@ event_of events (word ∷ next ∷ words) = Err BIND_SYNTAX
 abbrev pub what_of : Spec → Words → Result What ℕ
 what_of (specs.Da automaton) words = event_of automaton.events words
 what_of (specs.Ltl rule) words = change_of rule.atoms words
+
+-- what a hit brings: an end nothing, and any other what its words say
+abbrev pub brought : Spec → Mode → Words → Result What ℕ
+brought spec mode words = if is_end mode then Ok whats.Nothing else what_of spec words
 
 abbrev pub bit_at_place : Option ℕ → Result ℕ ℕ
 bit_at_place None = Err UNKNOWN_ATOM

@@ -64,7 +64,7 @@ abbrev pub kind_named : List ℕ → Option SpecKind
 kind_named word = if bytes_eq word (codes "da") then Some kinds.Da else if bytes_eq word (codes "ltl") then Some kinds.Ltl else None
 
 abbrev pub mode_named : List ℕ → Option Mode
-mode_named word = if bytes_eq word (codes "event") then Some modes.Event else if bytes_eq word (codes "start") then Some modes.Start else if bytes_eq word (codes "start_run") then Some modes.StartRun else None
+mode_named word = if bytes_eq word (codes "event") then Some modes.Event else if bytes_eq word (codes "start") then Some modes.Start else if bytes_eq word (codes "start_run") then Some modes.StartRun else if bytes_eq word (codes "end") then Some modes.End else None
 
 abbrev pub reactor_named : List ℕ → Option Reactor
 reactor_named word = if bytes_eq word (codes "nop") then Some reactors.Nop else if bytes_eq word (codes "printk") then Some reactors.Printk else if bytes_eq word (codes "panic") then Some reactors.Panic else None

@@ -1,5 +1,5 @@
 -- What accepted bindings keep, whatever the store tells.
-use Rattle.std.specs.Prelude.{◌≡◌, ◌≢◌, ℕ, ◌^◌, ◌<◌, ◌≤◌, true, List, [], ◌∷◌, map, length, All, Option, Some, None, slice_get}
+use Rattle.std.specs.Prelude.{◌≡◌, ◌≢◌, ℕ, ◌^◌, ◌<◌, ◌≤◌, true, List, [], ◌∷◌, map, length, All, MatchBool, Option, Some, None, slice_get}
 use Rattle.rv_model.specs.declared.hit.Hit.{Hit}
 use Rattle.rv_model.specs.declared.hit.Mode.TheVariants as modes
 use Rattle.rv_model.specs.declared.hit.What.{What}
@@ -7,6 +7,7 @@ use Rattle.rv_model.specs.declared.hit.What.TheVariants as whats
 use Rattle.rv_model.specs.declared.work.Scope.{Scope}
 use Rattle.rv_model.specs.declared.formula.Spec.{Spec}
 use Rattle.rv_model.specs.declared.formula.Spec.TheVariants as specs
+use Rattle.rv_model.specs.Scripts.{is_end}
 use Rattle.rv_model.specs.Table.{Table}
 use Rattle.rv_bind.specs.declared.bindings.Monitor.{Monitor}
 use Rattle.rv_bind.specs.declared.bindings.Item.{Item}
@@ -30,16 +31,22 @@ kinds_of monitors = map kind_of monitors
 abbrev pub FitsEvents : ℕ → What → Type 0
 FitsEvents count (whats.Da event) = event < count
 FitsEvents count (whats.Ltl on off pulse) = ⊥
+FitsEvents count whats.Nothing = ⊥
 
 -- sets of atoms that there are
 abbrev pub FitsAtoms : ℕ → What → Type 0
 FitsAtoms count (whats.Da event) = ⊥
+FitsAtoms count whats.Nothing = ⊥
 FitsAtoms count (whats.Ltl on off pulse) = (on < 2 ^ count) × (off < 2 ^ count) × (pulse < 2 ^ count)
 
 -- a hit of the specification's kind, in range; a start whose event is not run is an automaton's alone
 abbrev pub FitsSpec : Spec → Hit → Type 0
 FitsSpec (specs.Da automaton) hit = FitsEvents (length automaton.events) hit.what
 FitsSpec (specs.Ltl rule) hit = (hit.mode ≢ modes.Start) × FitsAtoms (length rule.atoms) hit.what
+
+-- an end brings nothing, and any other hit fits the specification
+abbrev pub FitsRule : Spec → Hit → Type 0
+FitsRule spec hit = MatchBool (is_end hit.mode) (hit.what ≡ whats.Nothing) (FitsSpec spec hit)
 
 -- an automaton's starting value is 0, and a rule's is a set of its atoms
 abbrev pub StartsIn : Spec → ℕ → Type 0
@@ -57,11 +64,11 @@ HaveTables [] (t ∷ tables) = ⊥
 HaveTables (kind ∷ kinds) [] = ⊥
 HaveTables (kind ∷ kinds) (t ∷ tables) = HasTable kind t × HaveTables kinds tables
 
--- the rule is of a monitor that there is, whose specification its hit fits
+-- the rule is of a monitor that there is, whose specification its hit fits where it is no end
 pub record FitsKind (kinds : List Kind) (r : OnValue) : Type 0 where
   pub kind : Kind
   pub there : slice_get kinds r.monitor ≡ Some kind
-  pub hit : FitsSpec kind.spec r.hit
+  pub hit : FitsRule kind.spec r.hit
   pub by : allows_by kind.scope r.by ≡ true
 
 -- the containers of the monitors

@@ -10,7 +10,7 @@ ghost use Rattle.rv_bind.specs.WellFormed.{IsWellFormed, IsHolder};
 ghost use Rattle.rv_bind.specs.declared.limits.TheConstants.{MAX_MONITORS};
 
 use crate::bindings::{Bindings, Bound, Item, Monitor, On};
-use crate::changes::{allows_what, atom_bit, what_of};
+use crate::changes::{allows_hit, atom_bit, brought};
 use crate::compile::Compiled;
 use crate::fault::LineFault;
 use crate::forms::{MonitorForm, OnForm};
@@ -228,13 +228,14 @@ impl Bound {
         if !allows_by(monitor.scope, on.by) {
             return Err(SYNTAX);
         }
-        if !allows_what(alloc, &monitor.spec, on.mode, on.words.as_slice())? {
+        let words = on.words.as_slice();
+        if !allows_hit(alloc, monitor.scope, &monitor.spec, on.mode, words)? {
             return Err(SYNTAX);
         }
         if self.bindings.rules.len() >= MAX_RULES {
             return Err(LineFault::Number(TOO_MANY_RULES));
         }
-        let what = what_of(&monitor.spec, on.words.as_slice())?;
+        let what = brought(&monitor.spec, on.mode, words)?;
         let by = owned(alloc, on.by)?;
         let name = Name::new(alloc, on.event)?;
         self.bindings.rules.push(On {

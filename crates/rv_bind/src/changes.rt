@@ -1,14 +1,14 @@
-//! What an `on` line brings: an automaton's event, or what becomes of a rule's atoms.
+//! What an `on` line brings: an automaton's event, what becomes of a rule's atoms, or nothing where it is an end.
 ghost use Rattle.std.specs.Prelude.{◌≡◌, ◌≤◌, ◌<◌, ◌+◌, ◌*◌, ◌^◌, ◌||◌, ℕ, List, length, if◌then◌else◌, IfOk, is_some};
 ghost use Rattle.std.specs.List.{list_all, list_any};
 ghost use Rattle.rv_ltl.specs.Texts.{texts};
 ghost use Rattle.rv_bind.specs.LineReads.{Reads};
-ghost use Rattle.rv_bind.specs.Changes.{is_sign, is_change, atom_in, says, stands_twice, runs_its_event, is_one, allows_what, signed, are_known, change_of, event_at, event_of, what_of, place_named, bit_at_place, atom_bit};
+ghost use Rattle.rv_bind.specs.Changes.{is_sign, is_change, atom_in, says, stands_twice, runs_its_event, is_one, allows_what, may_end, allows_hit, signed, are_known, change_of, event_at, event_of, what_of, brought, place_named, bit_at_place, atom_bit};
 
 use crate::bound::place_in;
 use crate::fault::LineFault;
 use crate::words::SYNTAX;
-use rv_model::{Automaton, Mode, Names, Rule, Spec, What};
+use rv_model::{Automaton, Mode, Names, Rule, Scope, Spec, What};
 use rv_text::{UNKNOWN_ATOM, UNKNOWN_EVENT};
 use std::alloc::{AllocError, Global};
 use std::collections::BTreeSet;
@@ -82,7 +82,7 @@ fn runs_its_event(mode: Mode) -> bool
 {
     match mode {
         Mode::Event | Mode::StartRun => true,
-        Mode::Start => false,
+        Mode::Start | Mode::End => false,
     }
 }
 
@@ -95,13 +95,8 @@ fn is_one(words: &[&[u8]]) -> bool
     }
 }
 
-/// Whether a rule's mode and words have the form that is its specification's.
-pub(crate) fn allows_what(
-    alloc: Global,
-    spec: &Spec,
-    mode: Mode,
-    words: &[&[u8]],
-) -> Result<bool, AllocError>
+/// Whether a mode that is no end, and its words, have the form that is the specification's.
+fn allows_what(alloc: Global, spec: &Spec, mode: Mode, words: &[&[u8]]) -> Result<bool, AllocError>
     ensures { IfOk result (λ allowed. allowed ≡ allows_what spec.now mode (texts words.now)) }
 {
     match spec {
@@ -114,6 +109,31 @@ pub(crate) fn allows_what(
             Ok(!twice)
         }
     }
+}
+
+fn may_end(scope: Scope) -> bool
+    ensures { result ≡ may_end scope }
+{
+    match scope {
+        Scope::Task => true,
+        Scope::Global | Scope::Cpu => false,
+    }
+}
+
+/// Whether a rule's mode and words have the form that is its monitor's.
+pub(crate) fn allows_hit(
+    alloc: Global,
+    scope: Scope,
+    spec: &Spec,
+    mode: Mode,
+    words: &[&[u8]],
+) -> Result<bool, AllocError>
+    ensures { IfOk result (λ allowed. allowed ≡ allows_hit scope spec.now mode (texts words.now)) }
+{
+    if mode.is_end() {
+        return Ok(may_end(scope) && words.is_empty());
+    }
+    allows_what(alloc, spec, mode, words)
 }
 
 /// The set of one atom.
@@ -216,14 +236,24 @@ fn event_of(automaton: &Automaton, words: &[&[u8]]) -> Result<What, LineFault>
     }
 }
 
-/// What the words bring.
-pub(crate) fn what_of(spec: &Spec, words: &[&[u8]]) -> Result<What, LineFault>
+/// What the words bring, where the mode is no end.
+fn what_of(spec: &Spec, words: &[&[u8]]) -> Result<What, LineFault>
     ensures { Reads (λ what. what) result (what_of spec.now (texts words.now)) }
 {
     match spec {
         Spec::Da(automaton) => event_of(automaton, words),
         Spec::Ltl(rule) => change_of(rule, words),
     }
+}
+
+/// What the hit brings.
+pub(crate) fn brought(spec: &Spec, mode: Mode, words: &[&[u8]]) -> Result<What, LineFault>
+    ensures { Reads (λ what. what) result (brought spec.now mode (texts words.now)) }
+{
+    if mode.is_end() {
+        return Ok(What::Nothing);
+    }
+    what_of(spec, words)
 }
 
 /// The set of one atom of a rule.

@@ -116,6 +116,8 @@ pub(crate) fn mode(word: &[u8]) -> Result<Mode, LineFault>
         Ok(Mode::Start)
     } else if is(word, "start_run") {
         Ok(Mode::StartRun)
+    } else if is(word, "end") {
+        Ok(Mode::End)
     } else {
         Err(SYNTAX)
     }

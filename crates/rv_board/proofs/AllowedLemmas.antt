@@ -7,7 +7,7 @@ use Rattle.std.proofs.Math.Facts.{Fits-or}
 use mathlib.Core.Option.{some, none}
 use prog.Atomic.{either}
 use Rattle.atomic_table.specs.Table.{step, Allows}
-use Rattle.rv_model.specs.declared.entry.Act.TheVariants.{Deliver, Stop, Look, Raise, Lower, Clear}
+use Rattle.rv_model.specs.declared.entry.Act.TheVariants.{Deliver, Stop, Look, Raise, Lower, Clear, End}
 use Rattle.rv_model.specs.declared.hit.Hit.{Hit}
 use Rattle.rv_model.specs.Setups.{Setup, start_of}
 use Rattle.rv_model.specs.Histories.{IsHeldBy, LostThrice}
@@ -15,7 +15,7 @@ use Rattle.rv_core.specs.Advance.{FitsTable, WhatFits, advanced}
 use Rattle.rv_core.specs.Setup.{table_at}
 use Rattle.rv_word.specs.Words.{packed}
 use Rattle.rv_board.specs.Rule.{width, KeptPlainly}
-use Rattle.rv_board.specs.Steps.{Ours, Makes, Sees, Tries, Looks, Raises, Lowers, Clears, Stops}
+use Rattle.rv_board.specs.Steps.{Ours, Makes, Sees, Tries, Looks, Raises, Lowers, Clears, Ends, Stops}
 use Rattle.rv_board.specs.Seats.{IsUsable}
 use Rattle.rv_board.proofs.StepLemmas.{makes, tries, sees}
 use Rattle.rv_board.proofs.CallLemmas.{may}
@@ -50,6 +50,13 @@ module _ (k : Setup) (slots id number end : ℕ) (me : Ours) (u : IsUsable numbe
       let back : slot ≡ (slot + 1) - 1 = omega arith in
       subst (λ (z : ℕ). Allows (KeptPlainly k) slots id me (slot + 1) (λ _. first) (Makes (Clear z) me)) back
       (makes k slots id me (Clear slot) (λ _. first) (may k number end me (Clear slot) u setup inside low actor tt) (λ n _. (is, omega arith)))
+
+  -- an end
+  pub ends : (slot first : ℕ) → slot < sum k.shape → start_of k slot < 2 ^ 32 → first ≡ packed 1 (start_of k slot) → Allows (KeptPlainly k) slots id me (slot + 1) (λ _. first) (Ends (step slots (slot + 1) first 0 none) me)
+  ends slot first inside low is =
+      let back : slot ≡ (slot + 1) - 1 = omega arith in
+      subst (λ (z : ℕ). Allows (KeptPlainly k) slots id me (slot + 1) (λ _. first) (Makes (End z) me)) back
+      (makes k slots id me (End slot) (λ _. first) (may k number end me (End slot) u setup inside low tt tt) (λ n _. (is, omega arith)))
 
   -- a stop, which three lost tries have earned
   pub stops : (slot : ℕ) → slot < sum k.shape → LostThrice slot me.0.part.number me.0.part.seen → Allows (KeptPlainly k) slots id me (slot + 1) (λ _. 0) (Stops (step slots (slot + 1) 0 0 none) me)

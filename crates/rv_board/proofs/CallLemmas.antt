@@ -4,7 +4,7 @@ use Rattle.std.proofs.lemmas.List.{append-nil}
 use Rattle.std.proofs.lemmas.List.Elements.{filter-append, All-nil, All-cons}
 use Rattle.atomic_table.specs.Seated.{TableId}
 use Rattle.rv_model.specs.declared.entry.Act.{Act}
-use Rattle.rv_model.specs.declared.entry.Act.TheVariants.{Deliver, Stop, Look, Raise, Lower, Clear}
+use Rattle.rv_model.specs.declared.entry.Act.TheVariants.{Deliver, Stop, Look, Raise, Lower, Clear, End}
 use Rattle.rv_model.specs.declared.entry.Entry.{Entry}
 use Rattle.rv_model.specs.Setups.{Setup}
 use Rattle.rv_model.specs.Histories.{IsSound, IsEarnedBy, IsHeldBy}
@@ -32,6 +32,7 @@ calm seat Look history h = tt
 calm seat (Raise bits) history h = tt
 calm seat (Lower bits) history h = tt
 calm seat (Clear slot) history h = tt
+calm seat (End slot) history h = tt
 
 -- what a usable seat may do
 pub may : (k : Setup) (number end : ℕ) (me : Ours) (act : Act) → IsUsable number end me → me.0.setup ≡ k → FitsAct k act → ActFits k act → IsHeldBy act me.0.part.number → IsCalm act → CanMake k me.0 act

@@ -8,7 +8,7 @@ use lib.ListN.{get_elem?}
 use Rattle.std.proofs.lemmas.List.{append-nil}
 use Rattle.atomic_table.specs.Table.{keeps, stepped}
 use Rattle.rv_model.specs.declared.entry.Act.{Act}
-use Rattle.rv_model.specs.declared.entry.Act.TheVariants.{Deliver, Stop, Look, Raise, Lower, Clear}
+use Rattle.rv_model.specs.declared.entry.Act.TheVariants.{Deliver, Stop, Look, Raise, Lower, Clear, End}
 use Rattle.rv_model.specs.declared.entry.Entry.{Entry}
 use Rattle.rv_model.specs.Setups.{Setup}
 use Rattle.rv_model.specs.SharedWords.{answer_at}
@@ -43,6 +43,7 @@ earned_longer p seat Look history rest own quiet t = tt
 earned_longer p seat (Raise bits) history rest own quiet t = tt
 earned_longer p seat (Lower bits) history rest own quiet t = tt
 earned_longer p seat (Clear slot) history rest own quiet t = tt
+earned_longer p seat (End slot) history rest own quiet t = tt
 
 -- what a seat owes for an act
 pub record CanMake (s : Setup) (v : View) (act : Act) : Type 0 where

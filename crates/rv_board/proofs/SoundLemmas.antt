@@ -6,7 +6,7 @@ use Rattle.std.proofs.lemmas.List.{append-nil, reverse-append}
 use Rattle.std.proofs.lemmas.List.Elements.{filter-append}
 use Rattle.std.proofs.Common.{length-append}
 use Rattle.rv_model.specs.declared.entry.Act.{Act}
-use Rattle.rv_model.specs.declared.entry.Act.TheVariants.{Deliver, Stop, Look, Raise, Lower, Clear}
+use Rattle.rv_model.specs.declared.entry.Act.TheVariants.{Deliver, Stop, Look, Raise, Lower, Clear, End}
 use Rattle.rv_model.specs.declared.entry.Entry.{Entry}
 use Rattle.rv_model.specs.Setups.{Setup, judge_of, start_of}
 use Rattle.rv_model.specs.Phases.{level, phase_of}
@@ -47,6 +47,7 @@ module _ (s : Setup) (js : List Judge) where
   elsewhere slot (Deliver other hit) out = λ e. let same : other ≡ slot = omega arith in let equal : (other == slot) ≡ true = grind (arith, nat_tests) in cc
   elsewhere slot (Stop other) out = λ e. let same : other ≡ slot = omega arith in let equal : (other == slot) ≡ true = grind (arith, nat_tests) in cc
   elsewhere slot (Clear other) out = λ e. let same : other ≡ slot = omega arith in let equal : (other == slot) ≡ true = grind (arith, nat_tests) in cc
+  elsewhere slot (End other) out = λ e. let same : other ≡ slot = omega arith in let equal : (other == slot) ≡ true = grind (arith, nat_tests) in cc
   elsewhere slot Look out = λ e. absurd (omega arith)
   elsewhere slot (Raise bits) out = λ e. absurd (omega arith)
   elsewhere slot (Lower bits) out = λ e. absurd (omega arith)
@@ -56,6 +57,7 @@ module _ (s : Setup) (js : List Judge) where
   on-slot past slot (Deliver other hit) here = let same : other ≡ slot = grind (arith, nat_tests) in ap (word_of s js past) same
   on-slot past slot (Stop other) here = let same : other ≡ slot = grind (arith, nat_tests) in ap (word_of s js past) same
   on-slot past slot (Clear other) here = let same : other ≡ slot = grind (arith, nat_tests) in ap (word_of s js past) same
+  on-slot past slot (End other) here = let same : other ≡ slot = grind (arith, nat_tests) in ap (word_of s js past) same
   on-slot past slot Look here = cc
   on-slot past slot (Raise bits) here = cc
   on-slot past slot (Lower bits) here = cc

@@ -1,7 +1,7 @@
 -- What one act makes of the words that a history gives.
 use Rattle.std.proofs.Common.{◌≡◌, ◌≢◌, ℕ, zero, suc, ◌+◌, ◌^◌, ◌<◌, List, [], ◌∷◌, ◌++◌, length, get_or, set, reverse, refl, ap, sym, ◌∙◌, arith, add-one, get_or-set_same, get_or-set_other, sum}
 use Rattle.rv_model.specs.declared.entry.Act.{Act}
-use Rattle.rv_model.specs.declared.entry.Act.TheVariants.{Deliver, Stop, Look, Raise, Lower, Clear}
+use Rattle.rv_model.specs.declared.entry.Act.TheVariants.{Deliver, Stop, Look, Raise, Lower, Clear, End}
 use Rattle.rv_model.specs.declared.entry.Entry.{Entry}
 use Rattle.rv_model.specs.Numbers.{list_of}
 use Rattle.rv_model.specs.Setups.{Setup}
@@ -50,6 +50,7 @@ pub place-within : (s : Setup) (act : Act) → FitsAct s act → place_of act < 
 place-within s (Deliver slot hit) f = let l = f.0 in omega arith
 place-within s (Stop slot) f = omega arith
 place-within s (Clear slot) f = omega arith
+place-within s (End slot) f = omega arith
 place-within s Look f = omega arith
 place-within s (Raise _) f = omega arith
 place-within s (Lower _) f = omega arith

@@ -4,7 +4,7 @@ use Rattle.std.specs.Int.{bit_not, w64}
 use mathlib.Core.Option.{Option, some, none}
 use Rattle.atomic_table.specs.Table.{Me, Step}
 use Rattle.rv_model.specs.declared.entry.Act.{Act}
-use Rattle.rv_model.specs.declared.entry.Act.TheVariants.{Stop, Look, Raise, Lower, Clear}
+use Rattle.rv_model.specs.declared.entry.Act.TheVariants.{Stop, Look, Raise, Lower, Clear, End}
 use Rattle.rv_model.specs.declared.entry.Entry.{Entry}
 use Rattle.rv_model.specs.Setups.{Setup}
 use Rattle.rv_model.specs.SharedWords.{answer_at}
@@ -88,3 +88,7 @@ Lowers st = Makes (Lower (bit_not w64 st.first))
 -- a swap of the opening word into the word of a slot
 abbrev pub Clears : Step Act → Ours → ℕ → Ours → Type 0
 Clears st = Makes (Clear (st.word - 1))
+
+-- the same by a CPU, whose event ends the instance
+abbrev pub Ends : Step Act → Ours → ℕ → Ours → Type 0
+Ends st = Makes (End (st.word - 1))

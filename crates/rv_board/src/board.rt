@@ -1,13 +1,13 @@
 //! The words that threads share.
 ghost use Rattle.std.specs.Prelude.{◌≡◌, ◌<◌, ◌^◌, [], IfOk, sum, reverse};
-ghost use Rattle.rv_model.specs.declared.entry.Act.TheVariants.{Look, Raise, Lower, Clear};
+ghost use Rattle.rv_model.specs.declared.entry.Act.TheVariants.{Look, Raise, Lower, Clear, End};
 ghost use Rattle.rv_model.specs.SharedWords.{word_of};
 ghost use Rattle.rv_core.specs.Setup.{judges_of};
 ghost use Rattle.rv_board.specs.Known.{part};
 ghost use Rattle.rv_board.specs.Rule.{IsOpening};
 ghost use Rattle.rv_board.specs.Seats.{seat_value, SeatGrows, Looks, Does};
 
-use crate::rule::{Clearing, Law, Looking, Lowering, Raising, Seeing};
+use crate::rule::{Clearing, Ending, Law, Looking, Lowering, Raising, Seeing};
 use crate::seat::{SEATS, Seat};
 use crate::view::View;
 use atomic_table::Table;
@@ -140,6 +140,18 @@ impl Board {
         self.table
             .shared
             .swap::<Clearing>(&mut seat.token, slot as usize + 1, opening);
+    }
+
+    /// The slot's instance ends: it waits again, with its starting levels, also where it was stopped.
+    pub fn end(&self, seat: &mut Seat, slot: u32)
+        requires board { seat.old.board ≡ self.now }
+        requires slot { slot < sum self.now.setup.shape }
+        ensures { Does seat.old seat.new (End slot) }
+    {
+        let opening = self.setup.opening(slot);
+        self.table
+            .shared
+            .swap::<Ending>(&mut seat.token, slot as usize + 1, opening);
     }
 
     /// The word of a slot, as the history that the seat has then seen gives it.

@@ -80,6 +80,15 @@ impl Play<Act, View> for Clearing {
     ghost then = { Clears };
 }
 
+/// A swap of the opening word into the word of a slot whose instance ends.
+pub(crate) struct Ending;
+
+impl Play<Act, View> for Ending {
+    ghost use Rattle.rv_board.specs.Steps.{Ends};
+
+    ghost then = { Ends };
+}
+
 /// The number at which a view is cut. Each call picks it.
 pub(crate) trait Cutting {
     ghost use Rattle.std.specs.Prelude.{ℕ};

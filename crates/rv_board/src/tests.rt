@@ -258,6 +258,32 @@ fn three_lost_tries_stop_the_instance_until_it_is_cleared(rt: HostRuntime) -> Re
 }
 
 #[test]
+#[tactic(auto, using(crate::proofs::WakingLemmas::fits_event))]
+fn an_end_wakes_a_stopped_instance(rt: HostRuntime) -> Result<(), Fail> {
+    let BoardStart { board, mut seat } = one_instance(rt.alloc())?;
+    let mut other = board.split(&mut seat, 3);
+    let mut own = board.split(&mut seat, 2);
+    board.deliver(&mut other, 1, 0, &START, &mut OpenGate);
+    let mut gate = Rival::Somebody(Other {
+        board: &board,
+        seat: other,
+        twice: false,
+        again: true,
+        disabled: false,
+        tries: 0,
+        words: Vec::new(rt.alloc()),
+    });
+    let racing = board.deliver(&mut own, 0, 0, &DISABLE, &mut gate);
+    assert_eq!(rt; racing, Delivered::Racing);
+    assert_eq!(rt; board.word(&mut own, 0), 0);
+    board.end(&mut own, 0);
+    assert_eq!(rt; board.word(&mut own, 0), 4_294_967_296);
+    let started = board.deliver(&mut own, 0, 0, &START, &mut OpenGate);
+    assert_eq!(rt; started, Delivered::Done(Answer::Started));
+    Ok(())
+}
+
+#[test]
 fn switches_go_on_and_off_and_stay_halted(rt: HostRuntime) -> Result<(), Fail> {
     let BoardStart { board, mut seat } = one_instance(rt.alloc())?;
     let mut cpu = board.split(&mut seat, 2);

@@ -1,11 +1,11 @@
 -- What may follow an entry of a seat's own.
-use Rattle.std.proofs.Common.{◌≡◌, ℕ, ◌+◌, ◌-◌, ◌^◌, ◌<◌, ◌≤◌, Bool, true, false, ◌&&◌, List, [], ◌∷◌, ◌++◌, inl, inr, suc, length, map, get_or, drop, arith, refl, sym, ap, ◌∙◌, subst, add-one, length-drop}
+use Rattle.std.proofs.Common.{◌≡◌, ℕ, ◌+◌, ◌-◌, ◌^◌, ◌<◌, ◌≤◌, Bool, true, false, ◌&&◌, cond, List, [], ◌∷◌, ◌++◌, inl, inr, suc, length, map, get_or, drop, arith, refl, sym, ap, ◌∙◌, subst, add-one, length-drop}
 use Rattle.std.specs.Prelude.{filter, MatchBool, slice_range}
 use Rattle.std.proofs.lemmas.List.{length-map, get_or-map}
 use Rattle.std.proofs.Math.ListN.{drop_of_length-le}
 use Rattle.std.proofs.Math.Seq.{drop-cons}
 use Rattle.rv_model.specs.declared.entry.Act.{Act}
-use Rattle.rv_model.specs.declared.entry.Act.TheVariants.{Deliver, Stop, Look, Raise, Lower, Clear}
+use Rattle.rv_model.specs.declared.entry.Act.TheVariants.{Deliver, Stop, Look, Raise, Lower, Clear, End}
 use Rattle.rv_model.specs.declared.entry.Answer.{Answer}
 use Rattle.rv_model.specs.declared.entry.Answer.TheVariants.{Looked, Stopped, Switched}
 use Rattle.rv_model.specs.declared.entry.Entry.{Entry}
@@ -13,14 +13,14 @@ use Rattle.rv_model.specs.declared.hit.Hit.{Hit}
 use Rattle.rv_model.specs.declared.work.Delivery.{Delivery}
 use Rattle.rv_model.specs.declared.work.Turn.{Turn}
 use Rattle.rv_model.specs.Numbers.{has_bit}
-use Rattle.rv_model.specs.Scripts.{Played, is_shown, fails, Makes, Delivers, PlaysTurns, turns_of}
+use Rattle.rv_model.specs.Scripts.{Played, is_shown, is_end, hit_act, fails, Makes, Delivers, PlaysTurns, turns_of}
 use Rattle.rv_model.specs.Setups.{Setup, slot_of}
 use Rattle.rv_model.specs.Works.{Work}
 use Rattle.rv_model.proofs.AgreeLemmas.{match-one}
 use Rattle.rv_check.specs.declared.next.Due.{Due}
 use Rattle.rv_check.specs.declared.next.Next.{Next}
 use Rattle.rv_check.specs.declared.next.Next.TheVariants as next
-use Rattle.rv_check.specs.Nexts.{delivery_in, turn_in, no_turn, May, IsDue, IsNext, IsFresh, Serves, IsLook, IsHalt, Allows, MayEnd, Settles, ends_by, Moves}
+use Rattle.rv_check.specs.Nexts.{delivery_in, turn_in, no_turn, May, IsDue, IsNext, IsFresh, is_ending, Serves, IsLook, IsHalt, Allows, MayEnd, Settles, ends_by, Moves}
 use Rattle.rv_check.proofs.SettleLemmas.{shown_in, shown-first}
 
 -- ---- acts
@@ -31,6 +31,7 @@ look-is Look x = refl
 look-is (Raise _) x = absurd x
 look-is (Lower _) x = absurd x
 look-is (Clear _) x = absurd x
+look-is (End _) x = absurd x
 
 pub halt-is : (act : Act) → IsHalt act → act ≡ Raise (2 ^ 34)
 halt-is (Deliver _ _) x = absurd x
@@ -39,26 +40,44 @@ halt-is Look x = absurd x
 halt-is (Raise bits) x = ap Raise x
 halt-is (Lower _) x = absurd x
 halt-is (Clear _) x = absurd x
+halt-is (End _) x = absurd x
 
 module _ (s : Setup) (w : Work) (due : Due) (is : IsDue s w due) where
   abbrev d : Delivery
   d = delivery_in w due.place
 
+  -- its slot
+  abbrev at : ℕ
+  at = slot_of s.shape d.monitor d.instance
+
   -- what serves makes the delivery
   serves-makes : (act : Act) → Serves w due act → (e : Entry) (a : Answer) → e.act ≡ act → Makes s d (e, a)
-  serves-makes (Deliver slot hit) x e a same =
-      let at : slot ≡ slot_of s.shape d.monitor d.instance = x.0 ∙ is.slot_is in
-      inl (same ∙ ap (λ (n : ℕ). Deliver n hit) at ∙ ap (Deliver (slot_of s.shape d.monitor d.instance)) x.1)
-  serves-makes (Stop slot) x e a same = inr (same ∙ ap Stop (x.0 ∙ is.slot_is))
+  serves-makes (Deliver slot hit) (goes, here, brings) e a same =
+      let act : hit_act at d.hit ≡ Deliver at d.hit = ap (λ (b : Bool). cond b (End at) (Deliver at d.hit)) goes in
+      inl (same ∙ ap (λ (n : ℕ). Deliver n hit) (here ∙ is.slot_is) ∙ ap (Deliver at) brings ∙ sym act)
+  serves-makes (Stop slot) (goes, here, lost) e a same = inr (goes, same ∙ ap Stop (here ∙ is.slot_is))
   serves-makes Look x e a same = absurd x
   serves-makes (Raise _) x e a same = absurd x
   serves-makes (Lower _) x e a same = absurd x
   serves-makes (Clear _) x e a same = absurd x
+  serves-makes (End slot) (ends, here) e a same =
+      let act : hit_act at d.hit ≡ End at = ap (λ (b : Bool). cond b (End at) (Deliver at d.hit)) ends in
+      inl (same ∙ ap End (here ∙ is.slot_is) ∙ sym act)
+
+  -- the act of its hit serves
+  hit-serves : Serves w due (hit_act due.slot d.hit)
+  hit-serves = go (is_ending w due) refl
+    where
+      go : (b : Bool) → is_ending w due ≡ b → Serves w due (cond b (End due.slot) (Deliver due.slot d.hit))
+      go true ends = (ends, refl)
+      go false goes = (goes, refl, refl)
 
   -- what makes the delivery serves, where a stop was lost three times
   makes-serves : (e : Entry) (a : Answer) → (e.act ≡ Stop due.slot → 3 ≤ due.lost) → Makes s d (e, a) → Serves w due e.act
-  makes-serves e a lost (inl act) = subst (Serves w due) (sym act) (sym is.slot_is, refl)
-  makes-serves e a lost (inr act) = subst (Serves w due) (sym act) (sym is.slot_is, lost (act ∙ ap Stop (sym is.slot_is)))
+  makes-serves e a lost (inl act) = subst (Serves w due) (sym (act ∙ ap (λ (n : ℕ). hit_act n d.hit) (sym is.slot_is))) hit-serves
+  makes-serves e a lost (inr (goes, act)) =
+      let stops : e.act ≡ Stop due.slot = act ∙ ap Stop (sym is.slot_is) in
+      subst (Serves w due) (sym stops) (goes, refl, lost stops)
 
   -- the deliveries that are left begin with it
   pub begins-due : shown_in w due.look due.place due.to ≡ d ∷ shown_in w due.look (due.place + 1) due.to
@@ -224,7 +243,7 @@ module _ (s : Setup) (panics : ℕ → Bool) where
     some-deliveries look [] after some = some
     some-deliveries look (d ∷ ds) after some =
         let rest = some-deliveries look ds after some in
-        ((record { seat = 0; act = Stop (slot_of s.shape d.monitor d.instance); before = 0; after = 0 }, Stopped) ∷ rest.0, (inr refl, rest.1))
+        ((record { seat = 0; act = hit_act (slot_of s.shape d.monitor d.instance) d.hit; before = 0; after = 0 }, Stopped) ∷ rest.0, (inl refl, rest.1))
 
     pub some-may : (n : Next) → (ps : List Played) × May s panics w n ps
     some-may (next.Look turn) = some-turns (drop turn (turns_of w))

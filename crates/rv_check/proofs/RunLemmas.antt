@@ -1,25 +1,28 @@
 -- One entry more of a history that has begun.
 use Rattle.std.proofs.Common.{◌≡◌, ◌≢◌, ℕ, ◌+◌, ◌^◌, ◌<◌, ◌≤◌, ◌⊎◌, inl, inr, Bool, true, false, ◌&&◌, ◌==◌, cond, List, [], ◌∷◌, ◌++◌, length, reverse, get_or, set, arith, refl, sym, ap, ◌∙◌, subst, append_assoc, append-nil, All, sum}
-use Rattle.std.specs.Prelude.{Any, nat_lt, replicate}
+use Rattle.std.specs.Prelude.{Any, MatchBool, nat_lt, replicate}
 use Rattle.std.proofs.lemmas.List.{reverse-append, get_or_default, length-replicate, get_or-replicate}
 use Rattle.std.proofs.lemmas.List.Elements.{All-get_or, All-from_get_or}
 use Rattle.rv_model.specs.declared.entry.Act.{Act}
-use Rattle.rv_model.specs.declared.entry.Act.TheVariants.{Deliver, Stop, Look, Raise, Lower, Clear}
+use Rattle.rv_model.specs.declared.entry.Act.TheVariants.{Deliver, Stop, Look, Raise, Lower, Clear, End}
 use Rattle.rv_model.specs.declared.entry.Answer.{Answer}
 use Rattle.rv_model.specs.declared.entry.Answer.TheVariants.{Looked}
 use Rattle.rv_model.specs.declared.entry.Entry.{Entry}
+use Rattle.rv_model.specs.declared.hit.Hit.{Hit}
+use Rattle.rv_model.specs.declared.hit.What.TheVariants.{Nothing}
 use Rattle.rv_model.specs.Cuts.{AtEach}
 use Rattle.rv_model.specs.Histories.{FitsWords, changed, LostThrice, IsEarnedBy, IsHeldBy, IsSound}
 use Rattle.rv_model.specs.Judging.{Judge}
 use Rattle.rv_model.specs.Numbers.{has_bit}
 use Rattle.rv_model.specs.Phases.{level_after, level, phase_after, phase_of}
-use Rattle.rv_model.specs.Scripts.{Played, played, Plays}
+use Rattle.rv_model.specs.Scripts.{Played, is_end, played, Plays}
 use Rattle.rv_model.specs.Setups.{Setup}
+use Rattle.rv_model.specs.Table.{Table}
 use Rattle.rv_model.specs.SharedWords.{word_on, answer_at}
 use Rattle.rv_model.specs.Works.{Work}
 use Rattle.rv_model.proofs.CutLemmas.{at_each-nil, at_each-snoc, at_each-last}
 use Rattle.rv_model.proofs.ScriptLemmas.{played-own, played-other}
-use Rattle.rv_core.specs.Advance.{FitsTable, acted}
+use Rattle.rv_core.specs.Advance.{FitsTable, FitsHit, acted}
 use Rattle.rv_core.specs.Core.{IsCore}
 use Rattle.rv_core.specs.Setup.{ActFits, FitsAct, place_of, table_at, table_of_act, start_of_act, judges_of}
 use Rattle.rv_core.proofs.CoreLemmas.{core-after, core-answer, fits-words}
@@ -27,7 +30,7 @@ use Rattle.rv_check.specs.declared.next.Due.{Due}
 use Rattle.rv_check.specs.declared.next.Next.{Next}
 use Rattle.rv_check.specs.declared.next.Next.TheVariants as next
 use Rattle.rv_check.specs.Beginnings.{HasBegun, IsBeginning, FitWorks, FitsWork}
-use Rattle.rv_check.specs.Nexts.{HasPlace, CanMove, May, IsDue, IsNext, IsFresh, Serves, Allows, MayEnd, Moves, lost_of, CountsTo, IsCounted, watched}
+use Rattle.rv_check.specs.Nexts.{delivery_in, HasPlace, CanMove, May, IsDue, IsNext, IsFresh, Serves, Allows, MayEnd, Moves, lost_of, CountsTo, IsCounted, watched}
 use Rattle.rv_check.specs.Run.{Stands, IsRun}
 use Rattle.rv_check.proofs.LostLemmas.{thrice-counted, counted-thrice}
 use Rattle.rv_check.proofs.MoveLemmas.{look-is, halt-is, may-allowed, may-after, moves-on, some-may, ends-may, may-ends}
@@ -45,6 +48,7 @@ word-same : (s : Setup) (js : List Judge) (past : List Entry) (e f : Entry) → 
 word-same s js past e f same (Deliver slot hit) = ap (λ (x : Act). word_on s js (record { seat = 0; act = x; before = 0; after = 0 } ∷ past) (Deliver slot hit)) same
 word-same s js past e f same (Stop slot) = ap (λ (x : Act). word_on s js (record { seat = 0; act = x; before = 0; after = 0 } ∷ past) (Stop slot)) same
 word-same s js past e f same (Clear slot) = ap (λ (x : Act). word_on s js (record { seat = 0; act = x; before = 0; after = 0 } ∷ past) (Clear slot)) same
+word-same s js past e f same (End slot) = ap (λ (x : Act). word_on s js (record { seat = 0; act = x; before = 0; after = 0 } ∷ past) (End slot)) same
 word-same s js past e f same Look = ap (λ (x : Act). word_on s js (record { seat = 0; act = x; before = 0; after = 0 } ∷ past) Look) same
 word-same s js past e f same (Raise bits) = ap (λ (x : Act). word_on s js (record { seat = 0; act = x; before = 0; after = 0 } ∷ past) (Raise bits)) same
 word-same s js past e f same (Lower bits) = ap (λ (x : Act). word_on s js (record { seat = 0; act = x; before = 0; after = 0 } ∷ past) (Lower bits)) same
@@ -54,6 +58,7 @@ pub place-in : (s : Setup) (words : List ℕ) (act : Act) → length words ≡ s
 place-in s words (Deliver slot hit) count f = let l = f.0 in omega arith
 place-in s words (Stop slot) count f = omega arith
 place-in s words (Clear slot) count f = omega arith
+place-in s words (End slot) count f = omega arith
 place-in s words Look count f = omega arith
 place-in s words (Raise _) count f = omega arith
 place-in s words (Lower _) count f = omega arith
@@ -63,6 +68,7 @@ word-at : (s : Setup) (words : List ℕ) (h : List Entry) → IsCore s words h �
 word-at s words h k (Deliver slot hit) f = k.words_are slot f.0
 word-at s words h k (Stop slot) f = k.words_are slot f
 word-at s words h k (Clear slot) f = k.words_are slot f
+word-at s words h k (End slot) f = k.words_are slot f
 word-at s words h k Look f = k.switches_are
 word-at s words h k (Raise _) f = k.switches_are
 word-at s words h k (Lower _) f = k.switches_are
@@ -85,6 +91,10 @@ can-move w (next.Look turn) act x = x.1
 can-move w (next.Deliver due) act x = tt
 can-move w next.Raise act x = tt
 can-move w next.Over act x = tt
+
+-- a hit that is no end fits the table
+fits-delivered : (t : Table) (hit : Hit) → is_end hit.mode ≡ false → FitsHit t hit → FitsTable t hit
+fits-delivered t hit goes fits = subst (λ (b : Bool). MatchBool b (hit.what ≡ Nothing) (FitsTable t hit)) goes fits
 
 -- a count that stays at 3 is 3 where the number is 3 or more
 at-least : (lost n : ℕ) → CountsTo lost n → 3 ≤ n → 3 ≤ lost
@@ -241,14 +251,15 @@ module _ (s : Setup) (panics : ℕ) (works : List Work) (words : List ℕ) (next
       allowed-fits = on n stand.is_next e.act
         where
           serves : (due : Due) → IsDue s w due → (act : Act) → Serves w due act → FitsAct s act
-          serves due is (Deliver slot hit) x =
+          serves due is (Deliver slot hit) (goes, at, brings) =
               let P : ℕ → Type 0 = λ m. (m < sum s.shape) × FitsTable (table_at s m) hit in
-              subst P (sym x.0) (is.range, subst (FitsTable (table_at s due.slot)) (sym x.1) is.fits)
-          serves due is (Stop slot) x = subst (λ (m : ℕ). m < sum s.shape) (sym x.0) is.range
+              subst P (sym at) (is.range, subst (FitsTable (table_at s due.slot)) (sym brings) (fits-delivered (table_at s due.slot) (delivery_in w due.place).hit goes is.fits))
+          serves due is (Stop slot) (goes, at, lost) = subst (λ (m : ℕ). m < sum s.shape) (sym at) is.range
           serves due is Look x = absurd x
           serves due is (Raise _) x = absurd x
           serves due is (Lower _) x = absurd x
           serves due is (Clear _) x = absurd x
+          serves due is (End slot) (ends, at) = subst (λ (m : ℕ). m < sum s.shape) (sym at) is.range
 
           on : (n : Next) → IsNext s w n → (act : Act) → Allows w n act → FitsAct s act
           on (next.Look turn) is act x = subst (FitsAct s) (sym (look-is act x.0)) tt
@@ -294,11 +305,12 @@ module _ (s : Setup) (panics : ℕ) (works : List Work) (words : List ℕ) (next
           where
             serves : (due : Due) → CountsTo due.lost (lost_of due.slot seat past) → (act : Act) → Serves w due act → IsEarnedBy act e.seat h
             serves due c (Deliver _ _) x = tt
-            serves due c (Stop slot) x = subst (λ (i : ℕ). LostThrice i e.seat h) (sym x.0) (subst (λ (i : ℕ). LostThrice due.slot i h) mine (counted-thrice due.slot seat h (c.enough x.1)))
+            serves due c (Stop slot) (goes, at, lost) = subst (λ (i : ℕ). LostThrice i e.seat h) (sym at) (subst (λ (i : ℕ). LostThrice due.slot i h) mine (counted-thrice due.slot seat h (c.enough lost)))
             serves due c Look x = absurd x
             serves due c (Raise _) x = absurd x
             serves due c (Lower _) x = absurd x
             serves due c (Clear _) x = absurd x
+            serves due c (End _) x = tt
 
             on : (n : Next) → IsCounted seat past n → (act : Act) → Allows w n act → IsEarnedBy act e.seat h
             on (next.Look turn) c act x = subst (λ (z : Act). IsEarnedBy z e.seat h) (sym (look-is act x.0)) tt
@@ -316,6 +328,7 @@ module _ (s : Setup) (panics : ℕ) (works : List Work) (words : List ℕ) (next
             serves due (Raise _) x = absurd x
             serves due (Lower _) x = absurd x
             serves due (Clear _) x = absurd x
+            serves due (End _) x = tt
 
             on : (n : Next) (act : Act) → Allows w n act → IsHeldBy act e.seat
             on (next.Look turn) act x = subst (λ (z : Act). IsHeldBy z e.seat) (sym (look-is act x.0)) tt

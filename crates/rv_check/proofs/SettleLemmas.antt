@@ -5,7 +5,7 @@ use Rattle.rv_model.specs.declared.work.Delivery.{Delivery}
 use Rattle.rv_model.specs.Scripts.{Played, is_shown, Delivers, PlaysTurns, turns_of}
 use Rattle.rv_model.specs.Setups.{Setup, slot_of}
 use Rattle.rv_model.specs.Works.{Work}
-use Rattle.rv_core.specs.Advance.{FitsTable}
+use Rattle.rv_core.specs.Advance.{FitsHit}
 use Rattle.rv_core.specs.Setup.{table_at}
 use Rattle.rv_check.specs.declared.next.Due.{Due}
 use Rattle.rv_check.specs.declared.next.Next.TheVariants as next
@@ -40,7 +40,7 @@ module _ (s : Setup) (w : Work) (look place to turn at : ℕ) (same : shown_in w
       shown = shown;
       slot_is = slot_is;
       range = range;
-      fits = subst (λ (n : ℕ). FitsTable (table_at s n) (delivery_in w at).hit) (sym slot_is) fits.hit;
+      fits = subst (λ (n : ℕ). FitsHit (table_at s n) (delivery_in w at).hit) (sym slot_is) fits.hit;
     };
     fresh = refl;
     may = λ panics ps h. subst (λ (z : List Delivery). Delivers s panics look z (PlaysTurns s panics (drop turn (turns_of w))) ps) same h;

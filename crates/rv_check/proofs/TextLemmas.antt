@@ -5,12 +5,12 @@ use Rattle.memchr.specs.Find.{IsFirstByte, is_byte}
 use Rattle.std.proofs.lemmas.Bool.{ne_eqb, eq-eqb, eqb-true, and_parts, and_from}
 use Rattle.std.proofs.lemmas.Fmt.{length-decimal-le, decimal_by_steps}
 use Rattle.rv_model.specs.declared.entry.Act.{Act}
-use Rattle.rv_model.specs.declared.entry.Act.TheVariants.{Deliver, Stop, Look, Raise, Lower, Clear}
+use Rattle.rv_model.specs.declared.entry.Act.TheVariants.{Deliver, Stop, Look, Raise, Lower, Clear, End}
 use Rattle.rv_model.specs.declared.entry.Entry.{Entry}
 use Rattle.rv_model.specs.declared.hit.Mode.{Mode}
-use Rattle.rv_model.specs.declared.hit.Mode.TheVariants.{Event, Start, StartRun}
+use Rattle.rv_model.specs.declared.hit.Mode.TheVariants as modes
 use Rattle.rv_model.specs.declared.hit.What.{What}
-use Rattle.rv_model.specs.declared.hit.What.TheVariants.{Da, Ltl}
+use Rattle.rv_model.specs.declared.hit.What.TheVariants.{Da, Ltl, Nothing}
 use Rattle.rv_journal.specs.EntryTexts.{mode_word, what_words, act_words, entry_words, behind_blanks, entry_text, IsWhat, IsAct, IsEntry}
 use Rattle.rv_journal.proofs.ReadingLemmas.{line-reads}
 use Rattle.rv_check.specs.Readings.{has_no_end}
@@ -112,9 +112,10 @@ fits-64 n low = record { short = length-decimal-le 20 n (omega arith) (omega ari
 
 -- a mode
 fits-mode : (mode : Mode) → Fits 9 (mode_word mode)
-fits-mode Event = record { short = omega arith; unended = refl }
-fits-mode Start = record { short = omega arith; unended = refl }
-fits-mode StartRun = record { short = omega arith; unended = refl }
+fits-mode modes.Event = record { short = omega arith; unended = refl }
+fits-mode modes.Start = record { short = omega arith; unended = refl }
+fits-mode modes.StartRun = record { short = omega arith; unended = refl }
+fits-mode modes.End = record { short = omega arith; unended = refl }
 
 -- the word of a name of at most 7 bytes
 fits-name : (name : List ℕ) → length name ≤ 7 → has_no_end name ≡ true → Fits 7 name
@@ -130,6 +131,7 @@ fits-what (Ltl on off pulse) (a, b, c) =
     (fits-blank 10 22 (decimal on) (decimal off ∷ decimal pulse ∷ []) (fits-32 on a)
     (fits-blank 10 11 (decimal off) (decimal pulse ∷ []) (fits-32 off b)
     (fits-blank 10 0 (decimal pulse) [] (fits-32 pulse c) fits-none)))
+fits-what Nothing is = fits-more 0 41 _ fits-none (omega arith)
 
 -- a name and a number
 fits-named : (name : List ℕ) (n : ℕ) → length name ≤ 7 → has_no_end name ≡ true → n < 2 ^ 64 → Fits 70 (behind_blanks (name ∷ decimal n ∷ []))
@@ -147,6 +149,7 @@ fits-act Look is = fits-more 8 70 _ (fits-blank 7 0 (codes "look") [] (fits-name
 fits-act (Raise bits) is = fits-named (codes "raise") bits (omega arith) refl is
 fits-act (Lower bits) is = fits-named (codes "lower") bits (omega arith) refl is
 fits-act (Clear slot) is = fits-named (codes "clear") slot (omega arith) refl (omega arith)
+fits-act (End slot) is = fits-named (codes "end") slot (omega arith) refl (omega arith)
 
 -- two lists of words
 blanks-append : (xs ys : List (List ℕ)) → behind_blanks (xs ++ ys) ≡ behind_blanks xs ++ behind_blanks ys

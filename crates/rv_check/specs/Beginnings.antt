@@ -9,7 +9,7 @@ use Rattle.rv_model.specs.Judging.{Judge}
 use Rattle.rv_model.specs.Scripts.{Played, played, Plays}
 use Rattle.rv_model.specs.Setups.{Setup, slot_of}
 use Rattle.rv_model.specs.Works.{Work}
-use Rattle.rv_core.specs.Advance.{FitsTable}
+use Rattle.rv_core.specs.Advance.{FitsHit}
 use Rattle.rv_core.specs.Setup.{table_at}
 
 -- the input of these works without changes
@@ -28,11 +28,11 @@ pub record IsBeginning (s : Setup) (js : List Judge) (panics : ℕ → Bool) (wo
 
 -- ---- which works fit a setup
 
--- the monitor and the instance are the setup's, and the hit fits the monitor's table
+-- the monitor and the instance are the setup's, and the hit ends it or fits the monitor's table
 pub record FitsDelivery (s : Setup) (d : Delivery) : Type 0 where
   pub monitor : d.monitor < length s.shape
   pub instance_fits : d.instance < slice_index s.shape d.monitor
-  pub hit : FitsTable (table_at s (slot_of s.shape d.monitor d.instance)) d.hit
+  pub hit : FitsHit (table_at s (slot_of s.shape d.monitor d.instance)) d.hit
 
 -- the CPU is below 64, and the deliveries fit
 pub record FitsWork (s : Setup) (w : Work) : Type 0 where

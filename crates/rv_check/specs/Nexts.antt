@@ -1,7 +1,7 @@
 -- Where a script stands, said by what may follow. What one seat of the checker keeps.
 use Rattle.std.specs.Prelude.{◌≡◌, ◌↔◌, ℕ, ◌+◌, ◌^◌, ◌<◌, ◌≤◌, Bool, true, false, ◌&&◌, ◌==◌, nat_le, nat_lt, List, [], ◌∷◌, filter, drop, length, sum, map, slice_range, slice_index_or, MatchBool, if◌then◌else◌}
 use Rattle.rv_model.specs.declared.entry.Act.{Act}
-use Rattle.rv_model.specs.declared.entry.Act.TheVariants.{Deliver, Stop, Look, Raise, Lower, Clear}
+use Rattle.rv_model.specs.declared.entry.Act.TheVariants.{Deliver, Stop, Look, Raise, Lower, Clear, End}
 use Rattle.rv_model.specs.declared.entry.Answer.{Answer}
 use Rattle.rv_model.specs.declared.entry.Entry.{Entry}
 use Rattle.rv_model.specs.declared.hit.Hit.{Hit}
@@ -11,10 +11,10 @@ use Rattle.rv_model.specs.declared.work.Delivery.{Delivery}
 use Rattle.rv_model.specs.declared.work.Turn.{Turn}
 use Rattle.rv_model.specs.Histories.{changed}
 use Rattle.rv_model.specs.Numbers.{has_bit}
-use Rattle.rv_model.specs.Scripts.{Played, is_shown, fails, Delivers, PlaysTurns, turns_of}
+use Rattle.rv_model.specs.Scripts.{Played, is_shown, is_end, fails, Delivers, PlaysTurns, turns_of}
 use Rattle.rv_model.specs.Setups.{Setup, slot_of}
 use Rattle.rv_model.specs.Works.{Work}
-use Rattle.rv_core.specs.Advance.{FitsTable}
+use Rattle.rv_core.specs.Advance.{FitsHit}
 use Rattle.rv_core.specs.Setup.{table_at}
 use Rattle.rv_check.specs.declared.next.Due.{Due}
 use Rattle.rv_check.specs.declared.next.Next.{Next}
@@ -56,7 +56,7 @@ pub record IsDue (s : Setup) (w : Work) (due : Due) : Type 0 where
   pub shown : is_shown due.look (delivery_in w due.place) ≡ true
   pub slot_is : due.slot ≡ slot_of s.shape (delivery_in w due.place).monitor (delivery_in w due.place).instance
   pub range : due.slot < sum s.shape
-  pub fits : FitsTable (table_at s due.slot) (delivery_in w due.place).hit
+  pub fits : FitsHit (table_at s due.slot) (delivery_in w due.place).hit
 
 -- a delivery that may be next is one
 abbrev pub IsNext : Setup → Work → Next → Type 0
@@ -75,10 +75,15 @@ IsFresh _ = Unit {0}
 
 -- ---- one entry
 
--- the act is the delivery, or a stop of its slot that was lost three times
+-- the delivery ends its instance
+abbrev pub is_ending : Work → Due → Bool
+is_ending w due = is_end (delivery_in w due.place).hit.mode
+
+-- the act is the end of the slot where the delivery ends it, and else the delivery, or a stop of its slot that was lost three times
 abbrev pub Serves : Work → Due → Act → Type 0
-Serves w due (Deliver slot hit) = (slot ≡ due.slot) × (hit ≡ (delivery_in w due.place).hit)
-Serves w due (Stop slot) = (slot ≡ due.slot) × (3 ≤ due.lost)
+Serves w due (Deliver slot hit) = (is_ending w due ≡ false) × (slot ≡ due.slot) × (hit ≡ (delivery_in w due.place).hit)
+Serves w due (Stop slot) = (is_ending w due ≡ false) × (slot ≡ due.slot) × (3 ≤ due.lost)
+Serves w due (End slot) = (is_ending w due ≡ true) × (slot ≡ due.slot)
 Serves w due _ = ⊥
 
 -- the act is a look

@@ -16,6 +16,7 @@ pub fn place_of(act: &Act) -> usize
         Act::Deliver { slot, .. } => slot as usize + 1,
         Act::Stop { slot } => slot as usize + 1,
         Act::Clear { slot } => slot as usize + 1,
+        Act::End { slot } => slot as usize + 1,
         Act::Look | Act::Raise { .. } | Act::Lower { .. } => 0,
     }
 }
@@ -37,6 +38,10 @@ pub fn act_on(setup: &Setup, word: u64, act: &Act) -> Step
         Act::Clear { slot } => Step {
             word: setup.opening(slot),
             answer: Answer::Cleared,
+        },
+        Act::End { slot } => Step {
+            word: setup.opening(slot),
+            answer: Answer::Ended,
         },
         Act::Look => Step {
             word,
@@ -61,6 +66,7 @@ pub fn changes(entry: &Entry, slot: u32) -> bool
         Act::Deliver { slot: on, .. } => on == slot,
         Act::Stop { slot: on } => on == slot,
         Act::Clear { slot: on } => on == slot,
+        Act::End { slot: on } => on == slot,
         Act::Look | Act::Raise { .. } | Act::Lower { .. } => false,
     };
     here && !(entry.before == entry.after)

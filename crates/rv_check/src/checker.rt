@@ -2,7 +2,6 @@
 ghost use Rattle.std.specs.Prelude.{◌≡◌, ◌↔◌, ◌++◌, ◌∷◌, [], List, ℕ, IfOk, IsTrue};
 ghost use Rattle.rv_model.specs.declared.formula.Spec.{Spec};
 ghost use Rattle.rv_core.specs.Judged.{JudgesBySpecs};
-ghost use Rattle.rv_journal.specs.EntryTexts.{IsWhat, IsAct, IsEntry};
 ghost use Rattle.rv_check.specs.Beginnings.{FitWorks};
 ghost use Rattle.rv_check.specs.Checker.{CheckerValue, IsBegun, IsWhole, IsChecker};
 
@@ -10,7 +9,7 @@ use crate::given::Given;
 use crate::run::Run;
 use rv_core::Setup;
 use rv_journal::read_entry;
-use rv_model::{Act, CpuWork, Entry, What};
+use rv_model::CpuWork;
 use std::alloc::{AllocError, Global};
 use std::marker::Model;
 
@@ -37,52 +36,6 @@ impl Model for Checker {
     ghost invariant = { λ c. IsChecker c.run c.good c.given };
 }
 
-/// The numbers of what is run are in range.
-fn known_what(what: What)
-    ensures { IsWhat what }
-{
-    match what {
-        What::Da { event } => {
-            let _event = event;
-        }
-        What::Ltl { on, off, pulse } => {
-            let _sets = (on, off, pulse);
-        }
-    }
-}
-
-/// The numbers of an act are in range.
-fn known_act(act: Act)
-    ensures { IsAct act }
-{
-    match act {
-        Act::Deliver { slot, hit } => {
-            let _slot = slot;
-            known_what(hit.what);
-        }
-        Act::Stop { slot } => {
-            let _slot = slot;
-        }
-        Act::Clear { slot } => {
-            let _slot = slot;
-        }
-        Act::Look => (),
-        Act::Raise { bits } => {
-            let _bits = bits;
-        }
-        Act::Lower { bits } => {
-            let _bits = bits;
-        }
-    }
-}
-
-/// The numbers of an entry are in range.
-fn known_entry(entry: Entry)
-    ensures { IsEntry entry }
-{
-    known_act(entry.act);
-}
-
 /// Whether the lines are those of a history that has begun, with this line behind them.
 fn judge(run: &mut Run, good: bool, line: &[u8]) -> bool
     ensures judged { (lines : List (List ℕ)) → IsChecker run.old good lines → IsChecker run.new result (lines ++ line.now ∷ []) }
@@ -94,7 +47,6 @@ fn judge(run: &mut Run, good: bool, line: &[u8]) -> bool
     match read_entry(line) {
         None => false,
         Some(entry) => {
-            known_entry(entry);
             let taken = run.take(&entry);
             run.known();
             taken

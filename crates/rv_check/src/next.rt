@@ -22,7 +22,7 @@ pub struct Due {
 pub enum Next {
     /// A look, with which the turn of this number begins. Where there is no such turn, nothing.
     Look(usize),
-    /// This delivery, or a stop of its slot.
+    /// This delivery, or a stop of its slot where it is no end.
     Deliver(Due),
     /// A raise of the halted bit alone, and then nothing.
     Raise,

@@ -75,15 +75,19 @@ fn settle(setup: &Setup, work: &CpuWork, look: u64, place: u32, to: u32, turn: u
     Next::Look(turn)
 }
 
-/// Whether the act is the delivery, or a stop of its slot that was lost three times.
+/// Whether the act is the end of the slot where the delivery ends it, and else the delivery, or a stop of its slot that was
+/// lost three times.
 fn serves(work: &CpuWork, due: &Due, act: &Act) -> bool
     requires { due.now.place < length work.now.deliveries }
     ensures yes { result ≡ true → Serves work.now due.now act.now }
     ensures no { result ≡ false → ¬ Serves work.now due.now act.now }
 {
+    let wanted = delivery_at(work, due.place).hit;
+    let ends = wanted.mode.is_end();
     match *act {
-        Act::Deliver { slot, hit } => slot == due.slot && hit == delivery_at(work, due.place).hit,
-        Act::Stop { slot } => slot == due.slot && due.lost >= TRIES,
+        Act::Deliver { slot, hit } => !ends && (slot == due.slot && hit == wanted),
+        Act::Stop { slot } => !ends && (slot == due.slot && due.lost >= TRIES),
+        Act::End { slot } => ends && slot == due.slot,
         _ => false,
     }
 }

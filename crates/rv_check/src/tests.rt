@@ -1,8 +1,8 @@
-//! The checker on the journal of a rule's monitor that fails, and on journals beside it.
+//! The checker on the journals of a rule's monitor that fails or ends, and on journals beside them.
 ghost use Rattle.std.specs.Prelude.{◌≡◌, ◌<◌, ◌^◌, [], ◌∷◌, IfOk, All};
 ghost use Rattle.rv_core.specs.Advance.{FitsTable};
 ghost use Rattle.rv_core.specs.Setup.{table_at};
-ghost use Rattle.rv_check.specs.Starts.{start_hit, IsStart};
+ghost use Rattle.rv_check.specs.Starts.{start_hit, IsGiven};
 
 use crate::{Checker, JournalReader, Verdict};
 use rv_core::Setup;
@@ -44,7 +44,7 @@ fn one_instance(alloc: Global) -> Result<Setup, AllocError>
 
 /// A start by a letter without atoms.
 fn start(order: u32) -> Delivery
-    ensures { IsStart result }
+    ensures { IsGiven result }
 {
     Delivery {
         order,
@@ -61,10 +61,26 @@ fn start(order: u32) -> Delivery
     }
 }
 
-/// CPU 0 has two turns with a start each.
-fn two_starts(alloc: Global) -> Result<CpuWork, AllocError>
+/// An end.
+fn end(order: u32) -> Delivery
+    ensures { IsGiven result }
+{
+    Delivery {
+        order,
+        monitor: 0,
+        instance: 0,
+        hit: Hit {
+            mode: Mode::End,
+            what: What::Nothing,
+        },
+    }
+}
+
+/// CPU 0 has two turns with a delivery each, the first of which is a start.
+fn two_turns(alloc: Global, second: Delivery) -> Result<CpuWork, AllocError>
+    requires { IsGiven second }
     ensures cpu { IfOk result (λ work. work.cpu ≡ 0) }
-    ensures starts { IfOk result (λ work. All IsStart work.deliveries) }
+    ensures given { IfOk result (λ work. All IsGiven work.deliveries) }
 {
     let mut turns = Vec::new(alloc);
     turns.push(Turn {
@@ -79,7 +95,7 @@ fn two_starts(alloc: Global) -> Result<CpuWork, AllocError>
     })?;
     let mut deliveries = Vec::new(alloc);
     deliveries.push(start(0))?;
-    deliveries.push(start(1))?;
+    deliveries.push(second)?;
     Ok(CpuWork {
         cpu: 0,
         turns,
@@ -87,10 +103,11 @@ fn two_starts(alloc: Global) -> Result<CpuWork, AllocError>
     })
 }
 
-/// A CPU has one turn with three starts.
-fn three_starts(alloc: Global, cpu: u8) -> Result<CpuWork, AllocError>
+/// A CPU has one turn with three deliveries, the first and the last of which are starts.
+fn one_turn(alloc: Global, cpu: u8, second: Delivery) -> Result<CpuWork, AllocError>
+    requires { IsGiven second }
     ensures cpu { IfOk result (λ work. work.cpu ≡ cpu) }
-    ensures starts { IfOk result (λ work. All IsStart work.deliveries) }
+    ensures given { IfOk result (λ work. All IsGiven work.deliveries) }
 {
     let mut turns = Vec::new(alloc);
     turns.push(Turn {
@@ -100,7 +117,7 @@ fn three_starts(alloc: Global, cpu: u8) -> Result<CpuWork, AllocError>
     })?;
     let mut deliveries = Vec::new(alloc);
     deliveries.push(start(0))?;
-    deliveries.push(start(1))?;
+    deliveries.push(second)?;
     deliveries.push(start(2))?;
     Ok(CpuWork {
         cpu,
@@ -110,22 +127,25 @@ fn three_starts(alloc: Global, cpu: u8) -> Result<CpuWork, AllocError>
 }
 
 /// The checker of one monitor that may be panic, and one CPU with two turns.
-fn one_cpu(alloc: Global, panics: u32) -> Result<Checker, AllocError>
+fn one_cpu(alloc: Global, panics: u32, second: Delivery) -> Result<Checker, AllocError>
+    requires { IsGiven second }
     ensures { IfOk result (λ checker. checker.lines ≡ []) }
 {
     let setup = one_instance(alloc)?;
     let mut works = Vec::new(alloc);
-    let work = two_starts(alloc)?;
+    let work = two_turns(alloc, second)?;
     works.push(work)?;
     Checker::new(alloc, setup, panics, works)
 }
 
 /// The checker of one monitor and two CPUs.
-fn two_cpus(alloc: Global) -> Result<Checker, AllocError> {
+fn two_cpus(alloc: Global, middle: Delivery) -> Result<Checker, AllocError>
+    requires { IsGiven middle }
+{
     let setup = one_instance(alloc)?;
     let mut works = Vec::new(alloc);
-    let first = three_starts(alloc, 0)?;
-    let second = three_starts(alloc, 1)?;
+    let first = one_turn(alloc, 0, middle)?;
+    let second = one_turn(alloc, 1, start(1))?;
     works.push(first)?;
     works.push(second)?;
     Checker::new(alloc, setup, 0, works)
@@ -172,7 +192,29 @@ fn only_the_journal_of_the_script_is_whole(rt: HostRuntime) -> Result<(), Fail> 
         ([LOOK, STARTS, LOOK, FAILS, LOOK], Some(5)),
     ];
     for (journal, bad) in cases {
-        let checker = one_cpu(rt.alloc(), 0)?;
+        let checker = one_cpu(rt.alloc(), 0, start(1))?;
+        assert_eq!(rt; verdict(checker, &journal), bad);
+    }
+    Ok(())
+}
+
+const ENDS: &str = "2 end 0 8589934592 4294967296";
+
+#[test]
+fn a_delivery_that_ends_its_instance_is_an_end(rt: HostRuntime) -> Result<(), Fail> {
+    let unended = "2 end 0 8589934592 8589934592";
+    let cleared = "2 clear 0 8589934592 4294967296";
+    let cases = [
+        ([LOOK, STARTS, LOOK, ENDS, ""], None),
+        ([LOOK, STARTS, LOOK, "", ""], Some(4)),
+        ([LOOK, STARTS, LOOK, FAILS, ""], Some(4)),
+        ([LOOK, STARTS, LOOK, unended, ""], Some(4)),
+        ([LOOK, STARTS, LOOK, cleared, ""], Some(4)),
+        ([LOOK, ENDS, LOOK, STARTS, ""], Some(2)),
+        ([LOOK, STARTS, LOOK, ENDS, ENDS], Some(5)),
+    ];
+    for (journal, bad) in cases {
+        let checker = one_cpu(rt.alloc(), 0, end(1))?;
         assert_eq!(rt; verdict(checker, &journal), bad);
     }
     Ok(())
@@ -189,7 +231,7 @@ fn a_line_is_judged_by_its_act_and_its_words(rt: HostRuntime) -> Result<(), Fail
         ([LOOK, "2 look", "", "", ""], Some(2)),
     ];
     for (journal, bad) in cases {
-        let checker = one_cpu(rt.alloc(), 0)?;
+        let checker = one_cpu(rt.alloc(), 0, start(1))?;
         assert_eq!(rt; verdict(checker, &journal), bad);
     }
     Ok(())
@@ -206,7 +248,7 @@ fn only_a_seat_with_a_work_acts(rt: HostRuntime) -> Result<(), Fail> {
         ([LOOK, "2 stop 0 4294967296 0", "", "", ""], Some(2)),
     ];
     for (journal, bad) in cases {
-        let checker = one_cpu(rt.alloc(), 0)?;
+        let checker = one_cpu(rt.alloc(), 0, start(1))?;
         assert_eq!(rt; verdict(checker, &journal), bad);
     }
     Ok(())
@@ -221,7 +263,7 @@ fn a_panic_needs_its_halt(rt: HostRuntime) -> Result<(), Fail> {
         ([LOOK, STARTS, LOOK, FAILS, halt], 0, Some(5)),
     ];
     for (journal, panics, bad) in cases {
-        let checker = one_cpu(rt.alloc(), panics)?;
+        let checker = one_cpu(rt.alloc(), panics, start(1))?;
         assert_eq!(rt; verdict(checker, &journal), bad);
     }
     Ok(())
@@ -248,7 +290,35 @@ fn a_stop_needs_three_changes_of_others_since_the_last_entry(rt: HostRuntime) ->
         ),
     ];
     for (journal, bad) in cases {
-        let checker = two_cpus(rt.alloc())?;
+        let checker = two_cpus(rt.alloc(), start(1))?;
+        assert_eq!(rt; verdict(checker, &journal), bad);
+    }
+    Ok(())
+}
+
+#[test]
+fn an_end_is_a_change_and_has_no_stop(rt: HostRuntime) -> Result<(), Fail> {
+    let other_fails = "3 deliver 0 start_run ltl 0 0 0 8589934592 4294967296";
+    let other_passes = "3 deliver 0 start_run ltl 0 0 0 4294967296 8589934592";
+    let own_stop = "2 stop 0 4294967296 0";
+    let cases = [
+        ([LOOK, OTHER_LOOK, STARTS, ENDS, STARTS, STOPS, ""], Some(7)),
+        ([LOOK, OTHER_LOOK, STARTS, ENDS, STOPS, "", ""], Some(5)),
+        (
+            [
+                LOOK,
+                STARTS,
+                OTHER_LOOK,
+                other_fails,
+                other_passes,
+                other_fails,
+                own_stop,
+            ],
+            Some(7),
+        ),
+    ];
+    for (journal, bad) in cases {
+        let checker = two_cpus(rt.alloc(), end(1))?;
         assert_eq!(rt; verdict(checker, &journal), bad);
     }
     Ok(())
@@ -285,7 +355,7 @@ fn a_text_is_judged_in_pieces(rt: HostRuntime) -> Result<(), Fail> {
     ];
     for (text, verdict) in cases {
         for size in [1, 7, 1000] {
-            let checker = one_cpu(rt.alloc(), 0)?;
+            let checker = one_cpu(rt.alloc(), 0, start(1))?;
             assert_eq!(rt;
                 judged(rt.alloc(), checker, text.as_bytes(), size)?,
                 verdict,
@@ -298,7 +368,7 @@ fn a_text_is_judged_in_pieces(rt: HostRuntime) -> Result<(), Fail> {
 
 #[test]
 fn a_line_of_201_bytes_is_bad_before_its_end(rt: HostRuntime) -> Result<(), Fail> {
-    let checker = one_cpu(rt.alloc(), 0)?;
+    let checker = one_cpu(rt.alloc(), 0, start(1))?;
     let mut reader = JournalReader::new(rt.alloc(), checker)?;
     assert_eq!(rt; reader.feed(b"2 look 12884901889 12884901889\n")?, true);
     assert_eq!(rt; reader.feed(&[b'9'; 200])?, true);

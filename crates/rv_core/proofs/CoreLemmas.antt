@@ -3,7 +3,7 @@ use Rattle.std.proofs.Common.{◌≡◌, ◌≢◌, ℕ, ◌+◌, ◌^◌, ◌<�
 use Rattle.std.proofs.lemmas.List.{get_or_default, get_or-map, reverse-append}
 use Rattle.std.proofs.lemmas.List.Elements.{All-get_or}
 use Rattle.rv_model.specs.declared.entry.Act.{Act}
-use Rattle.rv_model.specs.declared.entry.Act.TheVariants.{Deliver, Stop, Look, Raise, Lower, Clear}
+use Rattle.rv_model.specs.declared.entry.Act.TheVariants.{Deliver, Stop, Look, Raise, Lower, Clear, End}
 use Rattle.rv_model.specs.declared.entry.Entry.{Entry}
 use Rattle.rv_model.specs.declared.entry.Answer.TheVariants.{Looked}
 use Rattle.rv_model.specs.Numbers.{number_of}
@@ -33,6 +33,7 @@ place-below : (s : Setup) (act : Act) → FitsAct s act → place_of act < sum s
 place-below s (Deliver slot hit) f = let l = f.0 in omega arith
 place-below s (Stop slot) f = omega arith
 place-below s (Clear slot) f = omega arith
+place-below s (End slot) f = omega arith
 place-below s Look f = omega arith
 place-below s (Raise _) f = omega arith
 place-below s (Lower _) f = omega arith
@@ -42,9 +43,10 @@ acts-on : (s : Setup) (i : ℕ) (act : Act) → FitsAct s act → ActFits s act 
 acts-on s i (Deliver slot hit) f b e =
     let same : slot ≡ i = omega arith in
     let fits : FitsTable (table_at s i) hit = subst (λ (n : ℕ). FitsTable (table_at s n) hit) same f.1 in
-    (b, fits-start (table_at s i) hit.mode hit.what fits)
+    (b, fits-start (table_at s i) hit.mode hit.what fits.1)
 acts-on s i (Stop _) f b e = tt
 acts-on s i (Clear slot) f b e = let same : slot ≡ i = omega arith in subst (λ (n : ℕ). start_of s n < 2 ^ 32) same b
+acts-on s i (End slot) f b e = let same : slot ≡ i = omega arith in subst (λ (n : ℕ). start_of s n < 2 ^ 32) same b
 acts-on s i Look f b e = tt
 acts-on s i (Raise _) f b e = tt
 acts-on s i (Lower _) f b e = tt
@@ -54,6 +56,7 @@ acted-at : (s : Setup) (w i : ℕ) (act : Act) → place_of act ≡ i + 1 → (a
 acted-at s w i (Deliver slot hit) e = let same : slot ≡ i = omega arith in ap (λ (n : ℕ). (acted (table_at s n) (start_of s i) w (Deliver slot hit)).1) same
 acted-at s w i (Stop _) e = refl
 acted-at s w i (Clear slot) e = let same : slot ≡ i = omega arith in ap (λ (n : ℕ). 2 ^ 32 + start_of s n) same
+acted-at s w i (End slot) e = let same : slot ≡ i = omega arith in ap (λ (n : ℕ). 2 ^ 32 + start_of s n) same
 acted-at s w i Look e = refl
 acted-at s w i (Raise _) e = refl
 acted-at s w i (Lower _) e = refl
@@ -84,6 +87,7 @@ module _ (s : Setup) (k : IsSetup s) where
   word_on-is words past sw w (Deliver slot hit) f = w slot f.0
   word_on-is words past sw w (Stop slot) f = w slot f
   word_on-is words past sw w (Clear slot) f = w slot f
+  word_on-is words past sw w (End slot) f = w slot f
   word_on-is words past sw w Look f = sw
   word_on-is words past sw w (Raise _) f = sw
   word_on-is words past sw w (Lower _) f = sw
@@ -103,6 +107,7 @@ module _ (s : Setup) (k : IsSetup s) where
       ∙ sym (ap (λ (v : Judge). answer_to v (start_of s slot) past e (Deliver slot hit)) (judge-at slot f.0))
   answer-is past seat before after (Stop slot) f b live w a = refl
   answer-is past seat before after (Clear slot) f b live w a = refl
+  answer-is past seat before after (End slot) f b live w a = refl
   answer-is past seat before after Look f b live w a = ap Looked (sym a)
   answer-is past seat before after (Raise _) f b live w a = refl
   answer-is past seat before after (Lower _) f b live w a = refl

@@ -4,7 +4,7 @@ use Rattle.std.specs.Bool.{if◌then◌else◌}
 use Rattle.std.specs.Int.{bit_at, bit_not}
 use Rattle.std.proofs.lemmas.Nat.Bits.{bit_at-lt, bit_at_or, bit_at_and, bit_at_not}
 use Rattle.rv_model.specs.declared.entry.Act.{Act}
-use Rattle.rv_model.specs.declared.entry.Act.TheVariants.{Deliver, Stop, Look, Raise, Lower, Clear}
+use Rattle.rv_model.specs.declared.entry.Act.TheVariants.{Deliver, Stop, Look, Raise, Lower, Clear, End}
 use Rattle.rv_model.specs.Numbers.{has_bit, number_of}
 use Rattle.rv_model.specs.Table.{Table}
 use Rattle.rv_model.specs.Setups.{Setup}
@@ -41,6 +41,7 @@ switch-acted s t start (Lower bits) has fit e lt = is_number_of (λ b. switch_af
 switch-acted s t start (Deliver _ _) has fit e lt = absurd (omega arith)
 switch-acted s t start (Stop _) has fit e lt = absurd (omega arith)
 switch-acted s t start (Clear _) has fit e lt = absurd (omega arith)
+switch-acted s t start (End _) has fit e lt = absurd (omega arith)
 
 -- an act on another word
 pub switch-other : (act : Act) (has : ℕ → Bool) → place_of act ≢ 0 → number_of (λ b. switch_after b act (has b)) 64 ≡ number_of has 64
@@ -50,3 +51,4 @@ switch-other (Lower bits) has n = absurd (n refl)
 switch-other (Deliver _ _) has n = refl
 switch-other (Stop _) has n = refl
 switch-other (Clear _) has n = refl
+switch-other (End _) has n = refl

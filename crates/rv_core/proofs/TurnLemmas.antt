@@ -5,7 +5,7 @@ use Rattle.rv_model.specs.declared.hit.Letter.{Letter}
 use Rattle.rv_model.specs.declared.hit.Mode.{Mode}
 use Rattle.rv_model.specs.declared.hit.Mode.TheVariants as mode
 use Rattle.rv_model.specs.declared.hit.What.{What}
-use Rattle.rv_model.specs.declared.hit.What.TheVariants.{Da, Ltl}
+use Rattle.rv_model.specs.declared.hit.What.TheVariants.{Da, Ltl, Nothing}
 use Rattle.rv_model.specs.declared.entry.Answer.{Answer}
 use Rattle.rv_model.specs.declared.entry.Answer.TheVariants.{Started, Kept, Failed}
 use Rattle.rv_model.specs.Table.{Table, of_events, of_labels, first_row}
@@ -60,6 +60,7 @@ going-if false a c word = tt
 -- no letter stops an instance
 pub turn-going : (j : Judge) (p : Phase) → IsGoing p → (m : Mode) (x : Letter) → IsGoing (turn j p m x).1
 turn-going j waiting going mode.Event x = tt
+turn-going j waiting going mode.End x = tt
 turn-going j waiting going mode.Start x = tt
 turn-going j waiting going mode.StartRun x = going-if (j.holds (x ∷ [])) Started (Failed (rows_of j [])) (x ∷ [])
 turn-going j (running word) going m x = going-if (j.holds (word ++ x ∷ [])) Kept (Failed (rows_of j word)) (word ++ x ∷ [])
@@ -76,6 +77,8 @@ fits-start (of_events n rows) m w fits = inr refl
 -- a hit that fits begins so
 fits-start (of_labels nodes) m (Da _) fits = absurd fits
 -- a hit that fits begins so
+fits-start (of_labels nodes) m Nothing fits = absurd fits
+-- a hit that fits begins so
 fits-start (of_labels nodes) m (Ltl _ _ _) fits = inl fits
 
 -- a list to which a letter was added has one
@@ -89,6 +92,7 @@ module _ (t : Table) (it : IsTable t) (j : Judge) (judges : JudgesByTable t j) w
   pub turn-is : (p : Phase) → IsGoing p → IsLive j p → (m : Mode) (x : Letter) → set_turn t (set_of j p) m x ≡ shown j (turn j p m x)
   turn-is stopped going live m x = absurd going
   turn-is waiting going live mode.Event x = refl
+  turn-is waiting going live mode.End x = refl
   turn-is waiting going live mode.Start x = rw (rows-start t it j judges) refl
   turn-is waiting going live mode.StartRun x =
       let next : step_set t (start_set t) x ≡ rows_of j (x ∷ []) = sym (rows_of-snoc t it j judges [] x ∙ ap (λ n. step_set t n x) (rows-start t it j judges)) in
@@ -113,6 +117,7 @@ module _ (t : Table) (it : IsTable t) (j : Judge) (judges : JudgesByTable t j) w
   pub turn-live : (p : Phase) (m : Mode) → MayStart t m → (x : Letter) → IsLive j (turn j p m x).1
   turn-live stopped m may x = tt
   turn-live waiting mode.Event may x = tt
+  turn-live waiting mode.End may x = tt
   turn-live waiting mode.Start may x = begun may
   turn-live waiting mode.StartRun may x = lives (x ∷ []) tt (j.holds (x ∷ [])) (Failed (rows_of j [])) refl Started
   -- what runs after a turn has rows, and not row 0 alone

@@ -3,10 +3,10 @@ use Rattle.std.proofs.Common.{◌≡◌, ◌≢◌, ℕ, ◌+◌, ◌*◌, ◌^�
 use Rattle.std.specs.Bool.{if◌then◌else◌}
 use Rattle.rv_model.specs.declared.hit.Letter.{Letter}
 use Rattle.rv_model.specs.declared.hit.What.{What}
-use Rattle.rv_model.specs.declared.hit.What.TheVariants.{Da, Ltl}
+use Rattle.rv_model.specs.declared.hit.What.TheVariants.{Da, Ltl, Nothing}
 use Rattle.rv_model.specs.declared.hit.Hit.{Hit}
 use Rattle.rv_model.specs.declared.entry.Act.{Act}
-use Rattle.rv_model.specs.declared.entry.Act.TheVariants.{Deliver, Stop, Look, Raise, Lower, Clear}
+use Rattle.rv_model.specs.declared.entry.Act.TheVariants.{Deliver, Stop, Look, Raise, Lower, Clear, End}
 use Rattle.rv_model.specs.declared.entry.Answer.{Answer}
 use Rattle.rv_model.specs.Numbers.{has_bit, number_of}
 use Rattle.rv_model.specs.Table.{Table}
@@ -46,12 +46,15 @@ advanced-halves t set low hit lt some = let h = levels_are_bits.halves set low l
 -- the levels with a hit, and its letter, by their bits
 levels-are : (w : What) (was : ℕ → Bool) → WhatFits w → number_of (λ atom. level_by w atom (was atom)) 32 ≡ levels_after w (number_of was 32)
 levels-are (Da _) was fits = refl
+levels-are Nothing was fits = refl
 levels-are (Ltl on off pulse) was fits = levels_are_bits.levels_of was on off pulse fits.0.0 fits.0.1
 
 -- the letter, by the levels with the hit
 letter-is : (w : What) (now : ℕ → Bool) → WhatFits w → letter_at now w ≡ letter_by w (number_of now 32)
 -- the letter, by the levels with the hit
 letter-is (Da _) now fits = refl
+-- the letter, by the levels with the hit
+letter-is Nothing now fits = refl
 -- the letter, by the levels with the hit
 letter-is (Ltl on off pulse) now fits = levels_are_bits.letters now on off pulse fits.1
 
@@ -99,6 +102,7 @@ levels_now start i act was atom = level_after start i atom act (was atom)
 abbrev pub Acts : Table → ℕ → Act → Type 0
 Acts t start (Deliver slot hit) = WhatFits hit.what × MayStart t hit.mode
 Acts t start (Clear slot) = start < 2 ^ 32
+Acts t start (End slot) = start < 2 ^ 32
 Acts t start _ = Unit {0}
 
 module _ (t : Table) (it : IsTable t) (j : Judge) (judges : JudgesByTable t j) (start : ℕ) where
@@ -113,6 +117,9 @@ module _ (t : Table) (it : IsTable t) (j : Judge) (judges : JudgesByTable t j) (
   acted-same was i (Clear slot) p acts live e =
       let P : Bool → Type 0 = λ b. 2 ^ 32 + start ≡ packed j (number_of (λ atom. if b then has_bit start atom else was atom) 32) (if b then waiting else p) in
       subst P (sym (same_slot slot i e)) (ap (λ n. 2 ^ 32 + n) (sym (number_of-bits start 32 acts)))
+  acted-same was i (End slot) p acts live e =
+      let P : Bool → Type 0 = λ b. 2 ^ 32 + start ≡ packed j (number_of (λ atom. if b then has_bit start atom else was atom) 32) (if b then waiting else p) in
+      subst P (sym (same_slot slot i e)) (ap (λ n. 2 ^ 32 + n) (sym (number_of-bits start 32 acts)))
   acted-same was i Look p acts live e = absurd (omega arith)
   acted-same was i (Raise _) p acts live e = absurd (omega arith)
   acted-same was i (Lower _) p acts live e = absurd (omega arith)
@@ -122,6 +129,7 @@ module _ (t : Table) (it : IsTable t) (j : Judge) (judges : JudgesByTable t j) (
   live-same on i (Deliver slot hit) p acts live e = rw (same_slot slot i e) (turn-live t it j judges p hit.mode acts.1 (letter_at on hit.what))
   live-same on i (Stop slot) p acts live e = rw (same_slot slot i e) tt
   live-same on i (Clear slot) p acts live e = rw (same_slot slot i e) tt
+  live-same on i (End slot) p acts live e = rw (same_slot slot i e) tt
   live-same on i Look p acts live e = absurd (omega arith)
   live-same on i (Raise _) p acts live e = absurd (omega arith)
   live-same on i (Lower _) p acts live e = absurd (omega arith)
@@ -138,6 +146,7 @@ pub phase_after-other : (j : Judge) (on : ℕ → Bool) (i : ℕ) (act : Act) (p
 phase_after-other j on i (Deliver slot hit) p n = rw (other_slot slot i n) refl
 phase_after-other j on i (Stop slot) p n = rw (other_slot slot i n) refl
 phase_after-other j on i (Clear slot) p n = rw (other_slot slot i n) refl
+phase_after-other j on i (End slot) p n = rw (other_slot slot i n) refl
 phase_after-other j on i Look p n = refl
 phase_after-other j on i (Raise _) p n = refl
 phase_after-other j on i (Lower _) p n = refl
@@ -147,6 +156,7 @@ level_after-other : (start i atom : ℕ) (act : Act) (was : Bool) → place_of a
 level_after-other start i atom (Deliver slot hit) was n = rw (other_slot slot i n) refl
 level_after-other start i atom (Stop slot) was n = refl
 level_after-other start i atom (Clear slot) was n = rw (other_slot slot i n) refl
+level_after-other start i atom (End slot) was n = rw (other_slot slot i n) refl
 level_after-other start i atom Look was n = refl
 level_after-other start i atom (Raise _) was n = refl
 level_after-other start i atom (Lower _) was n = refl

@@ -1,7 +1,7 @@
 -- What a setup keeps, and which acts fit it.
 use Rattle.std.specs.Prelude.{◌≡◌, ℕ, ◌+◌, ◌^◌, ◌<◌, List, [], map, length, sum, All, slice_index_or}
 use Rattle.rv_model.specs.declared.entry.Act.{Act}
-use Rattle.rv_model.specs.declared.entry.Act.TheVariants.{Deliver, Stop, Raise, Lower, Clear}
+use Rattle.rv_model.specs.declared.entry.Act.TheVariants.{Deliver, Stop, Raise, Lower, Clear, End}
 use Rattle.rv_model.specs.Table.{Table, of_events}
 use Rattle.rv_model.specs.Judging.{Judge}
 use Rattle.rv_model.specs.Stepping.{IsTable, table_judge}
@@ -39,6 +39,7 @@ table_of_act s _ = no_table
 -- the starting levels that an act uses
 abbrev pub start_of_act : Setup → Act → ℕ
 start_of_act s (Clear slot) = start_of s slot
+start_of_act s (End slot) = start_of s slot
 start_of_act s _ = 0
 
 -- a slot is in range, and a hit fits its table
@@ -46,12 +47,14 @@ abbrev pub FitsAct : Setup → Act → Type 0
 FitsAct s (Deliver slot hit) = (slot < sum s.shape) × FitsTable (table_at s slot) hit
 FitsAct s (Stop slot) = slot < sum s.shape
 FitsAct s (Clear slot) = slot < sum s.shape
+FitsAct s (End slot) = slot < sum s.shape
 FitsAct s _ = Unit {0}
 
 -- an act's numbers fit the words
 abbrev pub ActFits : Setup → Act → Type 0
 ActFits s (Deliver _ hit) = WhatFits hit.what
 ActFits s (Clear slot) = start_of s slot < 2 ^ 32
+ActFits s (End slot) = start_of s slot < 2 ^ 32
 ActFits s (Raise bits) = bits < 2 ^ 64
 ActFits s (Lower bits) = bits < 2 ^ 64
 ActFits s _ = Unit {0}
@@ -61,4 +64,5 @@ abbrev pub place_of : Act → ℕ
 place_of (Deliver slot _) = slot + 1
 place_of (Stop slot) = slot + 1
 place_of (Clear slot) = slot + 1
+place_of (End slot) = slot + 1
 place_of _ = 0

@@ -1,5 +1,7 @@
 //! What an act makes of its word.
-ghost use Rattle.std.specs.Prelude.{◌≡◌, ◌<◌, ◌^◌};
+ghost use Rattle.std.specs.Prelude.{◌≡◌, ◌<◌, ◌^◌, sum};
+ghost use Rattle.rv_model.specs.Setups.{start_of};
+ghost use Rattle.rv_word.specs.Words.{packed};
 ghost use Rattle.rv_core.specs.Advance.{acted};
 ghost use Rattle.rv_core.specs.Setup.{FitsAct, ActFits, place_of, table_of_act, start_of_act};
 
@@ -16,7 +18,21 @@ pub fn place_of(act: &Act) -> usize
         Act::Deliver { slot, .. } => slot as usize + 1,
         Act::Stop { slot } => slot as usize + 1,
         Act::Clear { slot } => slot as usize + 1,
+        Act::End { slot } => slot as usize + 1,
         Act::Look | Act::Raise { .. } | Act::Lower { .. } => 0,
+    }
+}
+
+/// The slot waits, with its starting levels.
+fn opened(setup: &Setup, slot: u32, answer: Answer) -> Step
+    requires { slot < sum setup.now.shape }
+    ensures answer { result.answer ≡ answer }
+    ensures word { result.word ≡ packed 1 (start_of setup.now slot) }
+    ensures fits { start_of setup.now slot < 2 ^ 32 }
+{
+    Step {
+        word: setup.opening(slot),
+        answer,
     }
 }
 
@@ -34,10 +50,8 @@ pub fn act_on(setup: &Setup, word: u64, act: &Act) -> Step
             word: STOPPED,
             answer: Answer::Stopped,
         },
-        Act::Clear { slot } => Step {
-            word: setup.opening(slot),
-            answer: Answer::Cleared,
-        },
+        Act::Clear { slot } => opened(setup, slot, Answer::Cleared),
+        Act::End { slot } => opened(setup, slot, Answer::Ended),
         Act::Look => Step {
             word,
             answer: Answer::Looked(word),

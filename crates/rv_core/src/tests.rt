@@ -62,7 +62,7 @@ fn one_instance(alloc: Global) -> Result<Setup, AllocError>
 }
 
 #[test]
-fn only_a_clear_wakes_a_stopped_instance(rt: HostRuntime) -> Result<(), Fail> {
+fn only_a_clear_or_an_end_wakes_a_stopped_instance(rt: HostRuntime) -> Result<(), Fail> {
     let setup = one_instance(rt.alloc())?;
     let hit = Hit {
         mode: Mode::Start,
@@ -76,6 +76,9 @@ fn only_a_clear_wakes_a_stopped_instance(rt: HostRuntime) -> Result<(), Fail> {
     assert_eq!(rt; passed.answer, Answer::Passed);
     let cleared = act_on(&setup, passed.word, &Act::Clear { slot: 0 });
     assert_eq!(rt; cleared.word, 4_294_967_296);
+    let ended = act_on(&setup, passed.word, &Act::End { slot: 0 });
+    assert_eq!(rt; ended.word, 4_294_967_296);
+    assert_eq!(rt; ended.answer, Answer::Ended);
     let started = act_on(&setup, cleared.word, &start);
     assert_eq!(rt; started.word, 8_589_934_592);
     assert_eq!(rt; started.answer, Answer::Started);

@@ -34,7 +34,7 @@ fn from_waiting(table: &Table, mode: Mode, letter: Letter) -> Turned
 {
     let start = table.start();
     match mode {
-        Mode::Event => Turned {
+        Mode::Event | Mode::End => Turned {
             set: ROW_ZERO,
             answer: Answer::Passed,
         },
@@ -81,18 +81,19 @@ pub fn levels_after(what: &What, levels: u32) -> u32
     ensures fits { LevelsFit what.now }
 {
     match *what {
-        What::Da { .. } => levels,
+        What::Da { .. } | What::Nothing => levels,
         What::Ltl { on, off, .. } => levels & !off | on,
     }
 }
 
-/// The letter of a hit, by the levels with it. A pulse is in no levels.
+/// The letter of a hit, by the levels with it. A pulse is in no levels, and an end has no letter.
 pub fn letter_by(what: &What, levels: u32) -> Letter
     ensures letter { result ≡ letter_by what.now levels }
     ensures fits { PulseFits what.now }
 {
     match *what {
         What::Da { event } => Letter::Event(event),
+        What::Nothing => Letter::Atoms(0),
         What::Ltl { pulse, .. } => Letter::Atoms(levels | pulse),
     }
 }

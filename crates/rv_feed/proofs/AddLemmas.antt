@@ -5,9 +5,9 @@ use Rattle.std.proofs.lemmas.Bool.Decides.{nat_tests}
 use Rattle.std.proofs.lemmas.List.{reverse-append, same_from_push}
 use Rattle.std.proofs.lemmas.List.Elements.{filter-append, filter_passes, All-head}
 use Rattle.rv_model.specs.declared.entry.Act.{Act}
-use Rattle.rv_model.specs.declared.entry.Act.TheVariants.{Deliver, Stop, Look, Raise}
+use Rattle.rv_model.specs.declared.entry.Act.TheVariants.{Deliver, Stop, Look, Raise, End}
 use Rattle.rv_model.specs.declared.entry.Answer.{Answer}
-use Rattle.rv_model.specs.declared.entry.Answer.TheVariants.{Looked, Stopped, Switched}
+use Rattle.rv_model.specs.declared.entry.Answer.TheVariants.{Ended, Looked, Stopped, Switched}
 use Rattle.rv_model.specs.declared.entry.Entry.{Entry}
 use Rattle.rv_model.specs.declared.record.Delivered.{Delivered}
 use Rattle.rv_model.specs.declared.record.Delivered.TheVariants.{Done, Racing}
@@ -15,7 +15,7 @@ use Rattle.rv_model.specs.declared.work.Delivery.{Delivery}
 use Rattle.rv_model.specs.Histories.{NoneOf, IsSound}
 use Rattle.rv_model.specs.Judging.{Judge}
 use Rattle.rv_model.specs.Seats.{known_of, entries_of as entries_by, EndsWith}
-use Rattle.rv_model.specs.Scripts.{Played, played}
+use Rattle.rv_model.specs.Scripts.{Played, played, is_end, hit_act}
 use Rattle.rv_model.specs.Setups.{Setup, slot_of}
 use Rattle.rv_model.specs.SharedWords.{answer_at}
 use Rattle.rv_model.proofs.ScriptLemmas.{played-own}
@@ -115,8 +115,8 @@ adds-raise old new bits d =
     answered old new d.0 Switched a (ap (answer_at s (judges_of s) (reverse a.before) d.0) d.1.act_is)
 
 -- a delivery, with its outcome
-pub serves : (old new : SeatValue) (d : Delivery) (slot : ℕ) (outcome : Delivered) → slot ≡ slot_of old.board.setup.shape d.monitor d.instance → Delivers old new slot d.hit outcome → Serves old new d outcome
-serves old new d slot (Done answer) at v =
+pub serves : (old new : SeatValue) (d : Delivery) (slot : ℕ) (outcome : Delivered) → slot ≡ slot_of old.board.setup.shape d.monitor d.instance → is_end d.hit.mode ≡ false → Delivers old new slot d.hit outcome → Serves old new d outcome
+serves old new d slot (Done answer) at goes v =
     let s : Setup = old.board.setup in
     let a = added old new (Deliver slot d.hit) v.entry v.acts in
     let same : a.before ≡ v.before = (same_from_push a.before v.before v.entry v.entry (sym a.list ∙ v.list)).0 in
@@ -124,20 +124,35 @@ serves old new d slot (Done answer) at v =
     record {
       entry = v.entry;
       answer = answer;
-      makes = inl act;
+      makes = inl (act ∙ sym (rw goes refl));
       adds = answered old new v.entry answer a (ap (λ (b : List Entry). answer_at s (judges_of s) (reverse b) v.entry v.entry.act) same ∙ sym v.answer_is);
       outcome_is = rw act refl;
       fails_is = refl;
     }
-serves old new d slot Racing at v =
+serves old new d slot Racing at goes v =
     let s : Setup = old.board.setup in
     let a = added old new (Stop slot) v.entry v.acts in
     let act : v.entry.act ≡ Stop (slot_of s.shape d.monitor d.instance) = v.acts.act_is ∙ ap Stop at in
     record {
       entry = v.entry;
       answer = Stopped;
-      makes = inr act;
+      makes = inr (goes, act);
       adds = answered old new v.entry Stopped a (ap (answer_at s (judges_of s) (reverse a.before) v.entry) v.acts.act_is);
+      outcome_is = rw act refl;
+      fails_is = refl;
+    }
+
+-- an end
+pub serves-end : (old new : SeatValue) (d : Delivery) (slot : ℕ) → slot ≡ slot_of old.board.setup.shape d.monitor d.instance → is_end d.hit.mode ≡ true → (does : Does old new (End slot)) → Serves old new d (Done Ended)
+serves-end old new d slot at ends does =
+    let s : Setup = old.board.setup in
+    let a = added old new (End slot) does.0 does.1 in
+    let act : does.0.act ≡ End (slot_of s.shape d.monitor d.instance) = does.1.act_is ∙ ap End at in
+    record {
+      entry = does.0;
+      answer = Ended;
+      makes = inl (act ∙ sym (rw ends refl));
+      adds = answered old new does.0 Ended a (ap (answer_at s (judges_of s) (reverse a.before) does.0) does.1.act_is);
       outcome_is = rw act refl;
       fails_is = refl;
     }

@@ -1,3 +1,4 @@
+pub mod ActLemmas
 pub mod AddLemmas
 pub mod AtOnceLemmas
 pub mod ChangeLemmas

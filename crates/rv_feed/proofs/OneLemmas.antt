@@ -4,7 +4,7 @@ use Rattle.std.specs.Prelude.{Any, flat_map}
 use Rattle.std.proofs.lemmas.List.{get_or-map, length-map}
 use Rattle.std.proofs.lemmas.List.Elements.{All-get_or, All-head, All-tail}
 use Rattle.rv_model.specs.declared.entry.Act.{Act}
-use Rattle.rv_model.specs.declared.entry.Act.TheVariants.{Deliver, Stop, Look, Raise, Lower, Clear}
+use Rattle.rv_model.specs.declared.entry.Act.TheVariants.{Deliver, Stop, Look, Raise, Lower, Clear, End}
 use Rattle.rv_model.specs.declared.entry.Entry.{Entry}
 use Rattle.rv_model.specs.declared.record.Record.{Record}
 use Rattle.rv_model.specs.Cuts.{AtEach}
@@ -34,6 +34,7 @@ earned-free before seat Look free = tt
 earned-free before seat (Raise _) free = tt
 earned-free before seat (Lower _) free = tt
 earned-free before seat (Clear _) free = tt
+earned-free before seat (End _) free = tt
 
 -- a seat without entries has no acts
 acts-none : (seat : ℕ) (h : List Entry) → AtEach (λ before e. e.seat ≢ seat) h → acts_of seat h ≡ []

@@ -7,7 +7,7 @@ use Rattle.rv_model.specs.declared.work.Delivery.{Delivery}
 use Rattle.rv_model.specs.Histories.{LinesApart}
 use Rattle.rv_model.specs.Setups.{Setup, slot_of}
 use Rattle.rv_model.specs.Works.{Work}
-use Rattle.rv_core.specs.Advance.{FitsTable}
+use Rattle.rv_core.specs.Advance.{FitsHit}
 use Rattle.rv_core.specs.Setup.{table_at}
 
 -- a work, the records so far, and for how many the memory is there
@@ -37,11 +37,11 @@ is_panic_reactor _ = false
 abbrev pub panics_of : List Reactor → ℕ → Bool
 panics_of reactors monitor = is_panic_reactor (slice_get reactors monitor)
 
--- the monitor and the instance are the setup's, and the hit fits the monitor's table
+-- the monitor and the instance are the setup's, and the hit ends it or fits the monitor's table
 pub record FitsDelivery (s : Setup) (d : Delivery) : Type 0 where
   pub monitor : d.monitor < length s.shape
   pub instance_fits : d.instance < slice_index s.shape d.monitor
-  pub hit : FitsTable (table_at s (slot_of s.shape d.monitor d.instance)) d.hit
+  pub hit : FitsHit (table_at s (slot_of s.shape d.monitor d.instance)) d.hit
 
 -- the lane is new, its CPU is below 64, its lines ascend, and its deliveries fit
 pub record FitsLane (s : Setup) (lane : LaneValue) : Type 0 where

@@ -10,7 +10,7 @@ use crate::lane::{Lane, cpu_of, delivery_at, keep, known, turn_at, turn_count};
 use crate::turn::{halts, has_switch, is_shown};
 use rv_board::{Board, Seat};
 use rv_io::Gate;
-use rv_model::{Delivered, Delivery, Reactor, Record, Turn};
+use rv_model::{Answer, Delivered, Delivery, Reactor, Record, Turn};
 
 /// A CPU's seat, its lane, and the gate that it passes.
 #[derive(Drop)]
@@ -30,7 +30,7 @@ fn ends(reactors: &[Reactor], word: u64, monitor: u8, outcome: Delivered) -> boo
     }
 }
 
-/// A delivery to its slot.
+/// A delivery to its slot, whose instance ends where the hit is an end.
 fn serve<G: Gate>(
     board: &Board,
     seat: &mut Seat,
@@ -43,6 +43,10 @@ fn serve<G: Gate>(
     ensures { Serves seat.old seat.new delivery.now result }
 {
     let slot = board.shape().slot(delivery.monitor, delivery.instance);
+    if delivery.hit.mode.is_end() {
+        board.end(seat, slot);
+        return Delivered::Done(Answer::Ended);
+    }
     board.deliver(seat, cpu, slot, &delivery.hit, gate)
 }
 

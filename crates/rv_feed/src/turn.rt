@@ -1,13 +1,13 @@
 //! One turn of a script.
 ghost use Rattle.std.specs.Prelude.{◌≡◌, ◌+◌, ◌<◌, ◌≤◌, ◌&&◌, ◌++◌, ◌∷◌, [], length, All};
 ghost use Rattle.rv_model.specs.Numbers.{has_bit};
-ghost use Rattle.rv_model.specs.Scripts.{is_shown, fails};
+ghost use Rattle.rv_model.specs.Scripts.{is_shown, fails, hit_act};
 ghost use Rattle.rv_feed.specs.Lane.{panics_of, FitsDelivery};
 ghost use Rattle.rv_feed.specs.Turns.{LooksAt, Delivers, PlaysTurn};
 
 use crate::lane::{Lane, delivery_at, is_panic, keep, seat_of};
 use rv_core::Core;
-use rv_model::{Act, Answer, Delivered, Delivery, Reactor, Record, Turn};
+use rv_model::{Act, Answer, Delivered, Delivery, Hit, Reactor, Record, Turn};
 
 /// Whether the word has this bit.
 pub(crate) fn has_switch(word: u64, bit: u8) -> bool
@@ -37,6 +37,17 @@ pub(crate) fn halts(reactors: &[Reactor], word: u64, monitor: u8, answer: Answer
     fails(answer) && (is_panic(reactors, monitor) && has_switch(word, 33))
 }
 
+/// What the hit is to do to its slot.
+fn hit_act(slot: u32, hit: &Hit) -> Act
+    ensures { result ≡ hit_act slot hit.now }
+{
+    if hit.mode.is_end() {
+        Act::End { slot }
+    } else {
+        Act::Deliver { slot, hit: *hit }
+    }
+}
+
 /// Reads the switches.
 fn look(core: &mut Core, seat: u32) -> u64
     ensures { LooksAt core.old core.new seat result }
@@ -63,7 +74,7 @@ fn deliver(
 {
     let slot = core.shape().slot(delivery.monitor, delivery.instance);
     let hit = delivery.hit;
-    let answer = core.step(seat, &Act::Deliver { slot, hit });
+    let answer = core.step(seat, &hit_act(slot, &hit));
     let record = Record {
         order: delivery.order,
         line,

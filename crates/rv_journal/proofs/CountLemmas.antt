@@ -4,7 +4,7 @@ use Rattle.std.specs.Prelude.{filter}
 use Rattle.std.proofs.lemmas.Bool.Decides.{nat_tests}
 use Rattle.std.proofs.lemmas.List.Elements.{filter-append}
 use Rattle.rv_model.specs.declared.entry.Act.{Act}
-use Rattle.rv_model.specs.declared.entry.Act.TheVariants.{Deliver, Stop, Look, Raise, Lower, Clear}
+use Rattle.rv_model.specs.declared.entry.Act.TheVariants.{Deliver, Stop, Look, Raise, Lower, Clear, End}
 use Rattle.rv_model.specs.declared.entry.Entry.{Entry}
 use Rattle.rv_model.specs.Setups.{Setup}
 use Rattle.rv_model.specs.Judging.{Judge}
@@ -41,6 +41,7 @@ not-on : (slot : ℕ) (act : Act) → place_of act ≢ suc slot → is_on slot a
 not-on slot (Deliver other hit) ne = grind (arith, nat_tests)
 not-on slot (Stop other) ne = grind (arith, nat_tests)
 not-on slot (Clear other) ne = grind (arith, nat_tests)
+not-on slot (End other) ne = grind (arith, nat_tests)
 not-on slot Look ne = refl
 not-on slot (Raise bits) ne = refl
 not-on slot (Lower bits) ne = refl

@@ -98,6 +98,7 @@ module _ (setup : Setup) (seen : List Entry) (lanes : List CountedLaneValue) (ca
         machine = u.machine;
         sound = u.sound;
         acts = u.acts;
+        fits = u.fits;
         others = u.others;
         lists = λ l lt. ap (λ (z : List Step). step_entries ((lanes_of lanes).seat l) setup.switches z) (first l lt);
       }

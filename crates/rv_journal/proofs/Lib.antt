@@ -17,6 +17,7 @@ pub mod MergeStepLemmas
 pub mod MergeWordLemmas
 pub mod MergedLemmas
 pub mod NarrowLemmas
+pub mod NoEndLemmas
 pub mod NumberLemmas
 pub mod PartLemmas
 pub mod PieceLemmas

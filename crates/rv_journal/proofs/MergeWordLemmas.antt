@@ -4,7 +4,7 @@ use Rattle.std.specs.Prelude.{filter}
 use Rattle.std.proofs.lemmas.Bool.Decides.{nat_tests}
 use Rattle.std.proofs.lemmas.List.{append-nil, reverse-append, reverse-reverse}
 use Rattle.rv_model.specs.declared.entry.Act.{Act}
-use Rattle.rv_model.specs.declared.entry.Act.TheVariants.{Deliver, Stop, Look, Raise, Lower, Clear}
+use Rattle.rv_model.specs.declared.entry.Act.TheVariants.{Deliver, Stop, Look, Raise, Lower, Clear, End}
 use Rattle.rv_model.specs.declared.entry.Entry.{Entry}
 use Rattle.rv_model.specs.Cuts.{AtEach}
 use Rattle.rv_model.specs.Judging.{Judge}
@@ -41,12 +41,14 @@ on-slot_in s past Look is = absurd is
 on-slot_in s past (Raise _) is = absurd is
 on-slot_in s past (Lower _) is = absurd is
 on-slot_in s past (Clear _) is = absurd is
+on-slot_in s past (End _) is = absurd is
 
 -- it is on this slot alone
 pub slot_in-is : (slot : ℕ) (act : Act) → is_on slot act ≡ true → slot_in act ≡ slot
 slot_in-is slot (Deliver other hit) on = grind (arith, nat_tests)
 slot_in-is slot (Stop other) on = grind (arith, nat_tests)
 slot_in-is slot (Clear other) on = grind (arith, nat_tests)
+slot_in-is slot (End other) on = grind (arith, nat_tests)
 slot_in-is slot Look on = absurd (let no : false ≡ true = on in cc)
 slot_in-is slot (Raise _) on = absurd (let no : false ≡ true = on in cc)
 slot_in-is slot (Lower _) on = absurd (let no : false ≡ true = on in cc)
@@ -59,6 +61,7 @@ is_on-slot Look is = absurd is
 is_on-slot (Raise _) is = absurd is
 is_on-slot (Lower _) is = absurd is
 is_on-slot (Clear _) is = absurd is
+is_on-slot (End _) is = absurd is
 
 -- the slot's place is behind the switches
 pub place-slot_in : (act : Act) → IsItemAct act → place_of act ≡ slot_in act + 1
@@ -68,6 +71,7 @@ place-slot_in Look is = absurd is
 place-slot_in (Raise _) is = absurd is
 place-slot_in (Lower _) is = absurd is
 place-slot_in (Clear _) is = absurd is
+place-slot_in (End _) is = absurd is
 
 -- the slot is one of the setup's
 pub slot-below : (s : Setup) (act : Act) → IsItemAct act → FitsAct s act → slot_in act < sum s.shape
@@ -77,15 +81,17 @@ slot-below s Look is fits = absurd is
 slot-below s (Raise _) is fits = absurd is
 slot-below s (Lower _) is fits = absurd is
 slot-below s (Clear _) is fits = absurd is
+slot-below s (End _) is fits = absurd is
 
 -- what an act on a slot wants
 acts-there : (s : Setup) (act : Act) → IsItemAct act → FitsAct s act → ActFits s act → Acts (table_at s (slot_in act)) (start_of s (slot_in act)) act
-acts-there s (Deliver slot hit) is fits bits = (bits, fits-start (table_at s slot) hit.mode hit.what fits.1)
+acts-there s (Deliver slot hit) is fits bits = (bits, fits-start (table_at s slot) hit.mode hit.what fits.1.1)
 acts-there s (Stop slot) is fits bits = tt
 acts-there s Look is fits bits = absurd is
 acts-there s (Raise _) is fits bits = absurd is
 acts-there s (Lower _) is fits bits = absurd is
 acts-there s (Clear _) is fits bits = absurd is
+acts-there s (End _) is fits bits = absurd is
 
 module _ (s : Setup) where
   -- an act makes of the word what the tables make of it
@@ -114,6 +120,7 @@ module _ (s : Setup) where
       item (Raise _) i is same = absurd is
       item (Lower _) i is same = absurd is
       item (Clear _) i is same = absurd is
+      item (End _) i is same = absurd is
 
       at : (i : ℕ) → i < sum s.shape → (place_of e.act ≡ i + 1) ⊎ (place_of e.act ≢ i + 1) → IsLive (table_judge (table_at s i)) (slot_phase s (e ∷ reverse history) i)
       at i low (inl same) =
@@ -137,6 +144,7 @@ module _ (s : Setup) where
   elsewhere slot (Deliver other hit) out = λ e. let same : other ≡ slot = omega arith in let equal : (other == slot) ≡ true = grind (arith, nat_tests) in cc
   elsewhere slot (Stop other) out = λ e. let same : other ≡ slot = omega arith in let equal : (other == slot) ≡ true = grind (arith, nat_tests) in cc
   elsewhere slot (Clear other) out = λ e. let same : other ≡ slot = omega arith in let equal : (other == slot) ≡ true = grind (arith, nat_tests) in cc
+  elsewhere slot (End other) out = λ e. let same : other ≡ slot = omega arith in let equal : (other == slot) ≡ true = grind (arith, nat_tests) in cc
   elsewhere slot Look out = λ e. absurd (omega arith)
   elsewhere slot (Raise bits) out = λ e. absurd (omega arith)
   elsewhere slot (Lower bits) out = λ e. absurd (omega arith)
@@ -146,6 +154,7 @@ module _ (s : Setup) where
   on-slot past slot (Deliver other hit) here = let same : other ≡ slot = grind (arith, nat_tests) in ap (word_of s (judges_of s) past) same
   on-slot past slot (Stop other) here = let same : other ≡ slot = grind (arith, nat_tests) in ap (word_of s (judges_of s) past) same
   on-slot past slot (Clear other) here = let same : other ≡ slot = grind (arith, nat_tests) in ap (word_of s (judges_of s) past) same
+  on-slot past slot (End other) here = let same : other ≡ slot = grind (arith, nat_tests) in ap (word_of s (judges_of s) past) same
   on-slot past slot Look here = cc
   on-slot past slot (Raise bits) here = cc
   on-slot past slot (Lower bits) here = cc
@@ -212,6 +221,7 @@ switches-stay s (e ∷ past) all b = at e.act (all [] e past refl) (switches-sta
     at (Raise _) is rest = absurd is
     at (Lower _) is rest = absurd is
     at (Clear _) is rest = absurd is
+    at (End _) is rest = absurd is
 
 -- a history in the other direction has the same acts
 reversed-acts : (history : List Entry) → AtEach (λ before e. IsMergedAct e.act) history → AtEach (λ before e. IsMergedAct e.act) (reverse history)

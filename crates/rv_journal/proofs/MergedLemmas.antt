@@ -3,14 +3,15 @@ use Rattle.std.proofs.Common.{◌≡◌, ◌≢◌, ℕ, zero, suc, ◌+◌, ◌
 use Rattle.std.specs.Prelude.{filter, All, Any}
 use Rattle.std.proofs.lemmas.Bool.Decides.{nat_tests}
 use Rattle.std.proofs.lemmas.List.{append-nil, length-map, get_or-map, get_or_default}
-use Rattle.std.proofs.lemmas.List.Elements.{All-map, All-from_get_or}
+use Rattle.std.proofs.lemmas.List.Elements.{All-map, All-from_get_or, All-weaker}
 use Rattle.rv_model.specs.declared.entry.Act.{Act}
-use Rattle.rv_model.specs.declared.entry.Act.TheVariants.{Deliver, Stop, Look, Raise, Lower, Clear}
+use Rattle.rv_model.specs.declared.entry.Act.TheVariants.{Deliver, Stop, Look, Raise, Lower, Clear, End}
 use Rattle.rv_model.specs.declared.entry.Entry.{Entry}
+use Rattle.rv_model.specs.declared.work.Delivery.{Delivery}
 use Rattle.rv_model.specs.Cuts.{AtEach}
 use Rattle.rv_model.specs.Histories.{IsLegal, acts_of, changed}
 use Rattle.rv_model.specs.Records.{is_look_act}
-use Rattle.rv_model.specs.Scripts.{played, Plays}
+use Rattle.rv_model.specs.Scripts.{played, Plays, is_end}
 use Rattle.rv_model.specs.Seats.{entries_of}
 use Rattle.rv_model.specs.Setups.{Setup}
 use Rattle.rv_model.specs.Works.{Work, IsWork}
@@ -21,7 +22,7 @@ use Rattle.rv_journal.specs.declared.steps.Step.TheVariants.{Opens, Item}
 use Rattle.rv_journal.specs.CountedLanes.{CountedLaneValue}
 use Rattle.rv_journal.specs.MergeSteps.{items_of}
 use Rattle.rv_journal.specs.MergeStates.{Mark, mark, items_in, entries_in, entry_in, IsItemAct, StandsAs, step_entries, IsUnderWay}
-use Rattle.rv_journal.specs.Merging.{CanMerge, NumbersFit, seat_of, no_lane, lanes_of, works_of, input_of, IsMergeOf}
+use Rattle.rv_journal.specs.Merging.{FitsSetup, CanMerge, NumbersFit, seat_of, no_lane, lanes_of, works_of, input_of, IsMergeOf}
 use Rattle.rv_journal.proofs.MarkLemmas.{filter_yes, filter_no, AllPlaced, placed-filter}
 use Rattle.rv_journal.proofs.PlaceLemmas.{entries-filter, marked-items}
 use Rattle.rv_journal.proofs.PlaysLemmas.{played-is, looks-tell, plays-steps}
@@ -104,6 +105,7 @@ no-look_act Look is = absurd is
 no-look_act (Raise _) is = absurd is
 no-look_act (Lower _) is = absurd is
 no-look_act (Clear _) is = absurd is
+no-look_act (End _) is = absurd is
 
 -- but for looks, the entries of steps are those of their items
 without-looks : (n switches : ℕ) (steps : List Step) → ((b : List Counted) (c : Counted) (a : List Counted) → items_of steps ≡ b ++ c ∷ a → IsItemAct c.entry.act) → filter (λ e. not (is_look_act e.act)) (step_entries n switches steps) ≡ entries_in (items_of steps)
@@ -130,7 +132,7 @@ module _ (s : Setup) (seen : List Entry) (lanes : List CountedLaneValue) (can : 
   plays-at : (l : ℕ) → l < length lanes → Plays s (λ _. false) (lane_at l).work (played s (judges_of s) (seat_of (lane_at l)) (reverse history))
   plays-at l lt =
       let fit = fits-at s seen lanes can k numbers l lt in
-      plays-steps s (seat_of (lane_at l)) s.switches (lane_at l).work.deliveries (lane_at l).counted fit.served (served-length s (lane_at l).work.deliveries (lane_at l).counted fit.served) fit.shown can.running
+      plays-steps s (seat_of (lane_at l)) s.switches (lane_at l).work.deliveries (lane_at l).counted fit.served (served-length s (lane_at l).work.deliveries (lane_at l).counted fit.served) fit.shown (All-weaker (FitsSetup s) (λ (d : Delivery). is_end d.hit.mode ≡ false) (λ d f. f.hit.0) (lane_at l).work.deliveries fit.fit) can.running
       (lane_at l).work.turns 0 (names-at s seen lanes can k numbers works l lt) (played s (judges_of s) (seat_of (lane_at l)) (reverse history))
       (played-is s (judges_of s) (seat_of (lane_at l)) history ∙ list-at l lt) (looks-tell s (judges_of s) (seat_of (lane_at l)) history)
 
@@ -191,4 +193,4 @@ module _ (s : Setup) (seen : List Entry) (lanes : List CountedLaneValue) (can : 
           ∙ (ap entries_in steps ∙ fit.part.entries_are))
 
   pub merged : IsMergeOf s seen lanes history
-  merged = record { legal = legal; from = record { seats = seats-all; changes = changes-all; between = between-all } }
+  merged = record { legal = legal; fits = u.fits; from = record { seats = seats-all; changes = changes-all; between = between-all } }

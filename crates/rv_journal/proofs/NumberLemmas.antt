@@ -142,3 +142,7 @@ pub number_from-some : (most : ℕ) (words : List (List ℕ)) (n : ℕ) (rest : 
 number_from-some most words n rest is =
     let f = first-some (number_in most) words n rest is in
     f.1 ∙ ap (λ (w : List ℕ). w ∷ rest) (sym (number_in-some most f.0 n f.2).0)
+
+-- and is not too large
+pub number_from-low : (most : ℕ) (words : List (List ℕ)) (n : ℕ) (rest : List (List ℕ)) → number_from most words ≡ Some (n, rest) → n ≤ most
+number_from-low most words n rest is = let f = first-some (number_in most) words n rest is in (number_in-some most f.0 n f.2).1

@@ -5,7 +5,7 @@ use Rattle.std.proofs.lemmas.Bool.Decides.{nat_tests}
 use Rattle.std.proofs.lemmas.List.{length-map}
 use Rattle.std.proofs.lemmas.List.Elements.{filter-append}
 use Rattle.rv_model.specs.declared.entry.Act.{Act}
-use Rattle.rv_model.specs.declared.entry.Act.TheVariants.{Deliver, Stop, Look, Raise, Lower, Clear}
+use Rattle.rv_model.specs.declared.entry.Act.TheVariants.{Deliver, Stop, Look, Raise, Lower, Clear, End}
 use Rattle.rv_model.specs.declared.entry.Entry.{Entry}
 use Rattle.rv_model.specs.Cuts.{AtEach}
 use Rattle.rv_model.specs.Histories.{FitsWords, IsEarnedBy, IsHeldBy, NoneOf, changed}
@@ -97,6 +97,7 @@ earned-there s before history c t many last = by c.entry.act refl
     by (Raise _) is = tt
     by (Lower _) is = tt
     by (Clear _) is = tt
+    by (End _) is = tt
     by (Stop slot) is =
         let l = last slot is in
         let t' = t.lost slot is in
@@ -117,6 +118,7 @@ held-item Look seat is = absurd is
 held-item (Raise _) seat is = absurd is
 held-item (Lower _) seat is = absurd is
 held-item (Clear _) seat is = absurd is
+held-item (End _) seat is = absurd is
 
 -- and merged
 pub merged-item : (act : Act) → IsItemAct act → IsMergedAct act
@@ -126,6 +128,7 @@ merged-item Look is = absurd is
 merged-item (Raise _) is = absurd is
 merged-item (Lower _) is = absurd is
 merged-item (Clear _) is = absurd is
+merged-item (End _) is = absurd is
 
 -- ---- entries of no seat
 

@@ -115,6 +115,7 @@ module _ (s : Setup) (whole : List Counted) (lanes : Lanes) (told : AllTold s wh
         machine = machine-snoc s history e u.machine tt tt tt;
         sound = sound-snoc s (judges_of s) history e u.sound (look-fits s (lanes.seat m) history u.machine.is_setup u.acts) tt small tt;
         acts = at_each-snoc (λ before x. IsMergedAct x.act) history e u.acts tt;
+        fits = at_each-snoc (λ before x. FitsAct s x.act) history e u.fits tt;
         others = others-next s lanes apart history rest rest' m Opens steps low at here others e refl refl u.others;
         lists = lists-next s lanes apart history rest rest' m Opens steps low at here others e refl refl u.lists;
       }
@@ -242,6 +243,7 @@ module _ (s : Setup) (whole : List Counted) (lanes : Lanes) (told : AllTold s wh
       machine = machine-snoc s history c.entry u.machine (merged-item c.entry.act told_is.item_act) told_is.fits told_is.bits;
       sound = sound-snoc s (judges_of s) history c.entry u.sound fits (earned-there s (entries_in (items_in first.front)) history c told_is many_is earned_is) told_is.low (held-item c.entry.act c.entry.seat told_is.item_act);
       acts = at_each-snoc (λ before x. IsMergedAct x.act) history c.entry u.acts (merged-item c.entry.act told_is.item_act);
+      fits = at_each-snoc (λ before x. FitsAct s x.act) history c.entry u.fits told_is.fits;
       others = others-next s lanes apart history rest rest' m (Item c) steps low at here others c.entry first.own refl u.others;
       lists = lists-next s lanes apart history rest rest' m (Item c) steps low at here others c.entry first.own refl u.lists;
     }

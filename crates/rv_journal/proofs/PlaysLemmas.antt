@@ -1,9 +1,10 @@
 -- A lane whose steps are all placed has played the script of its work.
-use Rattle.std.proofs.Common.{◌≡◌, ℕ, zero, suc, ◌+◌, ◌-◌, ◌<◌, ◌≤◌, ◌==◌, Bool, true, false, ◌&&◌, List, [], ◌∷◌, ◌++◌, length, map, reverse, get_or, refl, sym, ap, ◌∙◌, subst, arith}
+use Rattle.std.proofs.Common.{◌≡◌, ℕ, zero, suc, ◌+◌, ◌-◌, ◌<◌, ◌≤◌, ◌==◌, Bool, true, false, ◌&&◌, List, [], ◌∷◌, ◌++◌, inl, inr, length, map, reverse, get_or, refl, sym, ap, ◌∙◌, subst, arith}
 use Rattle.std.specs.Prelude.{filter, All, MatchBool, slice_range}
 use Rattle.std.proofs.lemmas.List.{map-append, append-nil, reverse-append, reverse-reverse}
 use Rattle.std.proofs.lemmas.List.Elements.{filter-append, All-get_or}
-use Rattle.rv_model.specs.declared.entry.Act.TheVariants.{Look}
+use Rattle.rv_model.specs.declared.entry.Act.{Act}
+use Rattle.rv_model.specs.declared.entry.Act.TheVariants.{Deliver, Look}
 use Rattle.rv_model.specs.declared.entry.Answer.TheVariants.{Looked}
 use Rattle.rv_model.specs.declared.entry.Entry.{Entry}
 use Rattle.rv_model.specs.declared.hit.Mode.TheVariants.{Event}
@@ -13,9 +14,9 @@ use Rattle.rv_model.specs.declared.work.Delivery.{Delivery}
 use Rattle.rv_model.specs.declared.work.Turn.{Turn}
 use Rattle.rv_model.specs.Judging.{Judge}
 use Rattle.rv_model.specs.Numbers.{has_bit}
-use Rattle.rv_model.specs.Scripts.{Played, played, is_shown, fails, Makes, Delivers, PlaysTurns}
+use Rattle.rv_model.specs.Scripts.{Played, played, is_shown, fails, is_end, hit_act, MakesHit, Makes, Delivers, PlaysTurns}
 use Rattle.rv_model.specs.Seats.{entries_of}
-use Rattle.rv_model.specs.Setups.{Setup}
+use Rattle.rv_model.specs.Setups.{Setup, slot_of}
 use Rattle.rv_model.specs.SharedWords.{answer_at}
 use Rattle.rv_model.specs.Works.{NamesEach}
 use Rattle.rv_journal.specs.declared.counted.Counted.{Counted}
@@ -88,6 +89,14 @@ served-at s (x ∷ ds) [] d c place served in' = absurd served
 served-at s (x ∷ ds) (i ∷ items) d c zero served in' = served.0
 served-at s (x ∷ ds) (i ∷ items) d c (suc place) served in' = served-at s ds items d c place served.1 (omega arith)
 
+-- what serves a delivery that is no end is made by it
+serves-makes : (s : Setup) (d : Delivery) (act : Act) → is_end d.hit.mode ≡ false → Serves s d act → MakesHit (slot_of s.shape d.monitor d.instance) d.hit act
+serves-makes s d act goes (inl is) =
+    let slot : ℕ = slot_of s.shape d.monitor d.instance in
+    let same : hit_act slot d.hit ≡ Deliver slot d.hit = rw goes refl in
+    inl (is ∙ sym same)
+serves-makes s d act goes (inr is) = inr (goes, is)
+
 -- nothing is halted where no reactor is panic
 no-panic : (b c : Bool) → (b && (false && c)) ≡ false
 no-panic true c = refl
@@ -113,7 +122,7 @@ no_counted : Counted
 no_counted = record { entry = record { seat = 0; act = Look; before = 0; after = 0 }; first = 0; count = 0; outcome = Racing }
 
 -- ---- scripts
-module _ (s : Setup) (seat look : ℕ) (ds : List Delivery) (items : List Counted) (served : AllServed s ds items) (many : length items ≡ length ds) (shown : All (λ d. is_shown look d ≡ true) ds) (running : has_bit look 34 ≡ false) where
+module _ (s : Setup) (seat look : ℕ) (ds : List Delivery) (items : List Counted) (served : AllServed s ds items) (many : length items ≡ length ds) (shown : All (λ d. is_shown look d ≡ true) ds) (going : All (λ d. is_end d.hit.mode ≡ false) ds) (running : has_bit look 34 ≡ false) where
   abbrev panics : ℕ → Bool
   panics = λ _. false
 
@@ -139,7 +148,8 @@ module _ (s : Setup) (seat look : ℕ) (ds : List Delivery) (items : List Counte
       let on : is_shown look d ≡ true = All-get_or (λ (x : Delivery). is_shown look x ≡ true) ds place no_delivery in' shown in
       let shown_are : filter (is_shown look) (slice_range ds place to) ≡ d ∷ filter (is_shown look) (slice_range ds (suc place) to) =
       ap (filter (is_shown look)) (range-cons ds no_delivery place to lt in') ∙ filter_yes (is_shown look) d (slice_range ds (suc place) to) on in
-      let makes : Makes s d p = subst (Serves s d) (sym (ap (λ (e : Entry). e.act) head)) (served-at s ds items no_delivery no_counted place served (omega arith)) in
+      let goes : is_end d.hit.mode ≡ false = All-get_or (λ (x : Delivery). is_end x.hit.mode ≡ false) ds place no_delivery in' going in
+      let makes : Makes s d p = subst (MakesHit (slot_of s.shape d.monitor d.instance) d.hit) (sym (ap (λ (e : Entry). e.act) head)) (serves-makes s d c.entry.act goes (served-at s ds items no_delivery no_counted place served (omega arith))) in
       subst (λ (z : List Delivery). Delivers s panics look z (PlaysTurns s panics (lists turns)) (p ∷ ps)) (sym shown_are)
       (makes, match_false (fails p.1 && (false && has_bit look 33)) _ _ (no-panic (fails p.1) (has_bit look 33)) (rest ps tail tells.1))
 

@@ -5,7 +5,7 @@ use Rattle.std.proofs.lemmas.Bool.Decides.{nat_tests}
 use Rattle.std.proofs.lemmas.List.{map-append, length-map}
 use Rattle.std.proofs.lemmas.List.Elements.{filter-append}
 use Rattle.rv_model.specs.declared.entry.Act.{Act}
-use Rattle.rv_model.specs.declared.entry.Act.TheVariants.{Deliver, Stop, Look, Raise, Lower, Clear}
+use Rattle.rv_model.specs.declared.entry.Act.TheVariants.{Deliver, Stop, Look, Raise, Lower, Clear, End}
 use Rattle.rv_model.specs.declared.entry.Entry.{Entry}
 use Rattle.rv_model.specs.Histories.{NoneOf, changed}
 use Rattle.rv_model.specs.Setups.{Setup}
@@ -238,6 +238,7 @@ module _ (s : Setup) (whole : List Counted) (lanes : Lanes) (told : AllTold s wh
           by (Raise _) is = refl
           by (Lower _) is = refl
           by (Clear _) is = refl
+          by (End _) is = refl
           by (Stop i) is =
               let l = t.lost i is in
               let w = within l.until l.since l.is l.none in

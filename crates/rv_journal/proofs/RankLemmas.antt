@@ -3,7 +3,7 @@ use Rattle.std.proofs.Common.{◌≡◌, ◌≢◌, ℕ, ◌+◌, ◌<◌, ◌==
 use Rattle.std.proofs.lemmas.Bool.Decides.{nat_tests}
 use Rattle.std.proofs.lemmas.List.{append-nil, reverse-append}
 use Rattle.rv_model.specs.declared.entry.Act.{Act}
-use Rattle.rv_model.specs.declared.entry.Act.TheVariants.{Deliver, Stop, Look, Raise, Lower, Clear}
+use Rattle.rv_model.specs.declared.entry.Act.TheVariants.{Deliver, Stop, Look, Raise, Lower, Clear, End}
 use Rattle.rv_model.specs.declared.entry.Entry.{Entry}
 use Rattle.rv_model.specs.Judging.{Judge}
 use Rattle.rv_model.specs.Numbers.{number_of}
@@ -64,6 +64,7 @@ deliver-going j on i Look p is going = absurd (let no : false ≡ true = is in c
 deliver-going j on i (Raise _) p is going = absurd (let no : false ≡ true = is in cc)
 deliver-going j on i (Lower _) p is going = absurd (let no : false ≡ true = is in cc)
 deliver-going j on i (Clear _) p is going = absurd (let no : false ≡ true = is in cc)
+deliver-going j on i (End _) p is going = absurd (let no : false ≡ true = is in cc)
 
 module _ (s : Setup) where
   abbrev js : List Judge
@@ -96,6 +97,7 @@ module _ (s : Setup) where
         zero-word (Raise _) is = absurd is
         zero-word (Lower _) is = absurd is
         zero-word (Clear _) is = absurd is
+        zero-word (End _) is = absurd is
 
     -- a Stop leaves no word
     stop-none : is_deliver e.act ≡ false → e.after ≡ 0
@@ -108,6 +110,7 @@ module _ (s : Setup) where
         by (Raise _) is d = absurd is
         by (Lower _) is d = absurd is
         by (Clear _) is d = absurd is
+        by (End _) is d = absurd is
 
     -- a delivery leaves one where there was one
     deliver-some : is_deliver e.act ≡ true → e.before ≢ 0 → e.after ≢ 0

@@ -9,7 +9,7 @@ use Rattle.rv_model.specs.Histories.{changed}
 use Rattle.rv_model.specs.Setups.{Setup}
 use Rattle.rv_model.specs.Works.{IsWork, NamesEach}
 use Rattle.rv_model.proofs.CutLemmas.{at_each-nil}
-use Rattle.rv_core.specs.Setup.{IsSetup, judges_of}
+use Rattle.rv_core.specs.Setup.{IsSetup, FitsAct, judges_of}
 use Rattle.rv_board.proofs.SoundLemmas.{sound-empty}
 use Rattle.rv_journal.specs.declared.counted.Counted.{Counted}
 use Rattle.rv_journal.specs.CountedLanes.{CountedLaneValue}
@@ -86,6 +86,7 @@ module _ (s : Setup) (seen : List Entry) (lanes : List CountedLaneValue) (can : 
         machine = machine-empty s seen lanes can k numbers;
         sound = sound-empty s (judges_of s);
         acts = at_each-nil (λ before e. IsMergedAct e.act);
+        fits = at_each-nil (λ before e. FitsAct s e.act);
         others = at_each-nil (λ before e. (l : ℕ) × (l < length lanes) × (e.seat ≡ seat_of (get_or lanes l no_lane)));
         lists = λ l lt. refl;
       }

@@ -5,7 +5,7 @@ use Rattle.std.proofs.lemmas.Bool.Decides.{nat_tests}
 use Rattle.std.proofs.lemmas.List.{append-nil, map-append, length-map, get_or_default}
 use Rattle.std.proofs.lemmas.List.Elements.{filter-append, All-get_or, All-head, All-tail}
 use Rattle.rv_model.specs.declared.entry.Act.{Act}
-use Rattle.rv_model.specs.declared.entry.Act.TheVariants.{Deliver, Stop, Look, Raise, Lower, Clear}
+use Rattle.rv_model.specs.declared.entry.Act.TheVariants.{Deliver, Stop, Look, Raise, Lower, Clear, End}
 use Rattle.rv_model.specs.declared.entry.Entry.{Entry}
 use Rattle.rv_model.specs.declared.work.Delivery.{Delivery}
 use Rattle.rv_model.specs.Seats.{entries_of}
@@ -70,6 +70,7 @@ bits-fit s Look is fits = absurd is
 bits-fit s (Raise _) is fits = absurd is
 bits-fit s (Lower _) is fits = absurd is
 bits-fit s (Clear _) is fits = absurd is
+bits-fit s (End _) is fits = absurd is
 
 -- ---- the same cut
 

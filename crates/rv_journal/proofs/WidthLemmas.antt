@@ -10,7 +10,7 @@ use Rattle.rv_model.specs.declared.hit.Letter.TheVariants.{Event, Atoms}
 use Rattle.rv_model.specs.declared.hit.Mode.{Mode}
 use Rattle.rv_model.specs.declared.hit.Mode.TheVariants as mode
 use Rattle.rv_model.specs.declared.hit.What.{What}
-use Rattle.rv_model.specs.declared.hit.What.TheVariants.{Da, Ltl}
+use Rattle.rv_model.specs.declared.hit.What.TheVariants.{Da, Ltl, Nothing}
 use Rattle.rv_model.specs.declared.hit.Hit.{Hit}
 use Rattle.rv_model.specs.declared.entry.Answer.{Answer}
 use Rattle.rv_model.specs.declared.entry.Answer.TheVariants.{Passed, Started, Kept, Failed}
@@ -98,6 +98,7 @@ module _ (t : Table) (it : IsRows t) (start : first_row t < row_count t) where
   -- what waits
   waiting-below : (m : Mode) (x : Letter) → (from_waiting t m x).1 < 2 ^ row_count t
   waiting-below mode.Event x = one-below (row_count t) (omega arith)
+  waiting-below mode.End x = one-below (row_count t) (omega arith)
   waiting-below mode.Start x = start-below t (row_count t) start
   waiting-below mode.StartRun x = begins-below (start_set t) (step_set t (start_set t) x) (step_set-below t it (start_set t) x)
 
@@ -114,6 +115,7 @@ module _ (t : Table) (it : IsRows t) (start : first_row t < row_count t) where
 -- levels below a power stay below it
 levels-below : (n : ℕ) (what : What) (levels : ℕ) → IsBelow n what → levels < 2 ^ n → levels_after what levels < 2 ^ n
 levels-below n (Da event) levels is low = low
+levels-below n Nothing levels is low = low
 levels-below n (Ltl on off pulse) levels is low =
     let less = and_le_l levels (bit_not w32 off) in
     or_lt n (bit_and levels (bit_not w32 off)) on (omega arith) is.0

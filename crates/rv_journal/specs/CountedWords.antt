@@ -5,7 +5,7 @@ use Rattle.rv_model.specs.declared.entry.Act.{Act}
 use Rattle.rv_model.specs.declared.entry.Act.TheVariants.{Deliver}
 use Rattle.rv_model.specs.declared.entry.Entry.{Entry}
 use Rattle.rv_model.specs.declared.hit.What.{What}
-use Rattle.rv_model.specs.declared.hit.What.TheVariants.{Da, Ltl}
+use Rattle.rv_model.specs.declared.hit.What.TheVariants.{Da, Ltl, Nothing}
 use Rattle.rv_model.specs.Setups.{Setup}
 use Rattle.rv_model.specs.SharedWords.{switches_of, word_of}
 use Rattle.rv_model.specs.Histories.{changed}
@@ -93,3 +93,4 @@ KeptCounted s = Kept counted_at (also_counted s) s
 abbrev pub IsBelow : ℕ → What → Type 0
 IsBelow levels (Da event) = Unit {0}
 IsBelow levels (Ltl on off pulse) = (on < 2 ^ levels) × (off < 2 ^ levels) × (pulse < 2 ^ levels)
+IsBelow levels Nothing = Unit {0}

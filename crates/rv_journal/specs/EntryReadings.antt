@@ -3,7 +3,7 @@ use Rattle.std.specs.Prelude.{◌≡◌, ℕ, ◌&&◌, ◌==◌, nat_le, bytes_
 use Rattle.std.specs.Option.{option_and_then, option_map}
 use Rattle.rv_text.specs.Decimal.{decimal_of}
 use Rattle.rv_model.specs.declared.entry.Act.{Act}
-use Rattle.rv_model.specs.declared.entry.Act.TheVariants.{Deliver, Stop, Look, Raise, Lower, Clear}
+use Rattle.rv_model.specs.declared.entry.Act.TheVariants.{Deliver, Stop, Look, Raise, Lower, Clear, End}
 use Rattle.rv_model.specs.declared.entry.Entry.{Entry}
 use Rattle.rv_model.specs.declared.hit.Mode.{Mode}
 use Rattle.rv_model.specs.declared.hit.Mode.TheVariants.{Event, Start, StartRun}
@@ -87,7 +87,8 @@ verb_in word =
     else if bytes_eq word (codes "look") then Some verbs.Look
     else if bytes_eq word (codes "raise") then Some verbs.Raise
     else if bytes_eq word (codes "lower") then Some verbs.Lower
-    else if bytes_eq word (codes "clear") then Some verbs.Clear else None
+    else if bytes_eq word (codes "clear") then Some verbs.Clear
+    else if bytes_eq word (codes "end") then Some verbs.End else None
 
 -- ---- what is run
 
@@ -141,6 +142,7 @@ act_of verbs.Look words = Some (Look, words)
 act_of verbs.Raise words = numbered_from most_64 Raise words
 act_of verbs.Lower words = numbered_from most_64 Lower words
 act_of verbs.Clear words = numbered_from most_32 Clear words
+act_of verbs.End words = numbered_from most_32 End words
 
 -- with its name
 abbrev pub act_from : List (List ℕ) → Reading Act

@@ -1,25 +1,28 @@
 -- The text of an entry (this project's choice: docs/FORMATS.md, "The journal"): its words, one blank apart.
-use Rattle.std.specs.Prelude.{ℕ, ◌^◌, ◌<◌, List, [], ◌∷◌, ◌++◌, flat_map, codes, decimal}
+use Rattle.std.specs.Prelude.{◌≡◌, ℕ, false, ◌^◌, ◌<◌, List, [], ◌∷◌, ◌++◌, flat_map, codes, decimal}
 use Rattle.rv_model.specs.declared.entry.Act.{Act}
-use Rattle.rv_model.specs.declared.entry.Act.TheVariants.{Deliver, Stop, Look, Raise, Lower, Clear}
+use Rattle.rv_model.specs.declared.entry.Act.TheVariants.{Deliver, Stop, Look, Raise, Lower, Clear, End}
 use Rattle.rv_model.specs.declared.entry.Entry.{Entry}
 use Rattle.rv_model.specs.declared.hit.Mode.{Mode}
-use Rattle.rv_model.specs.declared.hit.Mode.TheVariants.{Event, Start, StartRun}
+use Rattle.rv_model.specs.declared.hit.Mode.TheVariants as modes
 use Rattle.rv_model.specs.declared.hit.What.{What}
-use Rattle.rv_model.specs.declared.hit.What.TheVariants.{Da, Ltl}
+use Rattle.rv_model.specs.declared.hit.What.TheVariants.{Da, Ltl, Nothing}
+use Rattle.rv_model.specs.Scripts.{is_end}
 
 -- ---- words
 
 -- a mode, as bindings write it
 abbrev pub mode_word : Mode → List ℕ
-mode_word Event = codes "event"
-mode_word Start = codes "start"
-mode_word StartRun = codes "start_run"
+mode_word modes.Event = codes "event"
+mode_word modes.Start = codes "start"
+mode_word modes.StartRun = codes "start_run"
+mode_word modes.End = codes "end"
 
--- an automaton's event, or what becomes of a rule's atoms
+-- an automaton's event, or what becomes of a rule's atoms, or nothing
 abbrev pub what_words : What → List (List ℕ)
 what_words (Da event) = codes "da" ∷ decimal event ∷ []
 what_words (Ltl on off pulse) = codes "ltl" ∷ decimal on ∷ decimal off ∷ decimal pulse ∷ []
+what_words Nothing = []
 
 -- an act, by its name
 abbrev pub act_words : Act → List (List ℕ)
@@ -29,6 +32,7 @@ act_words Look = codes "look" ∷ []
 act_words (Raise bits) = codes "raise" ∷ decimal bits ∷ []
 act_words (Lower bits) = codes "lower" ∷ decimal bits ∷ []
 act_words (Clear slot) = codes "clear" ∷ decimal slot ∷ []
+act_words (End slot) = codes "end" ∷ decimal slot ∷ []
 
 -- who acted, what it was, and the word before and after it
 abbrev pub entry_words : Entry → List (List ℕ)
@@ -59,6 +63,7 @@ journal_of entries = flat_map (λ e. entry_text e ++ 10 ∷ []) entries
 abbrev pub IsWhat : What → Type 0
 IsWhat (Da event) = event < 2 ^ 8
 IsWhat (Ltl on off pulse) = (on < 2 ^ 32) × (off < 2 ^ 32) × (pulse < 2 ^ 32)
+IsWhat Nothing = Unit {0}
 
 -- the slot or the bits are those of an act
 abbrev pub IsAct : Act → Type 0
@@ -68,10 +73,23 @@ IsAct Look = Unit {0}
 IsAct (Raise bits) = bits < 2 ^ 64
 IsAct (Lower bits) = bits < 2 ^ 64
 IsAct (Clear slot) = slot < 2 ^ 32
+IsAct (End slot) = slot < 2 ^ 32
 
--- all its numbers are those of an entry
+-- something is run
+abbrev pub Runs : What → Type 0
+Runs (Da event) = Unit {0}
+Runs (Ltl on off pulse) = Unit {0}
+Runs Nothing = ⊥
+
+-- what is delivered is no end
+abbrev pub IsNoEnd : Act → Type 0
+IsNoEnd (Deliver slot hit) = (is_end hit.mode ≡ false) × Runs hit.what
+IsNoEnd _ = Unit {0}
+
+-- all its numbers are those of an entry, and what it delivers is no end
 pub record IsEntry (e : Entry) : Type 0 where
   pub seat : e.seat < 2 ^ 32
   pub act : IsAct e.act
+  pub no_end : IsNoEnd e.act
   pub before : e.before < 2 ^ 64
   pub after : e.after < 2 ^ 64

@@ -133,6 +133,7 @@ pub record IsUnderWay (s : Setup) (whole : List Counted) (lanes : Lanes) (histor
   pub machine : IsMachine s history
   pub sound : IsSound s (judges_of s) history
   pub acts : AtEach (λ before e. IsMergedAct e.act) history
+  pub fits : AtEach (λ before e. FitsAct s e.act) history
   pub others : AtEach (λ before e. (l : ℕ) × (l < lanes.many) × (e.seat ≡ lanes.seat l)) history
   pub lists : (l : ℕ) → l < lanes.many → entries_of (λ n. n == lanes.seat l) history ++ step_entries (lanes.seat l) s.switches (rest l) ≡ step_entries (lanes.seat l) s.switches (lanes.script l)
 

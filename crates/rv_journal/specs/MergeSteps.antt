@@ -1,7 +1,7 @@
 -- What the lanes put into a merged history, one step after another, and what has to wait for what.
 use Rattle.std.specs.Prelude.{◌≡◌, ℕ, zero, suc, ◌+◌, ◌≤◌, Bool, ◌&&◌, ◌==◌, List, [], ◌∷◌, ◌++◌, map, filter, length, drop, slice_range, if◌then◌else◌}
 use Rattle.rv_model.specs.declared.entry.Act.{Act}
-use Rattle.rv_model.specs.declared.entry.Act.TheVariants.{Deliver, Stop, Look, Clear}
+use Rattle.rv_model.specs.declared.entry.Act.TheVariants.{Deliver, Stop, Look, Clear, End}
 use Rattle.rv_model.specs.declared.entry.Entry.{Entry}
 use Rattle.rv_model.specs.declared.work.Turn.{Turn}
 use Rattle.rv_model.specs.Histories.{changed}
@@ -64,6 +64,7 @@ abbrev pub slot_in : Act → ℕ
 slot_in (Deliver slot hit) = slot
 slot_in (Stop slot) = slot
 slot_in (Clear slot) = slot
+slot_in (End slot) = slot
 slot_in _ = 0
 
 -- how many changes of its slot come before the item's entry; a word of 0 is that of a stopped instance, whose Stop no count tells

@@ -13,7 +13,7 @@ use Rattle.rv_model.specs.Seats.{entries_of}
 use Rattle.rv_model.specs.Setups.{Setup, slot_of}
 use Rattle.rv_model.specs.Works.{Work}
 use Rattle.rv_core.specs.Advance.{FitsTable, WhatFits}
-use Rattle.rv_core.specs.Setup.{judges_of, table_at}
+use Rattle.rv_core.specs.Setup.{FitsAct, judges_of, table_at}
 use Rattle.rv_journal.specs.declared.counted.Counted.{Counted}
 use Rattle.rv_journal.specs.CountedLanes.{CountedLaneValue}
 use Rattle.rv_journal.specs.CountedWords.{count_on}
@@ -113,9 +113,10 @@ works_of lanes = map (λ l. l.work) lanes
 abbrev pub input_of : Setup → List CountedLaneValue → Input
 input_of s lanes = record { setup = s; specs = []; panics = λ _. false; works = works_of lanes; changes = [] }
 
--- the history is legal for the lanes' works, by the tables, and is merged from what was seen
+-- the history is legal for the lanes' works, by the tables, its acts fit the setup, and it is merged from what was seen
 pub record IsMergeOf (s : Setup) (seen : List Entry) (lanes : List CountedLaneValue) (merged : List Entry) : Type 0 where
   pub legal : IsLegal (input_of s lanes) (judges_of s) merged
+  pub fits : AtEach (λ before e. FitsAct s e.act) merged
   pub from : MergedFrom seen merged
 
 -- ---- what the machine's numbers give

@@ -1,6 +1,6 @@
 //! What is known of the numbers of entries, and the history that a list of entries is.
 ghost use Rattle.std.specs.Prelude.{◌≡◌, ◌<◌, ◌^◌, All};
-ghost use Rattle.rv_journal.specs.EntryTexts.{IsWhat, IsAct, IsEntry};
+ghost use Rattle.rv_journal.specs.EntryTexts.{IsWhat, IsAct, IsNoEnd, IsEntry};
 
 use rv_model::{Act, Closed, Entry, What};
 
@@ -30,6 +30,7 @@ fn known_what(what: What)
             known_number(off);
             known_number(pulse);
         }
+        What::Nothing => (),
     }
 }
 
@@ -47,11 +48,13 @@ fn known_act(act: Act)
         Act::Raise { bits } => known_word(bits),
         Act::Lower { bits } => known_word(bits),
         Act::Clear { slot } => known_number(slot),
+        Act::End { slot } => known_number(slot),
     }
 }
 
-/// What is known of the numbers of every entry.
+/// What is known of the numbers of every entry whose hit is no end.
 fn known_entry(entry: &Entry)
+    requires { IsNoEnd entry.now.act }
     ensures { IsEntry entry.now }
 {
     known_number(entry.seat);
@@ -62,6 +65,7 @@ fn known_entry(entry: &Entry)
 
 /// The history that these entries are.
 pub(crate) fn closed_of(entries: &[Entry]) -> Closed
+    requires { All (λ e. IsNoEnd e.act) entries.now }
     ensures closed { result ≡ entries.now }
     ensures known { All IsEntry entries.now }
 {

@@ -13,6 +13,7 @@ pub(crate) enum Verb {
     Raise,
     Lower,
     Clear,
+    End,
 }
 
 /// What kind of letter is run: an automaton's event, or a rule's atoms.
@@ -69,6 +70,8 @@ pub(crate) fn verb_in(word: &[u8]) -> Option<Verb>
         Some(Verb::Lower)
     } else if word == b"clear".as_slice() {
         Some(Verb::Clear)
+    } else if word == b"end".as_slice() {
+        Some(Verb::End)
     } else {
         None
     }

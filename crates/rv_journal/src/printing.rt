@@ -38,6 +38,7 @@ fn mode_word(mode: Mode) -> &'static [u8]
         Mode::Event => b"event",
         Mode::Start => b"start",
         Mode::StartRun => b"start_run",
+        Mode::End => b"end",
     }
 }
 
@@ -52,6 +53,7 @@ fn put_what(out: &mut Line, what: What) -> Result<(), AllocError>
             put_number(out, off as u64)?;
             put_number(out, pulse as u64)
         }
+        What::Nothing => Ok(()),
     }
 }
 
@@ -70,6 +72,7 @@ fn put_act(out: &mut Line, act: &Act) -> Result<(), AllocError>
         Act::Raise { bits } => put_numbered(out, b"raise", bits),
         Act::Lower { bits } => put_numbered(out, b"lower", bits),
         Act::Clear { slot } => put_numbered(out, b"clear", slot as u64),
+        Act::End { slot } => put_numbered(out, b"end", slot as u64),
     }
 }
 

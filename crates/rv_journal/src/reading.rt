@@ -82,6 +82,10 @@ fn act(words: &mut Pieces<'_>) -> Option<Act>
             let cleared = small(words)?;
             Some(Act::Clear { slot: cleared })
         }
+        Verb::End => {
+            let ended = small(words)?;
+            Some(Act::End { slot: ended })
+        }
     }
 }
 
@@ -107,6 +111,7 @@ fn entry(words: &mut Pieces<'_>) -> Option<Entry>
 /// The entry whose text the line is, where there is one. The line is given without its line end.
 pub fn read_entry(line: &[u8]) -> Option<Entry>
     ensures some { IfSome result (λ e. entry_text e ≡ line.now) }
+    ensures fits { IfSome result IsEntry }
     ensures every { (e : Told) → IsEntry e → entry_text e ≡ line.now → result ≡ Some e }
 {
     let mut words = Pieces::new(line);

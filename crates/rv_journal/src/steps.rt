@@ -78,6 +78,7 @@ pub fn slot_of(act: &Act) -> u32
         Act::Deliver { slot, .. } => slot,
         Act::Stop { slot } => slot,
         Act::Clear { slot } => slot,
+        Act::End { slot } => slot,
         Act::Look | Act::Raise { .. } | Act::Lower { .. } => 0,
     }
 }

@@ -38,6 +38,10 @@ fn each_act_has_its_line(rt: HostRuntime) -> Result<(), Fail> {
             "2 clear 0 0 4294967296\n",
         ),
         (
+            entry(Act::End { slot: 3 }, 0, 4_294_967_296),
+            "2 end 3 0 4294967296\n",
+        ),
+        (
             entry(Act::Stop { slot: 262_143 }, 4_294_967_296, 0),
             "2 stop 262143 4294967296 0\n",
         ),
@@ -123,7 +127,12 @@ fn no_other_line_is_read(rt: HostRuntime) {
         "2 deliver 7 start ltl 1 2 4294967296 1 1",
         "2 deliver 7 start ltl 1 2 3 4 1 1",
         "2 deliver 7 start xyz 1 1 1",
-        "2 end 7 1 0",
+        "2 end 1 0",
+        "2 end 4294967296 1 0",
+        "2 ends 7 1 0",
+        "2 deliver 7 end 1 1",
+        "2 deliver 7 end da 1 1 1",
+        "2 deliver 7 event 1 1",
     ];
     for line in lines {
         assert!(rt; read_entry(line.as_bytes()).is_none(), "at {line}");

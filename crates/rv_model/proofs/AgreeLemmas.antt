@@ -4,7 +4,8 @@ use Rattle.std.specs.Prelude.{filter, MatchBool}
 use Rattle.rv_model.specs.declared.entry.Act.TheVariants.{Raise}
 use Rattle.rv_model.specs.declared.work.Delivery.{Delivery}
 use Rattle.rv_model.specs.Numbers.{has_bit}
-use Rattle.rv_model.specs.Setups.{Setup}
+use Rattle.rv_model.specs.Setups.{Setup, slot_of}
+use Rattle.rv_model.proofs.HitLemmas.{hit-no_look}
 use Rattle.rv_model.specs.Scripts.{Played, is_shown, fails, Makes, Delivers, PlaysTurns}
 use Rattle.rv_model.specs.Histories.{look_count, IsNoStop}
 
@@ -20,8 +21,8 @@ Agrees P = (ps t u : List Played) → P (ps ++ t) → P (ps ++ u) → Agree t u
 
 makes-same : (s : Setup) (d : Delivery) (p q : Played) → Makes s d p → Makes s d q → IsNoStop p.0.act → IsNoStop q.0.act → p.0.act ≡ q.0.act
 makes-same s d p q (inl a) (inl b) np nq = a ∙ sym b
-makes-same s d p q (inr a) m np nq = absurd (subst IsNoStop a np)
-makes-same s d p q (inl a) (inr b) np nq = absurd (subst IsNoStop b nq)
+makes-same s d p q (inr a) m np nq = absurd (subst IsNoStop a.1 np)
+makes-same s d p q (inl a) (inr b) np nq = absurd (subst IsNoStop b.1 nq)
 
 pub match-both : (b : Bool) (P Q P' Q' G : Type 0) → MatchBool b P Q → MatchBool b P' Q' → (P → P' → G) → (Q → Q' → G) → G
 match-both true P Q P' Q' G h g when else' = when h g
@@ -71,8 +72,8 @@ module _ (s : Setup) (panics : ℕ → Bool) where
 
   -- ---- as many looks as turns, at most
   makes-no_look : (d : Delivery) (p : Played) → Makes s d p → look_count p.0.act ≡ 0
-  makes-no_look d p (inl e) = rw e refl
-  makes-no_look d p (inr e) = rw e refl
+  makes-no_look d p (inl e) = rw e (hit-no_look (slot_of s.shape d.monitor d.instance) d.hit)
+  makes-no_look d p (inr e) = rw e.1 refl
 
   stop-looks : (ps : List Played) (x : Played) → ps ≡ x ∷ [] → x.0.act ≡ Raise (2 ^ 34) → looks_in ps ≡ 0
   stop-looks ps x e r = rw (e, r) refl

@@ -1,6 +1,7 @@
 pub mod AgreeLemmas
 pub mod CutLemmas
 pub mod GoodLemmas
+pub mod HitLemmas
 pub mod JudgeLemmas
 pub mod MeansLemmas
 pub mod NumberLemmas

@@ -13,7 +13,8 @@ use Rattle.rv_model.specs.Numbers.{has_bit}
 use Rattle.rv_model.specs.Records.{record_of, is_look, is_delivery, until_look, from_look, script_records, turn_records}
 use Rattle.rv_model.specs.ScriptParts.{records_in, Part, LastPart, turn_lists, GoesOn, Ends}
 use Rattle.rv_model.specs.Scripts.{Played, is_shown, fails, Makes, Delivers, PlaysTurns}
-use Rattle.rv_model.specs.Setups.{Setup}
+use Rattle.rv_model.specs.Setups.{Setup, slot_of}
+use Rattle.rv_model.proofs.HitLemmas.{hit-no_look, hit-not_look, hit-delivers}
 
 -- a look is one
 is-look : (p : Played) → p.0.act ≡ Look → is_look p ≡ true
@@ -52,17 +53,20 @@ module _ (s : Setup) (panics : ℕ → Bool) (look line : ℕ) where
     records = λ rest. ap (λ (z : List Delivery). records_in line look z (ps ++ qs)) (append_assoc ds es rest) ∙ a.records (es ++ rest) qs ∙ ap (λ (z : List Record). rs ++ z) (b.records rest);
   }
 
-  -- ---- one delivery, or the stop in its place
+  -- ---- one delivery or end, or the stop in its place
   module _ (d : Delivery) (e : Entry) (a : Answer) (makes : Makes s d (e, a)) where
+    abbrev slot : ℕ
+    slot = slot_of s.shape d.monitor d.instance
+
     no_look : is_look (e, a) ≡ false
-    no_look = elim makes [ inl act ↦ rw act refl | inr act ↦ rw act refl ]
+    no_look = elim makes [ inl act ↦ rw act (hit-not_look slot d.hit) | inr stop ↦ rw stop.1 refl ]
 
     delivery : is_delivery (e, a) ≡ true
-    delivery = elim makes [ inl act ↦ rw act refl | inr act ↦ rw act refl ]
+    delivery = elim makes [ inl act ↦ rw act (hit-delivers slot d.hit) | inr stop ↦ rw stop.1 refl ]
 
     -- it is no look
     pub part-quiet : look_count e.act ≡ 0
-    part-quiet = elim makes [ inl act ↦ rw act refl | inr act ↦ rw act refl ]
+    part-quiet = elim makes [ inl act ↦ rw act (hit-no_look slot d.hit) | inr stop ↦ rw stop.1 refl ]
 
     module _ (r : Record) (record-is : record_of line look (d, (e, a)) ≡ r) where
       -- after it the script goes on

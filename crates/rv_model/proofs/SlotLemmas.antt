@@ -1,7 +1,7 @@
 -- Entries on other slots change nothing of a slot.
 use Rattle.std.proofs.Common.{◌≡◌, ℕ, Bool, true, false, List, [], ◌∷◌, refl, ap, ◌∙◌, cond}
 use Rattle.rv_model.specs.declared.entry.Act.{Act}
-use Rattle.rv_model.specs.declared.entry.Act.TheVariants.{Deliver, Stop, Look, Raise, Lower, Clear}
+use Rattle.rv_model.specs.declared.entry.Act.TheVariants.{Deliver, Stop, Look, Raise, Lower, Clear, End}
 use Rattle.rv_model.specs.declared.entry.Entry.{Entry}
 use Rattle.rv_model.specs.Numbers.{number_of}
 use Rattle.rv_model.specs.Judging.{Judge}
@@ -14,6 +14,7 @@ level-off : (start i atom : ℕ) (act : Act) (was : Bool) → is_on i act ≡ fa
 level-off start i atom (Deliver slot hit) was off = rw off refl
 level-off start i atom (Stop slot) was off = refl
 level-off start i atom (Clear slot) was off = rw off refl
+level-off start i atom (End slot) was off = rw off refl
 level-off start i atom Look was off = refl
 level-off start i atom (Raise _) was off = refl
 level-off start i atom (Lower _) was off = refl
@@ -22,6 +23,7 @@ phase-off : (j : Judge) (on : ℕ → Bool) (i : ℕ) (act : Act) (p : Phase) �
 phase-off j on i (Deliver slot hit) p off = rw off refl
 phase-off j on i (Stop slot) p off = rw off refl
 phase-off j on i (Clear slot) p off = rw off refl
+phase-off j on i (End slot) p off = rw off refl
 phase-off j on i Look p off = refl
 phase-off j on i (Raise _) p off = refl
 phase-off j on i (Lower _) p off = refl

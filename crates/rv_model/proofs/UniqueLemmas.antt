@@ -7,7 +7,7 @@ use Rattle.rv_model.specs.Table.{Table}
 use Rattle.std.proofs.lemmas.List.Elements.{All-contains, Contains-get_or}
 use Rattle.std.proofs.lemmas.List.{length-map}
 use Rattle.rv_model.specs.declared.entry.Act.{Act}
-use Rattle.rv_model.specs.declared.entry.Act.TheVariants.{Deliver, Stop, Look, Raise, Lower, Clear}
+use Rattle.rv_model.specs.declared.entry.Act.TheVariants.{Deliver, Stop, Look, Raise, Lower, Clear, End}
 use Rattle.rv_model.specs.declared.entry.Answer.{Answer}
 use Rattle.rv_model.specs.declared.entry.Entry.{Entry}
 use Rattle.rv_model.specs.declared.work.Turn.{Turn}
@@ -37,6 +37,7 @@ stop-or Look = inl tt
 stop-or (Raise _) = inl tt
 stop-or (Lower _) = inl tt
 stop-or (Clear _) = inl tt
+stop-or (End _) = inl tt
 
 -- a word after an entry depends on its act alone
 word_by : Setup → List Judge → List Entry → Act → Act → ℕ
@@ -50,6 +51,7 @@ word-act s js past e Look = refl
 word-act s js past e (Raise _) = refl
 word-act s js past e (Lower _) = refl
 word-act s js past e (Clear _) = refl
+word-act s js past e (End _) = refl
 
 word-same : (s : Setup) (js : List Judge) (past : List Entry) (e f : Entry) → e.act ≡ f.act → (on : Act) → word_on s js (e ∷ past) on ≡ word_on s js (f ∷ past) on
 word-same s js past e f same on = word-act s js past e on ∙ ap (word_by s js past on) same ∙ sym (word-act s js past f on)

@@ -1,7 +1,7 @@
 -- Which lists of entries are histories.
 use Rattle.std.specs.Prelude.{◌≡◌, ◌⊎◌, ℕ, ◌+◌, ◌-◌, ◌<◌, ◌≤◌, ◌^◌, Bool, false, ◌==◌, ◌&&◌, not, List, [], ◌∷◌, ◌++◌, map, filter, length, reverse, All, Any, Contains, slice_index, if◌then◌else◌}
 use Rattle.rv_model.specs.declared.entry.Act.{Act}
-use Rattle.rv_model.specs.declared.entry.Act.TheVariants.{Deliver, Stop, Look, Raise, Lower, Clear}
+use Rattle.rv_model.specs.declared.entry.Act.TheVariants.{Deliver, Stop, Look, Raise, Lower, Clear, End}
 use Rattle.rv_model.specs.declared.entry.Entry.{Entry}
 use Rattle.rv_model.specs.declared.work.Change.{Change}
 use Rattle.rv_model.specs.declared.work.Turn.{Turn}
@@ -28,6 +28,7 @@ abbrev pub is_on : ℕ → Act → Bool
 is_on i (Deliver slot _) = slot == i
 is_on i (Stop slot) = slot == i
 is_on i (Clear slot) = slot == i
+is_on i (End slot) = slot == i
 is_on i _ = false
 
 -- the entry is on the slot, and its words differ

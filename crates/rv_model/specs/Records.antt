@@ -2,10 +2,10 @@
 use Rattle.std.specs.Prelude.{ℕ, ◌+◌, Bool, true, false, List, [], ◌∷◌, ◌++◌, filter, map, zip, reverse, flat_map, slice_range, nat_le, if◌then◌else◌}
 use Rattle.std.specs.List.{list_any}
 use Rattle.rv_model.specs.declared.entry.Act.{Act}
-use Rattle.rv_model.specs.declared.entry.Act.TheVariants.{Deliver, Stop, Look}
+use Rattle.rv_model.specs.declared.entry.Act.TheVariants.{Deliver, Stop, Look, End}
 use Rattle.rv_model.specs.declared.entry.Entry.{Entry}
 use Rattle.rv_model.specs.declared.entry.Answer.{Answer}
-use Rattle.rv_model.specs.declared.entry.Answer.TheVariants.{Looked}
+use Rattle.rv_model.specs.declared.entry.Answer.TheVariants.{Ended, Looked}
 use Rattle.rv_model.specs.declared.work.Delivery.{Delivery}
 use Rattle.rv_model.specs.declared.work.Turn.{Turn}
 use Rattle.rv_model.specs.declared.record.Delivered.{Delivered}
@@ -27,6 +27,7 @@ is_look_act _ = false
 abbrev pub is_delivery_act : Act → Bool
 is_delivery_act (Deliver _ _) = true
 is_delivery_act (Stop _) = true
+is_delivery_act (End _) = true
 is_delivery_act _ = false
 
 -- the entry is a look
@@ -61,7 +62,7 @@ look_word _ = 0
 abbrev pub record_of : ℕ → ℕ → Delivery × Played → Record
 record_of line look (d, p) = record { order = d.order; line = line; monitor = d.monitor; instance = d.instance; hit = d.hit; outcome = outcome_of p.0.act p.1; reacting = has_bit look 33 }
 
--- the j-th delivery or stop of a turn makes the j-th of the deliveries that its look shows on
+-- the j-th delivery, stop or end of a turn makes the j-th of the deliveries that its look shows on
 abbrev pub turn_records : ℕ → ℕ → List Delivery → List Played → List Record
 turn_records line look ds ps = map (record_of line look) (zip (filter (is_shown look) ds) (filter is_delivery ps))
 
@@ -97,6 +98,11 @@ abbrev pub racing_outcome : Delivered → Bool
 racing_outcome (Done a) = false
 racing_outcome Racing = true
 
+-- the outcome is an end
+abbrev pub ended_outcome : Delivered → Bool
+ended_outcome (Done Ended) = true
+ended_outcome _ = false
+
 -- the delivery failed
 abbrev pub is_failure : Record → Bool
 is_failure r = failed_outcome r.outcome
@@ -104,6 +110,10 @@ is_failure r = failed_outcome r.outcome
 -- the delivery stopped its instance
 abbrev pub is_stopped : Record → Bool
 is_stopped r = racing_outcome r.outcome
+
+-- the delivery ended its instance
+abbrev pub is_ended : Record → Bool
+is_ended r = ended_outcome r.outcome
 
 -- 1 where a delivery failed, else 6 where one stopped its instance, else 0
 abbrev pub status_of : List Record → ℕ

@@ -1,11 +1,11 @@
 -- The report of a run: a line for each reaction (Linux, Documentation/trace/rv, "Reactors"), and then a line for each monitor.
-use Rattle.std.specs.Prelude.{ℕ, ◌+◌, ◌==◌, ◌&&◌, Bool, List, [], ◌∷◌, ◌++◌, length, flat_map, count_by, Option, Some, None, slice_get, slice_index_or, if◌then◌else◌, codes, decimal}
+use Rattle.std.specs.Prelude.{ℕ, ◌+◌, ◌==◌, ◌&&◌, not, Bool, List, [], ◌∷◌, ◌++◌, length, flat_map, count_by, Option, Some, None, slice_get, slice_index_or, if◌then◌else◌, codes, decimal}
 use Rattle.std.specs.List.{list_any}
 use Rattle.rv_model.specs.declared.entry.Answer.TheVariants.{Failed}
 use Rattle.rv_model.specs.declared.formula.Spec.{Spec}
 use Rattle.rv_model.specs.declared.formula.Spec.TheVariants as spec
 use Rattle.rv_model.specs.declared.hit.What.{What}
-use Rattle.rv_model.specs.declared.hit.What.TheVariants.{Da, Ltl}
+use Rattle.rv_model.specs.declared.hit.What.TheVariants.{Da, Ltl, Nothing}
 use Rattle.rv_model.specs.declared.reactor.Reactor.{Reactor}
 use Rattle.rv_model.specs.declared.reactor.Reactor.TheVariants.{Nop, Printk, Panic}
 use Rattle.rv_model.specs.declared.record.Delivered.{Delivered}
@@ -16,7 +16,7 @@ use Rattle.rv_model.specs.declared.work.Scope.{Scope}
 use Rattle.rv_model.specs.declared.work.Scope.TheVariants as scope
 use Rattle.rv_model.specs.Numbers.{list_of, has_bit}
 use Rattle.rv_model.specs.Machine.{Machine}
-use Rattle.rv_model.specs.Records.{is_failure, is_stopped}
+use Rattle.rv_model.specs.Records.{is_failure, is_stopped, is_ended}
 
 -- what a report tells of a monitor besides its records
 pub record Reported : Type 0 where
@@ -55,6 +55,7 @@ instance_text tasks m instance = m.shown ++ place_text tasks m.scope instance
 abbrev pub event_text : List (List ℕ) → What → List ℕ
 event_text events (Da event) = slice_index_or events event []
 event_text events (Ltl _ _ _) = []
+event_text events Nothing = []
 
 -- the name of the state whose row is in the set, where the first of the states has this row
 abbrev pub state_text : ℕ → List (List ℕ) → ℕ → List ℕ
@@ -98,9 +99,9 @@ instances_in tasks scope.Global = 1
 instances_in tasks scope.Cpu = 64
 instances_in tasks scope.Task = length tasks
 
--- the record is the monitor's
+-- the record is of a delivery or a stop of the monitor
 abbrev pub is_of : ℕ → Record → Bool
-is_of monitor r = r.monitor == monitor
+is_of monitor r = r.monitor == monitor && not (is_ended r)
 
 -- the record is of this instance of the monitor
 abbrev pub is_at : ℕ → ℕ → Record → Bool

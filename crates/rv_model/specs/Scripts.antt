@@ -1,10 +1,13 @@
 -- What one CPU and the control actor do.
 use Rattle.std.specs.Prelude.{◌≡◌, ◌⊎◌, ℕ, ◌^◌, Bool, true, false, ◌&&◌, ◌==◌, List, [], ◌∷◌, ◌++◌, map, filter, flat_map, length, MatchBool, slice_index, slice_range, if◌then◌else◌}
 use Rattle.rv_model.specs.declared.entry.Act.{Act}
-use Rattle.rv_model.specs.declared.entry.Act.TheVariants.{Deliver, Stop, Look, Raise, Lower, Clear}
+use Rattle.rv_model.specs.declared.entry.Act.TheVariants.{Deliver, Stop, Look, Raise, Lower, Clear, End}
 use Rattle.rv_model.specs.declared.entry.Entry.{Entry}
 use Rattle.rv_model.specs.declared.entry.Answer.{Answer}
 use Rattle.rv_model.specs.declared.entry.Answer.TheVariants.{Failed, Looked}
+use Rattle.rv_model.specs.declared.hit.Hit.{Hit}
+use Rattle.rv_model.specs.declared.hit.Mode.{Mode}
+use Rattle.rv_model.specs.declared.hit.Mode.TheVariants as mode
 use Rattle.rv_model.specs.declared.work.Delivery.{Delivery}
 use Rattle.rv_model.specs.declared.work.Change.{Change}
 use Rattle.rv_model.specs.Numbers.{has_bit, list_of}
@@ -33,9 +36,22 @@ abbrev pub fails : Answer → Bool
 fails (Failed _) = true
 fails _ = false
 
+-- the hit ends its instance
+abbrev pub is_end : Mode → Bool
+is_end mode.End = true
+is_end _ = false
+
+-- what a hit is to do to its slot: an end ends it, and any other is delivered
+abbrev pub hit_act : ℕ → Hit → Act
+hit_act slot hit = if is_end hit.mode then End slot else Deliver slot hit
+
+-- the act is that of the hit, or, where it is no end, a Stop in its place
+abbrev pub MakesHit : ℕ → Hit → Act → Type 0
+MakesHit slot hit act = (act ≡ hit_act slot hit) ⊎ ((is_end hit.mode ≡ false) × (act ≡ Stop slot))
+
 -- the entry is one of the delivery
 abbrev pub Makes : Setup → Delivery → Played → Type 0
-Makes s d p = (p.0.act ≡ Deliver (slot_of s.shape d.monitor d.instance) d.hit) ⊎ (p.0.act ≡ Stop (slot_of s.shape d.monitor d.instance))
+Makes s d p = MakesHit (slot_of s.shape d.monitor d.instance) d.hit p.0.act
 
 -- the deliveries that a look shows on, in order, and then what comes after the turn;
 -- where one fails whose reactor is panic and the look shows reacting on, one Raise of bit 34 and nothing else

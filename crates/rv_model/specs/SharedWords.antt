@@ -1,7 +1,7 @@
 -- The words that a past gives. A past has the newest entry first.
 use Rattle.std.specs.Prelude.{ℕ, ◌+◌, ◌*◌, ◌^◌, Bool, true, false, List, [], ◌∷◌, if◌then◌else◌}
 use Rattle.rv_model.specs.declared.entry.Act.{Act}
-use Rattle.rv_model.specs.declared.entry.Act.TheVariants.{Deliver, Stop, Raise, Lower, Clear}
+use Rattle.rv_model.specs.declared.entry.Act.TheVariants.{Deliver, Stop, Raise, Lower, Clear, End}
 use Rattle.rv_model.specs.declared.entry.Answer.{Answer}
 use Rattle.rv_model.specs.declared.entry.Entry.{Entry}
 use Rattle.rv_model.specs.Numbers.{has_bit, number_of}
@@ -43,6 +43,7 @@ abbrev pub word_on : Setup → List Judge → List Entry → Act → ℕ
 word_on s js past (Deliver slot _) = word_of s js past slot
 word_on s js past (Stop slot) = word_of s js past slot
 word_on s js past (Clear slot) = word_of s js past slot
+word_on s js past (End slot) = word_of s js past slot
 word_on s js past _ = switches_of s.switches past
 
 -- the answer of an entry after a past

@@ -17,6 +17,8 @@ pub enum Act {
     Lower { bits: u64 },
     /// A swap that puts the opening word into the slot's word.
     Clear { slot: u32 },
+    /// The same by a CPU, whose event ends the instance.
+    End { slot: u32 },
 }
 
 /// Who acted, what it was, and the word before and after it.
@@ -43,6 +45,8 @@ pub enum Answer {
     Stopped,
     /// The instance waits, with its starting levels.
     Cleared,
+    /// The instance's task has ended: it waits, with its starting levels.
+    Ended,
     /// The switches, as they were found.
     Looked(u64),
     /// Switches were raised or lowered.

@@ -1,7 +1,7 @@
 -- A plan as the definitions' setup, and its slots.
 use Rattle.std.specs.Prelude.{ℕ, ◌<◌, List, length, map, All}
 use Rattle.rv_model.specs.declared.entry.Act.{Act}
-use Rattle.rv_model.specs.declared.entry.Act.TheVariants.{Deliver, Stop, Clear}
+use Rattle.rv_model.specs.declared.entry.Act.TheVariants.{Deliver, Stop, Clear, End}
 use Rattle.rv_model.specs.declared.entry.Entry.{Entry}
 use Rattle.rv_model.specs.declared.formula.Spec.{Spec}
 use Rattle.rv_model.specs.Judging.{Judge}
@@ -36,6 +36,7 @@ abbrev pub HasSlotOf : Plan → Act → Type 0
 HasSlotOf p (Deliver slot hit) = HasSlot p slot
 HasSlotOf p (Stop slot) = HasSlot p slot
 HasSlotOf p (Clear slot) = HasSlot p slot
+HasSlotOf p (End slot) = HasSlot p slot
 HasSlotOf p _ = Unit {0}
 
 -- each slot that the history's acts are on is one of a monitor

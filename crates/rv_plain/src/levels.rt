@@ -34,7 +34,7 @@ pub fn level_after(start: u32, slot: u32, atom: u32, act: Act, was: bool) -> boo
                 was
             }
         }
-        Act::Clear { slot: on } => {
+        Act::Clear { slot: on } | Act::End { slot: on } => {
             if on == slot {
                 has_bit(start as u64, atom as u64)
             } else {
@@ -49,7 +49,7 @@ fn level_by(what: What, atom: u32, was: bool) -> bool
     ensures { result ≡ level_by what atom was }
 {
     match what {
-        What::Da { event: _ } => was,
+        What::Da { event: _ } | What::Nothing => was,
         What::Ltl { on, off, pulse: _ } => {
             if has_bit(on as u64, atom as u64) {
                 true
@@ -90,6 +90,7 @@ pub fn letter_at(start: u32, before: &[Entry], entry: Entry, slot: u32, what: Wh
             }
             Letter::Atoms(set)
         }
+        What::Nothing => Letter::Atoms(0),
     }
 }
 

@@ -53,7 +53,7 @@ impl Monitor {
         ensures { IfOk result (λ turn. IsTurn self.now Phase.Waiting mode letter turn.0 turn.1) }
     {
         match mode {
-            Mode::Event => Ok((Answer::Passed, Phase::Waiting)),
+            Mode::Event | Mode::End => Ok((Answer::Passed, Phase::Waiting)),
             Mode::Start => Ok((Answer::Started, Phase::Running(Vec::new(alloc)))),
             Mode::StartRun => {
                 let mut letters = Vec::new(alloc);
@@ -104,7 +104,7 @@ impl Monitor {
                 Ok(turn.1)
             }
             Act::Stop { slot: on } if on == slot => Ok(Phase::Stopped),
-            Act::Clear { slot: on } if on == slot => Ok(Phase::Waiting),
+            Act::Clear { slot: on } | Act::End { slot: on } if on == slot => Ok(Phase::Waiting),
             _ => Ok(phase),
         }
     }
@@ -140,6 +140,7 @@ impl Monitor {
             }
             Act::Stop { slot: _ } => Ok(Answer::Stopped),
             Act::Clear { slot: _ } => Ok(Answer::Cleared),
+            Act::End { slot: _ } => Ok(Answer::Ended),
             Act::Look => Ok(Answer::Looked(entry.after)),
             Act::Raise { bits: _ } | Act::Lower { bits: _ } => Ok(Answer::Switched),
         }

@@ -65,8 +65,10 @@ impl Plan {
         ensures { IsTrue result ↔ HasSlotOf self.now act }
     {
         match act {
-            Act::Deliver { slot, hit: _ } | Act::Stop { slot } | Act::Clear { slot } =>
-                self.has_slot(slot),
+            Act::Deliver { slot, hit: _ }
+            | Act::Stop { slot }
+            | Act::Clear { slot }
+            | Act::End { slot } => self.has_slot(slot),
             Act::Look | Act::Raise { bits: _ } | Act::Lower { bits: _ } => true,
         }
     }
@@ -95,8 +97,10 @@ impl Plan {
         ensures { IfOk result (λ word. ByJudges self.now (λ js. word ≡ word_on (setup_of self.now) js (reverse history.now) act)) }
     {
         match act {
-            Act::Deliver { slot, hit: _ } | Act::Stop { slot } | Act::Clear { slot } =>
-                self.word_of(alloc, history, slot),
+            Act::Deliver { slot, hit: _ }
+            | Act::Stop { slot }
+            | Act::Clear { slot }
+            | Act::End { slot } => self.word_of(alloc, history, slot),
             Act::Look | Act::Raise { bits: _ } | Act::Lower { bits: _ } => Ok(switches_of(
                 self.switches,
                 history,
@@ -118,6 +122,7 @@ impl Plan {
             Act::Deliver { slot, hit: _ } => self.monitor(slot).answer(alloc, before, entry),
             Act::Stop { slot: _ } => Ok(Answer::Stopped),
             Act::Clear { slot: _ } => Ok(Answer::Cleared),
+            Act::End { slot: _ } => Ok(Answer::Ended),
             Act::Look => Ok(Answer::Looked(entry.after)),
             Act::Raise { bits: _ } | Act::Lower { bits: _ } => Ok(Answer::Switched),
         }

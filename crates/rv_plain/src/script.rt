@@ -72,12 +72,12 @@ fn is_delivery(played: &(Entry, Answer)) -> bool
     ensures { result ≡ is_delivery played.now }
 {
     match played.0.act {
-        Act::Deliver { slot: _, hit: _ } | Act::Stop { slot: _ } => true,
+        Act::Deliver { slot: _, hit: _ } | Act::Stop { slot: _ } | Act::End { slot: _ } => true,
         _ => false,
     }
 }
 
-/// The deliveries and stops of a script.
+/// The deliveries, stops and ends of a script.
 pub fn made_in(
     alloc: Global,
     script: &[(Entry, Answer)],

@@ -4,7 +4,7 @@ use Rattle.std.proofs.lemmas.List.{take_all}
 use Rattle.std.specs.Prelude.{Any, ◌↔◌, if◌then◌else◌}
 use Rattle.std.specs.List.{list_any}
 use Rattle.std.proofs.lemmas.List.Folds.{Any-from_list_any, list_any-from_Any}
-use Rattle.rv_model.specs.declared.entry.Answer.TheVariants.{Passed, Started, Kept, Failed, Stopped, Cleared, Looked, Switched}
+use Rattle.rv_model.specs.declared.entry.Answer.TheVariants.{Passed, Started, Kept, Failed, Stopped, Cleared, Ended, Looked, Switched}
 use Rattle.rv_model.specs.declared.record.Delivered.{Delivered}
 use Rattle.rv_model.specs.declared.record.Delivered.TheVariants.{Done, Racing}
 use Rattle.rv_model.specs.declared.record.Record.{Record}
@@ -20,6 +20,7 @@ failed-from (Done Started) is = absurd (let no : false ≡ true = is in cc)
 failed-from (Done Kept) is = absurd (let no : false ≡ true = is in cc)
 failed-from (Done Stopped) is = absurd (let no : false ≡ true = is in cc)
 failed-from (Done Cleared) is = absurd (let no : false ≡ true = is in cc)
+failed-from (Done Ended) is = absurd (let no : false ≡ true = is in cc)
 failed-from (Done (Looked word)) is = absurd (let no : false ≡ true = is in cc)
 failed-from (Done Switched) is = absurd (let no : false ≡ true = is in cc)
 failed-from Racing is = absurd (let no : false ≡ true = is in cc)

@@ -2,7 +2,7 @@
 use Rattle.std.proofs.Common.{◌≡◌, ℕ, Bool, true, false, List, [], ◌∷◌, ◌++◌, ◌⊎◌, inl, inr, refl, sym, ap, ◌∙◌}
 use Rattle.std.specs.Prelude.{filter, flat_map, Option, Some, None, slice_get}
 use Rattle.std.proofs.lemmas.List.Concat.{flat_map-cons}
-use Rattle.rv_model.specs.declared.entry.Answer.TheVariants.{Passed, Started, Kept, Failed, Stopped, Cleared, Looked, Switched}
+use Rattle.rv_model.specs.declared.entry.Answer.TheVariants.{Passed, Started, Kept, Failed, Stopped, Cleared, Ended, Looked, Switched}
 use Rattle.rv_model.specs.declared.reactor.Reactor.{Reactor}
 use Rattle.rv_model.specs.declared.reactor.Reactor.TheVariants.{Nop, Printk, Panic}
 use Rattle.rv_model.specs.declared.record.Delivered.{Delivered}
@@ -34,6 +34,7 @@ failed-quiet m tasks r (Done Started) quiet = refl
 failed-quiet m tasks r (Done Kept) quiet = refl
 failed-quiet m tasks r (Done Stopped) quiet = refl
 failed-quiet m tasks r (Done Cleared) quiet = refl
+failed-quiet m tasks r (Done Ended) quiet = refl
 failed-quiet m tasks r (Done (Looked word)) quiet = refl
 failed-quiet m tasks r (Done Switched) quiet = refl
 failed-quiet m tasks r Racing quiet = refl

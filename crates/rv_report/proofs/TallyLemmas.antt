@@ -9,7 +9,7 @@ use Rattle.std.proofs.lemmas.List.Sums.{sum_by-append}
 use Rattle.rv_model.specs.declared.record.Record.{Record}
 use Rattle.rv_model.specs.declared.record.Task.{Task}
 use Rattle.rv_model.specs.Numbers.{list_of}
-use Rattle.rv_model.specs.Records.{is_failure, is_stopped, sort_records}
+use Rattle.rv_model.specs.Records.{is_failure, is_stopped, is_ended, sort_records}
 use Rattle.rv_model.specs.Reports.{Reported, instances_in, is_of, is_at, count_text, summary_text}
 use Rattle.rv_report.specs.declared.tally.Tally.{Tally}
 use Rattle.rv_report.specs.Tallies.{IsTally, AreTallies}
@@ -41,38 +41,48 @@ apart : (m n : ℕ) → m ≢ n → (m == n) ≡ false
 apart m n ne = grind arith
 
 -- of the monitor
-pub tally-mine : (instances : ℕ) (rs : List Record) (r : Record) (t t' : Tally) → length t'.seen.items ≡ length t.seen.items
+pub tally-mine : (instances : ℕ) (rs : List Record) (r : Record) (t t' : Tally) → is_ended r ≡ false → length t'.seen.items ≡ length t.seen.items
     → ((k : ℕ) → k < length t.seen.items → get_or t'.seen.items k false ≡ (get_or t.seen.items k false || (r.instance == k)))
     → t'.deliveries ≡ t.deliveries + 1 → t'.failures ≡ t.failures + (if is_failure r then 1 else 0) → t'.stopped ≡ t.stopped + (if is_stopped r then 1 else 0)
     → IsTally r.monitor instances rs t → IsTally r.monitor instances (rs ++ r ∷ []) t'
-tally-mine instances rs r t t' long marked deliveries failures stopped was = record {
+tally-mine instances rs r t t' goes long marked deliveries failures stopped was = record {
   many = long ∙ was.many;
   seen = λ k lt.
       marked k (let l = was.many in omega arith) ∙ ap (λ (b : Bool). b || (r.instance == k)) (was.seen k lt)
-      ∙ sym (any-snoc (is_at r.monitor k) rs r (r.instance == k) (ap (λ (b : Bool). b && (r.instance == k)) (same r.monitor)));
-  deliveries = deliveries ∙ ap (λ (n : ℕ). n + 1) was.deliveries ∙ sym (count-snoc (is_of r.monitor) rs r true (same r.monitor));
+      ∙ sym (any-snoc (is_at r.monitor k) rs r (r.instance == k) (ap (λ (b : Bool). b && (r.instance == k)) mine));
+  deliveries = deliveries ∙ ap (λ (n : ℕ). n + 1) was.deliveries ∙ sym (count-snoc (is_of r.monitor) rs r true mine);
   failures = failures ∙ ap (λ (n : ℕ). n + (if is_failure r then 1 else 0)) was.failures
-      ∙ sym (count-snoc (λ x. is_of r.monitor x && is_failure x) rs r (is_failure r) (ap (λ (b : Bool). b && is_failure r) (same r.monitor)));
+      ∙ sym (count-snoc (λ x. is_of r.monitor x && is_failure x) rs r (is_failure r) (ap (λ (b : Bool). b && is_failure r) mine));
   stopped = stopped ∙ ap (λ (n : ℕ). n + (if is_stopped r then 1 else 0)) was.stopped
-      ∙ sym (count-snoc (λ x. is_of r.monitor x && is_stopped x) rs r (is_stopped r) (ap (λ (b : Bool). b && is_stopped r) (same r.monitor)));
+      ∙ sym (count-snoc (λ x. is_of r.monitor x && is_stopped x) rs r (is_stopped r) (ap (λ (b : Bool). b && is_stopped r) mine));
 }
+  where
+    mine : is_of r.monitor r ≡ true
+    mine = rw (same r.monitor, goes) refl
 
--- of another monitor
-tally-other : (monitor instances : ℕ) (rs : List Record) (r : Record) (t : Tally) → r.monitor ≢ monitor → IsTally monitor instances rs t → IsTally monitor instances (rs ++ r ∷ []) t
-tally-other monitor instances rs r t other was =
-    let no : (r.monitor == monitor) ≡ false = apart r.monitor monitor other in
+-- not counted for the monitor
+tally-left : (monitor instances : ℕ) (rs : List Record) (r : Record) (t : Tally) → is_of monitor r ≡ false → IsTally monitor instances rs t → IsTally monitor instances (rs ++ r ∷ []) t
+tally-left monitor instances rs r t left was =
     let none : (n : ℕ) → n ≡ n + 0 = λ n. omega arith in
     record {
       many = was.many;
-      seen = λ k lt. was.seen k lt ∙ or-false (list_any (is_at monitor k) rs) ∙ sym (any-snoc (is_at monitor k) rs r false (ap (λ (b : Bool). b && (r.instance == k)) no));
-      deliveries = was.deliveries ∙ none (count_by (is_of monitor) rs) ∙ sym (count-snoc (is_of monitor) rs r false no);
-      failures = was.failures ∙ none (count_by (λ x. is_of monitor x && is_failure x) rs) ∙ sym (count-snoc (λ x. is_of monitor x && is_failure x) rs r false (ap (λ (b : Bool). b && is_failure r) no));
-      stopped = was.stopped ∙ none (count_by (λ x. is_of monitor x && is_stopped x) rs) ∙ sym (count-snoc (λ x. is_of monitor x && is_stopped x) rs r false (ap (λ (b : Bool). b && is_stopped r) no));
+      seen = λ k lt. was.seen k lt ∙ or-false (list_any (is_at monitor k) rs) ∙ sym (any-snoc (is_at monitor k) rs r false (ap (λ (b : Bool). b && (r.instance == k)) left));
+      deliveries = was.deliveries ∙ none (count_by (is_of monitor) rs) ∙ sym (count-snoc (is_of monitor) rs r false left);
+      failures = was.failures ∙ none (count_by (λ x. is_of monitor x && is_failure x) rs) ∙ sym (count-snoc (λ x. is_of monitor x && is_failure x) rs r false (ap (λ (b : Bool). b && is_failure r) left));
+      stopped = was.stopped ∙ none (count_by (λ x. is_of monitor x && is_stopped x) rs) ∙ sym (count-snoc (λ x. is_of monitor x && is_stopped x) rs r false (ap (λ (b : Bool). b && is_stopped r) left));
     }
   where
     or-false : (b : Bool) → b ≡ (b || false)
     or-false true = refl
     or-false false = refl
+
+-- of another monitor
+tally-other : (monitor instances : ℕ) (rs : List Record) (r : Record) (t : Tally) → r.monitor ≢ monitor → IsTally monitor instances rs t → IsTally monitor instances (rs ++ r ∷ []) t
+tally-other monitor instances rs r t other = tally-left monitor instances rs r t (rw (apart r.monitor monitor other) refl)
+
+-- an end
+pub tally-ended : (instances : ℕ) (rs : List Record) (r : Record) (t : Tally) → is_ended r ≡ true → IsTally r.monitor instances rs t → IsTally r.monitor instances (rs ++ r ∷ []) t
+tally-ended instances rs r t ends = tally-left r.monitor instances rs r t (rw (same r.monitor, ends) refl)
 
 -- the same number or another
 same_or_not : (m n : ℕ) → (m ≡ n) ⊎ (m ≢ n)

@@ -1,7 +1,7 @@
 //! What the records of one monitor come to.
 ghost use Rattle.std.specs.Prelude.{◌≡◌, ◌+◌, ◌<◌, ◌==◌, ◌||◌, ℕ, List, [], ◌∷◌, ◌++◌, false, length, count_by, IfOk, OnOk, slice_index_or, if◌then◌else◌};
 ghost use Rattle.rv_model.specs.declared.record.Record.{Record};
-ghost use Rattle.rv_model.specs.Records.{is_failure, is_stopped};
+ghost use Rattle.rv_model.specs.Records.{is_failure, is_stopped, is_ended};
 ghost use Rattle.rv_report.specs.Tallies.{IsTally};
 
 use rv_model::{Answer, Delivered, Record};
@@ -28,6 +28,13 @@ fn is_stopped(made: &Record) -> bool
     ensures { result ≡ is_stopped made.now }
 {
     matches!(made.outcome, Delivered::Racing)
+}
+
+/// Whether the delivery ended its instance.
+fn is_ended(made: &Record) -> bool
+    ensures { result ≡ is_ended made.now }
+{
+    matches!(made.outcome, Delivered::Done(Answer::Ended))
 }
 
 /// One more where it counts. More than fit would be more records than there is memory for.
@@ -62,10 +69,13 @@ impl Tally {
         })
     }
 
-    /// Counts a record of the monitor.
+    /// Counts a record of the monitor. An end is not counted.
     pub(crate) fn add(&mut self, made: &Record) -> Result<(), AllocError>
         ensures { OnOk result ((instances : ℕ) (rs : List Record) → IsTally made.now.monitor instances rs self.old → IsTally made.now.monitor instances (rs ++ made.now ∷ []) self.new) }
     {
+        if is_ended(made) {
+            return Ok(());
+        }
         mark(&mut self.seen, made.instance);
         self.deliveries = more(self.deliveries, true)?;
         self.failures = more(self.failures, is_failure(made))?;

@@ -7,7 +7,7 @@ use Rattle.rv_model.specs.Works.{Work}
 use Rattle.rv_model.specs.Histories.{LinesApart}
 use Rattle.rv_slots.specs.Shapes.{count_of}
 use Rattle.rv_trace.specs.declared.line.TraceLine.{TraceLine}
-use Rattle.rv_bind.specs.WellFormed.{Kind, FitsSpec}
+use Rattle.rv_bind.specs.WellFormed.{Kind, FitsRule}
 use Rattle.rv_route.specs.declared.deliveries.TheConstants.{MAX_DELIVERIES}
 use Rattle.rv_route.specs.Lanes.{LaneValue}
 use Rattle.rv_route.specs.Routing.{Routes, no_lane}
@@ -23,7 +23,7 @@ pub record IsOf (lines : List TraceLine) (cpu : ℕ) (turn : Turn) : Type 0 wher
 pub record FitsKindOf (kinds : List Kind) (tasks cpu : ℕ) (d : Delivery) : Type 0 where
   pub kind : Kind
   pub there : slice_get kinds d.monitor ≡ Some kind
-  pub hit : FitsSpec kind.spec d.hit
+  pub hit : FitsRule kind.spec d.hit
   pub instance_fits : d.instance < count_of tasks kind.scope
   pub by_cpu : kind.scope ≡ Cpu → d.instance ≡ cpu
 

@@ -234,19 +234,23 @@ fn sizes(routed: &Routed) -> (u32, usize) {
 const TASKS: &[u8] = b"on t x by f : event x\non t y by f : event x\non t y by g : event x\n";
 
 #[test]
-fn the_4097th_task_is_refused(rt: HostRuntime) -> Result<(), Fail> {
+fn the_65537th_task_is_refused(rt: HostRuntime) -> Result<(), Fail> {
     let cases = [
-        (4_095, "t-1 [000] 1.5: x: f=5000", Ok((4_096, 4_096))),
-        (4_096, "t-1 [000] 1.5: x: f=4096", Ok((4_096, 4_097))),
-        (4_096, "t-1 [000] 1.5: x: f=5000", Err(TOO_MANY_TASKS)),
-        (4_096, "t-1 [000] 1.5: x: f=0", Err(TOO_MANY_TASKS)),
-        (4_096, "t-1 [000] 1.5: y: f=no g=5000", Err(NO_PID)),
-        (4_096, "t-1 [000] 1.5: y: f=5000 g=no", Err(TOO_MANY_TASKS)),
+        (65_535, "t-1 [000] 1.5: x: f=70000", Ok((65_536, 65_536))),
+        (65_536, "t-1 [000] 1.5: x: f=65536", Ok((65_536, 65_537))),
+        (65_536, "t-1 [000] 1.5: x: f=70000", Err(TOO_MANY_TASKS)),
+        (65_536, "t-1 [000] 1.5: x: f=0", Err(TOO_MANY_TASKS)),
+        (65_536, "t-1 [000] 1.5: y: f=no g=70000", Err(NO_PID)),
+        (
+            65_536,
+            "t-1 [000] 1.5: y: f=70000 g=no",
+            Err(TOO_MANY_TASKS),
+        ),
     ];
     for (count, last, want) in cases {
         let text = pids(rt.alloc(), count, last.as_bytes())?;
         let answer = routed(&rt, rt.alloc(), TASKS, text.bytes())?.map(|routed| sizes(&routed));
-        let want = want.map_err(|number| Refused::Because(Refusal::at(number, 4_097)));
+        let want = want.map_err(|number| Refused::Because(Refusal::at(number, 65_537)));
         assert_eq!(rt; answer, want, "at {last}");
     }
     Ok(())

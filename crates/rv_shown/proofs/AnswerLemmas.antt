@@ -2,7 +2,7 @@
 use Rattle.std.proofs.Common.{◌≡◌, ◌≢◌, ℕ, ◌+◌, ◌^◌, ◌<◌, ◌==◌, ◌&&◌, ◌||◌, not, Bool, true, false, List, [], ◌∷◌, ◌++◌, ◌⊎◌, inl, inr, arith, refl, sym, ap, ◌∙◌, subst, sum}
 use Rattle.std.specs.Bool.{if◌then◌else◌}
 use Rattle.rv_model.specs.declared.entry.Act.{Act}
-use Rattle.rv_model.specs.declared.entry.Act.TheVariants.{Deliver, Stop, Look, Raise, Lower, Clear}
+use Rattle.rv_model.specs.declared.entry.Act.TheVariants.{Deliver, Stop, Look, Raise, Lower, Clear, End}
 use Rattle.rv_model.specs.declared.entry.Answer.{Answer}
 use Rattle.rv_model.specs.declared.entry.Answer.TheVariants.{Started, Kept, Failed}
 use Rattle.rv_model.specs.declared.entry.Entry.{Entry}
@@ -77,6 +77,7 @@ module _ (j : Judge) where
   turn-sets : (p : Phase) (m : Mode) (x : Letter) → IsLive j p → IsLive j (turn j p m x).1 → by_sets m (set_of j p) (set_of j (turn j p m x).1) ≡ fails (turn j p m x).0
   turn-sets stopped m x live after = refl
   turn-sets waiting mode.Event x live after = refl
+  turn-sets waiting mode.End x live after = refl
   turn-sets waiting mode.Start x live after = no-failure mode.Start 1 (rows_of j []) after.1
   turn-sets waiting mode.StartRun x live after = begins x (j.holds (x ∷ [])) after
   turn-sets (running word) m x live after = goes-on m word x live (j.holds (word ++ x ∷ [])) after
@@ -90,10 +91,11 @@ module _ (j : Judge) where
 
 -- ---- a past
 
--- a delivery is on a slot of the setup, and its hit fits the slot's table and the words; nothing is cleared
+-- a delivery is on a slot of the setup, and its hit fits the slot's table and the words; nothing is cleared or ended
 abbrev pub FitsEntry : Setup → Act → Type 0
 FitsEntry s (Deliver slot hit) = (slot < sum s.shape) × FitsTable (table_at s slot) hit × WhatFits hit.what
 FitsEntry s (Clear slot) = ⊥
+FitsEntry s (End slot) = ⊥
 FitsEntry s _ = Unit {0}
 
 -- the entry has the words that its past gives, and fits
@@ -107,9 +109,10 @@ acts-on : (s : Setup) (i : ℕ) (act : Act) → FitsEntry s act → place_of act
 acts-on s i (Deliver slot hit) f e =
     let same : slot ≡ i = omega arith in
     let fits : FitsTable (table_at s i) hit = subst (λ (n : ℕ). FitsTable (table_at s n) hit) same f.1 in
-    (f.2, fits-start (table_at s i) hit.mode hit.what fits)
+    (f.2, fits-start (table_at s i) hit.mode hit.what fits.1)
 acts-on s i (Stop _) f e = tt
 acts-on s i (Clear slot) f e = absurd f
+acts-on s i (End slot) f e = absurd f
 acts-on s i Look f e = tt
 acts-on s i (Raise _) f e = tt
 acts-on s i (Lower _) f e = tt
@@ -156,7 +159,7 @@ module _ (s : Setup) (k : IsSetup s) where
       ap (λ (a : Act). phase_after j on slot a p) is ∙ ap (λ (b : Bool). if b then (turn j p hit.mode x).1 else p) (same_slot slot) in
       let left : e.after ≡ packed j (levels_of start (e ∷ past) slot) (turn j p hit.mode x).1 =
       here.left ∙ ap (word_on s (judges_of s) (e ∷ past)) is ∙ word_of-is s k (e ∷ past) slot lt ∙ ap (packed j (levels_of start (e ∷ past) slot)) phase in
-      let after : IsLive j (turn j p hit.mode x).1 = turn-live t (table_at-is s k slot lt) j (judges-it slot lt) p hit.mode (fits-start t hit.mode hit.what fits.1) x in
+      let after : IsLive j (turn j p hit.mode x).1 = turn-live t (table_at-is s k slot lt) j (judges-it slot lt) p hit.mode (fits-start t hit.mode hit.what fits.1.1) x in
       ap (λ (n : ℕ). shows_failure hit.mode n e.after) found
       ∙ ap (shows_failure hit.mode (packed j (levels_of start past slot) p)) left
       ∙ turn-words j p hit.mode x (levels_of start past slot) (levels_of start (e ∷ past) slot) (number_of-lt (level start past slot) 32) (number_of-lt on 32) live after
@@ -170,3 +173,4 @@ module _ (s : Setup) (k : IsSetup s) where
   entry-shows past e (Raise bits) is before here = refl
   entry-shows past e (Lower bits) is before here = refl
   entry-shows past e (Clear slot) is before here = refl
+  entry-shows past e (End slot) is before here = refl

@@ -16,7 +16,7 @@ use Rattle.rv_model.specs.declared.work.Delivery.{Delivery}
 use Rattle.rv_model.specs.declared.work.Turn.{Turn}
 use Rattle.rv_model.specs.Histories.{Input}
 use Rattle.rv_model.specs.Numbers.{has_bit}
-use Rattle.rv_model.specs.Scripts.{Played, played, is_shown, fails, Makes, Delivers, PlaysTurns, turns_of}
+use Rattle.rv_model.specs.Scripts.{Played, played, is_shown, fails, hit_act, Makes, Delivers, PlaysTurns, turns_of}
 use Rattle.rv_model.specs.Setups.{Setup, slot_of}
 use Rattle.rv_model.specs.SharedWords.{answer_at}
 use Rattle.rv_model.specs.Works.{Work}
@@ -46,8 +46,11 @@ module _ (s : Setup) (panics : ℕ → Bool) where
   PlayedFits p = FitsEntry s p.0.act
 
   makes-fit : (d : Delivery) (p : Played) → DeliversFit d → Makes s d p → PlayedFits p
-  makes-fit d p fits (inl is) = subst (FitsEntry s) (sym is) fits
-  makes-fit d p fits (inr is) = subst (FitsEntry s) (sym is) tt
+  makes-fit d p fits (inl is) =
+      let slot : ℕ = slot_of s.shape d.monitor d.instance in
+      let delivered : hit_act slot d.hit ≡ Deliver slot d.hit = rw fits.1.0 refl in
+      subst (FitsEntry s) (sym (is ∙ delivered)) fits
+  makes-fit d p fits (inr is) = subst (FitsEntry s) (sym is.1) tt
 
   one-fits : (p stop : Played) (ps : List Played) → PlayedFits p → ps ≡ stop ∷ [] → stop.0.act ≡ Raise (2 ^ 34) → All PlayedFits (p ∷ ps)
   one-fits p stop ps here only is = subst (λ (z : List Played). All PlayedFits (p ∷ z)) (sym only) (All-cons PlayedFits p (stop ∷ []) here (All-cons PlayedFits stop [] (subst (FitsEntry s) (sym is) tt) (All-nil PlayedFits)))
@@ -100,6 +103,7 @@ wider levels n le lt = let more : 2 ^ levels ≤ 2 ^ 32 = pow_mono le in omega a
 -- what fits some levels fits a word
 below-fits : (levels : ℕ) (what : What) → levels ≤ 32 → IsBelow levels what → WhatFits what
 below-fits levels (whats.Da event) le below = (tt, tt)
+below-fits levels whats.Nothing le below = (tt, tt)
 below-fits levels (whats.Ltl on off pulse) le below = ((wider levels on le below.0, wider levels off le below.1), wider levels pulse le below.2)
 
 -- a delivery that fits the counted words has entries that fit

@@ -1,29 +1,30 @@
 -- What the opening switches show on of routed works fits the counted words.
 use Rattle.std.proofs.Common.{◌≡◌, ◌≢◌, ℕ, zero, suc, ◌+◌, ◌-◌, ◌<◌, ◌≤◌, ◌^◌, Bool, true, false, List, [], ◌∷◌, length, map, refl, sym, ap, subst, arith}
-use Rattle.std.specs.Prelude.{All, Some, filter, slice_get, slice_index, slice_index_or}
-use Rattle.std.specs.List.{AllZip}
+use Rattle.std.specs.Prelude.{◌||◌, All, MatchBool, Some, filter, slice_get, slice_index, slice_index_or}
+use Rattle.std.specs.List.{AllZip, list_any}
 use Rattle.std.proofs.Math.Pow.{pow_mono}
-use Rattle.std.proofs.lemmas.List.Elements.{All-nil, All-cons, All-head, All-tail, All-weaker, All-filter, AllZip-get_or, length_all_zip}
+use Rattle.std.proofs.lemmas.List.Elements.{All-nil, All-cons, All-head, All-tail, All-filter, AllZip-get_or, length_all_zip}
 use Rattle.rv_model.specs.declared.formula.Spec.{Spec}
 use Rattle.rv_model.specs.declared.formula.Spec.TheVariants as specs
+use Rattle.rv_model.specs.declared.hit.Hit.{Hit}
 use Rattle.rv_model.specs.declared.hit.Mode.{Mode}
 use Rattle.rv_model.specs.declared.hit.Mode.TheVariants as modes
 use Rattle.rv_model.specs.declared.hit.What.{What}
 use Rattle.rv_model.specs.declared.hit.What.TheVariants as whats
 use Rattle.rv_model.specs.declared.reactor.Reactor.TheVariants.{Panic}
 use Rattle.rv_model.specs.declared.work.Delivery.{Delivery}
-use Rattle.rv_model.specs.Scripts.{is_shown}
+use Rattle.rv_model.specs.Scripts.{is_shown, is_end}
 use Rattle.rv_model.specs.Setups.{Setup, monitor_of, slot_of}
 use Rattle.rv_model.specs.Table.{Table, Node, of_labels}
 use Rattle.rv_model.specs.Works.{Work}
 use Rattle.rv_slots.specs.Shapes.{count_of}
 use Rattle.rv_slots.proofs.ShapeLemmas.{monitor_of-slot_of}
 use Rattle.rv_table.specs.Rows.{row_count}
-use Rattle.rv_core.specs.Advance.{IsRun, FitsKind}
+use Rattle.rv_core.specs.Advance.{IsRun, FitsKind, FitsTable, FitsHit}
 use Rattle.rv_core.specs.Setup.{no_table, table_at}
 use Rattle.rv_bind.specs.declared.bindings.Monitor.{Monitor}
 use Rattle.rv_bind.specs.Compiling.{IsTableOf}
-use Rattle.rv_bind.specs.WellFormed.{Kind, kind_of, kinds_of, FitsAtoms, FitsSpec, HasTable, HaveTables}
+use Rattle.rv_bind.specs.WellFormed.{Kind, kind_of, kinds_of, FitsAtoms, FitsSpec, FitsRule, HasTable, HaveTables}
 use Rattle.rv_bind.proofs.TableLemmas.{labelled}
 use Rattle.rv_verdicts.specs.Shown.{IsShownOf}
 use Rattle.rv_route.specs.declared.deliveries.TheConstants.{MAX_DELIVERIES}
@@ -33,7 +34,7 @@ use Rattle.rv_journal.specs.CountedWords.{IsBelow, most_entries}
 use Rattle.rv_journal.specs.Running.{FitsCountedWork}
 use Rattle.rv_shown.specs.Fitting.{IsOpened, ShownFit, ShownAscend}
 use Rattle.rv_shown.specs.Numbered.{atom_count, IsNumbered}
-use Rattle.rv_shown.specs.Shown.{IsShownWork}
+use Rattle.rv_shown.specs.Shown.{IsShownWork, has_end, have_ends}
 use Rattle.rv_shown.proofs.ShownLemmas.{filter-few}
 
 -- ---- one monitor
@@ -62,23 +63,48 @@ at-place (m ∷ monitors) (t ∷ tables) tasks (suc place) kind there have numbe
 
 -- ---- one delivery
 
-runs : (mode : Mode) → mode ≢ modes.Start → IsRun mode
-runs modes.Event h = tt
-runs modes.Start h = absurd (h refl)
-runs modes.StartRun h = tt
+runs : (mode : Mode) → is_end mode ≡ false → mode ≢ modes.Start → IsRun mode
+runs modes.Event goes h = tt
+runs modes.Start goes h = absurd (h refl)
+runs modes.StartRun goes h = tt
+runs modes.End goes h = absurd (let n : true ≡ false = goes in cc)
 
 -- a change of atoms fits a table with labels
-label-fits : (nodes : List Node) (count : ℕ) (mode : Mode) (what : What) → mode ≢ modes.Start → FitsAtoms count what → FitsKind (of_labels nodes) mode what
-label-fits nodes count mode (whats.Da event) run fits = absurd fits
-label-fits nodes count mode (whats.Ltl on off pulse) run fits = runs mode run
+label-fits : (nodes : List Node) (count : ℕ) (mode : Mode) (what : What) → is_end mode ≡ false → mode ≢ modes.Start → FitsAtoms count what → FitsKind (of_labels nodes) mode what
+label-fits nodes count mode (whats.Da event) goes run fits = absurd fits
+label-fits nodes count mode (whats.Ltl on off pulse) goes run fits = runs mode goes run
+label-fits nodes count mode whats.Nothing goes run fits = absurd fits
 
--- a hit that fits a specification fits its table
-hit-fits : (spec : Spec) (t : Table) (mode : Mode) (what : What) → IsTableOf spec t → FitsSpec spec (record { mode = mode; what = what }) → FitsKind t mode what
-hit-fits (specs.Ltl rule) t mode what is fits =
+-- a hit that is no end and fits a specification fits its table
+hit-fits : (spec : Spec) (t : Table) (mode : Mode) (what : What) → IsTableOf spec t → is_end mode ≡ false → FitsSpec spec (record { mode = mode; what = what }) → FitsKind t mode what
+hit-fits (specs.Ltl rule) t mode what is goes fits =
     let labels = labelled rule.formula t is in
-    subst (λ (u : Table). FitsKind u mode what) (sym labels.1) (label-fits labels.0 (length rule.atoms) mode what fits.0 fits.1)
-hit-fits (specs.Da a) t mode (whats.Da event) is fits = subst (λ (u : Table). FitsKind u mode (whats.Da event)) (sym is) fits
-hit-fits (specs.Da a) t mode (whats.Ltl on off pulse) is fits = absurd fits
+    subst (λ (u : Table). FitsKind u mode what) (sym labels.1) (label-fits labels.0 (length rule.atoms) mode what goes fits.0 fits.1)
+hit-fits (specs.Da a) t mode (whats.Da event) is goes fits = subst (λ (u : Table). FitsKind u mode (whats.Da event)) (sym is) fits
+hit-fits (specs.Da a) t mode (whats.Ltl on off pulse) is goes fits = absurd fits
+hit-fits (specs.Da a) t mode whats.Nothing is goes fits = absurd fits
+
+-- what fits as a rule's hit fits the table, or ends the instance
+pub rule-fits : (spec : Spec) (t : Table) (hit : Hit) → IsTableOf spec t → FitsRule spec hit → FitsHit t hit
+rule-fits spec t hit is fits = go (is_end hit.mode) refl fits
+  where
+    go : (b : Bool) → is_end hit.mode ≡ b → MatchBool b (hit.what ≡ whats.Nothing) (FitsSpec spec hit) → MatchBool b (hit.what ≡ whats.Nothing) (FitsTable t hit)
+    go true e f = f
+    go false e f = (e, hit-fits spec t hit.mode hit.what is e f)
+
+-- what fits as a rule's hit and is no end fits the specification
+spec-fits : (spec : Spec) (hit : Hit) → is_end hit.mode ≡ false → FitsRule spec hit → FitsSpec spec hit
+spec-fits spec hit goes fits = go (is_end hit.mode) goes fits
+  where
+    go : (b : Bool) → b ≡ false → MatchBool b (hit.what ≡ whats.Nothing) (FitsSpec spec hit) → FitsSpec spec hit
+    go true e f = absurd (let n : true ≡ false = e in cc)
+    go false e f = f
+
+-- none of two
+neither : (a b : Bool) → (a || b) ≡ false → (a ≡ false) × (b ≡ false)
+neither false false e = (refl, refl)
+neither false true e = absurd (let n : true ≡ false = e in cc)
+neither true b e = absurd (let n : true ≡ false = e in cc)
 
 wider : (count levels n : ℕ) → count ≤ levels → n < 2 ^ count → n < 2 ^ levels
 wider count levels n le lt = let more : 2 ^ count ≤ 2 ^ levels = pow_mono le in omega arith
@@ -86,17 +112,20 @@ wider count levels n le lt = let more : 2 ^ count ≤ 2 ^ levels = pow_mono le i
 -- sets of atoms are below the levels that there is room for
 atoms-below : (count levels : ℕ) (what : What) → count ≤ levels → FitsAtoms count what → IsBelow levels what
 atoms-below count levels (whats.Da event) le fits = absurd fits
+atoms-below count levels whats.Nothing le fits = absurd fits
 atoms-below count levels (whats.Ltl on off pulse) le fits = (wider count levels on le fits.0, wider count levels off le fits.1, wider count levels pulse le fits.2)
 
 what-below : (spec : Spec) (mode : Mode) (what : What) (rows : ℕ) → rows + atom_count spec ≤ 32 → FitsSpec spec (record { mode = mode; what = what }) → IsBelow (32 - rows) what
 what-below (specs.Ltl rule) mode what rows narrow fits = atoms-below (length rule.atoms) (32 - rows) what (omega arith) fits.1
 what-below (specs.Da a) mode (whats.Da event) rows narrow fits = tt
 what-below (specs.Da a) mode (whats.Ltl on off pulse) rows narrow fits = absurd fits
+what-below (specs.Da a) mode whats.Nothing rows narrow fits = absurd fits
 
 module _ (monitors : List Monitor) (tasks : ℕ) (s : Setup) (opened : IsOpened monitors tasks s) (numbered : IsNumbered monitors s.tables) where
   -- a delivery to an instance of a monitor that it fits
-  delivery-fits : (cpu : ℕ) (d : Delivery) → FitsKindOf (kinds_of monitors) tasks cpu d → FitsCounted s d
-  delivery-fits cpu d f =
+  delivery-fits : (cpu : ℕ) (d : Delivery) → FitsKindOf (kinds_of monitors) tasks cpu d → is_end d.hit.mode ≡ false → FitsCounted s d
+  delivery-fits cpu d f goes =
+      let fits : FitsSpec f.kind.spec d.hit = spec-fits f.kind.spec d.hit goes f.hit in
       let at = at-place monitors s.tables tasks d.monitor f.kind f.there opened.tables numbered in
       let below : d.monitor < length s.shape = subst (λ (z : List ℕ). d.monitor < length z) (sym opened.shape) at.below in
       let small : d.instance < slice_index s.shape d.monitor =
@@ -106,8 +135,8 @@ module _ (monitors : List Monitor) (tasks : ℕ) (s : Setup) (opened : IsOpened 
       record {
         monitor = below;
         instance_fits = small;
-        hit = subst (λ (t : Table). FitsKind t d.hit.mode d.hit.what) (sym table) (hit-fits f.kind.spec (slice_index_or s.tables d.monitor no_table) d.hit.mode d.hit.what at.table.compiles.is f.hit);
-        levels = subst (λ (t : Table). IsBelow (32 - row_count t) d.hit.what) (sym table) (what-below f.kind.spec d.hit.mode d.hit.what (row_count (slice_index_or s.tables d.monitor no_table)) at.narrow f.hit);
+        hit = (goes, subst (λ (t : Table). FitsKind t d.hit.mode d.hit.what) (sym table) (hit-fits f.kind.spec (slice_index_or s.tables d.monitor no_table) d.hit.mode d.hit.what at.table.compiles.is goes fits));
+        levels = subst (λ (t : Table). IsBelow (32 - row_count t) d.hit.what) (sym table) (what-below f.kind.spec d.hit.mode d.hit.what (row_count (slice_index_or s.tables d.monitor no_table)) at.narrow fits);
       }
 
   -- ---- works
@@ -121,32 +150,40 @@ module _ (monitors : List Monitor) (tasks : ℕ) (s : Setup) (opened : IsOpened 
       go true y rest = rw y (All-cons (λ d. keep d ≡ true) d (filter keep ds) y rest)
       go false n rest = rw n rest
 
-  work-fits : (w v : Work) → w.cpu < 64 → length w.deliveries ≤ MAX_DELIVERIES → All (FitsKindOf (kinds_of monitors) tasks w.cpu) w.deliveries → IsShownWork s.switches w v → FitsCountedWork s v
-  work-fits w v cpu few fit shown =
+  each-fits : (cpu : ℕ) (ds : List Delivery) → All (FitsKindOf (kinds_of monitors) tasks cpu) ds → list_any (λ (d : Delivery). is_end d.hit.mode) ds ≡ false → All (FitsCounted s) ds
+  each-fits cpu [] fit goes = All-nil (FitsCounted s)
+  each-fits cpu (d ∷ ds) fit goes =
+      let parts = neither (is_end d.hit.mode) (list_any (λ (d : Delivery). is_end d.hit.mode) ds) goes in
+      All-cons (FitsCounted s) d ds (delivery-fits cpu d (All-head (FitsKindOf (kinds_of monitors) tasks cpu) d ds fit) parts.0)
+      (each-fits cpu ds (All-tail (FitsKindOf (kinds_of monitors) tasks cpu) d ds fit) parts.1)
+
+  work-fits : (w v : Work) → w.cpu < 64 → length w.deliveries ≤ MAX_DELIVERIES → All (FitsKindOf (kinds_of monitors) tasks w.cpu) w.deliveries → IsShownWork s.switches w v → has_end v ≡ false → FitsCountedWork s v
+  work-fits w v cpu few fit shown goes =
       let are = shown.deliveries_are in
       let same : v.cpu ≡ w.cpu = shown.shown_of.cpu in
       let keep : Delivery → Bool = is_shown s.switches in
       record {
         cpu = subst (λ (n : ℕ). n < 64) (sym same) cpu;
         few = subst (λ (z : List Delivery). length z ≤ most_entries) (sym are) (let less = filter-few keep w.deliveries in omega arith);
-        fit = subst (All (FitsCounted s)) (sym are) (All-filter keep (FitsCounted s) w.deliveries (All-weaker (FitsKindOf (kinds_of monitors) tasks w.cpu) (FitsCounted s) (delivery-fits w.cpu) w.deliveries fit));
+        fit = each-fits w.cpu v.deliveries (subst (All (FitsKindOf (kinds_of monitors) tasks w.cpu)) (sym are) (All-filter keep (FitsKindOf (kinds_of monitors) tasks w.cpu) w.deliveries fit)) goes;
         shown = subst (All (λ d. keep d ≡ true)) (sym are) (all-pass keep w.deliveries);
       }
 
-  all-fit : (works shown : List Work) → All (λ (w : Work). w.cpu < 64) works → All (λ (w : Work). length w.deliveries ≤ MAX_DELIVERIES) works → All (λ (w : Work). All (FitsKindOf (kinds_of monitors) tasks w.cpu) w.deliveries) works → AllZip (IsShownWork s.switches) works shown → All (FitsCountedWork s) shown
-  all-fit [] [] cpus few fit zip = All-nil (FitsCountedWork s)
-  all-fit [] (v ∷ shown) cpus few fit zip = absurd zip
-  all-fit (w ∷ works) [] cpus few fit zip = absurd zip
-  all-fit (w ∷ works) (v ∷ shown) cpus few fit zip =
+  all-fit : (works shown : List Work) → All (λ (w : Work). w.cpu < 64) works → All (λ (w : Work). length w.deliveries ≤ MAX_DELIVERIES) works → All (λ (w : Work). All (FitsKindOf (kinds_of monitors) tasks w.cpu) w.deliveries) works → AllZip (IsShownWork s.switches) works shown → have_ends shown ≡ false → All (FitsCountedWork s) shown
+  all-fit [] [] cpus few fit zip goes = All-nil (FitsCountedWork s)
+  all-fit [] (v ∷ shown) cpus few fit zip goes = absurd zip
+  all-fit (w ∷ works) [] cpus few fit zip goes = absurd zip
+  all-fit (w ∷ works) (v ∷ shown) cpus few fit zip goes =
+      let parts = neither (has_end v) (have_ends shown) goes in
       let Cpu : Work → Type 0 = λ (w : Work). w.cpu < 64 in
       let Few : Work → Type 0 = λ (w : Work). length w.deliveries ≤ MAX_DELIVERIES in
       let Fit : Work → Type 0 = λ (w : Work). All (FitsKindOf (kinds_of monitors) tasks w.cpu) w.deliveries in
-      All-cons (FitsCountedWork s) v shown (work-fits w v (All-head Cpu w works cpus) (All-head Few w works few) (All-head Fit w works fit) zip.0)
-      (all-fit works shown (All-tail Cpu w works cpus) (All-tail Few w works few) (All-tail Fit w works fit) zip.1)
+      All-cons (FitsCountedWork s) v shown (work-fits w v (All-head Cpu w works cpus) (All-head Few w works few) (All-head Fit w works fit) zip.0 parts.0)
+      (all-fit works shown (All-tail Cpu w works cpus) (All-tail Few w works few) (All-tail Fit w works fit) zip.1 parts.1)
 
 -- what is shown of routed works fits
 pub shown_fit : ShownFit
-shown_fit monitors tasks s works shown opened numbered fit zip = all-fit monitors tasks s opened numbered works shown fit.cpus_below fit.few fit.deliveries zip
+shown_fit monitors tasks s works shown opened numbered fit zip goes = all-fit monitors tasks s opened numbered works shown fit.cpus_below fit.few fit.deliveries zip goes
 
 -- and it ascends by CPU
 pub shown_ascend : ShownAscend

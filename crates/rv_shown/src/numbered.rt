@@ -1,5 +1,5 @@
 //! Which runs can be numbered.
-ghost use Rattle.std.specs.Prelude.{◌≡◌, ◌≤◌, ◌+◌, ◌↔◌, IsTrue, length};
+ghost use Rattle.std.specs.Prelude.{◌≡◌, ◌≤◌, ◌↔◌, IsTrue};
 ghost use Rattle.rv_table.specs.Rows.{row_count};
 ghost use Rattle.rv_shown.specs.Numbered.{atom_count, IsNarrowMonitor, IsNumbered};
 

@@ -1,6 +1,5 @@
 //! The bits that the monitors' words have.
-ghost use Rattle.std.specs.Prelude.{◌≡◌, ◌≤◌, ◌+◌, IfOk, map, length, slice_index, slice_index_or};
-ghost use Rattle.rv_core.specs.Setup.{no_table};
+ghost use Rattle.std.specs.Prelude.{◌≡◌, IfOk, map};
 ghost use Rattle.rv_bind.specs.WellFormed.{kind_of, kinds_of, HasTable, HaveTables};
 ghost use Rattle.rv_journal.specs.CountedSeats.{AreWidths, IsWidth};
 ghost use Rattle.rv_shown.specs.Numbered.{HasState, IsNarrowMonitor, IsNumbered};

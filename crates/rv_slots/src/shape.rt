@@ -15,7 +15,7 @@ pub const CPUS: u32 = 64;
 pub const MAX_MONITORS: usize = 32;
 
 /// The slots of as many monitors of as many tasks as there may be.
-pub const MAX_SLOTS: u32 = 131_072;
+pub const MAX_SLOTS: u32 = 2_097_152;
 
 /// For each monitor its number of slots.
 #[derive(Drop)]

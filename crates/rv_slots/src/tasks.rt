@@ -10,7 +10,7 @@ use std::marker::Model;
 use thiserror::Error;
 
 /// The most tasks that a run may have.
-pub const MAX_TASKS: u32 = 4_096;
+pub const MAX_TASKS: u32 = 65_536;
 
 /// Why a task has no number.
 #[derive(Clone, Copy, Debug, Drop, Error, PartialEq, Eq)]

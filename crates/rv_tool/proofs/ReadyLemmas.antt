@@ -3,28 +3,23 @@ use Rattle.std.proofs.Common.{◌≡◌, ◌≢◌, ℕ, zero, suc, ◌<◌, ◌
 use Rattle.std.specs.Prelude.{All, AllPairs, Some, slice_get, slice_index, slice_index_or}
 use Rattle.std.proofs.lemmas.List.{append_assoc, map-append}
 use Rattle.std.proofs.lemmas.List.Elements.{All-push, All-nil, All-cons, All-head, All-tail, All-weaker}
-use Rattle.rv_model.specs.declared.hit.Mode.{Mode}
-use Rattle.rv_model.specs.declared.hit.Mode.TheVariants as modes
-use Rattle.rv_model.specs.declared.hit.What.{What}
-use Rattle.rv_model.specs.declared.hit.What.TheVariants as whats
 use Rattle.rv_model.specs.declared.formula.Spec.{Spec}
 use Rattle.rv_model.specs.declared.formula.Spec.TheVariants as specs
 use Rattle.rv_model.specs.declared.work.Scope.{Scope}
 use Rattle.rv_model.specs.declared.work.Delivery.{Delivery}
 use Rattle.rv_model.specs.declared.work.Turn.{Turn}
-use Rattle.rv_model.specs.Table.{Table, Node, of_labels}
+use Rattle.rv_model.specs.Table.{Table}
 use Rattle.rv_model.specs.Works.{Work}
 use Rattle.rv_model.specs.Setups.{Setup, monitor_of, slot_of}
 use Rattle.rv_slots.specs.Shapes.{count_of}
 use Rattle.rv_slots.proofs.ShapeLemmas.{monitor_of-slot_of}
-use Rattle.rv_core.specs.Advance.{IsRun, FitsKind}
 use Rattle.rv_core.specs.Setup.{FitsShape, no_table, table_at}
 use Rattle.rv_core.specs.Judged.{AllMean}
 use Rattle.rv_feed.specs.Lane.{LaneValue, IsNewLane, FitsDelivery, FitsLane, FitLanes, works_of}
 use Rattle.rv_bind.specs.declared.bindings.Monitor.{Monitor}
 use Rattle.rv_bind.specs.Compiling.{IsTableOf}
-use Rattle.rv_bind.specs.WellFormed.{Kind, kind_of, kinds_of, FitsAtoms, FitsSpec, HasTable, HaveTables}
-use Rattle.rv_bind.proofs.TableLemmas.{labelled}
+use Rattle.rv_bind.specs.WellFormed.{Kind, kind_of, kinds_of, HasTable, HaveTables}
+use Rattle.rv_shown.proofs.FitLemmas.{rule-fits}
 use Rattle.rv_route.specs.Fitting.{FitsKindOf, WorksFit}
 use Rattle.rv_verdicts.specs.Lone.{IsByCpu}
 use Rattle.rv_tool.specs.Inputs.{opened, HasCpus}
@@ -73,23 +68,6 @@ at_place (m ∷ monitors) (t ∷ tables) tasks (suc place) kind there h =
 
 -- ---- deliveries
 
-run_of : (mode : Mode) → mode ≢ modes.Start → IsRun mode
-run_of modes.Event h = tt
-run_of modes.Start h = absurd (h refl)
-run_of modes.StartRun h = tt
-
--- a change of atoms fits a table with labels
-label_fits : (nodes : List Node) (count : ℕ) (mode : Mode) (what : What) → mode ≢ modes.Start → FitsAtoms count what → FitsKind (of_labels nodes) mode what
-label_fits nodes count mode (whats.Da event) run fits = absurd fits
-label_fits nodes count mode (whats.Ltl on off pulse) run fits = run_of mode run
-
-hit_fits : (spec : Spec) (t : Table) (mode : Mode) (what : What) → IsTableOf spec t → FitsSpec spec (record { mode = mode; what = what }) → FitsKind t mode what
-hit_fits (specs.Ltl rule) t mode what is fits =
-    let labels = labelled rule.formula t is in
-    subst (λ (u : Table). FitsKind u mode what) (sym labels.1) (label_fits labels.0 (length rule.atoms) mode what fits.0 fits.1)
-hit_fits (specs.Da a) t mode (whats.Da event) is fits = subst (λ (u : Table). FitsKind u mode (whats.Da event)) (sym is) fits
-hit_fits (specs.Da a) t mode (whats.Ltl on off pulse) is fits = absurd fits
-
 -- the work of a lane
 pub get_or-works : (lanes : List LaneValue) (i : ℕ) (d : LaneValue) → get_or (works_of lanes) i d.work ≡ (get_or lanes i d).work
 get_or-works [] i d = refl
@@ -111,7 +89,7 @@ module _ (monitors : List Monitor) (tables : List Table) (tasks : ℕ) (have : H
       record {
         monitor = at.below;
         instance_fits = small;
-        hit = hit_fits f.kind.spec (table_at (opened monitors tables tasks) (slot_of shape d.monitor d.instance)) d.hit.mode d.hit.what
+        hit = rule-fits f.kind.spec (table_at (opened monitors tables tasks) (slot_of shape d.monitor d.instance)) d.hit
             (subst (λ n. IsTableOf f.kind.spec (slice_index_or tables n no_table)) (sym monitor) at.table.compiles.is) f.hit;
       }
 

@@ -1,27 +1,32 @@
 -- What is read can be recorded where its monitors are narrow, and what is recorded has the journal of a legal history.
-use Rattle.std.proofs.Common.{◌≡◌, ◌≢◌, ℕ, ◌+◌, ◌<◌, ◌≤◌, ◌^◌, ◌%◌, ◌==◌, Bool, true, false, List, [], ◌∷◌, length, refl, sym, ap, ◌∙◌, subst, arith}
-use Rattle.std.specs.Prelude.{◌↔◌, IsTrue, nat_le, ◌&&◌, not, Option, Some, Err, All, AllPairs}
-use Rattle.std.specs.List.{AllZip}
+use Rattle.std.proofs.Common.{◌≡◌, ◌≢◌, ℕ, ◌+◌, ◌<◌, ◌≤◌, ◌^◌, ◌%◌, ◌==◌, Bool, true, false, List, [], ◌∷◌, map, length, refl, sym, ap, ◌∙◌, subst, arith}
+use Rattle.std.specs.Prelude.{◌↔◌, IsTrue, nat_le, ◌&&◌, not, Option, Some, Result, Ok, Err, All, AllPairs, if◌then◌else◌}
+use Rattle.std.specs.List.{AllZip, list_any}
 use Rattle.std.proofs.Math.Nat.{div-eq_of_lt}
 use Rattle.std.proofs.lemmas.Bool.Decides.{nat_tests}
-use Rattle.rv_text.specs.declared.refusals.Refusal.{Refusal}
-use Rattle.rv_text.specs.declared.refusals.Refused.TheVariants as refuseds
+use Rattle.std.proofs.lemmas.List.Elements.{All-nil, All-cons}
 use Rattle.rv_io.specs.Files.{Files}
 use Rattle.rv_model.specs.declared.entry.Entry.{Entry}
+use Rattle.rv_model.specs.declared.formula.Spec.{Spec}
 use Rattle.rv_model.specs.declared.reactor.Reactor.{Reactor}
 use Rattle.rv_model.specs.declared.reactor.Reactor.TheVariants as reactors
-use Rattle.rv_model.specs.Histories.{Input, IsLegal}
+use Rattle.rv_model.specs.Histories.{Input, IsLegal, AreJudges}
 use Rattle.rv_model.specs.Numbers.{has_bit, number_of}
+use Rattle.rv_model.specs.Records.{records_of, status_of}
 use Rattle.rv_model.specs.Setups.{Setup}
 use Rattle.rv_model.specs.Table.{Table}
 use Rattle.rv_model.specs.Works.{Work}
 use Rattle.rv_model.proofs.NumberLemmas.{number_of-lt}
 use Rattle.rv_table.specs.Rows.{row_count}
-use Rattle.rv_core.specs.Setup.{judges_of}
+use Rattle.rv_core.specs.Judged.{AllMean}
+use Rattle.rv_core.specs.Setup.{IsSetup, judges_of}
 use Rattle.rv_bind.specs.declared.bindings.Monitor.{Monitor}
+use Rattle.rv_text.specs.declared.refusals.Refusal.{Refusal}
+use Rattle.rv_text.specs.Readings.{refused_with}
 use Rattle.rv_bind.specs.declared.fault.BindFault.{BindFault}
 use Rattle.rv_bind.specs.declared.fault.BindFault.TheVariants as faults
-use Rattle.rv_bind.specs.Outcomes.{Names, refused, of_file}
+use Rattle.rv_bind.specs.Values.{OnValue}
+use Rattle.rv_bind.specs.Outcomes.{Names, of_file, refused, IsFaultOf}
 use Rattle.rv_bind.proofs.ReachedLemmas.{step_named}
 use Rattle.rv_control.specs.Opening.{enables, opening_switches}
 use Rattle.rv_feed.specs.Lane.{works_of, is_panic_reactor}
@@ -29,7 +34,7 @@ use Rattle.rv_journal.specs.EntryTexts.{journal_of, IsEntry}
 use Rattle.rv_journal.specs.Running.{FitsCountedWork, recorded_input, IsLegalBy}
 use Rattle.rv_shown.specs.Fitting.{IsOpened}
 use Rattle.rv_shown.specs.Numbered.{atom_count, IsNarrowMonitor, IsNumbered}
-use Rattle.rv_shown.specs.Shown.{IsShownWork}
+use Rattle.rv_shown.specs.Shown.{IsShownWork, have_ends}
 use Rattle.rv_shown.specs.Whole.{IsWholeRun}
 use Rattle.rv_shown.proofs.FitLemmas.{shown_fit, shown_ascend, shown_of-works, numbered-calm}
 use Rattle.rv_verdicts.specs.Exits.{exit_of}
@@ -38,10 +43,10 @@ use Rattle.rv_verdicts.specs.Verdicts.{IsSteady}
 use Rattle.rv_verdicts.proofs.ExitLemmas.{status_is_seen}
 use Rattle.rv_verdicts.proofs.ShownLemmas.{shown_is_enough}
 use Rattle.rv_tool.specs.declared.input.Ready.{Ready}
+use Rattle.rv_tool.specs.Inputs.{InputValue, run_input, run_of}
 use Rattle.rv_tool.specs.declared.recording.TheConstants.{NOT_NUMBERED}
-use Rattle.rv_tool.specs.Faults.{IsFaultIn, Tells}
-use Rattle.rv_tool.specs.Inputs.{run_input, run_of}
-use Rattle.rv_tool.specs.Journals.{is_narrow, are_narrow, numbered, numbered_input, IsJournalReport, IsToRecord}
+use Rattle.rv_tool.specs.Faults.{Tells}
+use Rattle.rv_tool.specs.Journals.{is_narrow, are_narrow, ends_instances, numbered, numbered_input, IsJournalReport, IsToRecord}
 use Rattle.rv_tool.specs.Ready.{ready_value, IsReady}
 use Rattle.rv_tool.proofs.VerdictLemmas.{calm}
 
@@ -100,25 +105,43 @@ numbered_so monitors tables false so = go (are_narrow monitors tables) refl
   where
     go : (b : Bool) → are_narrow monitors tables ≡ b → are_narrow monitors tables ≡ false
     go false e = e
-    go true e = let other : false ≡ true = so.1 (numbered_by monitors tables e) in absurd (cc)
+    go true e = let no : false ≡ true = so.1 (numbered_by monitors tables e) in absurd (cc)
 
-module _ (ready : Ready) (given : List Monitor) (had : List Table) (told : Bool) (given_are : given ≡ ready.bindings.monitors.items) (had_are : had ≡ ready.setup.tables) (so : IsTrue told ↔ IsNumbered given had) where
-  -- what is answered of what is ready
-  pub ready_so : are_narrow ready.bindings.monitors.items ready.setup.tables ≡ told
-  ready_so = (λ i. are_narrow (sym given_are i) (sym had_are i)) ∙ numbered_so given had told so
+-- a refusal of the bindings is what is told of it
+refused_told : (bindings : List ℕ) (refusal : Refusal) (fault : BindFault) → IsFaultOf fault bindings refusal → Tells ready_value (Err fault) (of_file bindings (Err refusal))
+refused_told bindings refusal faults.Memory is = tt
+refused_told bindings refusal (faults.Refused named given) is = λ i. refused (sym is.0 i) (sym is.1 i)
+refused_told bindings refusal (faults.Unread named) is = absurd is
 
-  -- where it is yes, the run can be recorded
+module _ (ready : Ready) (given : List Monitor) (had : List Table) (told : Bool) (rules : List OnValue) (ends : Bool)
+    (given_are : given ≡ ready.bindings.monitors.items) (had_are : had ≡ ready.setup.tables) (rules_are : rules ≡ ready.bindings.rules.items)
+    (so : IsTrue told ↔ IsNumbered given had) (ends_are : ends ≡ list_any ends_instances rules) where
+  -- the test by what is answered of what is ready
+  test_is : (are_narrow ready.bindings.monitors.items ready.setup.tables && not (list_any ends_instances ready.bindings.rules.items)) ≡ (told && not ends)
+  test_is =
+      let narrow : are_narrow ready.bindings.monitors.items ready.setup.tables ≡ told = (λ i. are_narrow (sym given_are i) (sym had_are i)) ∙ numbered_so given had told so in
+      let ended : list_any ends_instances ready.bindings.rules.items ≡ ends = ap (list_any ends_instances) (sym rules_are) ∙ sym ends_are in
+      λ i. narrow i && not (ended i)
+
+  abbrev by_test : Bool → Result InputValue Refusal
+  by_test b = if b then Ok (ready_value ready) else refused_with NOT_NUMBERED
+
+  number_is : (b : Bool) → (told && not ends) ≡ b → numbered (ready_value ready) ≡ by_test b
+  number_is b e = ap by_test (test_is ∙ e)
+
+  -- where it is yes and no rule ends an instance, the run can be recorded
   pub may_record : IsReady ready → ready.changes.items ≡ [] → told ≡ true → IsToRecord ready
-  may_record is unchanged told_so = record { ready = is; unchanged = unchanged; numbered = subst (λ (z : List Monitor × List Table). IsNumbered z.0 z.1) (λ i. (given_are i, had_are i)) (so.0 told_so) }
+  may_record is unchanged on = record { ready = is; unchanged = unchanged; numbered = subst (λ (z : List Monitor × List Table). IsNumbered z.0 z.1) (λ i. (given_are i, had_are i)) (so.0 on) }
+
+  pub ready_told : (bindings : List ℕ) → told ≡ true → ends ≡ false → Tells ready_value (Ok ready) (of_file bindings (numbered (ready_value ready)))
+  ready_told bindings on goes = ap (of_file bindings) (number_is true (rw (on, goes) refl))
+
+  -- and else it is refused
+  pub not_told : (bindings : List ℕ) (fault : BindFault) → (told && not ends) ≡ false → IsFaultOf fault bindings (record { number = NOT_NUMBERED; line = 0 }) → Tells ready_value (Err fault) (of_file bindings (numbered (ready_value ready)))
+  not_told bindings fault off is =
+      subst (λ (r : Result InputValue Refusal). Tells ready_value (Err fault) (of_file bindings r)) (sym (number_is false off)) (refused_told bindings (record { number = NOT_NUMBERED; line = 0 }) fault is)
 
 -- ---- what a reading comes to
-
--- a refusal that was told of the bindings is what an input comes to whose monitors are not narrow
-pub unnumbered_tells : (ready : Ready) (bindings : List ℕ) (refusal : Refusal) (fault : BindFault) → are_narrow ready.bindings.monitors.items ready.setup.tables ≡ false → refusal ≡ record { number = NOT_NUMBERED; line = 0 }
-    → IsFaultIn bindings (refuseds.Because refusal) fault → Tells ready_value (Err fault) (of_file bindings (numbered (ready_value ready)))
-unnumbered_tells ready bindings refusal faults.Memory wide is said = tt
-unnumbered_tells ready bindings refusal (faults.Refused file told) wide is said = rw wide (λ j. refused (sym said.0 j) ((sym is ∙ sym said.1) j))
-unnumbered_tells ready bindings refusal (faults.Unread file) wide is said = absurd said
 
 -- what the bindings and the trace name, the whole names
 pub numbered_named : (told : Option Files) (X Z : Type 0) (bindings trace : List ℕ) (fault : BindFault) → Names {X = X} told (Err fault) (λ files. run_input files bindings trace)
@@ -140,8 +163,8 @@ module _ (ready : Ready) (is : IsToRecord ready) (shown : List Work) (are : AllZ
   opened_so = record { shape = ap (λ (s : Setup). s.shape) is.ready.setup; tables = is.ready.tables; starts = ap (λ (s : Setup). s.starts) is.ready.setup }
 
   -- what is shown can be recorded
-  pub shown_fits : All (FitsCountedWork ready.setup) shown
-  shown_fits = shown_fit ready.bindings.monitors.items (length ready.tasks) ready.setup (works_of ready.lanes.items) shown opened_so is.numbered is.ready.routed are
+  pub shown_fits : have_ends shown ≡ false → All (FitsCountedWork ready.setup) shown
+  shown_fits goes = shown_fit ready.bindings.monitors.items (length ready.tasks) ready.setup (works_of ready.lanes.items) shown opened_so is.numbered is.ready.routed are goes
 
   pub shown_ascends : AllPairs (λ (v w : Work). v.cpu < w.cpu) shown
   shown_ascends = shown_ascend ready.setup.switches (works_of ready.lanes.items) shown is.ready.routed.cpus are

@@ -1,4 +1,5 @@
 -- What `journal` prints of a run: the journal of a legal history of it.
+use Rattle.std.specs.List.{list_any}
 use Rattle.std.specs.Prelude.{◌≡◌, ℕ, ◌+◌, nat_le, Bool, true, false, ◌&&◌, not, List, [], ◌∷◌, All, Some, Result, Ok, if◌then◌else◌}
 use Rattle.rv_text.specs.declared.refusals.Refusal.{Refusal}
 use Rattle.rv_text.specs.Readings.{refused_with}
@@ -7,10 +8,12 @@ use Rattle.rv_model.specs.declared.entry.Entry.{Entry}
 use Rattle.rv_model.specs.Histories.{IsLegal, AreJudges}
 use Rattle.rv_model.specs.Judging.{Judge}
 use Rattle.rv_model.specs.Records.{records_of, status_of}
+use Rattle.rv_model.specs.Scripts.{is_end}
 use Rattle.rv_model.specs.Table.{Table}
 use Rattle.rv_table.specs.Rows.{row_count}
 use Rattle.rv_bind.specs.declared.bindings.Monitor.{Monitor}
 use Rattle.rv_bind.specs.Outcomes.{Outcome, reading, of_file}
+use Rattle.rv_bind.specs.Values.{OnValue}
 use Rattle.rv_feed.specs.Lane.{is_panic_reactor}
 use Rattle.rv_journal.specs.EntryTexts.{journal_of, IsEntry}
 use Rattle.rv_shown.specs.Numbered.{atom_count, IsNumbered}
@@ -33,9 +36,13 @@ are_narrow [] (t ∷ tables) = false
 are_narrow (m ∷ monitors) [] = false
 are_narrow (m ∷ monitors) (t ∷ tables) = is_narrow m t && are_narrow monitors tables
 
--- the input, where its monitors are narrow, or the refusal
+-- the rule ends the instances of its monitor
+abbrev pub ends_instances : OnValue → Bool
+ends_instances r = is_end r.hit.mode
+
+-- the input, where its monitors are narrow and no rule ends an instance, or the refusal
 abbrev pub numbered : InputValue → Result InputValue Refusal
-numbered i = if are_narrow i.bound.monitors i.bound.tables then Ok i else refused_with NOT_NUMBERED
+numbered i = if are_narrow i.bound.monitors i.bound.tables && not (list_any ends_instances i.bound.rules) then Ok i else refused_with NOT_NUMBERED
 
 -- the bindings and the trace, and then whether the bindings' monitors can be numbered
 abbrev pub numbered_input : Files → List ℕ → List ℕ → Outcome InputValue

@@ -86,7 +86,7 @@ fn opening(
     tables: Vec<Table>,
 ) -> Result<Setup, AllocError>
     requires monitors { length monitors.now ≤ 32 }
-    requires tasks { tasks ≤ 4096 }
+    requires tasks { tasks ≤ 65536 }
     requires tables { HaveTables (kinds_of monitors.now) tables.items }
     ensures { IfOk result (λ setup. setup ≡ opened monitors.now tables.items tasks) }
 {

@@ -1,26 +1,45 @@
 //! A run on several threads whose entries are numbered and printed.
 ghost use Rattle.std.specs.Prelude.{◌≡◌, ◌≤◌, [], true, IfOk};
-ghost use Rattle.rv_bind.specs.Outcomes.{Comes, Names, of_file};
+ghost use Rattle.std.specs.List.{list_any};
+ghost use Rattle.rv_bind.specs.Outcomes.{Comes, Names, of_file, IsFaultOf};
 ghost use Rattle.rv_tool.specs.Faults.{Tells};
-ghost use Rattle.rv_tool.specs.Journals.{numbered, numbered_input, IsJournalReport, IsToRecord};
+ghost use Rattle.rv_tool.specs.Journals.{numbered, numbered_input, ends_instances, IsJournalReport, IsToRecord};
 ghost use Rattle.rv_tool.specs.Ready.{ready_value, IsReady};
 
 use crate::checking::works;
 use crate::input::{Ready, read_input};
 use crate::replaying::Done;
 use crate::trace_text::refused;
-use rv_bind::BindFault;
+use rv_bind::{BindFault, On};
 use rv_io::{Gate, Store};
 use rv_journal::{journal_text, record_run};
-use rv_shown::{exit_status, is_numbered, shown_works, widths_of};
+use rv_shown::{exit_status, have_ends, is_numbered, shown_works, widths_of};
 use rv_text::{Refusal, Refused};
 use std::alloc::{AllocError, Global};
 use std::thread::Threads;
 
-/// The rows and the atoms of a monitor are more than 32 together, or its reactor is panic.
+/// The rows and the atoms of a monitor are more than 32 together, its reactor is panic, or a rule ends its instances.
 pub const NOT_NUMBERED: u8 = 34;
 
-/// What is ready, where its monitors can be numbered.
+/// Whether some rule ends the instances of its monitor.
+fn end_instances(rules: &[On]) -> bool
+    ensures { result ≡ list_any ends_instances rules.now }
+{
+    rules.iter().any(|rule| rule.hit.mode.is_end())
+}
+
+/// The bindings are refused.
+fn not_numbered(alloc: Global, bindings: &str) -> BindFault
+    ensures { IsFaultOf result bindings.now (record { number = NOT_NUMBERED; line = 0 }) }
+{
+    refused(
+        alloc,
+        bindings,
+        Refused::Because(Refusal::whole(NOT_NUMBERED)),
+    )
+}
+
+/// What is ready, where its monitors can be numbered and no rule ends an instance.
 fn numbered(alloc: Global, bindings: &str, ready: Ready) -> Result<Ready, BindFault>
     requires ready { IsReady ready }
     requires unchanged { ready.changes.items ≡ [] }
@@ -29,14 +48,14 @@ fn numbered(alloc: Global, bindings: &str, ready: Ready) -> Result<Ready, BindFa
 {
     let monitors = ready.bindings.monitors.as_slice();
     let narrow = is_numbered(monitors, ready.setup.tables.as_slice());
+    let ends = end_instances(ready.bindings.rules.as_slice());
+    if ends {
+        return Err(not_numbered(alloc, bindings));
+    }
     if narrow {
         Ok(ready)
     } else {
-        Err(refused(
-            alloc,
-            bindings,
-            Refused::Because(Refusal::whole(NOT_NUMBERED)),
-        ))
+        Err(not_numbered(alloc, bindings))
     }
 }
 
@@ -79,6 +98,10 @@ pub(crate) fn recorded<R: Threads + Sync, G: Gate + Send>(
     setup.known();
     let works = works(alloc, lanes)?;
     let shown = shown_works(alloc, setup.switches, works)?;
+    if have_ends(shown.as_slice()) {
+        // No rule ends an instance, so no delivery does.
+        return Err(AllocError);
+    }
     let widths = widths_of(alloc, bindings.monitors.as_slice(), &setup)?;
     let recorded = record_run(rt, alloc, setup, widths, shown, gate)?;
     let text = journal_text(alloc, recorded.entries.as_slice())?;

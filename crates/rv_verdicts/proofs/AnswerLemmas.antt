@@ -7,9 +7,11 @@ use Rattle.rv_model.specs.declared.entry.Entry.{Entry}
 use Rattle.rv_model.specs.declared.hit.Hit.{Hit}
 use Rattle.rv_model.specs.Judging.{Judge}
 use Rattle.rv_model.specs.Phases.{Phase, level, level_after, letter_at, phase_of, phase_after, turn}
+use Rattle.rv_model.specs.Scripts.{hit_act}
 use Rattle.rv_model.specs.Setups.{Setup, judge_of, start_of}
 use Rattle.rv_model.specs.SharedWords.{answer_at}
 use Rattle.rv_model.specs.Slots.{on_slot}
+use Rattle.rv_model.proofs.HitLemmas.{by_hit}
 use Rattle.rv_model.proofs.SlotLemmas.{levels-on, phases-on}
 
 -- an entry of which the act alone is kept
@@ -36,13 +38,17 @@ phase-bare j start (e ∷ past) i =
 abbrev pub acts_on : ℕ → List Entry → List Entry
 acts_on i past = bares (on_slot i past)
 
+-- what an act answers after a past
+abbrev answer_alone : Setup → List Judge → List Entry → Act → Answer
+answer_alone s js past act = answer_at s js past (bare act) act
+
 -- a slot's answer to a hit after a past
 abbrev pub answer_by : Setup → List Judge → ℕ → List Entry → Hit → Answer
-answer_by s js i past hit = answer_at s js past (bare (Deliver i hit)) (Deliver i hit)
+answer_by s js i past hit = answer_alone s js past (hit_act i hit)
 
--- an entry's answer is the slot's answer after the acts on it
-pub answer-on : (s : Setup) (js : List Judge) (i : ℕ) (past : List Entry) (e : Entry) (hit : Hit) → e.act ≡ Deliver i hit → answer_at s js past e e.act ≡ answer_by s js i (acts_on i past) hit
-answer-on s js i past e hit act =
+-- a delivery's answer is that after the acts on its slot
+delivered-on : (s : Setup) (js : List Judge) (i : ℕ) (past : List Entry) (e : Entry) (hit : Hit) → e.act ≡ Deliver i hit → answer_at s js past e e.act ≡ answer_alone s js (acts_on i past) (Deliver i hit)
+delivered-on s js i past e hit act =
     let j : Judge = judge_of s js i in
     let start : ℕ = start_of s i in
     let before : (atom : ℕ) → level start past i atom ≡ level start (acts_on i past) i atom = λ atom. levels-on start past i atom ∙ level-bare start (on_slot i past) i atom in
@@ -52,3 +58,7 @@ answer-on s js i past e hit act =
     ap (answer_at s js past e) act
     ∙ ap (λ (on : ℕ → Bool). (turn j (phase_of j start past i) hit.mode (letter_at on hit.what)).0) levels
     ∙ ap (λ (p : Phase). (turn j p hit.mode (letter_at (level start (bare (Deliver i hit) ∷ acts_on i past) i) hit.what)).0) phases
+
+-- an entry's answer to a hit is the slot's answer after the acts on it; an end has always the same
+pub answer-on : (s : Setup) (js : List Judge) (i : ℕ) (past : List Entry) (e : Entry) (hit : Hit) → e.act ≡ hit_act i hit → answer_at s js past e e.act ≡ answer_by s js i (acts_on i past) hit
+answer-on s js i past e hit = by_hit (λ act. e.act ≡ act → answer_at s js past e e.act ≡ answer_alone s js (acts_on i past) act) i hit (λ act. ap (answer_at s js past e) act) (delivered-on s js i past e hit)

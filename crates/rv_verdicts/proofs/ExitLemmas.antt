@@ -7,7 +7,7 @@ use Rattle.std.proofs.lemmas.List.{reverse-append}
 use Rattle.std.proofs.lemmas.List.Elements.{All-head, All-tail, All-weaker}
 use Rattle.std.proofs.lemmas.List.Folds.{list_any-append, list_any-from_Any}
 use Rattle.rv_model.specs.declared.entry.Act.{Act}
-use Rattle.rv_model.specs.declared.entry.Act.TheVariants.{Deliver, Stop, Look, Raise, Lower, Clear}
+use Rattle.rv_model.specs.declared.entry.Act.TheVariants.{Deliver, Stop, Look, Raise, Lower, Clear, End}
 use Rattle.rv_model.specs.declared.entry.Entry.{Entry}
 use Rattle.rv_model.specs.declared.record.Delivered.{Delivered}
 use Rattle.rv_model.specs.Histories.{Input, IsLegal}
@@ -122,6 +122,7 @@ failed-entry s js past e Look = refl
 failed-entry s js past e (Raise bits) = refl
 failed-entry s js past e (Lower bits) = refl
 failed-entry s js past e (Clear slot) = refl
+failed-entry s js past e (End slot) = refl
 
 -- failures of the past
 failed-past : (s : Setup) (js : List Judge) (past : List Entry) → has_outcome s js failed_outcome past ≡ has_failed s js past
@@ -136,6 +137,7 @@ stop-entry s js past e Look = refl
 stop-entry s js past e (Raise bits) = refl
 stop-entry s js past e (Lower bits) = refl
 stop-entry s js past e (Clear slot) = refl
+stop-entry s js past e (End slot) = refl
 
 -- stops of the past
 stop-past : (s : Setup) (js : List Judge) (past : List Entry) → has_outcome s js racing_outcome past ≡ has_stop past

@@ -3,7 +3,7 @@ use Rattle.std.proofs.Common.{◌≡◌, ℕ, Bool, true, false, ◌==◌, List,
 use Rattle.std.specs.Prelude.{filter, MatchBool, slice_range}
 use Rattle.std.specs.List.{AllZip}
 use Rattle.rv_model.specs.declared.entry.Act.{Act}
-use Rattle.rv_model.specs.declared.entry.Act.TheVariants.{Deliver, Stop}
+use Rattle.rv_model.specs.declared.entry.Act.TheVariants.{Stop}
 use Rattle.rv_model.specs.declared.entry.Answer.{Answer}
 use Rattle.rv_model.specs.declared.entry.Answer.TheVariants.{Looked}
 use Rattle.rv_model.specs.declared.entry.Entry.{Entry}
@@ -16,9 +16,11 @@ use Rattle.rv_model.specs.Judging.{Judge}
 use Rattle.rv_model.specs.Numbers.{has_bit}
 use Rattle.rv_model.specs.Records.{record_of, outcome_of, look_word, is_look, is_delivery, until_look, from_look, turn_records, script_records}
 use Rattle.rv_model.specs.ScriptParts.{records_in, turn_lists}
-use Rattle.rv_model.specs.Scripts.{Played, is_shown, Makes, Delivers, PlaysTurns}
+use Rattle.rv_model.specs.Scripts.{Played, is_shown, hit_act, Makes, Delivers, PlaysTurns}
 use Rattle.rv_model.specs.Setups.{Setup, slot_of}
 use Rattle.rv_model.proofs.AgreeLemmas.{match-both}
+use Rattle.rv_model.proofs.HitLemmas.{hit-not_look, hit-delivers}
+use Rattle.rv_verdicts.proofs.OwnerLemmas.{hit-on}
 use Rattle.rv_verdicts.proofs.SwitchLemmas.{opening_word, rest-of}
 use Rattle.rv_verdicts.proofs.ToldLemmas.{grown, Tells, TellsAt}
 
@@ -44,11 +46,11 @@ zip-append R (x ∷ a) (y ∷ b) c d h g = (h.0, zip-append R a b c d h.1 g)
 module _ (s : Setup) (d : Delivery) (p : Played) (makes : Makes s d p) where
   -- it is no look
   made-no_look : is_look p ≡ false
-  made-no_look = elim makes [ inl act ↦ rw act refl | inr act ↦ rw act refl ]
+  made-no_look = elim makes [ inl act ↦ rw act (hit-not_look (slot_of s.shape d.monitor d.instance) d.hit) | inr stop ↦ rw stop.1 refl ]
 
   -- it makes a delivery
   pub made-delivery : is_delivery p ≡ true
-  made-delivery = elim makes [ inl act ↦ rw act refl | inr act ↦ rw act refl ]
+  made-delivery = elim makes [ inl act ↦ rw act (hit-delivers (slot_of s.shape d.monitor d.instance) d.hit) | inr stop ↦ rw stop.1 refl ]
 
   -- its record comes before those of the rest of the turn
   pub made-record : (line look : ℕ) (ds : List Delivery) (ps : List Played) → records_in line look (d ∷ ds) (until_look (p ∷ ps)) ≡ record_of line look (d, p) ∷ records_in line look ds (until_look ps)
@@ -58,15 +60,15 @@ module _ (s : Setup) (d : Delivery) (p : Played) (makes : Makes s d p) where
   pub made-from : (ps : List Played) → from_look (p ∷ ps) ≡ from_look ps
   made-from ps = rw made-no_look refl
 
--- where its slot is not stopped, it is delivered
-made-act : (s : Setup) (d : Delivery) (p : Played) (slot : ℕ) → Makes s d p → slot_of s.shape d.monitor d.instance ≡ slot → ¬ (p.0.act ≡ Stop slot) → p.0.act ≡ Deliver slot d.hit
-made-act s d p slot (inl act) at free = act ∙ ap (λ (n : ℕ). Deliver n d.hit) at
-made-act s d p slot (inr act) at free = absurd (free (act ∙ ap Stop at))
+-- where its slot is not stopped, it is the act of its hit
+made-act : (s : Setup) (d : Delivery) (p : Played) (slot : ℕ) → Makes s d p → slot_of s.shape d.monitor d.instance ≡ slot → ¬ (p.0.act ≡ Stop slot) → p.0.act ≡ hit_act slot d.hit
+made-act s d p slot (inl act) at free = act ∙ ap (λ (n : ℕ). hit_act n d.hit) at
+made-act s d p slot (inr stop) at free = absurd (free (stop.1 ∙ ap Stop at))
 
 -- another slot is not the entry's
 made-off : (s : Setup) (d : Delivery) (p : Played) (slot : ℕ) → Makes s d p → (slot_of s.shape d.monitor d.instance == slot) ≡ false → is_on slot p.0.act ≡ false
-made-off s d p slot (inl act) off = ap (is_on slot) act ∙ off
-made-off s d p slot (inr act) off = ap (is_on slot) act ∙ off
+made-off s d p slot (inl act) off = ap (is_on slot) act ∙ hit-on (slot_of s.shape d.monitor d.instance) slot d.hit ∙ off
+made-off s d p slot (inr stop) off = ap (is_on slot) stop.1 ∙ off
 
 -- a script begins with a look, or is empty
 pub begins : (s : Setup) (panics : ℕ → Bool) (turns : List (List Delivery)) (ps : List Played) → PlaysTurns s panics turns ps → from_look ps ≡ ps

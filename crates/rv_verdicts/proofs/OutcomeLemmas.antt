@@ -1,4 +1,4 @@
--- The outcomes that records tell of are those of the deliveries and stops of the scripts.
+-- The outcomes that records tell of are those of the deliveries, stops and ends of the scripts.
 use Rattle.std.proofs.Common.{◌≡◌, ℕ, ◌^◌, Bool, true, false, ◌&&◌, ◌||◌, List, [], ◌∷◌, refl, sym, ap, ◌∙◌}
 use Rattle.std.specs.Prelude.{filter, flat_map, nat_le, slice_range}
 use Rattle.std.specs.List.{list_any}

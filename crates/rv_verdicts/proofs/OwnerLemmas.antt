@@ -7,16 +7,18 @@ use Rattle.rv_model.specs.declared.entry.Act.{Act}
 use Rattle.rv_model.specs.declared.entry.Act.TheVariants.{Look, Raise}
 use Rattle.rv_model.specs.declared.entry.Answer.{Answer}
 use Rattle.rv_model.specs.declared.entry.Entry.{Entry}
+use Rattle.rv_model.specs.declared.hit.Hit.{Hit}
 use Rattle.rv_model.specs.declared.work.Delivery.{Delivery}
 use Rattle.rv_model.specs.declared.work.Turn.{Turn}
 use Rattle.rv_model.specs.Histories.{Input, IsLegal, is_on, acts_of}
 use Rattle.rv_model.specs.Judging.{Judge}
 use Rattle.rv_model.specs.Numbers.{has_bit}
-use Rattle.rv_model.specs.Scripts.{Played, played, is_shown, fails, Makes, Delivers, PlaysTurns, Plays, turns_of}
+use Rattle.rv_model.specs.Scripts.{Played, played, is_shown, fails, hit_act, Makes, Delivers, PlaysTurns, Plays, turns_of}
 use Rattle.rv_model.specs.Setups.{Setup, slot_of}
 use Rattle.rv_model.specs.SharedWords.{answer_at}
 use Rattle.rv_model.specs.Works.{Work}
 use Rattle.rv_model.proofs.AgreeLemmas.{match-one}
+use Rattle.rv_model.proofs.HitLemmas.{by_hit}
 use Rattle.rv_model.proofs.SeatLemmas.{played-cut}
 use Rattle.rv_verdicts.specs.Lone.{is_named}
 
@@ -76,6 +78,10 @@ module _ {X : Type 0} (test : X → Bool) where
 
 -- ---- one script
 
+-- the act of a hit is on its slot alone
+pub hit-on : (slot other : ℕ) (hit : Hit) → is_on other (hit_act slot hit) ≡ (slot == other)
+hit-on slot other hit = by_hit (λ act. is_on other act ≡ (slot == other)) slot hit refl refl
+
 -- the only one of a list
 only-one : (front : List Played) (p : Played) (back : List Played) (x : Played) → front ++ p ∷ back ≡ x ∷ [] → p ≡ x
 only-one [] p back x e = cc
@@ -90,8 +96,8 @@ not-empty (x ∷ front) p back e = cc
 module _ (s : Setup) (panics : ℕ → Bool) (slot : ℕ) where
   -- an entry of a delivery is on the delivery's slot
   makes-on : (d : Delivery) (p : Played) → Makes s d p → is_on slot p.0.act ≡ true → (slot_of s.shape d.monitor d.instance == slot) ≡ true
-  makes-on d p (inl act) on = sym (ap (is_on slot) act) ∙ on
-  makes-on d p (inr act) on = sym (ap (is_on slot) act) ∙ on
+  makes-on d p (inl act) on = sym (ap (is_on slot) act ∙ hit-on (slot_of s.shape d.monitor d.instance) slot d.hit) ∙ on
+  makes-on d p (inr stop) on = sym (ap (is_on slot) stop.1) ∙ on
 
   -- an act on no slot
   off : (p : Played) (act : Act) → p.0.act ≡ act → is_on slot act ≡ false → is_on slot p.0.act ≡ true → ⊥

@@ -2,7 +2,7 @@
 use Rattle.std.proofs.Common.{◌≡◌, ◌≢◌, ℕ, Bool, true, false, List, [], ◌∷◌, reverse, arith, refl, sym, ◌∙◌}
 use Rattle.std.specs.Prelude.{if◌then◌else◌}
 use Rattle.rv_model.specs.declared.entry.Act.{Act}
-use Rattle.rv_model.specs.declared.entry.Act.TheVariants.{Deliver, Stop, Look, Raise, Lower, Clear}
+use Rattle.rv_model.specs.declared.entry.Act.TheVariants.{Deliver, Stop, Look, Raise, Lower, Clear, End}
 use Rattle.rv_model.specs.declared.entry.Entry.{Entry}
 use Rattle.rv_model.specs.Histories.{IsNoStop}
 use Rattle.rv_verdicts.specs.Exits.{has_failed, is_stop, has_stop}
@@ -23,6 +23,7 @@ no-stop Look free = refl
 no-stop (Raise _) free = refl
 no-stop (Lower _) free = refl
 no-stop (Clear _) free = refl
+no-stop (End _) free = refl
 
 -- a past without a Stop
 none-stopped : (past : List Entry) → Each IsFree past → has_stop past ≡ false

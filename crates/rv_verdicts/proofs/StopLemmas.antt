@@ -2,7 +2,7 @@
 use Rattle.std.proofs.Common.{◌≡◌, ℕ, ◌+◌, ◌≤◌, Bool, true, false, ◌==◌, ◌&&◌, List, [], ◌∷◌, ◌++◌, length, arith, refl, sym, ap, ◌∙◌, subst, append_assoc}
 use Rattle.std.specs.Prelude.{filter}
 use Rattle.rv_model.specs.declared.entry.Act.{Act}
-use Rattle.rv_model.specs.declared.entry.Act.TheVariants.{Deliver, Stop, Look, Raise, Lower, Clear}
+use Rattle.rv_model.specs.declared.entry.Act.TheVariants.{Deliver, Stop, Look, Raise, Lower, Clear, End}
 use Rattle.rv_model.specs.declared.entry.Entry.{Entry}
 use Rattle.rv_model.specs.Histories.{IsNoStop, IsEarnedBy, LostThrice, NoneOf, is_on, changed}
 use Rattle.rv_verdicts.specs.Lone.{LoneHasNoStop, AllLoneHaveNoStop}
@@ -67,6 +67,7 @@ no-stop-by-slot Look none = tt
 no-stop-by-slot (Raise _) none = tt
 no-stop-by-slot (Lower _) none = tt
 no-stop-by-slot (Clear _) none = tt
+no-stop-by-slot (End _) none = tt
 
 -- nothing stops anything where each slot is one CPU's alone
 pub all_lone_have_no_stop : AllLoneHaveNoStop

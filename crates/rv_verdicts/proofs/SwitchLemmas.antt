@@ -2,7 +2,7 @@
 use Rattle.std.proofs.Common.{◌≡◌, ℕ, ◌+◌, Bool, true, false, ◌&&◌, List, [], ◌∷◌, ◌++◌, inl, inr, reverse, refl, ap, ◌∙◌, subst}
 use Rattle.std.specs.Prelude.{filter, MatchBool}
 use Rattle.rv_model.specs.declared.entry.Act.{Act}
-use Rattle.rv_model.specs.declared.entry.Act.TheVariants.{Deliver, Stop, Look, Raise, Lower, Clear}
+use Rattle.rv_model.specs.declared.entry.Act.TheVariants.{Deliver, Stop, Look, Raise, Lower, Clear, End}
 use Rattle.rv_model.specs.declared.entry.Answer.{Answer}
 use Rattle.rv_model.specs.declared.entry.Entry.{Entry}
 use Rattle.rv_model.specs.declared.work.Delivery.{Delivery}
@@ -11,10 +11,11 @@ use Rattle.rv_model.specs.Histories.{Input, IsLegal}
 use Rattle.rv_model.specs.Judging.{Judge}
 use Rattle.rv_model.specs.Numbers.{has_bit, number_of}
 use Rattle.rv_model.specs.Scripts.{Played, played, is_shown, fails, Delivers, PlaysTurns, Plays, turns_of}
-use Rattle.rv_model.specs.Setups.{Setup}
+use Rattle.rv_model.specs.Setups.{Setup, slot_of}
 use Rattle.rv_model.specs.SharedWords.{answer_at, switch, switch_after, switches_of, word_on}
 use Rattle.rv_model.specs.Works.{Work}
 use Rattle.rv_model.proofs.AgreeLemmas.{match-one}
+use Rattle.rv_model.proofs.HitLemmas.{by_hit}
 use Rattle.rv_model.proofs.NumberLemmas.{number_of-same}
 use Rattle.rv_model.proofs.SeatLemmas.{played-cut}
 use Rattle.rv_verdicts.specs.Verdicts.{IsSteady}
@@ -47,7 +48,7 @@ module _ (s : Setup) (panics : ℕ → Bool) (calm : (monitor : ℕ) → panics 
   delivers-quiet : (look : ℕ) (ds : List Delivery) (after : List Played → Type 0) → ((front : List Played) (p : Played) (back : List Played) → after (front ++ p ∷ back) → is_quiet p.0.act ≡ true)
       → (front : List Played) (p : Played) (back : List Played) → Delivers s panics look ds after (front ++ p ∷ back) → is_quiet p.0.act ≡ true
   delivers-quiet look [] after later front p back h = later front p back h
-  delivers-quiet look (d ∷ ds) after later [] p back h = elim h.0 [ inl act ↦ rw act refl | inr act ↦ rw act refl ]
+  delivers-quiet look (d ∷ ds) after later [] p back h = elim h.0 [ inl act ↦ ap is_quiet act ∙ by_hit (λ act. is_quiet act ≡ true) (slot_of s.shape d.monitor d.instance) d.hit refl refl | inr stop ↦ rw stop.1 refl ]
   delivers-quiet look (d ∷ ds) after later (x ∷ front) p back h = delivers-quiet look ds after later front p back (rest-of d x look _ _ h.1)
 
   -- the entries of a script are quiet
@@ -69,6 +70,7 @@ switch-quiet b Look was quiet = refl
 switch-quiet b (Raise _) was quiet = absurd (let wrong : false ≡ true = quiet in cc)
 switch-quiet b (Lower _) was quiet = absurd (let wrong : false ≡ true = quiet in cc)
 switch-quiet b (Clear _) was quiet = refl
+switch-quiet b (End _) was quiet = refl
 
 -- the entry is quiet
 abbrev IsQuiet : List Entry → Entry → Type 0

@@ -2,7 +2,7 @@
 use Rattle.std.proofs.Common.{◌≡◌, ℕ, ◌+◌, Bool, true, false, ◌==◌, List, [], ◌∷◌, ◌++◌, reverse, arith, refl, sym, ap, ◌∙◌, subst}
 use Rattle.std.specs.Prelude.{Contains, if◌then◌else◌}
 use Rattle.rv_model.specs.declared.entry.Act.{Act}
-use Rattle.rv_model.specs.declared.entry.Act.TheVariants.{Deliver, Stop, Look}
+use Rattle.rv_model.specs.declared.entry.Act.TheVariants.{Stop, Look}
 use Rattle.rv_model.specs.declared.entry.Answer.{Answer}
 use Rattle.rv_model.specs.declared.entry.Answer.TheVariants.{Looked}
 use Rattle.rv_model.specs.declared.entry.Entry.{Entry}
@@ -10,14 +10,14 @@ use Rattle.rv_model.specs.declared.hit.Hit.{Hit}
 use Rattle.rv_model.specs.Cuts.{AtEach}
 use Rattle.rv_model.specs.Histories.{Input, IsLegal, is_on}
 use Rattle.rv_model.specs.Judging.{Judge}
-use Rattle.rv_model.specs.Scripts.{Played, played}
+use Rattle.rv_model.specs.Scripts.{Played, played, hit_act}
 use Rattle.rv_model.specs.Setups.{Setup}
 use Rattle.rv_model.specs.SharedWords.{answer_at}
 use Rattle.rv_model.specs.Works.{Work}
 use Rattle.rv_verdicts.specs.Lone.{is_named, IsLone}
 use Rattle.rv_verdicts.specs.Verdicts.{IsSteady}
 use Rattle.rv_verdicts.proofs.AnswerLemmas.{bare, acts_on, answer_by, answer-on}
-use Rattle.rv_verdicts.proofs.OwnerLemmas.{by-owner}
+use Rattle.rv_verdicts.proofs.OwnerLemmas.{hit-on, by-owner}
 use Rattle.rv_verdicts.proofs.PastLemmas.{Each, each-of, each-before}
 use Rattle.rv_verdicts.proofs.StopLemmas.{lone_has_no_stop}
 use Rattle.rv_verdicts.proofs.SwitchLemmas.{opening_word, look-opening}
@@ -31,7 +31,7 @@ module _ (s : Setup) (js : List Judge) (slot : ℕ) where
   pub record TellsAt (past : List Entry) (p : Played) : Type 0 where
     pub look : p.0.act ≡ Look → p.1 ≡ Looked (opening_word s)
     pub stop : ¬ (p.0.act ≡ Stop slot)
-    pub answer : (hit : Hit) → p.0.act ≡ Deliver slot hit → p.1 ≡ answer_by s js slot past hit
+    pub answer : (hit : Hit) → p.0.act ≡ hit_act slot hit → p.1 ≡ answer_by s js slot past hit
 
   -- each entry of a script does, after these acts on the slot
   abbrev pub Tells : List Entry → List Played → Type 0
@@ -59,11 +59,11 @@ module _ (s : Setup) (js : List Judge) (slot : ℕ) where
     abbrev IsOwn : List Entry → Entry → Type 0
     IsOwn past e = is_on slot e.act ≡ true → (e.seat == seat) ≡ true
 
-    -- a seat's look shows the opening switches, its entry is no Stop of the slot, and the slot is its own where it delivers to it
+    -- a seat's look shows the opening switches, its entry is no Stop of the slot, and the slot is its own where it has a hit on it
     pub record IsSettled (past : List Entry) (e : Entry) : Type 0 where
       pub look : e.act ≡ Look → e.after ≡ opening_word s
       pub stop : ¬ (e.act ≡ Stop slot)
-      pub own : (hit : Hit) → e.act ≡ Deliver slot hit → Each IsOwn past
+      pub own : (hit : Hit) → e.act ≡ hit_act slot hit → Each IsOwn past
 
     -- it is, where the entry is the seat's
     abbrev OwnIsSettled : List Entry → Entry → Type 0
@@ -123,7 +123,7 @@ module _ (input : Input) (js : List Judge) (h : List Entry) (legal : IsLegal inp
         stop = lone_has_no_stop input js h slot legal steady.no_changes lone before e after eq;
         own = λ hit act.
             let here : (slot == slot) ≡ true = grind arith in
-            let owner = by-owner input js h legal steady.no_changes slot before e after eq (ap (is_on slot) act ∙ here) in
+            let owner = by-owner input js h legal steady.no_changes slot before e after eq (ap (is_on slot) act ∙ hit-on slot slot hit ∙ here) in
             let seat : e.seat ≡ 2 + w.cpu = grind arith in
             each-before (IsOwn input.setup js slot (2 + w.cpu)) h before e after eq (own-at owner.by.work owner.by.has owner.named (2 + w.cpu) (sym owner.by.seat ∙ seat));
       }

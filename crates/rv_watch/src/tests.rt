@@ -1,8 +1,9 @@
 //! A watcher and a CPU that wait for each other at their gates, on a board of one instance. Its automaton has two states,
 //! and one event, which leads from the first to the second.
-ghost use Rattle.std.specs.Prelude.{◌≡◌, ◌<◌, ◌+◌, [], ◌∷◌, All, AllPairs, IfOk, length};
+ghost use Rattle.std.specs.Prelude.{◌≡◌, ◌<◌, ◌+◌, false, [], ◌∷◌, All, AllPairs, IfOk, length};
 ghost use Rattle.rv_model.specs.declared.hit.Mode.{Mode};
 ghost use Rattle.rv_model.specs.declared.hit.What.TheVariants.{Da};
+ghost use Rattle.rv_model.specs.Scripts.{is_end};
 ghost use Rattle.rv_core.specs.Advance.{FitsKind};
 ghost use Rattle.rv_core.specs.Setup.{table_at};
 ghost use Rattle.rv_feed.specs.Lane.{FitsLane};
@@ -104,7 +105,7 @@ fn turn_of(place: u32) -> Turn
 fn three_turns(alloc: Global) -> Result<CpuWork, AllocError>
     ensures cpu { IfOk result (λ work. work.cpu ≡ 0) }
     ensures lines { IfOk result (λ work. AllPairs (λ t u. t.line < u.line) work.turns) }
-    ensures deliveries { IfOk result (λ work. All (λ d. (d.monitor ≡ 0) × (d.instance ≡ 0) × (d.hit.what ≡ Da 0)) work.deliveries) }
+    ensures deliveries { IfOk result (λ work. All (λ d. (d.monitor ≡ 0) × (d.instance ≡ 0) × (is_end d.hit.mode ≡ false) × (d.hit.what ≡ Da 0)) work.deliveries) }
 {
     let mut turns = Vec::new(alloc);
     turns.push(turn_of(0))?;

@@ -1,6 +1,6 @@
 //! Histories of automata. The events of wip are preempt_disable 0, preempt_enable 1 and sched_waking 2;
 //! it begins in row 1, preemptive, and row 2 is non_preemptive.
-use crate::tests::given::Does::{Clear, Event, Start, StartRun, Stop};
+use crate::tests::given::Does::{Clear, End, Event, Start, StartRun, Stop};
 use crate::tests::given::{ROW_1, ROW_2, Step, WAITS, check_all, two_automata};
 use rv_model::Answer;
 use std::test::Fail;
@@ -172,6 +172,57 @@ fn a_stopped_instance_passes_all_until_it_is_cleared(rt: HostRuntime) -> Result<
                 (2, StartRun(0, 1), WAITS, Answer::Failed(2)),
                 (2, Stop(0), 0, Answer::Stopped),
                 (2, StartRun(0, 1), 0, Answer::Passed),
+            ],
+        ),
+    ];
+    check_all(&rt, rt.alloc(), &plan, &cases)?;
+    Ok(())
+}
+
+#[test]
+fn an_ended_instance_waits_again(rt: HostRuntime) -> Result<(), Fail> {
+    let plan = two_automata(rt.alloc())?;
+    let cases: [(&str, &[Step]); 5] = [
+        (
+            "a stop, passed events, an end, a start",
+            &[
+                (2, Start(0, 1), ROW_1, Answer::Started),
+                (2, Stop(0), 0, Answer::Stopped),
+                (2, Start(0, 1), 0, Answer::Passed),
+                (3, End(0), WAITS, Answer::Ended),
+                (2, Start(0, 1), ROW_1, Answer::Started),
+            ],
+        ),
+        (
+            "an end while it runs",
+            &[
+                (2, Start(0, 1), ROW_1, Answer::Started),
+                (2, Event(0, 0), ROW_2, Answer::Kept),
+                (2, End(0), WAITS, Answer::Ended),
+                (2, Event(0, 0), WAITS, Answer::Passed),
+                (2, Start(0, 1), ROW_1, Answer::Started),
+            ],
+        ),
+        (
+            "an end while it waits",
+            &[
+                (2, End(0), WAITS, Answer::Ended),
+                (3, End(0), WAITS, Answer::Ended),
+            ],
+        ),
+        (
+            "a stop after an end",
+            &[
+                (2, End(0), WAITS, Answer::Ended),
+                (2, Stop(0), 0, Answer::Stopped),
+            ],
+        ),
+        (
+            "an end of the other instance",
+            &[
+                (2, Start(0, 1), ROW_1, Answer::Started),
+                (3, End(1), WAITS, Answer::Ended),
+                (2, Event(0, 0), ROW_2, Answer::Kept),
             ],
         ),
     ];

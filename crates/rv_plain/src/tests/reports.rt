@@ -1,7 +1,7 @@
 //! Records and status of small histories of two CPUs, whose works have a delivery or two a turn.
 use crate::plan::Plan;
 use crate::records::status_of;
-use crate::tests::given::Does::{Event, Look, Raise, Start, StartRun, Stop};
+use crate::tests::given::Does::{End, Event, Look, Raise, Start, StartRun, Stop};
 use crate::tests::given::{Does, OPENING, act_of, two_automata};
 use crate::works::{names_each, work};
 use rv_model::{Act, Answer, CpuWork, Delivered, Delivery, Entry, Hit, Mode, Turn, What};
@@ -17,31 +17,29 @@ const MONITORING: u64 = 1 << 32;
 
 /// The delivery of this order: of the second monitor where the slot is its only one, else of the first.
 fn delivery(order: u32, does: Does) -> Delivery {
-    match act_of(does) {
-        Act::Deliver { slot: 2, hit } => Delivery {
-            order,
-            monitor: 1,
-            instance: 0,
-            hit,
-        },
-        Act::Deliver { slot, hit } => Delivery {
-            order,
-            monitor: 0,
-            instance: slot,
-            hit,
-        },
-        _ => {
-            let hit = Hit {
+    let (slot, hit) = match act_of(does) {
+        Act::Deliver { slot, hit } => (slot, hit),
+        Act::End { slot } => (
+            slot,
+            Hit {
+                mode: Mode::End,
+                what: What::Nothing,
+            },
+        ),
+        _ => (
+            0,
+            Hit {
                 mode: Mode::Event,
                 what: What::Da { event: 0 },
-            };
-            Delivery {
-                order,
-                monitor: 0,
-                instance: 0,
-                hit,
-            }
-        }
+            },
+        ),
+    };
+    let (monitor, instance) = if slot == 2 { (1, 0) } else { (0, slot) };
+    Delivery {
+        order,
+        monitor,
+        instance,
+        hit,
     }
 }
 
@@ -270,6 +268,85 @@ fn turns_may_be_cut_and_instances_stopped(rt: HostRuntime) -> Result<(), Fail> {
                 (3, 3, Delivered::Done(Answer::Kept), true),
             ],
             0,
+        ),
+    ];
+    check_all(&rt, rt.alloc(), &parts, &cases)?;
+    Ok(())
+}
+
+#[test]
+fn an_end_has_its_record_and_no_part_in_the_status(rt: HostRuntime) -> Result<(), Fail> {
+    let parts: [Part; 2] = [
+        (
+            0,
+            &[(1, 0, 2), (3, 2, 4)],
+            &[
+                (0, StartRun(0, 0)),
+                (1, Start(1, 1)),
+                (3, End(0)),
+                (4, Event(1, 0)),
+            ],
+        ),
+        (1, &[(2, 0, 1)], &[(2, End(1))]),
+    ];
+    let cases: [Case; 3] = [
+        (
+            "two ends",
+            &[
+                (2, Look, OPENING),
+                (2, StartRun(0, 0), 0),
+                (2, Start(1, 1), 0),
+                (3, Look, OPENING),
+                (3, End(1), 0),
+                (2, Look, OPENING),
+                (2, End(0), 0),
+                (2, Event(1, 0), 0),
+            ],
+            &[
+                (0, 1, Delivered::Done(Answer::Started), true),
+                (1, 1, Delivered::Done(Answer::Started), true),
+                (2, 2, Delivered::Done(Answer::Ended), true),
+                (3, 3, Delivered::Done(Answer::Ended), true),
+                (4, 3, Delivered::Done(Answer::Passed), true),
+            ],
+            0,
+        ),
+        (
+            "an end of an instance that was stopped",
+            &[
+                (2, Look, OPENING),
+                (2, Stop(0), 0),
+                (2, Start(1, 1), 0),
+                (2, Look, OPENING),
+                (2, End(0), 0),
+                (2, Event(1, 0), 0),
+            ],
+            &[
+                (0, 1, Delivered::Racing, true),
+                (1, 1, Delivered::Done(Answer::Started), true),
+                (3, 3, Delivered::Done(Answer::Ended), true),
+                (4, 3, Delivered::Done(Answer::Kept), true),
+            ],
+            6,
+        ),
+        (
+            "an end of a monitor that is off",
+            &[
+                (2, Look, OPENING),
+                (2, StartRun(0, 0), 0),
+                (2, Start(1, 1), 0),
+                (3, Look, 2 + MONITORING + REACTING),
+                (2, Look, OPENING),
+                (2, End(0), 0),
+                (2, Event(1, 2), 0),
+            ],
+            &[
+                (0, 1, Delivered::Done(Answer::Started), true),
+                (1, 1, Delivered::Done(Answer::Started), true),
+                (3, 3, Delivered::Done(Answer::Ended), true),
+                (4, 3, Delivered::Done(Answer::Failed(2)), true),
+            ],
+            1,
         ),
     ];
     check_all(&rt, rt.alloc(), &parts, &cases)?;

@@ -1,6 +1,6 @@
 //! Histories of rules. An atom's place is its letter's: A is 1, B is 2 in a set. A row's labels are its texts.
 use crate::plan::Plan;
-use crate::tests::given::Does::{Atoms, Clear, RunAtoms, Stop};
+use crate::tests::given::Does::{Atoms, Clear, End, RunAtoms, Stop};
 use crate::tests::given::{ROW_1, ROW_2, ROW_3, Step, WAITS, check_all, one_rule, rows};
 use rv_model::Answer;
 use std::alloc::{AllocError, Global};
@@ -115,6 +115,44 @@ fn a_clear_gives_the_starting_values_back(rt: HostRuntime) -> Result<(), Fail> {
             (2, Atoms(0, 0, 0), WAITS + 2, Answer::Passed),
             (2, Atoms(0, 2, 0), WAITS, Answer::Passed),
             (1, Clear(0), WAITS + 2, Answer::Cleared),
+            (2, RunAtoms(0, 0, 1), WAITS + 2, Answer::Failed(1)),
+        ],
+    )];
+    check_all(&rt, rt.alloc(), &plan, &cases)?;
+    Ok(())
+}
+
+#[test]
+fn an_end_gives_the_starting_values_back(rt: HostRuntime) -> Result<(), Fail> {
+    let plan = page_fault(&rt, rt.alloc(), 0)?;
+    let cases: [(&str, &[Step]); 2] = [
+        (
+            "all off at first",
+            &[
+                (2, RunAtoms(2, 0, 0), ROW_1 + 2, Answer::Started),
+                (2, End(0), WAITS, Answer::Ended),
+                (2, Atoms(0, 0, 1), WAITS, Answer::Passed),
+                (2, RunAtoms(0, 0, 1), ROW_1, Answer::Started),
+            ],
+        ),
+        (
+            "levels while it is stopped",
+            &[
+                (2, Atoms(2, 0, 0), WAITS + 2, Answer::Passed),
+                (2, Stop(0), 0, Answer::Stopped),
+                (2, Atoms(1, 0, 0), 0, Answer::Passed),
+                (3, End(0), WAITS, Answer::Ended),
+            ],
+        ),
+    ];
+    check_all(&rt, rt.alloc(), &plan, &cases)?;
+    let plan = page_fault(&rt, rt.alloc(), 2)?;
+    let cases: [(&str, &[Step]); 1] = [(
+        "one on at first",
+        &[
+            (2, Atoms(1, 2, 0), WAITS + 1, Answer::Passed),
+            (2, End(0), WAITS + 2, Answer::Ended),
+            (2, End(0), WAITS + 2, Answer::Ended),
             (2, RunAtoms(0, 0, 1), WAITS + 2, Answer::Failed(1)),
         ],
     )];

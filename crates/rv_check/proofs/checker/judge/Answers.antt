@@ -33,7 +33,7 @@ returns-in-Some-clause-judged c = λ lines k.
     let grown : RunValue = record r { history = r.history ++ e ∷ [] } in
     let when_taken : c.take-taken.result ≡ true → IsChecker new c.take-taken.result (lines ++ line ∷ []) = λ so.
     let same : new ≡ grown = taken so in
-    let entry = good-entry r lines line good e every c.known_entry.ensures c.in-Some.ensures.some (subst (λ (v : RunValue). BeginsRun v v.history) same begins) in
+    let entry = good-entry r lines line good e every c.in-Some.ensures.fits c.in-Some.ensures.some (subst (λ (v : RunValue). BeginsRun v v.history) same begins) in
     subst (λ (b : Bool). IsChecker new b (lines ++ line ∷ [])) (sym so) (subst (λ (v : RunValue). IsGood v (lines ++ line ∷ [])) (sym same) entry) in
     let when_not : c.take-taken.result ≡ false → IsChecker new c.take-taken.result (lines ++ line ∷ []) = λ not_so.
     let same : new ≡ r = kept not_so in

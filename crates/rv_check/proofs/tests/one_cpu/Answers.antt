@@ -9,4 +9,4 @@ new-requires c =
     let s = c.in_ok-setup.setup in
     let w : Work = c.in_ok-work.work in
     let items : c.push.new.self.items ≡ w ∷ [] = search rules in
-    subst (λ (ws : List Work). FitWorks s ws) (sym items) (one-work s c.in_ok-setup.ensures.shape c.in_ok-setup.ensures.table w c.in_ok-work.ensures.cpu c.in_ok-work.ensures.starts)
+    subst (λ (ws : List Work). FitWorks s ws) (sym items) (one-work s c.in_ok-setup.ensures.shape c.in_ok-setup.ensures.table w c.in_ok-work.ensures.cpu c.in_ok-work.ensures.given)

@@ -10,4 +10,4 @@ new-requires c =
     let w : Work = c.in_ok-first.first in
     let v : Work = c.in_ok-second.second in
     let items : c.push-2.new.self.items ≡ w ∷ v ∷ [] = search rules in
-    subst (λ (ws : List Work). FitWorks s ws) (sym items) (two-works s c.in_ok-setup.ensures.shape c.in_ok-setup.ensures.table w v c.in_ok-first.ensures.cpu c.in_ok-second.ensures.cpu c.in_ok-first.ensures.starts c.in_ok-second.ensures.starts)
+    subst (λ (ws : List Work). FitWorks s ws) (sym items) (two-works s c.in_ok-setup.ensures.shape c.in_ok-setup.ensures.table w v c.in_ok-first.ensures.cpu c.in_ok-second.ensures.cpu c.in_ok-first.ensures.given c.in_ok-second.ensures.given)

@@ -1,9 +1,29 @@
--- The board's delivery, to the slot of the instance.
-use Rattle.std.proofs.Common.{List, ℕ, ◌≡◌, ap, sym, ◌∙◌}
-use Rattle.rv_model.specs.Setups.{slot_of}
+-- The board's delivery or end, to the slot of the instance.
+use Rattle.std.proofs.Common.{List, ℕ, ◌≡◌, ◌<◌, true, false, ap, sym, ◌∙◌, sum, subst}
+use Rattle.rv_model.specs.Scripts.{is_end}
+use Rattle.rv_model.specs.Setups.{Setup, slot_of}
+use Rattle.rv_core.specs.Advance.{FitsHit, FitsTable}
+use Rattle.rv_core.specs.Setup.{table_at}
 use Rattle.rv_board.specs.Seats.{BoardId}
-use Rattle.rv_feed.proofs.AddLemmas.{serves}
+use Rattle.rv_feed.proofs.ActLemmas.{fits-delivered}
+use Rattle.rv_feed.proofs.AddLemmas.{serves, serves-end}
 use Rattle.rv_feed.proofs.feeder.serve.Goals as goal
+
+pub deliver-requires-clause-hit : goal.deliver-requires-clause-hit
+deliver-requires-clause-hit g c =
+    let d = c.args.delivery.now in
+    let s : Setup = c.args.board.now.setup in
+    let at : slot_of s.shape d.monitor d.instance ≡ c.slot-slot.result = sym (c.slot-slot.ensures.slot ∙ ap (λ (shape : List ℕ). slot_of shape d.monitor d.instance) c.shape.ensures) in
+    fits-delivered s c.slot-slot.result d.hit (sym c.is_end.ensures ∙ c.if-is_end.false) (subst (λ (n : ℕ). FitsHit (table_at s n) d.hit) at c.requires.fits.hit)
+
+pub returns-then-is_end : goal.returns-then-is_end
+returns-then-is_end g c =
+    let d = c.args.delivery.now in
+    let board : c.args.seat.now.board ≡ c.args.board.now = c.requires.board in
+    serves-end c.args.seat.now c.end.new.seat d c.slot-slot.result
+    (c.slot-slot.ensures.slot ∙ ap (λ (shape : List ℕ). slot_of shape d.monitor d.instance) c.shape.ensures ∙ ap (λ (b : BoardId). slot_of b.setup.shape d.monitor d.instance) (sym board))
+    (sym c.is_end.ensures ∙ c.if-is_end.true)
+    c.end.ensures
 
 pub returns : goal.returns
 returns g c =
@@ -11,4 +31,5 @@ returns g c =
     let board : c.args.seat.now.board ≡ c.args.board.now = c.requires.board in
     serves c.args.seat.now c.deliver.new.seat d c.slot-slot.result c.deliver.result
     (c.slot-slot.ensures.slot ∙ ap (λ (shape : List ℕ). slot_of shape d.monitor d.instance) c.shape.ensures ∙ ap (λ (b : BoardId). slot_of b.setup.shape d.monitor d.instance) (sym board))
+    (sym c.is_end.ensures ∙ c.if-is_end.false)
     c.deliver.ensures

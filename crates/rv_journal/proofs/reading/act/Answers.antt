@@ -1,5 +1,5 @@
 use Rattle.std.proofs.Common.{◌≡◌, Some, None, rules, ap, ◌∙◌}
-use Rattle.rv_model.specs.declared.entry.Act.TheVariants.{Stop, Raise, Lower, Clear}
+use Rattle.rv_model.specs.declared.entry.Act.TheVariants.{Stop, Raise, Lower, Clear, End}
 use Rattle.rv_journal.specs.declared.names.Verb.{Verb}
 use Rattle.rv_journal.specs.declared.names.Verb.TheVariants as verbs
 use Rattle.rv_journal.specs.EntryReadings.{first_by, verb_in, act_from, act_of}
@@ -46,3 +46,11 @@ returns-in_err-cleared-in-Clear c =
 
 pub returns-in_ok-cleared-in-Clear : goal.returns-in_ok-cleared-in-Clear
 returns-in_ok-cleared-in-Clear c = then-some act_of (c.in_ok-verb.ensures ∙ ap (λ (v : Verb). Some (v, c.next_verb.new.self)) c.in-Clear.is) ∙ then-some (λ n rest. Some (Clear n, rest)) c.in_ok-cleared-in-Clear.ensures
+
+pub returns-in_err-ended-in-End : goal.returns-in_err-ended-in-End
+returns-in_err-ended-in-End c =
+    let none : c.from_residual-in_err-ended-in-End.result ≡ None = search rules in
+    gives-none act_from _ _ _ none (then-some act_of (c.in_ok-verb.ensures ∙ ap (λ (v : Verb). Some (v, c.next_verb.new.self)) c.in-End.is) ∙ then-none (λ n rest. Some (End n, rest)) c.in_err-ended-in-End.ensures)
+
+pub returns-in_ok-ended-in-End : goal.returns-in_ok-ended-in-End
+returns-in_ok-ended-in-End c = then-some act_of (c.in_ok-verb.ensures ∙ ap (λ (v : Verb). Some (v, c.next_verb.new.self)) c.in-End.is) ∙ then-some (λ n rest. Some (End n, rest)) c.in_ok-ended-in-End.ensures

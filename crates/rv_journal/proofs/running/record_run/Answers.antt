@@ -1,6 +1,7 @@
 -- The lanes' lists are what the joined seat has seen, so the merged history is that of the run.
 use Rattle.std.proofs.Common.{◌≡◌, false, List, [], ◌++◌, length, sym, ◌∙◌, subst}
 use Rattle.std.specs.Prelude.{All, take, drop}
+use Rattle.rv_model.specs.declared.entry.Entry.{Entry}
 use Rattle.rv_model.specs.Numbers.{has_bit}
 use Rattle.rv_model.specs.Setups.{Setup}
 use Rattle.rv_core.proofs.JudgedLemmas.{are-judges}
@@ -8,8 +9,9 @@ use Rattle.rv_feed.proofs.AtOnceLemmas.{lent}
 use Rattle.rv_journal.specs.declared.feeding.CountedFeeder.{CountedFeeder}
 use Rattle.rv_journal.specs.CountedFeeders.{FitsCountedFeeder, RunsCounted}
 use Rattle.rv_journal.specs.CountedLanes.{CountedLaneValue}
-use Rattle.rv_journal.specs.EntryTexts.{IsEntry}
+use Rattle.rv_journal.specs.EntryTexts.{IsNoEnd, IsEntry}
 use Rattle.rv_journal.specs.Merging.{CanMerge}
+use Rattle.rv_journal.proofs.NoEndLemmas.{no-ends}
 use Rattle.rv_journal.proofs.RecordedLemmas.{all-fit, all-on, recorded-from, recorded-can-merge, whole-run}
 use Rattle.rv_journal.proofs.running.record_run.Goals as goal
 
@@ -39,6 +41,10 @@ merge-requires g c =
     let setup_is : board.setup ≡ c.args.setup = c.in_ok-board.ensures.board in
     let can = recorded-can-merge board last.part.seen first c.args.works.items fs fs' are c.requires.ascend (subst (λ (s : Setup). has_bit s.switches 34 ≡ false) (sym setup_is) c.requires.running) in
     subst (λ (z : Setup × List CountedLaneValue). CanMerge z.0 last.part.seen z.1) (λ i. (sym c.setup.ensures i, (sym joined.lanes_are ∙ sym c.as_slice.ensures.value) i)) can
+
+pub closed_of-closed-requires : goal.closed_of-closed-requires
+closed_of-closed-requires g c =
+    subst (All (λ (e : Entry). IsNoEnd e.act)) (sym c.as_slice-2.ensures.value) (no-ends c.setup.result.now c.in_ok-entries.entries.items c.in_ok-entries.ensures.fits)
 
 pub returns-clause-legal : goal.returns-clause-legal
 returns-clause-legal g c =

@@ -1,21 +1,49 @@
-use Rattle.std.proofs.Common.{refl, ap, ◌∙◌}
+-- What is ready is recorded, or the bindings are refused.
+use Rattle.std.proofs.Common.{◌≡◌, Bool, true, false, ◌&&◌, refl, ap, sym, ◌∙◌}
+use Rattle.std.specs.Prelude.{not}
+use Rattle.std.specs.List.{list_any}
 use Rattle.rv_tool.specs.declared.input.Ready.{Ready}
-use Rattle.rv_tool.proofs.RecordingLemmas.{ready_so, may_record, unnumbered_tells}
+use Rattle.rv_tool.specs.Journals.{ends_instances}
+use Rattle.rv_tool.proofs.RecordingLemmas.{may_record, ready_told, not_told}
 use Rattle.rv_tool.proofs.recording.numbered.Goals as goal
 
-pub returns-then-narrow-clause-ready : goal.returns-then-narrow-clause-ready
-returns-then-narrow-clause-ready c =
-    may_record c.args.ready c.as_slice-monitors.result.now c.as_slice.result.now c.is_numbered-narrow.result (c.as_slice-monitors.ensures.value ∙ ap (λ (r : Ready). r.bindings.monitors.items) c.ready.view_is)
-    (c.as_slice.ensures.value ∙ ap (λ (r : Ready). r.setup.tables) c.ready.view_is) c.is_numbered-narrow.ensures c.requires.ready c.requires.unchanged c.if-narrow.true
+-- where a rule ends an instance, or the monitors are not narrow, the test is false
+off_by : (told ends : Bool) → ends ≡ true → (told && not ends) ≡ false
+off_by true ends on = rw on refl
+off_by false ends on = refl
 
-pub returns-then-narrow-clause-value : goal.returns-then-narrow-clause-value
-returns-then-narrow-clause-value c =
-    let so = ready_so c.args.ready c.as_slice-monitors.result.now c.as_slice.result.now c.is_numbered-narrow.result (c.as_slice-monitors.ensures.value ∙ ap (λ (r : Ready). r.bindings.monitors.items) c.ready.view_is)
-    (c.as_slice.ensures.value ∙ ap (λ (r : Ready). r.setup.tables) c.ready.view_is) c.is_numbered-narrow.ensures in
-    rw (so, c.if-narrow.true) refl
+pub returns-then-ends : goal.returns-then-ends
+returns-then-ends c = record {
+  ready = tt;
+  value = not_told c.args.ready c.as_slice-monitors.result.now c.as_slice.result.now c.is_numbered-narrow.result c.as_slice-2.result.now c.end_instances-ends.result
+      (c.as_slice-monitors.ensures.value ∙ ap (λ (r : Ready). r.bindings.monitors.items) c.ready.view_is)
+      (c.as_slice.ensures.value ∙ ap (λ (r : Ready). r.setup.tables) c.ready.view_is)
+      (c.as_slice-2.ensures.value ∙ ap (λ (r : Ready). r.bindings.rules.items) c.ready.view_is)
+      c.is_numbered-narrow.ensures c.end_instances-ends.ensures c.args.bindings.now c.not_numbered.result
+      (off_by c.is_numbered-narrow.result c.end_instances-ends.result c.if-ends.true) c.not_numbered.ensures;
+}
 
-pub returns-else-narrow-clause-value : goal.returns-else-narrow-clause-value
-returns-else-narrow-clause-value c =
-    let so = ready_so c.args.ready c.as_slice-monitors.result.now c.as_slice.result.now c.is_numbered-narrow.result (c.as_slice-monitors.ensures.value ∙ ap (λ (r : Ready). r.bindings.monitors.items) c.ready.view_is)
-    (c.as_slice.ensures.value ∙ ap (λ (r : Ready). r.setup.tables) c.ready.view_is) c.is_numbered-narrow.ensures in
-    unnumbered_tells c.args.ready c.args.bindings.now c.whole.result c.refused.result (so ∙ c.if-narrow.false) c.whole.ensures c.refused.ensures
+pub returns-then-narrow : goal.returns-then-narrow
+returns-then-narrow c = record {
+  ready = may_record c.args.ready c.as_slice-monitors.result.now c.as_slice.result.now c.is_numbered-narrow.result c.as_slice-2.result.now c.end_instances-ends.result
+      (c.as_slice-monitors.ensures.value ∙ ap (λ (r : Ready). r.bindings.monitors.items) c.ready.view_is)
+      (c.as_slice.ensures.value ∙ ap (λ (r : Ready). r.setup.tables) c.ready.view_is)
+      (c.as_slice-2.ensures.value ∙ ap (λ (r : Ready). r.bindings.rules.items) c.ready.view_is)
+      c.is_numbered-narrow.ensures c.end_instances-ends.ensures c.requires.ready c.requires.unchanged c.if-narrow.true;
+  value = ready_told c.args.ready c.as_slice-monitors.result.now c.as_slice.result.now c.is_numbered-narrow.result c.as_slice-2.result.now c.end_instances-ends.result
+      (c.as_slice-monitors.ensures.value ∙ ap (λ (r : Ready). r.bindings.monitors.items) c.ready.view_is)
+      (c.as_slice.ensures.value ∙ ap (λ (r : Ready). r.setup.tables) c.ready.view_is)
+      (c.as_slice-2.ensures.value ∙ ap (λ (r : Ready). r.bindings.rules.items) c.ready.view_is)
+      c.is_numbered-narrow.ensures c.end_instances-ends.ensures c.args.bindings.now c.if-narrow.true c.if-ends.false;
+}
+
+pub returns-else-narrow : goal.returns-else-narrow
+returns-else-narrow c = record {
+  ready = tt;
+  value = not_told c.args.ready c.as_slice-monitors.result.now c.as_slice.result.now c.is_numbered-narrow.result c.as_slice-2.result.now c.end_instances-ends.result
+      (c.as_slice-monitors.ensures.value ∙ ap (λ (r : Ready). r.bindings.monitors.items) c.ready.view_is)
+      (c.as_slice.ensures.value ∙ ap (λ (r : Ready). r.setup.tables) c.ready.view_is)
+      (c.as_slice-2.ensures.value ∙ ap (λ (r : Ready). r.bindings.rules.items) c.ready.view_is)
+      c.is_numbered-narrow.ensures c.end_instances-ends.ensures c.args.bindings.now c.not_numbered-else-narrow.result
+      (rw c.if-narrow.false refl) c.not_numbered-else-narrow.ensures;
+}

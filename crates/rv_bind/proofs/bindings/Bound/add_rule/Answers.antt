@@ -3,7 +3,7 @@ use Rattle.std.specs.Prelude.{position, slice_get}
 use Rattle.std.proofs.lemmas.Option.{slice_get-get_or}
 use Rattle.rv_bind.specs.Bound.{is_called, monitor_named}
 use Rattle.rv_ltl.specs.Texts.{texts}
-use Rattle.rv_bind.specs.Changes.{what_of}
+use Rattle.rv_bind.specs.Changes.{brought}
 use Rattle.rv_bind.specs.BoundViews.{bound_value}
 use Rattle.rv_bind.proofs.BoundLemmas.{rule_added}
 use Rattle.rv_bind.proofs.WellFormedLemmas.{rule_formed}
@@ -16,7 +16,7 @@ returns-clause-rule c =
     let there : slice_get (bound_value c.args.self.now).monitors c.in-Some.place ≡ Some c.index-monitor.result.now =
     slice_get-get_or (bound_value c.args.self.now).monitors c.in-Some.place c.index-monitor.result.now within ∙ ap Some (sym c.index-monitor.ensures) in
     rule_added (bound_value c.args.self.now) c.args.on.monitor.now c.in-Some.place named c.index-monitor.result.now _ _ _ _ _ c.in_ok-what.what _
-    there (search rules) (search rules) (search rules) (ap (λ ws. what_of c.index-monitor.result.now.spec (texts ws)) (sym c.as_slice-3.ensures.value) ∙ c.in_ok-what.ensures) (search rules)
+    there (search rules) (search rules) (search rules) (ap (λ ws. brought c.index-monitor.result.now.spec c.args.on.mode (texts ws)) (sym c.as_slice-words.ensures.value) ∙ c.in_ok-what.ensures) (search rules)
 
 pub returns-clause-formed : goal.returns-clause-formed
 returns-clause-formed c = rule_formed (bound_value c.args.self.now) _ _ _ _ _ _ _ c.requires (returns-clause-rule c)

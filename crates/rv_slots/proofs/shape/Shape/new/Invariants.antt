@@ -3,4 +3,4 @@ use Rattle.rv_slots.specs.Shapes.{count_of}
 use Rattle.rv_slots.proofs.shape.Shape.new.Given as goal
 
 abbrev pub invariant-loop-scope : goal.invariant-loop-scope
-invariant-loop-scope l = record { made : l.counts.items ≡ map (count_of l.tasks) (take l.scope-index l.scopes); many : length l.counts.items ≡ l.scope-index; few : sum l.counts.items ≤ 4096 * l.scope-index }
+invariant-loop-scope l = record { made : l.counts.items ≡ map (count_of l.tasks) (take l.scope-index l.scopes); many : length l.counts.items ≡ l.scope-index; few : sum l.counts.items ≤ 65536 * l.scope-index }
