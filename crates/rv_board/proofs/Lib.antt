@@ -12,3 +12,4 @@ pub mod StepLemmas
 pub mod ViewLemmas
 pub mod WakingLemmas
 pub mod WordSteps
+pub mod ThreadLemmas

@@ -7,3 +7,4 @@ pub mod SwitchLemmas
 pub mod TickingLemmas
 pub mod TurnLemmas
 pub mod WordLemmas
+pub mod ThreadLemmas

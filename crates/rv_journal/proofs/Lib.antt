@@ -38,3 +38,4 @@ pub mod WaitLemmas
 pub mod WakingWidthLemmas
 pub mod WholeLemmas
 pub mod WidthLemmas
+pub mod ThreadLemmas

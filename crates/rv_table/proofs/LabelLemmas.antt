@@ -1,9 +1,10 @@
 -- A formula's rows by the bits of their sets.
-use Rattle.std.proofs.Common.{◌≡◌, ℕ, zero, suc, ◌+◌, ◌-◌, ◌^◌, ◌<◌, ◌≤◌, ◌==◌, ◌&&◌, ◌||◌, nat_lt, max, bit_or, Bool, true, false, List, [], length, map, arith, refl, sym, ap, ◌∙◌, add-one, subst}
+use Rattle.std.proofs.Common.{◌≡◌, ℕ, zero, suc, ◌+◌, ◌-◌, ◌^◌, ◌<◌, ◌≤◌, ◌==◌, ◌&&◌, ◌||◌, nat_lt, max, bit_or, Bool, true, false, ◌⊎◌, inl, inr, List, [], length, map, arith, refl, sym, ap, ◌∙◌, add-one, subst}
 use Rattle.std.specs.List.{All, list_all}
 use Rattle.std.specs.Int.{bit_at}
 use Rattle.std.proofs.lemmas.List.{get_or_past, get_or-map, length-map}
-use Rattle.std.proofs.lemmas.Nat.Bits.{bit_at-lt, bit_at-zero, bit_at_or}
+use Rattle.std.proofs.lemmas.Nat.Bits.{bit_at-lt, bit_at-zero, bit_at_or, bit_at_above}
+use Rattle.std.proofs.lemmas.List.Elements.{All-get_or}
 use Rattle.rv_model.specs.declared.hit.Letter.{Letter}
 use Rattle.rv_model.specs.declared.formula.Formula.{Formula}
 use Rattle.rv_model.specs.Letters.{atoms_in}
@@ -12,7 +13,7 @@ use Rattle.rv_model.specs.Meaning.{true_on}
 use Rattle.rv_model.specs.Numbers.{has_bit}
 use Rattle.rv_model.specs.Table.{of_labels, Node, node_at}
 use Rattle.rv_model.specs.Stepping.{some_follows, step_set}
-use Rattle.rv_table.specs.Rows.{some_next, IsLabel}
+use Rattle.rv_table.specs.Rows.{some_next, IsLabel, IsNodeBelow, IsLabelRows}
 use Rattle.rv_table.proofs.SetLemmas.{some_follows-none, some_follows-more, is_step_set}
 
 -- what holds of each formula of a list holds of each in the list without boxes, and the other way round
@@ -109,13 +110,36 @@ module _ (nodes : List Node) (set : ℕ) (x : Letter) (q : ℕ) where
       go more e =
           follows-next 32 ∙ ap (λ b. is_row && (b && allows)) (ap (λ n. some_next nodes set n q) (sym e) ∙ next-past nodes set q more)
 
--- the rows whose bits are so are those that follow
-pub is_label_step : (nodes : List Node) (set : ℕ) (x : Letter) (next out : ℕ) → length nodes ≤ 32 → out < 2 ^ 32
+-- a place is in a list or past it
+within : (i n : ℕ) → (i < n) ⊎ (n ≤ i)
+within i n = grind arith
+
+-- past the rows nothing comes next
+some_next-past : (nodes : List Node) → All (IsNodeBelow (length nodes)) nodes → (set n q : ℕ) → length nodes ≤ q → some_next nodes set n q ≡ false
+some_next-past nodes all set zero q past = refl
+some_next-past nodes all set (suc n) q past =
+    ap (λ b. b || (has_bit set n && has_bit (node_at nodes n).next q)) (some_next-past nodes all set n q past)
+    ∙ ap (λ b. false || (has_bit set n && b)) (none (within n (length nodes)))
+    ∙ or_none false (has_bit set n)
+  where
+    nothing : Node
+    nothing = record { labels = []; next = 0 }
+
+    none : (n < length nodes) ⊎ (length nodes ≤ n) → has_bit (node_at nodes n).next q ≡ false
+    none (inl lt) = ap (λ b. b == 1) (bit_at_above (node_at nodes n).next (length nodes) q (All-get_or (IsNodeBelow (length nodes)) nodes n nothing lt all).1.0 past)
+    none (inr beyond) = ap (λ (node : Node). has_bit node.next q) (get_or_past nodes n nothing beyond) ∙ no_bit q
+
+-- the next rows whose labels are true are those that follow
+pub is_label_step : (nodes : List Node) (set : ℕ) (x : Letter) (next out : ℕ) → IsLabelRows nodes → out < 2 ^ 32
     → ((q : ℕ) → has_bit next q ≡ some_next nodes set (length nodes) q)
-    → ((q : ℕ) → q < 32 → has_bit out q ≡ (nat_lt q (length nodes) && (has_bit next q && list_all (true_on (atoms_in x)) (node_at nodes q).labels)))
+    → ((q : ℕ) → q < 32 → has_bit out q ≡ (has_bit next q && list_all (true_on (atoms_in x)) (node_at nodes q).labels))
     → out ≡ step_set (of_labels nodes) set x
-is_label_step nodes set x next out few fits next_is out_is =
-    is_step_set (of_labels nodes) set x out fits (λ q lt.
-    out_is q lt
-    ∙ ap (λ b. nat_lt q (length nodes) && (b && list_all (true_on (atoms_in x)) (node_at nodes q).labels)) (next_is q)
-    ∙ sym (follows-rows nodes set x q few))
+is_label_step nodes set x next out it fits next_is out_is = is_step_set (of_labels nodes) set x out fits (λ q lt. out_is q lt ∙ rows q (within q (length nodes)) ∙ sym (follows-rows nodes set x q it.few))
+  where
+    rows : (q : ℕ) → (q < length nodes) ⊎ (length nodes ≤ q) → (has_bit next q && list_all (true_on (atoms_in x)) (node_at nodes q).labels) ≡ (nat_lt q (length nodes) && (some_next nodes set (length nodes) q && list_all (true_on (atoms_in x)) (node_at nodes q).labels))
+    rows q (inl lt) =
+        let is : nat_lt q (length nodes) ≡ true = grind arith in
+        rw is (ap (λ b. b && list_all (true_on (atoms_in x)) (node_at nodes q).labels) (next_is q))
+    rows q (inr past) =
+        let is_not : nat_lt q (length nodes) ≡ false = grind arith in
+        rw is_not (ap (λ b. b && list_all (true_on (atoms_in x)) (node_at nodes q).labels) (next_is q ∙ some_next-past nodes it.in_range set (length nodes) q past))

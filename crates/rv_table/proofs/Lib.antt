@@ -1,4 +1,10 @@
 pub mod BuildLemmas
+pub mod KeepLemmas
 pub mod LabelLemmas
+pub mod MaskLemmas
+pub mod NumberedRows
+pub mod PassLemmas
 pub mod RowLemmas
 pub mod SetLemmas
+pub mod SharedLemmas
+pub mod ThreadLemmas

@@ -8,4 +8,4 @@ abbrev pub table_in : Kind → Table
 -- what a table is, by its kind
 table_in (Events count rows) = of_events count rows.items
 -- what a table is, by its kind
-table_in (Labels nodes) = of_labels nodes.items
+table_in (Labels nodes) = of_labels nodes

@@ -1,2 +1,4 @@
 pub mod Kinds
+pub mod Masks
+pub mod Numbered
 pub mod Rows

@@ -1,5 +1,5 @@
 //! Sets of numbers below 32: rows, or atoms.
-ghost use Rattle.std.specs.Prelude.{◌≡◌, ℕ, ◌<◌, ◌==◌, ◌||◌};
+ghost use Rattle.std.specs.Prelude.{◌≡◌, ℕ, ◌<◌, ◌==◌, ◌&&◌, ◌||◌, not};
 ghost use Rattle.rv_model.specs.Numbers.{has_bit};
 
 /// The set with this member.
@@ -16,4 +16,11 @@ pub fn contains(set: u32, member: u8) -> bool
     ensures { result ≡ has_bit set member }
 {
     set & 1 << member != 0
+}
+
+/// The set without the members of the other one.
+pub fn without(set: u32, others: u32) -> u32
+    ensures { (member : ℕ) → member < 32 → has_bit result member ≡ (has_bit set member && not (has_bit others member)) }
+{
+    set & !others
 }

@@ -2,7 +2,10 @@
 #![tactic(auto)]
 
 mod bits;
+mod label;
+mod mask;
 mod node;
+mod nodes;
 mod row;
 mod steps;
 mod table;

@@ -1,11 +1,5 @@
-//! The rows of a formula's table (Gerth, Peled, Vardi, Wolper, 1995).
+//! The rows of a formula's table, as they are given (Gerth, Peled, Vardi, Wolper, 1995).
 
-ghost use Rattle.std.specs.Prelude.{◌≡◌, All};
-ghost use Rattle.std.specs.List.{list_all};
-ghost use Rattle.rv_model.specs.Meaning.{true_on};
-ghost use Rattle.rv_table.specs.Rows.{IsLabel};
-
-use crate::truth::all_true;
 use rv_model::Formula;
 use std::marker::Model;
 
@@ -27,14 +21,4 @@ impl Model for Node {
     ghost coded = { coded_node };
 
     ghost view = { λ n. record { labels = map ltl n.labels.items; next = n.next } };
-}
-
-impl Node {
-    /// Whether the letter makes all labels true.
-    pub fn allows(&self, letter: u32) -> bool
-        requires { All IsLabel self.now.labels }
-        ensures { result ≡ list_all (true_on letter) self.now.labels }
-    {
-        all_true(&self.labels, letter)
-    }
 }

@@ -2,14 +2,14 @@
 ghost use Rattle.std.specs.Prelude.{◌≡◌, ℕ, ◌<◌, ◌≤◌, ◌&&◌, ◌||◌, length};
 ghost use Rattle.rv_model.specs.Letters.{atoms_in};
 ghost use Rattle.rv_model.specs.Numbers.{has_bit};
-ghost use Rattle.rv_model.specs.Table.{of_events, of_labels, entry_by, is_next};
+ghost use Rattle.rv_model.specs.Table.{of_events, of_labels, entry_by, is_next, node_at};
 ghost use Rattle.rv_model.specs.Stepping.{step_set};
 ghost use Rattle.rv_model.specs.declared.hit.Letter.{Letter};
 ghost use Rattle.rv_model.specs.declared.hit.Letter.TheVariants.{Event};
 ghost use Rattle.rv_table.specs.Rows.{IsEventRows, IsLabelRows, some_next};
 
 use crate::bits::{contains, with};
-use crate::node::Node;
+use crate::nodes::Nodes;
 use crate::row::Row;
 
 /// The entry of a row by the event.
@@ -56,12 +56,13 @@ pub fn follow_events(rows: &[Row], set: u32, event: u8) -> u32
 
 /// The set with the next rows of this row, if the other set has this row.
 #[tactic(auto, using(crate::proofs::LabelLemmas::has_or))]
-fn join(next: u32, set: u32, row: u8, node: &Node) -> u32
-    requires { row < 32 }
-    ensures { (q : ℕ) → has_bit result q ≡ (has_bit next q || (has_bit set row && has_bit node.now.next q)) }
+fn join(next: u32, set: u32, row: u8, nodes: &Nodes) -> u32
+    requires few { row < 32 }
+    requires row { row < length nodes.now }
+    ensures { (q : ℕ) → has_bit result q ≡ (has_bit next q || (has_bit set row && has_bit (node_at nodes.now row).next q)) }
 {
     if contains(set, row) {
-        next | node.next
+        next | nodes.next(row as usize)
     } else {
         next
     }
@@ -69,28 +70,21 @@ fn join(next: u32, set: u32, row: u8, node: &Node) -> u32
 
 /// The next rows of the set's rows.
 #[tactic(auto, using(crate::proofs::LabelLemmas::some_next_more))]
-fn next_of(nodes: &[Node], set: u32) -> u32
+fn next_of(nodes: &Nodes, set: u32) -> u32
     requires { length nodes.now ≤ 32 }
     ensures { (q : ℕ) → has_bit result q ≡ some_next nodes.now set (length nodes.now) q }
 {
     let mut next = 0;
     for row in 0..nodes.len() {
-        next = join(next, set, row as u8, &nodes[row]);
+        next = join(next, set, row as u8, nodes);
     }
     next
 }
 
 /// The rows that follow a row of the set by the letter, in a formula's table.
-pub fn follow_labels(nodes: &[Node], set: u32, letter: u32) -> u32
+pub fn follow_labels(nodes: &Nodes, set: u32, letter: u32) -> u32
     requires { IsLabelRows nodes.now }
     ensures { (x : Letter) → atoms_in x ≡ letter → result ≡ step_set (of_labels nodes.now) set x }
 {
-    let next = next_of(nodes, set);
-    let mut out = 0;
-    for row in 0..nodes.len() {
-        if contains(next, row as u8) && nodes[row].allows(letter) {
-            out = with(out, row as u8);
-        }
-    }
-    out
+    nodes.entered(next_of(nodes, set), letter)
 }

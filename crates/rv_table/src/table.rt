@@ -9,6 +9,7 @@ ghost use Rattle.rv_model.specs.Stepping.{IsTable, start_set, step_set};
 ghost use Rattle.rv_table.specs.Rows.{IsRows, FitNodes, node_rows, row_count, HasNode, node_in};
 
 use crate::node::Node;
+use crate::nodes::Nodes;
 use crate::row::{Row, rows_of};
 use crate::steps::{follow_events, follow_labels};
 use rv_model::{Automaton, Formula, Letter};
@@ -21,7 +22,7 @@ enum Kind {
     /// An automaton's, with the number of its events. Row 0 has no entry.
     Events { count: usize, rows: Vec<Row> },
     /// A formula's.
-    Labels { nodes: Vec<Node> },
+    Labels { nodes: Nodes },
 }
 
 /// At most 31 rows, and row 0.
@@ -65,16 +66,9 @@ impl Table {
         if !are_counted(&nodes) {
             return Err(AllocError);
         }
-        let mut rows = nodes;
-        rows.insert(
-            0,
-            Node {
-                labels: Vec::new(alloc),
-                next: first,
-            },
-        )?;
+        let nodes = Nodes::new(alloc, first, &nodes)?;
         Ok(Table {
-            kind: Kind::Labels { nodes: rows },
+            kind: Kind::Labels { nodes },
         })
     }
 
@@ -131,7 +125,7 @@ impl Table {
     {
         match &self.kind {
             Kind::Events { .. } => 0,
-            Kind::Labels { nodes } => nodes[row as usize].next,
+            Kind::Labels { nodes } => nodes.next(row as usize),
         }
     }
 
@@ -142,7 +136,7 @@ impl Table {
     {
         match &self.kind {
             Kind::Events { .. } => 0,
-            Kind::Labels { nodes } => nodes[row as usize].labels.len() as u32,
+            Kind::Labels { nodes } => nodes.labels(row as usize) as u32,
         }
     }
 
@@ -154,7 +148,7 @@ impl Table {
     {
         match &self.kind {
             Kind::Events { .. } => unreachable!(),
-            Kind::Labels { nodes } => &nodes[row as usize].labels[place as usize],
+            Kind::Labels { nodes } => nodes.label(row as usize, place as usize),
         }
     }
 }

@@ -102,9 +102,15 @@ pub const NO_SUCH_FILE: u8 = 32;
 /// The file does not take this text.
 pub const INVALID: u8 = 33;
 
+/// A run can't be recorded: the rows and the atoms of a monitor are more than 32 together, its reactor is panic, or a rule ends its instances.
+pub const NOT_NUMBERED: u8 = 34;
+
 /// C tables can't be written: a state's name has a `.`, a state's or an event's name begins with a digit, a state and an
 /// event have one name, or a name is `state_max`, `event_max` or `automaton`.
 pub const NO_HEADER: u8 = 35;
 
 /// The text is not that of the C tables of any automaton.
 pub const HEADER_SYNTAX: u8 = 36;
+
+/// The monitor is no shown name, or the run does not have this instance of it.
+pub const NO_INSTANCE: u8 = 37;

@@ -44,7 +44,7 @@ use Rattle.rv_verdicts.proofs.ExitLemmas.{status_is_seen}
 use Rattle.rv_verdicts.proofs.ShownLemmas.{shown_is_enough}
 use Rattle.rv_tool.specs.declared.input.Ready.{Ready}
 use Rattle.rv_tool.specs.Inputs.{InputValue, run_input, run_of}
-use Rattle.rv_tool.specs.declared.recording.TheConstants.{NOT_NUMBERED}
+use Rattle.rv_text.specs.declared.numbers.TheConstants.{NOT_NUMBERED}
 use Rattle.rv_tool.specs.Faults.{Tells}
 use Rattle.rv_tool.specs.Journals.{is_narrow, are_narrow, ends_instances, numbered, numbered_input, IsJournalReport, IsToRecord}
 use Rattle.rv_tool.specs.Ready.{ready_value, IsReady}

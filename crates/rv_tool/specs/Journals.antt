@@ -18,7 +18,7 @@ use Rattle.rv_feed.specs.Lane.{is_panic_reactor}
 use Rattle.rv_journal.specs.EntryTexts.{journal_of, IsEntry}
 use Rattle.rv_shown.specs.Numbered.{atom_count, IsNumbered}
 use Rattle.rv_tool.specs.declared.input.Ready.{Ready}
-use Rattle.rv_tool.specs.declared.recording.TheConstants.{NOT_NUMBERED}
+use Rattle.rv_text.specs.declared.numbers.TheConstants.{NOT_NUMBERED}
 use Rattle.rv_tool.specs.Headline.{Ending, TellsOf}
 use Rattle.rv_tool.specs.Inputs.{InputValue, run_input, run_of}
 use Rattle.rv_tool.specs.Ready.{IsReady}

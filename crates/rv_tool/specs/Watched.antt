@@ -5,7 +5,7 @@ use Rattle.rv_text.specs.Readings.{refused_with}
 use Rattle.rv_io.specs.Files.{Files}
 use Rattle.rv_bind.specs.Outcomes.{Outcome, reading, of_file}
 use Rattle.rv_watch.specs.Instances.{slot_named}
-use Rattle.rv_tool.specs.declared.watching.TheConstants.{NO_INSTANCE}
+use Rattle.rv_text.specs.declared.numbers.TheConstants.{NO_INSTANCE}
 use Rattle.rv_tool.specs.Inputs.{InputValue, run_input}
 
 -- the slot of the instance that two words name, if the run has it

@@ -14,12 +14,9 @@ use rv_bind::{BindFault, On};
 use rv_io::{Gate, Store};
 use rv_journal::{journal_text, record_run};
 use rv_shown::{exit_status, have_ends, is_numbered, shown_works, widths_of};
-use rv_text::{Refusal, Refused};
+use rv_text::{NOT_NUMBERED, Refusal, Refused};
 use std::alloc::{AllocError, Global};
 use std::thread::Threads;
-
-/// The rows and the atoms of a monitor are more than 32 together, its reactor is panic, or a rule ends its instances.
-pub const NOT_NUMBERED: u8 = 34;
 
 /// Whether some rule ends the instances of its monitor.
 fn end_instances(rules: &[On]) -> bool

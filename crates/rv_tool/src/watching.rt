@@ -12,13 +12,10 @@ use crate::trace_text::refused;
 use rv_bind::BindFault;
 use rv_io::{Gate, Store};
 use rv_report::{lanes_status, report_lanes};
-use rv_text::{Refusal, Refused};
+use rv_text::{NO_INSTANCE, Refusal, Refused};
 use rv_watch::{feed_watched, watch_lines, watched_slot};
 use std::alloc::{AllocError, Global};
 use std::thread::Threads;
-
-/// The monitor is no shown name, or it does not have the instance.
-pub const NO_INSTANCE: u8 = 37;
 
 /// What a watched run begins with.
 #[derive(Drop)]

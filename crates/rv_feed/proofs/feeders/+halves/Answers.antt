@@ -1,4 +1,5 @@
--- A list of feeders ran where both its halves did.
+-- A list of feeders ran where both its halves did, and what both threads borrow may cross to them.
+use denote.Param.Send.{sendable}
 use Rattle.std.proofs.Common.{List, ◌++◌, sym, subst}
 use Rattle.std.specs.Prelude.{All}
 use Rattle.std.specs.List.{AllZip}
@@ -6,6 +7,9 @@ use Rattle.rv_feed.specs.declared.feeder.Feeder.{Feeder}
 use Rattle.rv_feed.specs.Feeders.{FitsFeeder, RunsFeeder}
 use Rattle.rv_feed.specs.Lane.{panics_of}
 use Rattle.rv_feed.proofs.FeederLemmas.{All-front, All-back, AllZip-append}
+use Rattle.std.proofs.Crossing.{crosses}
+use Rattle.rv_board.proofs.ThreadLemmas.{board-sync}
+use Rattle.rv_feed.proofs.feeder.Feeder.TheSendSync.{the_send as feeder-send}
 use Rattle.rv_feed.proofs.feeders.+halves.Goals as goal
 
 pub run_halves-run_both-requires-clause-low : goal.run_halves-run_both-requires-clause-low
@@ -20,3 +24,6 @@ pub run_halves-returns : goal.run_halves-returns
 run_halves-returns g t c =
     let ran : Feeder g.row.G.Denot → Feeder g.row.G.Denot → Type 0 = RunsFeeder (panics_of c.args.reactors.now) in
     subst (λ (l : List (Feeder g.row.G.Denot)). AllZip ran l (c.run_both.new.low ++ c.run_both.new.high)) (sym c.split_at_mut-low.ensures.value) (AllZip-append ran _ _ _ _ c.run_both.ensures.low c.run_both.ensures.high)
+
+pub run_both-join_mut-requires-send-F : goal.run_both-join_mut-requires-send-F
+run_both-join_mut-requires-send-F g t c κs within = let send = c.requires-raw.1.1.1.0 in let sync = c.requires-raw.1.1.1.1.0 in search (sendable, crosses, board-sync, feeder-send) depth 20

@@ -1,10 +1,14 @@
--- A list of feeders ran where both its halves did.
+-- A list of feeders ran where both its halves did, and what both threads borrow may cross to them.
+use denote.Param.Send.{sendable}
 use Rattle.std.proofs.Common.{List, ◌++◌, sym, subst}
 use Rattle.std.specs.Prelude.{All}
 use Rattle.std.specs.List.{AllZip}
 use Rattle.rv_journal.specs.declared.feeding.CountedFeeder.{CountedFeeder}
 use Rattle.rv_journal.specs.CountedFeeders.{FitsCountedFeeder, RunsCounted}
 use Rattle.rv_journal.proofs.CountedFeederLemmas.{All-parts, AllZip-append}
+use Rattle.std.proofs.Crossing.{crosses}
+use Rattle.rv_journal.proofs.ThreadLemmas.{counted_board-sync}
+use Rattle.rv_journal.proofs.feeding.CountedFeeder.TheSendSync.{the_send as feeder-send}
 use Rattle.rv_journal.proofs.feeding.+halves.Goals as goal
 
 pub run_counted-run_both-requires-clause-low : goal.run_counted-run_both-requires-clause-low
@@ -19,3 +23,8 @@ pub run_counted-returns : goal.run_counted-returns
 run_counted-returns g t c =
     let ran : CountedFeeder g.row.G.Denot → CountedFeeder g.row.G.Denot → Type 0 = RunsCounted in
     subst (λ (l : List (CountedFeeder g.row.G.Denot)). AllZip ran l (c.run_both.new.low ++ c.run_both.new.high)) (sym c.split_at_mut-low.ensures.value) (AllZip-append ran _ _ _ _ c.run_both.ensures.low c.run_both.ensures.high)
+
+pub run_both-join_mut-requires-send-F : goal.run_both-join_mut-requires-send-F
+run_both-join_mut-requires-send-F g t c κs within =
+    let send = c.requires-raw.1.1.1.0 in let sync = c.requires-raw.1.1.1.1.0 in
+    search (sendable, crosses, counted_board-sync, feeder-send) depth 20
