@@ -21,7 +21,7 @@ use Rattle.rv_journal.specs.MergeRuns.{Run, run_of, lane_at, first_cursor, rests
 use Rattle.rv_journal.proofs.MergeStepLemmas.{steps-opens, steps-none, first-cursor}
 use Rattle.rv_journal.proofs.MergedLemmas.{merged}
 use Rattle.rv_journal.proofs.ProgressLemmas.{all-ended, all-placed}
-use Rattle.rv_journal.proofs.RunLemmas.{total-same}
+use Rattle.rv_journal.proofs.TotalLemmas.{total-same}
 use Rattle.rv_journal.proofs.StartLemmas.{names-at, script-items, starts}
 use Rattle.rv_journal.proofs.ToldLemmas.{all_items, all-told, owned}
 use Rattle.rv_journal.proofs.WholeLemmas.{whole}

@@ -1,8 +1,11 @@
 -- Lists of marks: the first that is not placed, and what placing it changes.
-use Rattle.std.proofs.Common.{◌≡◌, ℕ, ◌≤◌, ◌==◌, Bool, true, false, ◌&&◌, not, List, [], ◌∷◌, ◌++◌, ◌⊎◌, inl, inr, length, map, refl, sym, ap, ◌∙◌, subst, arith}
+use Rattle.std.proofs.Common.{◌≡◌, ℕ, ◌≤◌, ◌==◌, Bool, true, false, ◌&&◌, not, List, [], ◌∷◌, ◌++◌, ◌⊎◌, inl, inr, length, map, refl, sym, ap, ◌∙◌, subst, arith, length-append}
 use Rattle.std.specs.Prelude.{filter}
 use Rattle.std.proofs.lemmas.Bool.Decides.{nat_tests}
 use Rattle.std.proofs.lemmas.List.{length-map}
+use Rattle.std.proofs.lemmas.List.Elements.{filter-append}
+use Rattle.rv_model.specs.declared.entry.Entry.{Entry}
+use Rattle.rv_model.specs.Seats.{entries_of}
 use Rattle.rv_journal.specs.declared.counted.Counted.{Counted}
 use Rattle.rv_journal.specs.MergeStates.{Mark, mark, items_in, is_left}
 
@@ -54,6 +57,23 @@ filter_yes p x xs in' = rw in' refl
 -- and leaves out one that does not
 pub filter_no : {X : Type 0} (p : X → Bool) (x : X) (xs : List X) → p x ≡ false → filter p (x ∷ xs) ≡ filter p xs
 filter_no p x xs out = rw out refl
+
+-- two cuts of a list at entries of one seat, with as many of it before, are one
+pub same-cut : (n : ℕ) (a : List Entry) (x : Entry) (b c : List Entry) (y : Entry) (d : List Entry) → x.seat ≡ n → y.seat ≡ n → a ++ x ∷ b ≡ c ++ y ∷ d
+    → length (entries_of (λ k. k == n) a) ≡ length (entries_of (λ k. k == n) c) → a ≡ c
+same-cut n a x b c y d own own' eq many = elim (compare a x b c y d eq) [
+  | same p q r ↦ p
+  | earlier m p q ↦
+      let yes' : (x.seat == n) ≡ true = grind (arith, nat_tests) in
+      let more : entries_of (λ k. k == n) c ≡ entries_of (λ k. k == n) a ++ x ∷ entries_of (λ k. k == n) m = ap (entries_of (λ k. k == n)) p ∙ (filter-append (λ (e : Entry). e.seat == n) a (x ∷ m) ∙ ap (λ (z : List Entry). entries_of (λ k. k == n) a ++ z) (filter_yes (λ (e : Entry). e.seat == n) x m yes')) in
+      let count = ap length more ∙ length-append (entries_of (λ k. k == n) a) (x ∷ entries_of (λ k. k == n) m) in
+      absurd (omega arith)
+  | later m p q ↦
+      let yes' : (y.seat == n) ≡ true = grind (arith, nat_tests) in
+      let more : entries_of (λ k. k == n) a ≡ entries_of (λ k. k == n) c ++ y ∷ entries_of (λ k. k == n) m = ap (entries_of (λ k. k == n)) p ∙ (filter-append (λ (e : Entry). e.seat == n) c (y ∷ m) ∙ ap (λ (z : List Entry). entries_of (λ k. k == n) c ++ z) (filter_yes (λ (e : Entry). e.seat == n) y m yes')) in
+      let count = ap length more ∙ length-append (entries_of (λ k. k == n) c) (y ∷ entries_of (λ k. k == n) m) in
+      absurd (omega arith)
+]
 
 -- ---- the first that is left
 

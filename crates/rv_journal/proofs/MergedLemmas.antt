@@ -28,7 +28,8 @@ use Rattle.rv_journal.proofs.PlaceLemmas.{entries-filter, marked-items}
 use Rattle.rv_journal.proofs.PlaysLemmas.{played-is, looks-tell, plays-steps}
 use Rattle.rv_journal.proofs.StartLemmas.{names-at, script-items, served-length}
 use Rattle.rv_journal.proofs.UnderWayLemmas.{item-cut}
-use Rattle.rv_journal.proofs.WholeLemmas.{fits-at, all-served}
+use Rattle.rv_journal.proofs.ServedLemmas.{all-served}
+use Rattle.rv_journal.proofs.WholeLemmas.{fits-at}
 
 -- ---- lists
 

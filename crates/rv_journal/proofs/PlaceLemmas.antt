@@ -20,7 +20,8 @@ use Rattle.rv_journal.specs.declared.counted.Counted.{Counted}
 use Rattle.rv_journal.specs.MergeSteps.{slot_in, changes_on}
 use Rattle.rv_journal.specs.MergeStates.{Mark, mark, items_in, entries_in, entry_in, IsItemAct, IsMergedAct, IsTold, Divides, LastBy}
 use Rattle.rv_journal.proofs.MarkLemmas.{cut_alike, filter_yes, filter_no}
-use Rattle.rv_journal.proofs.MergeWordLemmas.{on-slot_in, same-word, word-after, switches-are}
+use Rattle.rv_journal.proofs.SlotActLemmas.{on-slot_in, word-after}
+use Rattle.rv_journal.proofs.MergeWordLemmas.{same-word, switches-are}
 
 -- ---- the changes before an item
 

@@ -1,9 +1,8 @@
 -- A look, or an item that may be placed, is placed, and the merge is still under way.
-use Rattle.std.proofs.Common.{◌≡◌, ◌≢◌, ℕ, ◌<◌, ◌≤◌, ◌==◌, Bool, true, false, ◌&&◌, not, List, [], ◌∷◌, ◌++◌, ◌⊎◌, inl, inr, length, map, refl, sym, ap, ◌∙◌, subst, arith, append_assoc, length-append}
+use Rattle.std.proofs.Common.{◌≡◌, ◌≢◌, ℕ, ◌<◌, ◌≤◌, ◌==◌, Bool, true, false, not, List, [], ◌∷◌, ◌++◌, ◌⊎◌, inl, inr, length, refl, sym, ap, ◌∙◌, subst, arith, append_assoc, length-append}
 use Rattle.std.specs.Prelude.{filter}
-use Rattle.std.proofs.lemmas.Bool.Decides.{nat_tests}
-use Rattle.std.proofs.lemmas.List.{map-append, length-map, append-nil}
-use Rattle.std.proofs.lemmas.List.Elements.{filter-append}
+use Rattle.std.proofs.lemmas.Bool.{and_parts}
+use Rattle.std.proofs.lemmas.List.{map-append}
 use Rattle.rv_model.specs.declared.entry.Act.TheVariants.{Stop}
 use Rattle.rv_model.specs.declared.entry.Entry.{Entry}
 use Rattle.rv_model.specs.Cuts.{AtEach}
@@ -16,85 +15,20 @@ use Rattle.rv_journal.specs.declared.counted.Counted.{Counted}
 use Rattle.rv_journal.specs.declared.steps.Step.{Step}
 use Rattle.rv_journal.specs.declared.steps.Step.TheVariants.{Opens, Item}
 use Rattle.rv_journal.specs.MergeSteps.{items_of, slot_in, rank, leaves, changes_on, held_by}
-use Rattle.rv_journal.specs.MergeStates.{Mark, mark, items_in, entries_in, entry_in, is_left, IsItemAct, IsMergedAct, IsTold, AllTold, Divides, StandsAs, LastBy, NextIsEarned, Lanes, IsUnderWay, MayPlace}
-use Rattle.rv_journal.proofs.MarkLemmas.{same, earlier, later, compare, filter_yes, filter_no, first-left, FirstLeft, next-open}
-use Rattle.rv_journal.proofs.MergeWordLemmas.{slot_in-is, machine-snoc}
-use Rattle.rv_journal.proofs.PlaceLemmas.{same-entries, changes-marks, fits-there, look_entry, look-fits, earned-there, held-item, merged-item, changes-snoc}
+use Rattle.rv_journal.specs.MergeStates.{Mark, mark, items_in, entries_in, is_left, IsMergedAct, IsTold, AllTold, Divides, StandsAs, LastBy, NextIsEarned, Lanes, IsUnderWay, MayPlace}
+use Rattle.rv_journal.proofs.MarkLemmas.{same, earlier, later, compare, first-left, FirstLeft}
+use Rattle.rv_journal.proofs.SlotActLemmas.{slot_in-is, machine-snoc}
+use Rattle.rv_journal.proofs.PlaceLemmas.{same-entries, fits-there, look_entry, look-fits, earned-there, held-item, merged-item}
 use Rattle.rv_journal.proofs.UnderWayLemmas.{told-replays, lists-next, others-next, quiet-next, earned-next}
-
--- ---- what an entry adds
-
--- an entry that changes nothing of a slot
-pub changes-calm : (slot : ℕ) (h : List Entry) (e : Entry) → changed slot e ≡ false → filter (changed slot) (h ++ e ∷ []) ≡ filter (changed slot) h
-changes-calm slot h e calm = changes-snoc slot h e false calm ∙ append-nil (filter (changed slot) h)
-
--- an entry that changes it
-pub changes-more : (slot : ℕ) (h : List Entry) (e : Entry) → changed slot e ≡ true → filter (changed slot) (h ++ e ∷ []) ≡ filter (changed slot) h ++ e ∷ []
-changes-more slot h e is = changes-snoc slot h e true is
-
--- what stands in the history stands in a longer one
-pub stands-longer : (h before : List Entry) (e x : Entry) → StandsAs h before x → StandsAs (h ++ e ∷ []) before x
-stands-longer h before e x st = record { front = st.front; back = st.back ++ e ∷ []; is = ap (λ (z : List Entry). z ++ e ∷ []) st.is ∙ append_assoc st.front (x ∷ st.back) (e ∷ []); changes_are = st.changes_are }
-
--- an entry that does not change a slot leaves what is divided
-pub divides-calm : (slot : ℕ) (h : List Entry) (e : Entry) (marks : List Mark) → changed slot e ≡ false → Divides slot h marks → Divides slot (h ++ e ∷ []) marks
-divides-calm slot h e marks calm d = record { done = d.done; todo = d.todo; marks_are = d.marks_are; history_is = changes-calm slot h e calm ∙ d.history_is }
-
--- ---- a mark that is placed
-
--- no items are lost by it
-pub items-placed : (front back : List Mark) (c : Counted) → items_in (front ++ mark true c ∷ back) ≡ items_in (front ++ mark false c ∷ back)
-items-placed front back c = map-append (λ (m : Mark). m.item) front (mark true c ∷ back) ∙ sym (map-append (λ (m : Mark). m.item) front (mark false c ∷ back))
-
--- it is no longer left
-pub left-placed : (n : ℕ) (front back : List Mark) (c : Counted) → filter (is_left n) (front ++ mark true c ∷ back) ≡ filter (is_left n) front ++ filter (is_left n) back
-left-placed n front back c = filter-append (is_left n) front (mark true c ∷ back) ∙ ap (λ (z : List Mark). filter (is_left n) front ++ z) (filter_no (is_left n) (mark true c) back refl)
-
--- it was not left to another seat
-pub left-other : (n : ℕ) (front back : List Mark) (c : Counted) → c.entry.seat ≢ n → filter (is_left n) (front ++ mark false c ∷ back) ≡ filter (is_left n) front ++ filter (is_left n) back
-left-other n front back c other =
-    let out : is_left n (mark false c) ≡ false = grind (arith, nat_tests) in
-    filter-append (is_left n) front (mark false c ∷ back) ∙ ap (λ (z : List Mark). filter (is_left n) front ++ z) (filter_no (is_left n) (mark false c) back out)
-
--- on a slot that it does not change nothing changes
-divides-off : (slot : ℕ) (h : List Entry) (front back : List Mark) (c : Counted) → changed slot c.entry ≡ false → Divides slot h (front ++ mark false c ∷ back) → Divides slot h (front ++ mark true c ∷ back)
-divides-off slot h front back c off d =
-    let p : Mark → Bool = λ m. changed slot (entry_in m) in
-    let now : filter p (front ++ mark true c ∷ back) ≡ filter p front ++ filter p back = filter-append p front (mark true c ∷ back) ∙ ap (λ (z : List Mark). filter p front ++ z) (filter_no p (mark true c) back off) in
-    let was : filter p (front ++ mark false c ∷ back) ≡ filter p front ++ filter p back = filter-append p front (mark false c ∷ back) ∙ ap (λ (z : List Mark). filter p front ++ z) (filter_no p (mark false c) back off) in
-    record { done = d.done; todo = d.todo; marks_are = now ∙ (sym was ∙ d.marks_are); history_is = d.history_is }
-
--- on the slot that it changes it is the first of those that were not placed
-divides-on : (slot : ℕ) (h : List Entry) (front back : List Mark) (c : Counted) → changed slot c.entry ≡ true → changes_on slot (entries_in (items_in front)) ≡ changes_on slot h
-    → Divides slot h (front ++ mark false c ∷ back) → Divides slot (h ++ c.entry ∷ []) (front ++ mark true c ∷ back)
-divides-on slot h front back c on many d =
-    let p : Mark → Bool = λ m. changed slot (entry_in m) in
-    let now : filter p (front ++ mark true c ∷ back) ≡ filter p front ++ mark true c ∷ filter p back = filter-append p front (mark true c ∷ back) ∙ ap (λ (z : List Mark). filter p front ++ z) (filter_yes p (mark true c) back on) in
-    let was : filter p (front ++ mark false c ∷ back) ≡ filter p front ++ mark false c ∷ filter p back = filter-append p front (mark false c ∷ back) ∙ ap (λ (z : List Mark). filter p front ++ z) (filter_yes p (mark false c) back on) in
-    let count : length (filter p front) ≡ length d.done = changes-marks slot front ∙ (many ∙ (ap length d.history_is ∙ length-map d.done (λ (x : Counted). x.entry))) in
-    let n = next-open (filter p front) c (filter p back) d.done d.todo (sym was ∙ d.marks_are) count in
-    record {
-      done = d.done ++ c ∷ [];
-      todo = n.rest;
-      marks_are = now ∙ (ap (λ (z : List Mark). z ++ mark true c ∷ filter p back) n.front_is ∙ (ap (λ (z : List Mark). map (mark true) d.done ++ mark true c ∷ z) n.back_is
-          ∙ (sym (append_assoc (map (mark true) d.done) (mark true c ∷ []) (map (mark false) n.rest)) ∙ ap (λ (z : List Mark). z ++ map (mark false) n.rest) (sym (map-append (mark true) d.done (c ∷ []))))));
-      history_is = changes-more slot h c.entry on ∙ (ap (λ (z : List Entry). z ++ c.entry ∷ []) d.history_is ∙ sym (map-append (λ (x : Counted). x.entry) d.done (c ∷ [])));
-    }
-
--- the next item of a lane is an item's act, which fits
-pub next-told : (s : Setup) (whole : List Counted) (lanes : Lanes) → AllTold s whole → (history : List Entry) (rest : ℕ → List Step) → IsUnderWay s whole lanes history rest → (m : ℕ) → m < lanes.many → (c : Counted) (steps : List Step) → rest m ≡ Item c ∷ steps → IsItemAct c.entry.act × FitsAct s c.entry.act
-next-told s whole lanes told history rest u m low c steps at =
-    let first = first-left (lanes.seat m) u.marks c (items_of steps) (sym (u.left m low) ∙ ap items_of at) in
-    let cut : whole ≡ items_in first.front ++ c ∷ items_in first.back = sym u.marks_are ∙ (ap items_in first.is ∙ map-append (λ (x : Mark). x.item) first.front (mark false c ∷ first.back)) in
-    let t = told (items_in first.front) c (items_in first.back) cut in
-    (t.item_act, t.fits)
+use Rattle.rv_journal.proofs.AddedLemmas.{changes-calm, changes-more, stands-longer, divides-calm, items-placed, left-placed, left-other, divides-off, divides-on}
 
 module _ (s : Setup) (whole : List Counted) (lanes : Lanes) (told : AllTold s whole) (apart : (l m : ℕ) → l < lanes.many → m < lanes.many → lanes.seat l ≡ lanes.seat m → l ≡ m)
     (history : List Entry) (rest rest' : ℕ → List Step) (u : IsUnderWay s whole lanes history rest) (m : ℕ) (steps : List Step) (low : m < lanes.many) (here : rest' m ≡ steps) (others : (l : ℕ) → l ≢ m → rest' l ≡ rest l) where
+  -- this lane or another
   same_or_other : (l : ℕ) → (l ≡ m) ⊎ (l ≢ m)
   same_or_other l = grind arith
 
-  -- ---- a look
+  -- with a look the merge is under way
   pub look-placed : rest m ≡ Opens ∷ steps → lanes.seat m < 67 → IsUnderWay s whole lanes (history ++ look_entry (lanes.seat m) s.switches ∷ []) rest'
   look-placed at small =
       let e : Entry = look_entry (lanes.seat m) s.switches in
@@ -122,51 +56,40 @@ module _ (s : Setup) (whole : List Counted) (lanes : Lanes) (told : AllTold s wh
 
   -- ---- an item
   module _ (c : Counted) (at : rest m ≡ Item c ∷ steps) (may : MayPlace lanes.many history rest (Item c)) where
-    abbrev e : Entry
-    e = c.entry
-
-    abbrev slot_is : ℕ
-    slot_is = slot_in c.entry.act
-
     -- it is the lane's first item that is left
     first : FirstLeft (lanes.seat m) u.marks c (items_of steps)
     first = first-left (lanes.seat m) u.marks c (items_of steps) (sym (u.left m low) ∙ ap items_of at)
 
-    abbrev front : List Mark
-    front = first.front
-
-    abbrev back : List Mark
-    back = first.back
-
-    abbrev before : List Entry
-    before = entries_in (items_in first.front)
-
+    -- the whole list is cut at it
     cut : whole ≡ items_in first.front ++ c ∷ items_in first.back
     cut = sym u.marks_are ∙ (ap items_in first.is ∙ map-append (λ (x : Mark). x.item) first.front (mark false c ∷ first.back))
 
+    -- what is told at it
     told_is : IsTold s (entries_in (items_in first.front)) c
     told_is = told (items_in first.front) c (items_in first.back) cut
 
+    -- its slot has as many changes before it as in the history
     many_is : changes_on (slot_in c.entry.act) (entries_in (items_in first.front)) ≡ changes_on (slot_in c.entry.act) history
     many_is = sym told_is.rank_is ∙ may.0
 
+    -- what is divided, by its place
     divided : (slot : ℕ) → Divides slot history (first.front ++ mark false c ∷ first.back)
     divided slot = subst (Divides slot history) first.is (u.divides slot)
 
+    -- and the same ones
     same_changes : filter (changed (slot_in c.entry.act)) history ≡ filter (changed (slot_in c.entry.act)) (entries_in (items_in first.front))
     same_changes = same-entries (slot_in c.entry.act) history first.front (mark false c ∷ first.back) (divided (slot_in c.entry.act)) many_is
 
+    -- the entries before it replay
     replays : AtEach (FitsWords s (judges_of s)) (entries_in (items_in first.front))
     replays = at_each-front (FitsWords s (judges_of s)) (entries_in (items_in first.front)) (c.entry ∷ entries_in (items_in first.back))
         (subst (AtEach (FitsWords s (judges_of s))) (ap entries_in cut ∙ map-append (λ (x : Counted). x.entry) (items_in first.front) (c ∷ items_in first.back)) (told-replays s whole told))
 
+    -- its words fit the history
     fits : FitsWords s (judges_of s) history c.entry
     fits = fits-there s (entries_in (items_in first.front)) history c told_is replays u.machine u.sound.replays same_changes
 
-    both : (a b : Bool) → (a && b) ≡ true → (a ≡ true) × (b ≡ true)
-    both true b y = (refl, y)
-    both false b y = absurd (let wrong : false ≡ true = y in cc)
-
+    -- what is not false is true
     not_leaves : (b : Bool) → not b ≡ true → b ≡ false
     not_leaves true y = absurd (let wrong : false ≡ true = y in cc)
     not_leaves false y = refl
@@ -174,9 +97,10 @@ module _ (s : Setup) (whole : List Counted) (lanes : Lanes) (told : AllTold s wh
     -- where it changes a slot, that is its own, which no lane holds
     on-own : (slot : ℕ) → changed slot c.entry ≡ true → (slot_in c.entry.act ≡ slot) × (leaves c.entry ≡ false)
     on-own slot on =
-        let parts = both (is_on slot c.entry.act) (not (c.entry.before == c.entry.after)) on in
+        let parts = and_parts (is_on slot c.entry.act) (not (c.entry.before == c.entry.after)) on in
         (slot_in-is slot c.entry.act parts.0, not_leaves (c.entry.before == c.entry.after) parts.1)
 
+    -- each slot is divided behind it
     divides-next : (slot : ℕ) → Divides slot (history ++ c.entry ∷ []) (first.front ++ mark true c ∷ first.back)
     divides-next slot = go (changed slot c.entry) refl
       where
@@ -186,6 +110,7 @@ module _ (s : Setup) (whole : List Counted) (lanes : Lanes) (told : AllTold s wh
             divides-on slot history first.front first.back c on (subst (λ (n : ℕ). changes_on n (entries_in (items_in first.front)) ≡ changes_on n history) own.0 many_is) (divided slot)
         go false off = divides-calm slot history c.entry (first.front ++ mark true c ∷ first.back) off (divides-off slot history first.front first.back c off (divided slot))
 
+    -- what it closes was held by nobody
     old : (slot r : ℕ) → r < changes_on slot (history ++ c.entry ∷ []) → (l : ℕ) → l < lanes.many → held_by slot r (rest l) ≡ 0
     old slot r lt = go (changed slot c.entry) refl
       where
@@ -204,6 +129,7 @@ module _ (s : Setup) (whole : List Counted) (lanes : Lanes) (told : AllTold s wh
             decide : (a b : ℕ) → (a < b) ⊎ (b ≤ a)
             decide a b = grind arith
 
+    -- what is placed stands in the longer history
     stands-next : (b : List Mark) (x : Counted) (a : List Mark) → first.front ++ mark true c ∷ first.back ≡ b ++ mark true x ∷ a → StandsAs (history ++ c.entry ∷ []) (entries_in (items_in b)) x.entry
     stands-next b x a eq = elim (compare first.front (mark true c) first.back b (mark true x) a eq) [
       | same p q r ↦
@@ -219,6 +145,7 @@ module _ (s : Setup) (whole : List Counted) (lanes : Lanes) (told : AllTold s wh
           stands-longer history (entries_in (items_in b)) c.entry x.entry (u.stands b x (mid ++ mark false c ∷ first.back) was)
     ]
 
+    -- each lane is left the others
     left-next : (l : ℕ) → l < lanes.many → items_of (rest' l) ≡ items_in (filter (is_left (lanes.seat l)) (first.front ++ mark true c ∷ first.back))
     left-next l lt = elim (same_or_other l) [
       | inl is ↦ subst (λ (k : ℕ). items_of (rest' k) ≡ items_in (filter (is_left (lanes.seat k)) (first.front ++ mark true c ∷ first.back))) (sym is)
@@ -228,9 +155,11 @@ module _ (s : Setup) (whole : List Counted) (lanes : Lanes) (told : AllTold s wh
           ap items_of (others l ne) ∙ (u.left l lt ∙ ap items_in (ap (filter (is_left (lanes.seat l))) first.is ∙ (left-other (lanes.seat l) first.front first.back c off ∙ sym (left-placed (lanes.seat l) first.front first.back c))))
     ]
 
+    -- a Stop of it is earned
     earned_is : (slot : ℕ) → c.entry.act ≡ Stop slot → LastBy slot c.entry.seat c.first history
     earned_is slot is = subst (λ (n : ℕ). LastBy slot n c.first history) (sym first.own) ((subst (NextIsEarned (lanes.seat m) history) at (u.earned m low)) slot is)
 
+    -- the merge is under way with it
     pub item-placed : IsUnderWay s whole lanes (history ++ c.entry ∷ []) rest'
     item-placed = record {
       marks = first.front ++ mark true c ∷ first.back;

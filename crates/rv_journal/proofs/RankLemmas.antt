@@ -1,137 +1,30 @@
 -- How many entries changed a slot's word: as many as it counts, and one more where it is stopped.
-use Rattle.std.proofs.Common.{◌≡◌, ◌≢◌, ℕ, ◌+◌, ◌<◌, ◌==◌, Bool, true, false, ◌&&◌, not, List, [], ◌∷◌, ◌++◌, length, reverse, refl, sym, ap, ◌∙◌, subst, arith, append_assoc, sum, if◌then◌else◌}
+use Rattle.std.proofs.Common.{◌≡◌, ◌≢◌, ℕ, ◌+◌, ◌==◌, Bool, true, false, ◌&&◌, not, List, [], ◌∷◌, ◌++◌, length, reverse, refl, sym, ap, ◌∙◌, subst, arith, append_assoc, if◌then◌else◌}
 use Rattle.std.proofs.lemmas.Bool.Decides.{nat_tests}
 use Rattle.std.proofs.lemmas.List.{append-nil, reverse-append}
-use Rattle.rv_model.specs.declared.entry.Act.{Act}
-use Rattle.rv_model.specs.declared.entry.Act.TheVariants.{Deliver, Stop, Look, Raise, Lower, Clear, End}
 use Rattle.rv_model.specs.declared.entry.Entry.{Entry}
-use Rattle.rv_model.specs.Judging.{Judge}
-use Rattle.rv_model.specs.Numbers.{number_of}
-use Rattle.rv_model.specs.Phases.{Phase, waiting, running, stopped, level, letter_at, phase_after}
-use Rattle.rv_model.specs.SharedWords.{packed, word_of}
-use Rattle.rv_model.specs.Setups.{Setup, start_of}
-use Rattle.rv_model.specs.Stepping.{table_judge}
-use Rattle.rv_model.specs.Histories.{FitsWords, is_on, changed}
-use Rattle.rv_core.specs.Advance.{acted}
-use Rattle.rv_core.specs.Core.{IsLive, slot_phase}
-use Rattle.rv_core.specs.Setup.{FitsAct, ActFits, judges_of, table_at}
-use Rattle.rv_core.proofs.CoreLemmas.{word_of-is}
-use Rattle.rv_core.proofs.TurnLemmas.{IsGoing, turn-going}
+use Rattle.rv_model.specs.SharedWords.{word_of}
+use Rattle.rv_model.specs.Setups.{Setup}
+use Rattle.rv_model.specs.Histories.{is_on, changed}
+use Rattle.rv_core.specs.Setup.{judges_of}
 use Rattle.rv_board.specs.Rule.{IsMachine}
 use Rattle.rv_board.proofs.SoundLemmas.{filter_append}
 use Rattle.rv_journal.specs.CountedWords.{is_deliver, counts, count_on}
 use Rattle.rv_journal.specs.MergeSteps.{slot_in, changes_on}
-use Rattle.rv_journal.specs.MergeStates.{IsItemAct}
 use Rattle.rv_journal.proofs.CountLemmas.{count-snoc}
 use Rattle.rv_journal.proofs.MarkLemmas.{filter_yes, filter_no}
-use Rattle.rv_journal.proofs.MergeWordLemmas.{on-slot_in, slot_in-is, word-after, machine-snoc, still, moved, slot-below}
-use Rattle.rv_journal.proofs.PlaceLemmas.{merged-item}
+use Rattle.rv_journal.proofs.SlotActLemmas.{slot_in-is}
+use Rattle.rv_journal.proofs.MergeWordLemmas.{still, moved}
+use Rattle.rv_journal.proofs.StoppedLemmas.{IsItemEntry, found, stopped-still, stop-none, deliver-some}
 
 -- 1 where the word is that of a stopped instance
 abbrev pub stop_count : ℕ → ℕ
 stop_count word = if word == 0 then 1 else 0
 
--- an item's entry that was told with its words
-pub record IsItemEntry (s : Setup) (before : List Entry) (e : Entry) : Type 0 where
-  pub words : FitsWords s (judges_of s) before e
-  pub item_act : IsItemAct e.act
-  pub fits : FitsAct s e.act
-  pub bits : ActFits s e.act
-
--- ---- the word of a stopped instance
-
--- what goes has a word
-going-word : (j : Judge) (levels : ℕ) (p : Phase) → IsGoing p → IsLive j p → packed j levels p ≢ 0
-going-word j levels waiting going live = λ e. absurd (omega arith)
-going-word j levels (running word) going live = λ e. live.0 (omega arith)
-going-word j levels stopped going live = absurd going
-
--- where there is a word, it goes
-word-going : (j : Judge) (levels : ℕ) (p : Phase) → packed j levels p ≢ 0 → IsGoing p
-word-going j levels waiting some = tt
-word-going j levels (running word) some = tt
-word-going j levels stopped some = absurd (some refl)
-
--- a delivery leaves what goes going
-deliver-going : (j : Judge) (on : ℕ → Bool) (i : ℕ) (act : Act) (p : Phase) → is_deliver act ≡ true → IsGoing p → IsGoing (phase_after j on i act p)
-deliver-going j on i (Deliver slot hit) p is going = by (slot == i) refl
-  where
-    by : (b : Bool) → (slot == i) ≡ b → IsGoing (phase_after j on i (Deliver slot hit) p)
-    by true y = rw y (turn-going j p going hit.mode (letter_at on hit.what))
-    by false n = rw n going
-deliver-going j on i (Stop slot) p is going = absurd (let no : false ≡ true = is in cc)
-deliver-going j on i Look p is going = absurd (let no : false ≡ true = is in cc)
-deliver-going j on i (Raise _) p is going = absurd (let no : false ≡ true = is in cc)
-deliver-going j on i (Lower _) p is going = absurd (let no : false ≡ true = is in cc)
-deliver-going j on i (Clear _) p is going = absurd (let no : false ≡ true = is in cc)
-deliver-going j on i (End _) p is going = absurd (let no : false ≡ true = is in cc)
-
 module _ (s : Setup) where
-  abbrev js : List Judge
-  js = judges_of s
-
-  module _ (history : List Entry) (e : Entry) (m : IsMachine s history) (it : IsItemEntry s history e) where
-    abbrev slot : ℕ
-    slot = slot_in e.act
-
-    low : slot_in e.act < sum s.shape
-    low = slot-below s e.act it.item_act it.fits
-
-    pub found : e.before ≡ word_of s (judges_of s) (reverse history) (slot_in e.act)
-    found = it.words.found ∙ on-slot_in s (reverse history) e.act it.item_act
-
-    left : e.after ≡ word_of s (judges_of s) (e ∷ reverse history) (slot_in e.act)
-    left = it.words.left ∙ on-slot_in s (e ∷ reverse history) e.act it.item_act
-
-    by-table : e.after ≡ (acted (table_at s (slot_in e.act)) (start_of s (slot_in e.act)) e.before e.act).1
-    by-table = left ∙ (word-after s (reverse history) e m.is_setup m.live it.item_act it.fits it.bits ∙ ap (λ (w : ℕ). (acted (table_at s (slot_in e.act)) (start_of s (slot_in e.act)) w e.act).1) (sym found))
-
-    -- what is stopped is not changed
-    pub stopped-still : e.before ≡ 0 → e.after ≡ 0
-    stopped-still none = by-table ∙ (ap (λ (w : ℕ). (acted (table_at s (slot_in e.act)) (start_of s (slot_in e.act)) w e.act).1) none ∙ zero-word e.act it.item_act)
-      where
-        zero-word : (act : Act) → IsItemAct act → (acted (table_at s (slot_in e.act)) (start_of s (slot_in e.act)) 0 act).1 ≡ 0
-        zero-word (Deliver i hit) is = refl
-        zero-word (Stop i) is = refl
-        zero-word Look is = absurd is
-        zero-word (Raise _) is = absurd is
-        zero-word (Lower _) is = absurd is
-        zero-word (Clear _) is = absurd is
-        zero-word (End _) is = absurd is
-
-    -- a Stop leaves no word
-    stop-none : is_deliver e.act ≡ false → e.after ≡ 0
-    stop-none no-deliver = by-table ∙ by e.act it.item_act no-deliver
-      where
-        by : (act : Act) → IsItemAct act → is_deliver act ≡ false → (acted (table_at s (slot_in e.act)) (start_of s (slot_in e.act)) e.before act).1 ≡ 0
-        by (Deliver i hit) is d = absurd (let no' : true ≡ false = d in cc)
-        by (Stop i) is d = refl
-        by Look is d = absurd is
-        by (Raise _) is d = absurd is
-        by (Lower _) is d = absurd is
-        by (Clear _) is d = absurd is
-        by (End _) is d = absurd is
-
-    -- a delivery leaves one where there was one
-    deliver-some : is_deliver e.act ≡ true → e.before ≢ 0 → e.after ≢ 0
-    deliver-some delivers some =
-        let i : ℕ = slot_in e.act in
-        let j : Judge = table_judge (table_at s i) in
-        let on : ℕ → Bool = level (start_of s i) (reverse history) i in
-        let now : ℕ → Bool = level (start_of s i) (e ∷ reverse history) i in
-        let p : Phase = slot_phase s (reverse history) i in
-        let was : word_of s (judges_of s) (reverse history) i ≡ packed j (number_of on 32) p = word_of-is s m.is_setup (reverse history) i low in
-        let going : IsGoing p = word-going j (number_of on 32) p (λ z. some (found ∙ (was ∙ z))) in
-        let going' : IsGoing (phase_after j now i e.act p) = deliver-going j now i e.act p delivers going in
-        let live' = (machine-snoc s history e m (merged-item e.act it.item_act) it.fits it.bits).live i low in
-        let live : IsLive j (phase_after j now i e.act p) = subst (λ (past : List Entry). IsLive j (slot_phase s past i)) (reverse-append history (e ∷ [])) live' in
-        let is : word_of s (judges_of s) (e ∷ reverse history) i ≡ packed j (number_of now 32) (phase_after j now i e.act p) = word_of-is s m.is_setup (e ∷ reverse history) i low in
-        λ z. going-word j (number_of now 32) (phase_after j now i e.act p) going' live (sym is ∙ (sym left ∙ z))
-
-  -- ---- counts
-
   -- one entry more
   module _ (history : List Entry) (e : Entry) (m : IsMachine s history) (it : IsItemEntry s history e) (i : ℕ) where
+    -- a change is on the slot, and leaves another word
     differ : (changed i e ≡ true) → (is_on i e.act ≡ true) × (e.before ≢ e.after)
     differ on = go (is_on i e.act) refl (e.before == e.after) refl on
       where
@@ -140,6 +33,7 @@ module _ (s : Setup) where
         go true p true q y = absurd (let no : false ≡ true = y in cc)
         go false p b q y = absurd (let no : false ≡ true = y in cc)
 
+    -- a count that is right stays so
     pub count-next : changes_on i history ≡ count_on i history + stop_count (word_of s (judges_of s) (reverse history) i)
         → changes_on i (history ++ e ∷ []) ≡ count_on i (history ++ e ∷ []) + stop_count (word_of s (judges_of s) (reverse (history ++ e ∷ [])) i)
     count-next so = by (changed i e) refl
@@ -169,9 +63,9 @@ module _ (s : Setup) where
             let parts = differ on in
             let there : slot_in e.act ≡ i = slot_in-is i e.act parts.0 in
             let one : changes_on i (e ∷ []) ≡ 1 = ap length (filter_yes (changed i) e [] on) in
-            let before_is : word_of s (judges_of s) (reverse history) i ≡ e.before = sym (found history e m it ∙ ap (word_of s (judges_of s) (reverse history)) there) in
+            let before_is : word_of s (judges_of s) (reverse history) i ≡ e.before = sym (found s history e m it ∙ ap (word_of s (judges_of s) (reverse history)) there) in
             let after_is : word_of s (judges_of s) (reverse (history ++ e ∷ [])) i ≡ e.after = back ∙ moved s history i e it.words on in
-            let some : e.before ≢ 0 = λ z. parts.1 (z ∙ sym (stopped-still history e m it z)) in
+            let some : e.before ≢ 0 = λ z. parts.1 (z ∙ sym (stopped-still s history e m it z)) in
             let was : stop_count (word_of s (judges_of s) (reverse history) i) ≡ 0 = ap stop_count before_is ∙ going' e.before some in
             let tells = by-deliver (is_deliver e.act) refl some on in
             let word = ap stop_count after_is in
@@ -185,11 +79,11 @@ module _ (s : Setup) where
             by-deliver : (b : Bool) → is_deliver e.act ≡ b → e.before ≢ 0 → changed i e ≡ true → (if counts i e then 1 else 0) + stop_count e.after ≡ 1
             by-deliver true delivers some on =
                 let counted : counts i e ≡ true = rw (delivers, on) refl in
-                let none = going' e.after (deliver-some history e m it delivers some) in
+                let none = going' e.after (deliver-some s history e m it delivers some) in
                 rw counted (omega arith)
             by-deliver false stops some on =
                 let counted : counts i e ≡ false = rw stops refl in
-                let none : e.after ≡ 0 = stop-none history e m it stops in
+                let none : e.after ≡ 0 = stop-none s history e m it stops in
                 rw (counted, none) refl
 
   -- of a history that was told entry by entry
@@ -217,6 +111,6 @@ module _ (s : Setup) where
       by true on rest =
           let parts = differ history e first.0 first.1 i on in
           let there : slot_in e.act ≡ i = slot_in-is i e.act parts.0 in
-          let before_is : e.before ≡ 0 = found history e first.0 first.1 ∙ (ap (word_of s (judges_of s) (reverse history)) there ∙ none) in
-          absurd (parts.1 (before_is ∙ sym (stopped-still history e first.0 first.1 before_is)))
+          let before_is : e.before ≡ 0 = found s history e first.0 first.1 ∙ (ap (word_of s (judges_of s) (reverse history)) there ∙ none) in
+          absurd (parts.1 (before_is ∙ sym (stopped-still s history e first.0 first.1 before_is)))
       by false off rest = ap length (filter_no (changed i) e more off) ∙ rest (ap (λ (h : List Entry). word_of s (judges_of s) h i) (reverse-append history (e ∷ [])) ∙ (still s history i e first.1.words off ∙ none))

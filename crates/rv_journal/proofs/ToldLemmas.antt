@@ -16,9 +16,10 @@ use Rattle.rv_journal.specs.CountedWords.{count_on}
 use Rattle.rv_journal.specs.MergeSteps.{slot_in, rank, changes_on}
 use Rattle.rv_journal.specs.MergeStates.{entries_in, LostAt, AllTold}
 use Rattle.rv_journal.specs.Merging.{IsLost, CanMerge, NumbersFit}
-use Rattle.rv_journal.proofs.MergeWordLemmas.{machine-snoc}
+use Rattle.rv_journal.proofs.SlotActLemmas.{machine-snoc}
 use Rattle.rv_journal.proofs.PlaceLemmas.{merged-item}
-use Rattle.rv_journal.proofs.RankLemmas.{IsItemEntry, stop_count, counted-more, stopped-more, found}
+use Rattle.rv_journal.proofs.StoppedLemmas.{IsItemEntry, found}
+use Rattle.rv_journal.proofs.RankLemmas.{stop_count, counted-more, stopped-more}
 use Rattle.rv_journal.proofs.UnderWayLemmas.{item-cut}
 use Rattle.rv_journal.proofs.WholeLemmas.{seat_at, Whole, whole}
 

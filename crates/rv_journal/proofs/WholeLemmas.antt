@@ -1,108 +1,38 @@
 -- The lists of the lanes are parts of one whole list, of which everything is known that a merge needs.
-use Rattle.std.proofs.Common.{◌≡◌, ℕ, zero, suc, ◌^◌, ◌<◌, ◌==◌, Bool, true, false, List, [], ◌∷◌, ◌++◌, ◌⊎◌, inl, inr, length, take, get_or, refl, sym, ap, ◌∙◌, subst, arith, append_assoc, length-append, sum}
-use Rattle.std.specs.Prelude.{filter, All, slice_index}
+use Rattle.std.proofs.Common.{◌≡◌, ℕ, ◌^◌, ◌<◌, ◌==◌, Bool, true, false, List, [], ◌∷◌, ◌++◌, ◌⊎◌, inl, inr, length, get_or, refl, sym, ap, ◌∙◌, subst, arith, append_assoc}
+use Rattle.std.specs.Prelude.{filter, All}
 use Rattle.std.proofs.lemmas.Bool.Decides.{nat_tests}
 use Rattle.std.proofs.lemmas.List.{append-nil, map-append, length-map, get_or_default}
-use Rattle.std.proofs.lemmas.List.Elements.{filter-append, All-get_or, All-head, All-tail}
-use Rattle.rv_model.specs.declared.entry.Act.{Act}
-use Rattle.rv_model.specs.declared.entry.Act.TheVariants.{Deliver, Stop, Look, Raise, Lower, Clear, End}
+use Rattle.std.proofs.lemmas.List.Elements.{filter-append, All-get_or}
+use Rattle.rv_model.specs.declared.entry.Act.TheVariants.{Stop}
 use Rattle.rv_model.specs.declared.entry.Entry.{Entry}
-use Rattle.rv_model.specs.declared.work.Delivery.{Delivery}
 use Rattle.rv_model.specs.Seats.{entries_of}
-use Rattle.rv_model.specs.Setups.{Setup, slot_of}
+use Rattle.rv_model.specs.Setups.{Setup}
 use Rattle.rv_core.specs.Setup.{IsSetup, FitsAct, ActFits}
-use Rattle.rv_slots.proofs.ShapeLemmas.{sum-cons}
 use Rattle.rv_journal.specs.declared.counted.Counted.{Counted}
 use Rattle.rv_journal.specs.CountedLanes.{CountedLaneValue}
 use Rattle.rv_journal.specs.CountedWords.{count_on}
 use Rattle.rv_journal.specs.MergeSteps.{slot_in}
 use Rattle.rv_journal.specs.MergeStates.{entries_in, IsItemAct}
-use Rattle.rv_journal.specs.Merging.{IsLost, FitsSetup, Serves, AllServed, seat_of, FitsLane, CanMerge, HitFits, NumbersFit, no_lane}
-use Rattle.rv_journal.proofs.MarkLemmas.{same, earlier, later, compare, cut_alike, filter_yes, filter_no}
+use Rattle.rv_journal.specs.Merging.{IsLost, seat_of, FitsLane, CanMerge, NumbersFit, no_lane}
+use Rattle.rv_journal.proofs.MarkLemmas.{cut_alike, same-cut, filter_yes, filter_no}
 use Rattle.rv_journal.proofs.UnderWayLemmas.{item-cut}
-
--- ---- deliveries
-
--- the slot of an instance is one of the setup's
-slot_of-lt : (shape : List ℕ) (monitor instance : ℕ) → monitor < length shape → instance < slice_index shape monitor → slot_of shape monitor instance < sum shape
-slot_of-lt [] monitor instance low in' = absurd (omega arith)
-slot_of-lt (count ∷ shape) zero instance low in' = let all = sum-cons count shape in omega arith
-slot_of-lt (count ∷ shape) (suc monitor) instance low in' =
-    let rest = slot_of-lt shape monitor instance (omega arith) in' in
-    let all = sum-cons count shape in
-    let front = sum-cons count (take monitor shape) in
-    omega arith
-
--- what serves a delivery that fits, fits
-serves-fits : (s : Setup) (d : Delivery) (act : Act) → FitsSetup s d → Serves s d act → IsItemAct act × FitsAct s act
-serves-fits s d act fit (inl is) =
-    let low = slot_of-lt s.shape d.monitor d.instance fit.monitor fit.instance_fits in
-    subst (λ (a : Act). IsItemAct a × FitsAct s a) (sym is) (tt, (low, fit.hit))
-serves-fits s d act fit (inr is) =
-    let low = slot_of-lt s.shape d.monitor d.instance fit.monitor fit.instance_fits in
-    subst (λ (a : Act). IsItemAct a × FitsAct s a) (sym is) (tt, low)
-
--- of all items
-pub all-served : (s : Setup) (ds : List Delivery) (items : List Counted) → All (FitsSetup s) ds → AllServed s ds items → (front : List Counted) (c : Counted) (back : List Counted) → items ≡ front ++ c ∷ back → IsItemAct c.entry.act × FitsAct s c.entry.act
-all-served s [] [] fit served [] c back eq = absurd (cc)
-all-served s [] [] fit served (x ∷ front) c back eq = absurd (cc)
-all-served s [] (i ∷ items) fit served front c back eq = absurd served
-all-served s (d ∷ ds) [] fit served front c back eq = absurd served
-all-served s (d ∷ ds) (i ∷ items) fit served [] c back eq =
-    let it : i ≡ c = cc in
-    subst (λ (z : Counted). IsItemAct z.entry.act × FitsAct s z.entry.act) it (serves-fits s d i.entry.act (All-head (FitsSetup s) d ds fit) served.0)
-all-served s (d ∷ ds) (i ∷ items) fit served (x ∷ front) c back eq =
-    let tail : items ≡ front ++ c ∷ back = cc in
-    all-served s ds items (All-tail (FitsSetup s) d ds fit) served.1 front c back tail
-
--- of an item at a cut
-all-cut : (P : Counted → Type 0) (items : List Counted) → All P items → (front : List Counted) (c : Counted) (back : List Counted) → items ≡ front ++ c ∷ back → P c
-all-cut P [] all [] c back eq = absurd (cc)
-all-cut P [] all (x ∷ front) c back eq = absurd (cc)
-all-cut P (i ∷ items) all [] c back eq = let it : i ≡ c = cc in subst P it (All-head P i items all)
-all-cut P (i ∷ items) all (x ∷ front) c back eq = let tail : items ≡ front ++ c ∷ back = cc in all-cut P items (All-tail P i items all) front c back tail
-
--- an item's numbers are an act's
-bits-fit : (s : Setup) (act : Act) → IsItemAct act → HitFits act → ActFits s act
-bits-fit s (Deliver slot hit) is fits = fits
-bits-fit s (Stop slot) is fits = tt
-bits-fit s Look is fits = absurd is
-bits-fit s (Raise _) is fits = absurd is
-bits-fit s (Lower _) is fits = absurd is
-bits-fit s (Clear _) is fits = absurd is
-bits-fit s (End _) is fits = absurd is
-
--- ---- the same cut
-
--- two cuts of a list at entries of one seat, with as many of it before, are one
-same-cut : (n : ℕ) (a : List Entry) (x : Entry) (b c : List Entry) (y : Entry) (d : List Entry) → x.seat ≡ n → y.seat ≡ n → a ++ x ∷ b ≡ c ++ y ∷ d
-    → length (entries_of (λ k. k == n) a) ≡ length (entries_of (λ k. k == n) c) → a ≡ c
-same-cut n a x b c y d own own' eq many = elim (compare a x b c y d eq) [
-  | same p q r ↦ p
-  | earlier m p q ↦
-      let yes' : (x.seat == n) ≡ true = grind (arith, nat_tests) in
-      let more : entries_of (λ k. k == n) c ≡ entries_of (λ k. k == n) a ++ x ∷ entries_of (λ k. k == n) m = ap (entries_of (λ k. k == n)) p ∙ (filter-append (λ (e : Entry). e.seat == n) a (x ∷ m) ∙ ap (λ (z : List Entry). entries_of (λ k. k == n) a ++ z) (filter_yes (λ (e : Entry). e.seat == n) x m yes')) in
-      let count = ap length more ∙ length-append (entries_of (λ k. k == n) a) (x ∷ entries_of (λ k. k == n) m) in
-      absurd (omega arith)
-  | later m p q ↦
-      let yes' : (y.seat == n) ≡ true = grind (arith, nat_tests) in
-      let more : entries_of (λ k. k == n) a ≡ entries_of (λ k. k == n) c ++ y ∷ entries_of (λ k. k == n) m = ap (entries_of (λ k. k == n)) p ∙ (filter-append (λ (e : Entry). e.seat == n) c (y ∷ m) ∙ ap (λ (z : List Entry). entries_of (λ k. k == n) c ++ z) (filter_yes (λ (e : Entry). e.seat == n) y m yes')) in
-      let count = ap length more ∙ length-append (entries_of (λ k. k == n) c) (y ∷ entries_of (λ k. k == n) m) in
-      absurd (omega arith)
-]
-
--- ---- the whole list
+use Rattle.rv_journal.proofs.ServedLemmas.{all-served, all-cut, bits-fit}
 
 module _ (s : Setup) (seen : List Entry) (lanes : List CountedLaneValue) (can : CanMerge s seen lanes) (k : IsSetup s) (numbers : All (λ l. All NumbersFit l.counted) lanes) where
+  -- the lane at a place
   abbrev pub lane_at : ℕ → CountedLaneValue
   lane_at l = get_or lanes l no_lane
 
+  -- its seat
   abbrev pub seat_at : ℕ → ℕ
   seat_at l = seat_of (get_or lanes l no_lane)
 
+  -- it fits
   pub fits-at : (l : ℕ) → l < length lanes → FitsLane s seen (lane_at l)
   fits-at l lt = All-get_or (FitsLane s seen) lanes l no_lane lt can.fit
 
+  -- its numbers fit
   numbers-at : (l : ℕ) → l < length lanes → All NumbersFit (lane_at l).counted
   numbers-at l lt = All-get_or (λ (x : CountedLaneValue). All NumbersFit x.counted) lanes l no_lane lt numbers
 
@@ -155,6 +85,7 @@ module _ (s : Setup) (seen : List Entry) (lanes : List CountedLaneValue) (can : 
     pub own : item.entry.seat ≡ seat_at lane
     pub known : IsKnown before item
 
+  -- each entry has one
   item-at : (before : List Entry) (e : Entry) (after : List Entry) → seen ≡ before ++ e ∷ after → ItemAt before e
   item-at before e after eq =
       let l = lane-of before e after eq in
@@ -193,10 +124,12 @@ module _ (s : Setup) (seen : List Entry) (lanes : List CountedLaneValue) (can : 
         };
       }
 
+  -- no entry, no item
   no-items : (items : List Counted) → entries_in items ≡ [] → items ≡ []
   no-items [] eq = refl
   no-items (c ∷ items) eq = absurd (cc)
 
+  -- one entry more in front
   more-whole : (before : List Entry) (e : Entry) (rest : List Entry) → seen ≡ before ++ e ∷ rest → Whole (before ++ e ∷ []) rest → Whole before (e ∷ rest)
   more-whole before e rest eq w =
       let it = item-at before e rest eq in
@@ -243,6 +176,7 @@ module _ (s : Setup) (seen : List Entry) (lanes : List CountedLaneValue) (can : 
               let none : entries_of (λ n. n == seat_at l) (before ++ e ∷ []) ≡ entries_of (λ n. n == seat_at l) before = filter-append (λ (x : Entry). x.seat == seat_at l) before (e ∷ []) ∙ (ap (λ (z : List Entry). entries_of (λ n. n == seat_at l) before ++ z) (filter_no (λ (x : Entry). x.seat == seat_at l) e [] e_no) ∙ append-nil (entries_of (λ n. n == seat_at l) before)) in
               filter_no (λ (c : Counted). c.entry.seat == seat_at l) it.item w.items other ∙ w.parts l lt front back cut (here ∙ sym none)
 
+  -- from each place on
   whole-of : (before rest : List Entry) → seen ≡ before ++ rest → Whole before rest
   whole-of before [] eq = record {
     items = [];

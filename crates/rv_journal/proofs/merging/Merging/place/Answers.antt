@@ -5,7 +5,8 @@ use Rattle.rv_journal.specs.MergeSteps.{step_entry}
 use Rattle.rv_journal.specs.MergeWaits.{changes_after}
 use Rattle.rv_journal.specs.Merging.{seat_of}
 use Rattle.rv_journal.specs.MergeRuns.{run_of, lane_at, IsMerging}
-use Rattle.rv_journal.proofs.RunLemmas.{goes-there, may-there, read-in_slots, enough-waits, next-merging, fewer-steps, changes-few}
+use Rattle.rv_journal.proofs.RunLemmas.{enough-waits, next-merging, fewer-steps}
+use Rattle.rv_journal.proofs.ReadyLemmas.{goes-there, may-there, read-in_slots, changes-few}
 use Rattle.rv_journal.proofs.merging.Merging.place.Goals as goal
 
 pub settle-requires : goal.settle-requires

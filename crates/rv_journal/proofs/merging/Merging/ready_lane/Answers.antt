@@ -1,7 +1,7 @@
 -- The test tells which steps are ready.
 use Rattle.std.proofs.Common.{sym, ◌∙◌, below_more}
 use Rattle.rv_journal.specs.MergeRuns.{run_of}
-use Rattle.rv_journal.proofs.RunLemmas.{end-cannot, read-in_slots, ready-there, unready-there}
+use Rattle.rv_journal.proofs.ReadyLemmas.{end-cannot, read-in_slots, ready-there, unready-there}
 use Rattle.rv_journal.proofs.merging.Merging.ready_lane.Goals as goal
 use Rattle.rv_journal.proofs.merging.Merging.ready_lane.Goals.{in-Some+else-is_ready, in_default}
 

@@ -1,0 +1,128 @@
+-- An item's act is on one slot, and makes of its word what it makes anywhere.
+use Rattle.std.proofs.Common.{◌≡◌, ◌≢◌, ℕ, ◌+◌, ◌<◌, Bool, true, false, List, [], ◌∷◌, ◌++◌, ◌⊎◌, inl, inr, reverse, refl, sym, ap, ◌∙◌, subst, arith, sum}
+use Rattle.std.proofs.lemmas.Bool.Decides.{nat_tests}
+use Rattle.std.proofs.lemmas.List.{reverse-append}
+use Rattle.rv_model.specs.declared.entry.Act.{Act}
+use Rattle.rv_model.specs.declared.entry.Act.TheVariants.{Deliver, Stop, Look, Raise, Lower, Clear, End}
+use Rattle.rv_model.specs.declared.entry.Entry.{Entry}
+use Rattle.rv_model.specs.Judging.{Judge}
+use Rattle.rv_model.specs.Setups.{Setup, start_of}
+use Rattle.rv_model.specs.Phases.{level}
+use Rattle.rv_model.specs.SharedWords.{word_of, word_on}
+use Rattle.rv_model.specs.Stepping.{table_judge}
+use Rattle.rv_model.specs.Table.{Table}
+use Rattle.rv_model.specs.Histories.{is_on}
+use Rattle.rv_model.proofs.TableJudgeLemmas.{every_table_is_judged}
+use Rattle.rv_core.specs.Advance.{acted}
+use Rattle.rv_core.specs.Core.{IsLive, slot_phase}
+use Rattle.rv_core.specs.Setup.{IsSetup, FitsAct, ActFits, place_of, table_at, judges_of}
+use Rattle.rv_core.proofs.CoreLemmas.{table_at-is, word_of-is}
+use Rattle.rv_core.proofs.TurnLemmas.{fits-start}
+use Rattle.rv_core.proofs.WordLemmas.{Acts, acted-same, live-same, phase_after-other}
+use Rattle.rv_board.specs.Rule.{IsMachine}
+use Rattle.rv_journal.specs.MergeSteps.{slot_in}
+use Rattle.rv_journal.specs.MergeStates.{IsItemAct, IsMergedAct}
+
+-- equal or not
+same_or_not : (a b : ℕ) → (a ≡ b) ⊎ (a ≢ b)
+same_or_not a b = grind arith
+
+-- ---- acts on slots
+
+-- the word that an item's act is on is its slot's
+pub on-slot_in : (s : Setup) (past : List Entry) (act : Act) → IsItemAct act → word_on s (judges_of s) past act ≡ word_of s (judges_of s) past (slot_in act)
+on-slot_in s past (Deliver slot hit) is = refl
+on-slot_in s past (Stop slot) is = refl
+on-slot_in s past Look is = absurd is
+on-slot_in s past (Raise _) is = absurd is
+on-slot_in s past (Lower _) is = absurd is
+on-slot_in s past (Clear _) is = absurd is
+on-slot_in s past (End _) is = absurd is
+
+-- it is on this slot alone
+pub slot_in-is : (slot : ℕ) (act : Act) → is_on slot act ≡ true → slot_in act ≡ slot
+slot_in-is slot (Deliver other hit) on = grind (arith, nat_tests)
+slot_in-is slot (Stop other) on = grind (arith, nat_tests)
+slot_in-is slot (Clear other) on = grind (arith, nat_tests)
+slot_in-is slot (End other) on = grind (arith, nat_tests)
+slot_in-is slot Look on = absurd (let no : false ≡ true = on in cc)
+slot_in-is slot (Raise _) on = absurd (let no : false ≡ true = on in cc)
+slot_in-is slot (Lower _) on = absurd (let no : false ≡ true = on in cc)
+
+-- and it is on it
+pub is_on-slot : (act : Act) → IsItemAct act → is_on (slot_in act) act ≡ true
+is_on-slot (Deliver slot hit) is = grind (arith, nat_tests)
+is_on-slot (Stop slot) is = grind (arith, nat_tests)
+is_on-slot Look is = absurd is
+is_on-slot (Raise _) is = absurd is
+is_on-slot (Lower _) is = absurd is
+is_on-slot (Clear _) is = absurd is
+is_on-slot (End _) is = absurd is
+
+-- the slot's place is behind the switches
+pub place-slot_in : (act : Act) → IsItemAct act → place_of act ≡ slot_in act + 1
+place-slot_in (Deliver slot hit) is = refl
+place-slot_in (Stop slot) is = refl
+place-slot_in Look is = absurd is
+place-slot_in (Raise _) is = absurd is
+place-slot_in (Lower _) is = absurd is
+place-slot_in (Clear _) is = absurd is
+place-slot_in (End _) is = absurd is
+
+-- the slot is one of the setup's
+pub slot-below : (s : Setup) (act : Act) → IsItemAct act → FitsAct s act → slot_in act < sum s.shape
+slot-below s (Deliver slot hit) is fits = fits.0
+slot-below s (Stop slot) is fits = fits
+slot-below s Look is fits = absurd is
+slot-below s (Raise _) is fits = absurd is
+slot-below s (Lower _) is fits = absurd is
+slot-below s (Clear _) is fits = absurd is
+slot-below s (End _) is fits = absurd is
+
+-- what an act on a slot wants
+acts-there : (s : Setup) (act : Act) → IsItemAct act → FitsAct s act → ActFits s act → Acts (table_at s (slot_in act)) (start_of s (slot_in act)) act
+acts-there s (Deliver slot hit) is fits bits = (bits, fits-start (table_at s slot) hit.mode hit.what fits.1.1)
+acts-there s (Stop slot) is fits bits = tt
+acts-there s Look is fits bits = absurd is
+acts-there s (Raise _) is fits bits = absurd is
+acts-there s (Lower _) is fits bits = absurd is
+acts-there s (Clear _) is fits bits = absurd is
+acts-there s (End _) is fits bits = absurd is
+
+module _ (s : Setup) where
+  -- an act makes of the word what the tables make of it
+  pub word-after : (past : List Entry) (e : Entry) → IsSetup s → ((i : ℕ) → i < sum s.shape → IsLive (table_judge (table_at s i)) (slot_phase s past i)) → IsItemAct e.act → FitsAct s e.act → ActFits s e.act
+      → word_of s (judges_of s) (e ∷ past) (slot_in e.act) ≡ (acted (table_at s (slot_in e.act)) (start_of s (slot_in e.act)) (word_of s (judges_of s) past (slot_in e.act)) e.act).1
+  word-after past e k live is fits bits =
+      let i : ℕ = slot_in e.act in
+      let low : i < sum s.shape = slot-below s e.act is fits in
+      let t : Table = table_at s i in
+      let j : Judge = table_judge t in
+      let was : ℕ → Bool = level (start_of s i) past i in
+      let there = acted-same t (table_at-is s k i low) j (every_table_is_judged t (table_at-is s k i low)) (start_of s i) was i e.act (slot_phase s past i) (acts-there s e.act is fits bits) (live i low) (place-slot_in e.act is) in
+      word_of-is s k (e ∷ past) i low ∙ (sym there ∙ ap (λ (w : ℕ). (acted t (start_of s i) w e.act).1) (sym (word_of-is s k past i low)))
+
+  -- what runs after it has rows
+  pub machine-snoc : (history : List Entry) (e : Entry) → IsMachine s history → IsMergedAct e.act → FitsAct s e.act → ActFits s e.act → IsMachine s (history ++ e ∷ [])
+  machine-snoc history e m is fits bits = record {
+    is_setup = m.is_setup;
+    live = λ i low. subst (λ (past : List Entry). IsLive (table_judge (table_at s i)) (slot_phase s past i)) (sym (reverse-append history (e ∷ []))) (at i low (same_or_not (place_of e.act) (i + 1)));
+  }
+    where
+      item : (act : Act) (i : ℕ) → IsMergedAct act → place_of act ≡ i + 1 → IsItemAct act
+      item (Deliver slot hit) i is same = tt
+      item (Stop slot) i is same = tt
+      item Look i is same = absurd (omega arith)
+      item (Raise _) i is same = absurd is
+      item (Lower _) i is same = absurd is
+      item (Clear _) i is same = absurd is
+      item (End _) i is same = absurd is
+
+      at : (i : ℕ) → i < sum s.shape → (place_of e.act ≡ i + 1) ⊎ (place_of e.act ≢ i + 1) → IsLive (table_judge (table_at s i)) (slot_phase s (e ∷ reverse history) i)
+      at i low (inl same) =
+          let it = item e.act i is same in
+          let there : slot_in e.act ≡ i = (let p = place-slot_in e.act it in omega arith) in
+          let t : Table = table_at s i in
+          let wants : Acts t (start_of s i) e.act = subst (λ (n : ℕ). Acts (table_at s n) (start_of s n) e.act) there (acts-there s e.act it fits bits) in
+          live-same t (table_at-is s m.is_setup i low) (table_judge t) (every_table_is_judged t (table_at-is s m.is_setup i low)) (start_of s i) (level (start_of s i) (e ∷ reverse history) i) i e.act (slot_phase s (reverse history) i) wants (m.live i low) same
+      at i low (inr other) = subst (IsLive (table_judge (table_at s i))) (sym (phase_after-other (table_judge (table_at s i)) (level (start_of s i) (e ∷ reverse history) i) i e.act (slot_phase s (reverse history) i) other)) (m.live i low)
