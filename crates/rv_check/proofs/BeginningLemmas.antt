@@ -1,8 +1,7 @@
 -- A front of a beginning is one, and a legal history is a beginning whose scripts are whole.
-use Rattle.std.proofs.Common.{◌≡◌, ◌≢◌, ℕ, ◌+◌, ◌<◌, ◌⊎◌, inl, inr, Bool, true, false, ◌==◌, List, [], ◌∷◌, ◌++◌, length, reverse, get_or, arith, refl, sym, ap, ◌∙◌, subst, append_assoc, append-nil, All}
+use Rattle.std.proofs.Common.{◌≡◌, ◌≢◌, ℕ, ◌+◌, ◌<◌, ◌⊎◌, inl, inr, Bool, true, false, ◌==◌, List, [], ◌∷◌, ◌++◌, reverse, get_or, arith, refl, sym, ap, ◌∙◌, subst, append_assoc, append-nil, All}
 use Rattle.std.specs.Prelude.{Any}
 use Rattle.std.proofs.lemmas.List.{reverse-append}
-use Rattle.rv_model.specs.declared.entry.Act.{Act}
 use Rattle.rv_model.specs.declared.entry.Answer.{Answer}
 use Rattle.rv_model.specs.declared.entry.Entry.{Entry}
 use Rattle.rv_model.specs.declared.formula.Spec.{Spec}
@@ -21,6 +20,14 @@ use Rattle.rv_check.specs.Beginnings.{input_of, HasBegun, IsBeginning}
 same_or_not : (a b : ℕ) → (a ≡ b) ⊎ (a ≢ b)
 same_or_not a b = grind arith
 
+-- what a seat has played with one entry more of its own
+pub played-more : (s : Setup) (js : List Judge) (seat : ℕ) (h : List Entry) (e : Entry) → seat ≡ e.seat → (rest : List Played)
+    → played s js seat (reverse (h ++ e ∷ [])) ++ rest ≡ played s js seat (reverse h) ++ (e, answer_at s js (reverse h) e e.act) ∷ rest
+played-more s js seat h e mine rest =
+    let a : Answer = answer_at s js (reverse h) e e.act in
+    let more : played s js seat (reverse (h ++ e ∷ [])) ≡ played s js seat (reverse h) ++ (e, a) ∷ [] = ap (played s js seat) (reverse-append h (e ∷ [])) ∙ played-own s js seat e (reverse h) (sym mine) in
+    ap (λ (z : List Played). z ++ rest) more ∙ append_assoc (played s js seat (reverse h)) ((e, a) ∷ []) rest
+
 module _ (s : Setup) (js : List Judge) (panics : ℕ → Bool) (works : List Work) where
   -- a seat that has begun had begun before its last entry
   begun-front : (w : Work) (h : List Entry) (e : Entry) → HasBegun s panics w (played s js (2 + w.cpu) (reverse (h ++ e ∷ []))) → HasBegun s panics w (played s js (2 + w.cpu) (reverse h))
@@ -32,9 +39,7 @@ module _ (s : Setup) (js : List Judge) (panics : ℕ → Bool) (works : List Wor
       go : (e.seat ≡ 2 + w.cpu) ⊎ (e.seat ≢ 2 + w.cpu) → HasBegun s panics w (played s js (2 + w.cpu) (reverse h))
       go (inl own) =
           let p : Played = (e, answer_at s js (reverse h) e e.act) in
-          let is : played s js (2 + w.cpu) (reverse (h ++ e ∷ [])) ++ rest ≡ played s js (2 + w.cpu) (reverse h) ++ p ∷ rest =
-          ap (λ (z : List Entry). played s js (2 + w.cpu) z ++ rest) back ∙ ap (λ (z : List Played). z ++ rest) (played-own s js (2 + w.cpu) e (reverse h) own) ∙ append_assoc (played s js (2 + w.cpu) (reverse h)) (p ∷ []) rest in
-          (p ∷ rest, subst (Plays s panics w) is plays)
+          (p ∷ rest, subst (Plays s panics w) (played-more s js (2 + w.cpu) h e (sym own) rest) plays)
       go (inr other) =
           let is : played s js (2 + w.cpu) (reverse (h ++ e ∷ [])) ++ rest ≡ played s js (2 + w.cpu) (reverse h) ++ rest =
           ap (λ (z : List Entry). played s js (2 + w.cpu) z ++ rest) back ∙ ap (λ (z : List Played). z ++ rest) (played-other s js (2 + w.cpu) e (reverse h) other) in

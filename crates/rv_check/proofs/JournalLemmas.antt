@@ -1,8 +1,7 @@
 -- Journals with one more line.
-use Rattle.std.proofs.Common.{◌≡◌, ℕ, zero, suc, ◌+◌, ◌<◌, Bool, true, false, List, [], ◌∷◌, ◌++◌, map, length, get_or, arith, refl, sym, ap, ◌∙◌, subst, All}
-use Rattle.std.specs.Prelude.{MatchBool}
+use Rattle.std.proofs.Common.{◌≡◌, ℕ, Bool, true, false, List, [], ◌∷◌, ◌++◌, map, arith, refl, sym, ap, ◌∙◌, subst, All}
 use Rattle.std.proofs.lemmas.List.{map-append}
-use Rattle.std.proofs.lemmas.List.Elements.{All-append, All-get_or, All-from_get_or}
+use Rattle.std.proofs.lemmas.List.Elements.{All-nil, All-cons, All-head, All-tail, All-append}
 use Rattle.rv_model.specs.declared.entry.Entry.{Entry}
 use Rattle.rv_model.specs.declared.formula.Spec.{Spec}
 use Rattle.rv_model.specs.Numbers.{has_bit}
@@ -21,40 +20,21 @@ pub record Last (lines : List (List ℕ)) (line : List ℕ) (h : List Entry) : T
   pub fits : IsEntry entry
   pub text : entry_text entry ≡ line
 
-pub all-head : (e : Entry) (h : List Entry) → All IsEntry (e ∷ h) → IsEntry e
-all-head e h all = all 0 e (omega arith)
-
-pub all-tail : (e : Entry) (h : List Entry) → All IsEntry (e ∷ h) → All IsEntry h
-all-tail e h all = λ k d lt. subst (λ (x : Entry). IsEntry x) (up k d) (all (suc k) d (omega arith))
-  where
-    up : (k : ℕ) (d : Entry) → get_or (e ∷ h) (suc k) d ≡ get_or h k d
-    up k d = refl
-
-pub all-one : (e : Entry) → IsEntry e → All IsEntry (e ∷ [])
-all-one e fits = All-from_get_or IsEntry (e ∷ []) e one
-  where
-    one : (i : ℕ) → i < 1 → IsEntry (get_or (e ∷ []) i e)
-    one zero lt = fits
-    one (suc i) lt = absurd (omega arith)
-
-pub all-cons : (e : Entry) (h : List Entry) → IsEntry e → All IsEntry h → All IsEntry (e ∷ h)
-all-cons e h fits all = All-append IsEntry (e ∷ []) h (all-one e fits) all
-
 -- a journal of one more line
 pub last-line : (lines : List (List ℕ)) (line : List ℕ) (h : List Entry) → All IsEntry h → map entry_text h ≡ lines ++ line ∷ [] → Last lines line h
 last-line [] line [] all is = absurd (let none : [] ≡ line ∷ [] = is in cc)
-last-line [] line (e ∷ []) all is = record { front = []; entry = e; is = refl; journal = record { entries = all-tail e [] all; texts = refl }; fits = all-head e [] all; text = cc }
+last-line [] line (e ∷ []) all is = record { front = []; entry = e; is = refl; journal = record { entries = All-tail IsEntry e [] all; texts = refl }; fits = All-head IsEntry e [] all; text = cc }
 last-line [] line (e ∷ f ∷ h) all is = absurd (let none : entry_text e ∷ entry_text f ∷ map entry_text h ≡ line ∷ [] = is in let two : entry_text f ∷ map entry_text h ≡ [] = cc in cc)
 last-line (x ∷ lines) line [] all is = absurd (let none : [] ≡ x ∷ (lines ++ line ∷ []) = is in cc)
 last-line (x ∷ lines) line (e ∷ h) all is =
     let tail : map entry_text h ≡ lines ++ line ∷ [] = cc in
     let head : entry_text e ≡ x = cc in
-    let l = last-line lines line h (all-tail e h all) tail in
+    let l = last-line lines line h (All-tail IsEntry e h all) tail in
     record {
       front = e ∷ l.front;
       entry = l.entry;
       is = ap (λ (z : List Entry). e ∷ z) l.is;
-      journal = record { entries = all-cons e l.front (all-head e h all) l.journal.entries; texts = cc (l.journal.texts) };
+      journal = record { entries = All-cons IsEntry e l.front (All-head IsEntry e h all) l.journal.entries; texts = cc (l.journal.texts) };
       fits = l.fits;
       text = l.text;
     }
@@ -62,7 +42,7 @@ last-line (x ∷ lines) line (e ∷ h) all is =
 -- one more line
 pub journal-more : (lines : List (List ℕ)) (line : List ℕ) (h : List Entry) (e : Entry) → IsJournalOf lines h → IsEntry e → entry_text e ≡ line → IsJournalOf (lines ++ line ∷ []) (h ++ e ∷ [])
 journal-more lines line h e j fits text = record {
-  entries = All-append IsEntry h (e ∷ []) j.entries (all-one e fits);
+  entries = All-append IsEntry h (e ∷ []) j.entries (All-cons IsEntry e [] fits (All-nil IsEntry));
   texts = map-append entry_text h (e ∷ []) ∙ ap (λ (z : List (List ℕ)). z ++ entry_text e ∷ []) j.texts ∙ ap (λ (l : List ℕ). lines ++ l ∷ []) text;
 }
 

@@ -1,5 +1,5 @@
 -- Tries that are lost, by a count of what stands since the seat's last entry.
-use Rattle.std.proofs.Common.{◌≡◌, ℕ, ◌+◌, ◌<◌, ◌≤◌, Bool, true, false, ◌==◌, List, [], ◌∷◌, ◌++◌, length, reverse, arith, refl, sym, ap, ◌∙◌, subst, cond, length-append}
+use Rattle.std.proofs.Common.{◌≡◌, ℕ, ◌+◌, ◌≤◌, Bool, true, false, ◌==◌, List, [], ◌∷◌, ◌++◌, length, reverse, arith, refl, sym, ap, ◌∙◌, subst, cond, length-append}
 use Rattle.std.specs.Prelude.{filter}
 use Rattle.std.proofs.lemmas.List.{reverse-append, reverse-reverse}
 use Rattle.std.proofs.lemmas.List.Elements.{filter-append}
@@ -7,6 +7,7 @@ use Rattle.rv_model.specs.declared.entry.Entry.{Entry}
 use Rattle.rv_model.specs.Histories.{changed, NoneOf, LostThrice}
 use Rattle.rv_check.specs.Nexts.{lost_of}
 
+-- nobody's entry stands in two lists, one behind the other
 none-append : (seat : ℕ) (a b : List Entry) → NoneOf seat a → NoneOf seat b → NoneOf seat (a ++ b)
 none-append seat [] b x y = y
 none-append seat (e ∷ a) b x y = (x.0, none-append seat a b x.1 y)

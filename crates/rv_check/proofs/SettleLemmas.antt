@@ -1,13 +1,12 @@
 -- From a place on, the deliveries that a look shows on begin with the first one of them.
-use Rattle.std.proofs.Common.{◌≡◌, ℕ, ◌+◌, ◌<◌, ◌≤◌, Bool, true, false, List, [], ◌∷◌, length, arith, refl, sym, ap, ◌∙◌, subst, sum}
+use Rattle.std.proofs.Common.{◌≡◌, ℕ, ◌+◌, ◌<◌, ◌≤◌, true, false, List, [], ◌∷◌, length, refl, sym, ap, ◌∙◌, subst, sum}
 use Rattle.std.specs.Prelude.{filter, slice_range, drop}
 use Rattle.rv_model.specs.declared.work.Delivery.{Delivery}
-use Rattle.rv_model.specs.Scripts.{Played, is_shown, Delivers, PlaysTurns, turns_of}
+use Rattle.rv_model.specs.Scripts.{is_shown, Delivers, PlaysTurns, turns_of}
 use Rattle.rv_model.specs.Setups.{Setup, slot_of}
 use Rattle.rv_model.specs.Works.{Work}
 use Rattle.rv_core.specs.Advance.{FitsHit}
 use Rattle.rv_core.specs.Setup.{table_at}
-use Rattle.rv_check.specs.declared.next.Due.{Due}
 use Rattle.rv_check.specs.declared.next.Next.TheVariants as next
 use Rattle.rv_check.specs.Beginnings.{FitsDelivery}
 use Rattle.rv_check.specs.Nexts.{delivery_in, Settles}

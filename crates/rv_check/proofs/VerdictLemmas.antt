@@ -1,16 +1,16 @@
 -- No text has two verdicts.
-use Rattle.std.proofs.Common.{◌≡◌, ◌≢◌, ◌⊎◌, inl, inr, ℕ, zero, suc, ◌+◌, List, [], ◌∷◌, ◌++◌, length, refl, sym, ap, ◌∙◌, subst, arith, append_assoc, append-nil, length-append, All}
+use Rattle.std.proofs.Common.{◌≡◌, ◌≢◌, ◌⊎◌, inl, inr, ℕ, suc, List, [], ◌∷◌, ◌++◌, length, refl, sym, ap, ◌∙◌, subst, append_assoc, append-nil, All}
+use Rattle.std.proofs.lemmas.List.Elements.{All-head, All-tail}
 use Rattle.rv_model.specs.declared.entry.Entry.{Entry}
 use Rattle.rv_model.specs.declared.formula.Spec.{Spec}
 use Rattle.rv_model.specs.Numbers.{has_bit}
 use Rattle.rv_core.specs.Setup.{judges_of}
 use Rattle.rv_journal.specs.EntryTexts.{entry_text, journal_of, IsEntry}
-use Rattle.rv_check.specs.declared.reading.Verdict.{Verdict}
 use Rattle.rv_check.specs.declared.reading.Verdict.TheVariants.{Yes, No}
-use Rattle.rv_check.specs.Verdicts.{Journal, Begins, Legal, IsYes, IsStuck, IsNo, Holds, OneVerdict}
+use Rattle.rv_check.specs.Verdicts.{Journal, Begins, Legal, IsYes, IsStuck, IsNo, OneVerdict}
 use Rattle.rv_check.proofs.BeginningLemmas.{begins-before, legal-begins}
-use Rattle.rv_check.proofs.JournalLemmas.{all-head, all-tail}
-use Rattle.rv_check.proofs.TextLemmas.{one-line, entry-unended, entry-one}
+use Rattle.rv_check.proofs.LineEndLemmas.{one-line}
+use Rattle.rv_check.proofs.TextLemmas.{entry-unended, entry-one}
 
 -- a journal of one more entry at its head
 journal-cons : (e : Entry) (h : List Entry) (x : List ℕ) → journal_of (e ∷ h) ++ x ≡ entry_text e ++ 10 ∷ (journal_of h ++ x)
@@ -35,11 +35,11 @@ fronts : (a b : List Entry) (x y : List ℕ) → All IsEntry a → All IsEntry b
 fronts [] b x y in_a in_b is = inl (record { more = b; entries = in_b; is = refl; behind = is })
 fronts (e ∷ a) [] x y in_a in_b is = inr (record { more = e ∷ a; entries = in_a; is = refl; behind = sym is })
 fronts (e ∷ a) (f ∷ b) x y in_a in_b is =
-    let is_e = all-head e a in_a in
-    let is_f = all-head f b in_b in
+    let is_e = All-head IsEntry e a in_a in
+    let is_f = All-head IsEntry f b in_b in
     let lines = one-line (entry_text e) (entry_text f) (journal_of a ++ x) (journal_of b ++ y) (entry-unended e is_e) (entry-unended f is_f) (sym (journal-cons e a x) ∙ is ∙ journal-cons f b y) in
     let same : e ≡ f = entry-one e f is_e is_f lines.0 in
-    elim (fronts a b x y (all-tail e a in_a) (all-tail f b in_b) lines.1) [
+    elim (fronts a b x y (All-tail IsEntry e a in_a) (All-tail IsEntry f b in_b) lines.1) [
       | inl l ↦ inl (record { more = l.more; entries = l.entries; is = ap (λ (z : List Entry). f ∷ z) l.is ∙ ap (λ (g : Entry). g ∷ (a ++ l.more)) (sym same); behind = l.behind })
       | inr r ↦ inr (record { more = r.more; entries = r.entries; is = ap (λ (z : List Entry). e ∷ z) r.is ∙ ap (λ (g : Entry). g ∷ (b ++ r.more)) same; behind = r.behind })
     ]
@@ -63,7 +63,7 @@ module _ (j : Journal) where
           let line : back ≡ entry_text e ++ 10 ∷ (journal_of more ++ y) = behind ∙ journal-cons e more y in
           absurd (elim why [
             | inl over ↦ line-some (entry_text e) (journal_of more ++ y) (sym over.0 ∙ line)
-            | inr stuck ↦ stuck.1 e (journal_of more ++ y) (all-head e more entries) line (begins-one front e more (subst (Begins j) is begins))
+            | inr stuck ↦ stuck.1 e (journal_of more ++ y) (All-head IsEntry e more entries) line (begins-one front e more (subst (Begins j) is begins))
           ])
 
   -- the same history then

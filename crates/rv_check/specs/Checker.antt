@@ -1,5 +1,5 @@
 -- The checker as contracts see it, and what it keeps.
-use Rattle.std.specs.Prelude.{◌≡◌, ℕ, Bool, List, [], ◌++◌, map, All, MatchBool}
+use Rattle.std.specs.Prelude.{◌≡◌, ℕ, Bool, List, map, All, MatchBool}
 use Rattle.std.specs.Coded.{Coded, code_by, coded×, coded_ℕ, coded_list}
 use Rattle.std.proofs.Common.{refl}
 use Rattle.rv_model.specs.declared.entry.Entry.{Entry}

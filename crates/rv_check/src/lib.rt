@@ -2,8 +2,8 @@
 //! a legal one. The input has no changes, so no entry is the control actor's.
 #![tactic(auto)]
 
-mod act;
 mod checker;
+mod entries;
 mod given;
 mod next;
 mod reading;

@@ -6,11 +6,10 @@ ghost use Rattle.rv_check.specs.declared.next.Next.TheVariants.{Look};
 ghost use Rattle.rv_check.specs.Beginnings.{FitWorks};
 ghost use Rattle.rv_check.specs.Run.{RunValue, BeginsRun, AllPlayed};
 
-use crate::act::{act_on, place_of};
 use crate::next::Next;
 use crate::script::{after, allows, may_end, watch_all};
 use crate::work::work_of;
-use rv_core::Setup;
+use rv_core::{Setup, act_on, place_of};
 use rv_model::{Closed, CpuWork, Entry};
 use std::alloc::{AllocError, Global};
 use std::marker::Model;

@@ -8,7 +8,7 @@ ghost use Rattle.rv_check.specs.declared.next.Next.TheVariants.{Look, Deliver};
 ghost use Rattle.rv_check.specs.Beginnings.{FitsDelivery};
 ghost use Rattle.rv_check.specs.Nexts.{IsNext, HasPlace, IsDue, IsHalt, Serves, Allows, MayEnd, Settles, Moves, CanMove, watched};
 
-use crate::act::changes;
+use crate::entries::changes;
 use crate::next::{Due, Next};
 use crate::work::{delivery_at, turn_at, turn_count};
 use rv_core::{Setup, Step};

@@ -29,7 +29,7 @@ same_or_not : (a b : ℕ) → (a ≡ b) ⊎ (a ≢ b)
 same_or_not a b = grind arith
 
 -- an act's word is one of the words
-place-below : (s : Setup) (act : Act) → FitsAct s act → place_of act < sum s.shape + 1
+pub place-below : (s : Setup) (act : Act) → FitsAct s act → place_of act < sum s.shape + 1
 place-below s (Deliver slot hit) f = let l = f.0 in omega arith
 place-below s (Stop slot) f = omega arith
 place-below s (Clear slot) f = omega arith
@@ -83,7 +83,7 @@ module _ (s : Setup) (k : IsSetup s) where
   word_of-is past i lt = ap (λ (j : Judge). slot_word j (start_of s i) past i) (judge-at i lt)
 
   -- the word at an act's place is the word that the act is on
-  word_on-is : (words : List ℕ) (past : List Entry) → get_or words 0 0 ≡ switches_of s.switches past → ((i : ℕ) → i < sum s.shape → get_or words (i + 1) 0 ≡ word_of s (judges_of s) past i) → (act : Act) → FitsAct s act → get_or words (place_of act) 0 ≡ word_on s (judges_of s) past act
+  pub word_on-is : (words : List ℕ) (past : List Entry) → get_or words 0 0 ≡ switches_of s.switches past → ((i : ℕ) → i < sum s.shape → get_or words (i + 1) 0 ≡ word_of s (judges_of s) past i) → (act : Act) → FitsAct s act → get_or words (place_of act) 0 ≡ word_on s (judges_of s) past act
   word_on-is words past sw w (Deliver slot hit) f = w slot f.0
   word_on-is words past sw w (Stop slot) f = w slot f
   word_on-is words past sw w (Clear slot) f = w slot f

@@ -9,6 +9,7 @@ mod tests;
 mod turn;
 mod word;
 
+pub use act::{act_on, place_of};
 pub use machine::Core;
 pub use setup::Setup;
 pub use word::{Step, advance};

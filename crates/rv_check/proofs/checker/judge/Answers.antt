@@ -1,5 +1,5 @@
 -- One more line.
-use Rattle.std.proofs.Common.{◌≡◌, ℕ, Bool, true, false, List, [], ◌∷◌, ◌++◌, None, Some, refl, sym, ap, subst, ◌∙◌}
+use Rattle.std.proofs.Common.{◌≡◌, ℕ, Bool, true, false, List, [], ◌∷◌, ◌++◌, None, Some, refl, sym, subst}
 use Rattle.rv_model.specs.declared.entry.Entry.{Entry}
 use Rattle.rv_journal.specs.EntryTexts.{entry_text, IsEntry}
 use Rattle.rv_check.specs.Checker.{IsGood, IsBad, IsChecker}

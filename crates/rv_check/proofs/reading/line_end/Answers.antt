@@ -1,5 +1,5 @@
 -- What was searched for.
-use Rattle.rv_check.proofs.TextLemmas.{end-inside, end-before, end-split, end-none}
+use Rattle.rv_check.proofs.LineEndLemmas.{end-before, end-split, end-none}
 use Rattle.rv_check.proofs.reading.line_end.Goals as goal
 
 pub returns-clause-before : goal.returns-clause-before

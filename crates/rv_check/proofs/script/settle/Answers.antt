@@ -1,5 +1,5 @@
 -- The first delivery that is shown on is due, and where there is none the turn is over.
-use Rattle.std.proofs.Common.{◌≡◌, ◌<◌, ◌≤◌, length, get_or, sym, ap, subst, ◌∙◌, ℕ, arith, List, true, false, sum}
+use Rattle.std.proofs.Common.{◌≡◌, ◌<◌, ◌≤◌, length, sym, ap, subst, ◌∙◌, ℕ, arith, List, true, false, sum}
 use Rattle.std.proofs.lemmas.List.Elements.{All-get_or}
 use Rattle.std.specs.Prelude.{slice_index}
 use Rattle.rv_model.specs.declared.work.Delivery.{Delivery}

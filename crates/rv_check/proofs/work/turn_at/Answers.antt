@@ -1,5 +1,5 @@
 -- The turns name the deliveries in order.
-use Rattle.std.proofs.Common.{◌≡◌, ◌<◌, ◌≤◌, ◌^◌, ◌+◌, length, get_or, sym, ap, subst, ◌∙◌, ℕ, arith}
+use Rattle.std.proofs.Common.{◌≡◌, ◌≤◌, length, get_or, sym, ap, subst, ◌∙◌, arith}
 use Rattle.rv_model.specs.declared.work.Turn.{Turn}
 use Rattle.rv_model.specs.Works.{Work, IsWork}
 use Rattle.rv_check.proofs.PlaceLemmas.{names-in}

@@ -4,7 +4,6 @@ use Rattle.rv_model.specs.Numbers.{has_bit}
 use Rattle.rv_core.specs.Setup.{judges_of}
 use Rattle.rv_check.specs.Checker.{CheckerValue, IsBegun}
 use Rattle.rv_check.proofs.BeginningLemmas.{begins-before}
-use Rattle.rv_check.proofs.JournalLemmas.{value}
 use Rattle.rv_check.proofs.checker.Checker.begins.Goals as goal
 
 pub returns : goal.returns

@@ -1,5 +1,5 @@
 -- The line is judged, and kept.
-use Rattle.std.proofs.Common.{◌≡◌, Bool, true, List, [], ◌∷◌, ◌++◌, ℕ, sym, ap, subst, ◌∙◌}
+use Rattle.std.proofs.Common.{◌≡◌, List, [], ◌∷◌, ◌++◌, ℕ, sym, ap, subst, ◌∙◌}
 use Rattle.rv_check.specs.Checker.{CheckerValue, IsBegun, IsChecker}
 use Rattle.rv_check.specs.Run.{RunValue}
 use Rattle.rv_check.proofs.JournalLemmas.{value, checker-begun, begun-checker, begun-before}

@@ -1,5 +1,5 @@
 -- No line yet.
-use Rattle.std.proofs.Common.{◌≡◌, List, ℕ, sym, ap, subst}
+use Rattle.std.proofs.Common.{List, ℕ, sym, ap, subst}
 use Rattle.rv_check.specs.Checker.{IsGood}
 use Rattle.rv_check.specs.Run.{RunValue}
 use Rattle.rv_check.proofs.JournalLemmas.{good-none}

@@ -1,7 +1,6 @@
 -- It is good, and each script is played.
-use Rattle.std.proofs.Common.{◌≡◌, Bool, true, false, List, ℕ, sym, subst}
+use Rattle.std.proofs.Common.{◌≡◌, Bool, true, false, sym, subst}
 use Rattle.rv_check.specs.Checker.{CheckerValue, IsWhole, IsGood, IsChecker}
-use Rattle.rv_check.specs.Run.{RunValue}
 use Rattle.rv_check.proofs.JournalLemmas.{checker-whole, whole-good, whole-played}
 use Rattle.rv_check.proofs.checker.Checker.whole.Goals as goal
 

@@ -1,7 +1,7 @@
 -- The line is good, or it has stopped.
-use Rattle.std.proofs.Common.{◌≡◌, ◌+◌, ◌++◌, ◌∷◌, [], List, ℕ, Bool, false, refl, sym, ap, ◌∙◌, arith, append_assoc, rules}
+use Rattle.std.proofs.Common.{◌≡◌, ◌+◌, ◌++◌, ◌∷◌, [], List, ℕ, false, ap, ◌∙◌, append_assoc, rules}
 use Rattle.rv_check.specs.Readings.{ReaderValue, joined}
-use Rattle.rv_check.proofs.ReaderLemmas.{joined-more, open-of, reader-ended}
+use Rattle.rv_check.proofs.KeptLemmas.{joined-more, open-of, reader-ended}
 use Rattle.rv_check.proofs.reading.JournalReader.end.Goals as goal
 
 pub invariant_of-self-2 : goal.invariant_of-self-2

@@ -1,7 +1,8 @@
 -- The line is too long, or goes on.
-use Rattle.std.proofs.Common.{◌≡◌, ◌+◌, ◌<◌, ◌≤◌, ◌++◌, ◌∷◌, [], List, ℕ, false, length, refl, sym, ap, ◌∙◌, subst, arith}
-use Rattle.rv_check.specs.Readings.{ReaderValue, joined, journal_by, IsStopped, IsOpen}
-use Rattle.rv_check.proofs.ReaderLemmas.{joined-more, stop-long, open-keep, open-of, reader-open}
+use Rattle.std.proofs.Common.{◌≡◌, ◌+◌, ◌<◌, ◌≤◌, ◌++◌, List, ℕ, false, length, refl, sym, ap, ◌∙◌, subst, arith}
+use Rattle.rv_check.specs.Readings.{ReaderValue, joined, journal_by, IsStopped}
+use Rattle.rv_check.proofs.ReaderLemmas.{stop-long, open-keep}
+use Rattle.rv_check.proofs.KeptLemmas.{joined-more, open-of, reader-open}
 use Rattle.rv_check.proofs.reading.JournalReader.keep.Goals as goal
 
 pub invariant_of-self : goal.invariant_of-self

@@ -1,7 +1,7 @@
 -- No text yet.
 use Rattle.std.proofs.Common.{refl, ap, false, []}
 use Rattle.rv_check.specs.Readings.{joined}
-use Rattle.rv_check.proofs.ReaderLemmas.{open-none, reader-open}
+use Rattle.rv_check.proofs.KeptLemmas.{open-none, reader-open}
 use Rattle.rv_check.proofs.reading.JournalReader.new.Goals as goal
 
 pub invariant_of-result : goal.invariant_of-result

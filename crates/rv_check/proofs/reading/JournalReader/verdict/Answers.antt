@@ -1,9 +1,10 @@
 -- What the lines so far come to, or the line that was bad.
-use Rattle.std.proofs.Common.{◌≡◌, ◌≢◌, ◌++◌, ◌∷◌, [], List, ℕ, Bool, true, false, length, refl, sym, ap, ◌∙◌, subst, arith}
+use Rattle.std.proofs.Common.{◌≡◌, true, sym, ap, ◌∙◌, subst}
 use Rattle.std.proofs.lemmas.Bool.{false≢true}
-use Rattle.rv_check.specs.Readings.{ReaderValue, joined, journal_by, longer, IsStopped, IsOpen}
-use Rattle.rv_check.specs.Verdicts.{Journal, IsYes, IsNo}
-use Rattle.rv_check.proofs.ReaderLemmas.{open-of, stopped-of, no-tail, no-over, no-stopped, stop-more, yes-whole}
+use Rattle.rv_check.specs.Readings.{ReaderValue, joined, journal_by, longer}
+use Rattle.rv_check.specs.Verdicts.{IsYes, IsNo}
+use Rattle.rv_check.proofs.ReaderLemmas.{no-tail, no-over, no-stopped, stop-more, yes-whole}
+use Rattle.rv_check.proofs.KeptLemmas.{open-of, stopped-of}
 use Rattle.rv_check.proofs.reading.JournalReader.verdict.Goals as goal
 use Rattle.rv_check.proofs.reading.JournalReader.verdict.Goals.{else-not-self-via-then-not-self+then-is_over+else-whole, else-not-self-via-then-not-self+else-is_over, else-not-self-via-else-not-self}
 

@@ -1,9 +1,9 @@
 -- Each script may end here, or one may not.
-use Rattle.std.proofs.Common.{◌≡◌, ℕ, ◌<◌, ◌≤◌, length, get_or, refl, sym, ap, subst, ◌∙◌, arith, true, false}
+use Rattle.std.proofs.Common.{◌≡◌, ◌<◌, length, refl, sym, subst, arith, true, false}
 use Rattle.rv_model.specs.Works.{Work}
 use Rattle.rv_check.specs.declared.next.Next.{Next}
 use Rattle.rv_check.specs.Nexts.{MayEnd}
-use Rattle.rv_check.specs.Run.{RunValue, AllPlayed}
+use Rattle.rv_check.specs.Run.{AllPlayed}
 use Rattle.rv_check.proofs.RunLemmas.{not-whole, all-end}
 use Rattle.rv_check.proofs.run.Run.is_whole.Goals as goal
 

@@ -1,5 +1,5 @@
 -- A run without an entry.
-use Rattle.std.proofs.Common.{List, ℕ, [], length, sym, ap, subst, ◌∙◌}
+use Rattle.std.proofs.Common.{List, [], length, sym, ap, subst, ◌∙◌}
 use Rattle.std.specs.Prelude.{replicate}
 use Rattle.rv_model.specs.declared.entry.Entry.{Entry}
 use Rattle.rv_model.specs.Works.{Work}

@@ -1,19 +1,19 @@
 -- One entry more, where it goes on with what has begun.
-use Rattle.std.proofs.Common.{◌≡◌, ◌≢◌, ℕ, ◌+◌, ◌<◌, ◌^◌, List, [], ◌∷◌, ◌++◌, length, get_or, set, refl, sym, ap, subst, ◌∙◌, arith, length-set, get_or-set_same, get_or-set_other, true, false, All}
+use Rattle.std.proofs.Common.{◌≡◌, ℕ, ◌<◌, ◌^◌, List, [], ◌∷◌, ◌++◌, length, get_or, set, sym, ap, subst, ◌∙◌, arith, length-set, get_or-set_same, get_or-set_other}
 use Rattle.std.proofs.lemmas.List.{get_or_default}
 use Rattle.rv_model.specs.declared.entry.Answer.{Answer}
 use Rattle.rv_model.specs.declared.entry.Entry.{Entry}
-use Rattle.rv_model.specs.declared.work.Delivery.{Delivery}
 use Rattle.rv_model.specs.Numbers.{has_bit}
-use Rattle.rv_model.specs.Setups.{Setup}
 use Rattle.rv_model.specs.Works.{Work}
 use Rattle.rv_core.specs.Setup.{FitsAct, place_of}
 use Rattle.rv_check.specs.declared.next.Next.{Next}
 use Rattle.rv_check.specs.declared.next.Next.TheVariants as next
-use Rattle.rv_check.specs.Beginnings.{FitsDelivery}
 use Rattle.rv_check.specs.Nexts.{Allows, Moves}
 use Rattle.rv_check.specs.Run.{RunValue, BeginsRun, IsRun}
-use Rattle.rv_check.proofs.RunLemmas.{found-work, stand-at, fits-at, begun-allowed, allowed-fits, begun-before, begun-after, run-takes, place-in, has-place, can-move}
+use Rattle.rv_check.proofs.RunLemmas.{found-work, stand-at, fits-at}
+use Rattle.rv_check.proofs.AllowedLemmas.{allowed-fits, has-place, can-move}
+use Rattle.rv_check.proofs.BegunLemmas.{begun-allowed, begun-before, begun-after, place-in}
+use Rattle.rv_check.proofs.TakenLemmas.{run-takes}
 use Rattle.rv_check.proofs.run.Run.take.Goals as goal
 
 pub allows-requires : goal.allows-requires
@@ -46,7 +46,7 @@ index-requires-2 c =
     let k = c.in-Some.place in
     let found = found-work i.works.items e.seat c.as_slice.result.now k w c.as_slice.ensures.value c.in-Some.ensures.some c.in-Some.ensures.seat c.index-work.ensures in
     let allowed : Allows w n e.act = c.allows.ensures.yes c.if-not-allows.false in
-    let fits : FitsAct i.setup e.act = allowed-fits i.setup i.panics i.works.items i.words.items i.nexts.items i.history c.self.invariant e k found.0 w c.index-work.ensures n c.index.ensures found.1 allowed in
+    let fits : FitsAct i.setup e.act = allowed-fits i.setup w n (stand-at i.setup i.panics i.works.items i.words.items i.nexts.items i.history c.self.invariant k found.0 w c.index-work.ensures n c.index.ensures).is_next e.act allowed in
     let lt = place-in i.setup i.words.items e.act c.self.invariant.core.count fits in
     let at = c.place_of-at.ensures in
     let long = c.self.inside.words.ok.0 in
@@ -61,7 +61,7 @@ index_mut-requires c =
     let k = c.in-Some.place in
     let found = found-work i.works.items e.seat c.as_slice.result.now k w c.as_slice.ensures.value c.in-Some.ensures.some c.in-Some.ensures.seat c.index-work.ensures in
     let allowed : Allows w n e.act = c.allows.ensures.yes c.if-not-allows.false in
-    let fits : FitsAct i.setup e.act = allowed-fits i.setup i.panics i.works.items i.words.items i.nexts.items i.history c.self.invariant e k found.0 w c.index-work.ensures n c.index.ensures found.1 allowed in
+    let fits : FitsAct i.setup e.act = allowed-fits i.setup w n (stand-at i.setup i.panics i.works.items i.words.items i.nexts.items i.history c.self.invariant k found.0 w c.index-work.ensures n c.index.ensures).is_next e.act allowed in
     let lt = place-in i.setup i.words.items e.act c.self.invariant.core.count fits in
     let at = c.place_of-at.ensures in
     let long = c.self.inside.words.ok.0 in
@@ -76,7 +76,7 @@ act_on-step-requires c =
     let k = c.in-Some.place in
     let found = found-work i.works.items e.seat c.as_slice.result.now k w c.as_slice.ensures.value c.in-Some.ensures.some c.in-Some.ensures.seat c.index-work.ensures in
     let allowed : Allows w n e.act = c.allows.ensures.yes c.if-not-allows.false in
-    let fits : FitsAct i.setup e.act = allowed-fits i.setup i.panics i.works.items i.words.items i.nexts.items i.history c.self.invariant e k found.0 w c.index-work.ensures n c.index.ensures found.1 allowed in
+    let fits : FitsAct i.setup e.act = allowed-fits i.setup w n (stand-at i.setup i.panics i.works.items i.words.items i.nexts.items i.history c.self.invariant k found.0 w c.index-work.ensures n c.index.ensures).is_next e.act allowed in
     fits
 
 pub returns-then-entry-index-clause-no : goal.returns-then-entry-index-clause-no
@@ -88,7 +88,7 @@ returns-then-entry-index-clause-no c = λ _ b.
     let k = c.in-Some.place in
     let found = found-work i.works.items e.seat c.as_slice.result.now k w c.as_slice.ensures.value c.in-Some.ensures.some c.in-Some.ensures.seat c.index-work.ensures in
     let allowed : Allows w n e.act = c.allows.ensures.yes c.if-not-allows.false in
-    let fits : FitsAct i.setup e.act = allowed-fits i.setup i.panics i.works.items i.words.items i.nexts.items i.history c.self.invariant e k found.0 w c.index-work.ensures n c.index.ensures found.1 allowed in
+    let fits : FitsAct i.setup e.act = allowed-fits i.setup w n (stand-at i.setup i.panics i.works.items i.words.items i.nexts.items i.history c.self.invariant k found.0 w c.index-work.ensures n c.index.ensures).is_next e.act allowed in
     let begun = subst (λ (v : RunValue). BeginsRun v (v.history ++ e ∷ [])) (sym c.self.view_is) b in
     let lt = place-in i.setup i.words.items e.act c.self.invariant.core.count fits in
     let read : c.index-2.result.now ≡ get_or i.words.items (place_of e.act) 0 = c.index-2.ensures ∙ ap (λ (j : ℕ). get_or i.words.items j c.index-2.result.now) c.place_of-at.ensures ∙ get_or_default i.words.items (place_of e.act) c.index-2.result.now 0 lt in
@@ -103,7 +103,7 @@ returns-then-entry-step-clause-no c = λ _ b.
     let k = c.in-Some.place in
     let found = found-work i.works.items e.seat c.as_slice.result.now k w c.as_slice.ensures.value c.in-Some.ensures.some c.in-Some.ensures.seat c.index-work.ensures in
     let allowed : Allows w n e.act = c.allows.ensures.yes c.if-not-allows.false in
-    let fits : FitsAct i.setup e.act = allowed-fits i.setup i.panics i.works.items i.words.items i.nexts.items i.history c.self.invariant e k found.0 w c.index-work.ensures n c.index.ensures found.1 allowed in
+    let fits : FitsAct i.setup e.act = allowed-fits i.setup w n (stand-at i.setup i.panics i.works.items i.words.items i.nexts.items i.history c.self.invariant k found.0 w c.index-work.ensures n c.index.ensures).is_next e.act allowed in
     let begun = subst (λ (v : RunValue). BeginsRun v (v.history ++ e ∷ [])) (sym c.self.view_is) b in
     let read : e.before ≡ get_or i.words.items (place_of e.act) e.before = c.if-entry-index.false ∙ c.index-2.ensures ∙ ap (λ (j : ℕ). get_or i.words.items j c.index-2.result.now) c.place_of-at.ensures ∙ ap (get_or i.words.items (place_of e.act)) (sym c.if-entry-index.false) in
     let told = c.act_on-step.ensures in

@@ -1,0 +1,109 @@
+-- The last entry of a longer beginning is allowed, and its words are the machine's.
+use Rattle.std.proofs.Common.{◌≡◌, ℕ, ◌+◌, ◌^◌, ◌<◌, ◌≤◌, Bool, true, false, List, [], ◌∷◌, ◌++◌, length, reverse, get_or, arith, refl, sym, ap, ◌∙◌, subst, sum}
+use Rattle.std.specs.Prelude.{nat_lt}
+use Rattle.std.proofs.lemmas.List.Elements.{All-get_or}
+use Rattle.rv_model.specs.declared.entry.Act.{Act}
+use Rattle.rv_model.specs.declared.entry.Act.TheVariants.{Deliver, Stop, Look, Raise, Lower, Clear, End}
+use Rattle.rv_model.specs.declared.entry.Answer.{Answer}
+use Rattle.rv_model.specs.declared.entry.Entry.{Entry}
+use Rattle.rv_model.specs.Histories.{FitsWords, LostThrice, IsEarnedBy}
+use Rattle.rv_model.specs.Judging.{Judge}
+use Rattle.rv_model.specs.Numbers.{has_bit}
+use Rattle.rv_model.specs.Scripts.{played, Plays}
+use Rattle.rv_model.specs.Setups.{Setup}
+use Rattle.rv_model.specs.SharedWords.{word_on, answer_at}
+use Rattle.rv_model.specs.Works.{Work}
+use Rattle.rv_model.proofs.CutLemmas.{at_each-last}
+use Rattle.rv_core.specs.Advance.{acted}
+use Rattle.rv_core.specs.Setup.{ActFits, FitsAct, place_of, table_of_act, start_of_act, judges_of}
+use Rattle.rv_core.proofs.CoreLemmas.{place-below, word_on-is, fits-words}
+use Rattle.rv_check.specs.declared.next.Due.{Due}
+use Rattle.rv_check.specs.declared.next.Next.{Next}
+use Rattle.rv_check.specs.declared.next.Next.TheVariants as next
+use Rattle.rv_check.specs.Beginnings.{HasBegun, IsBeginning}
+use Rattle.rv_check.specs.Nexts.{Allows, lost_of, CountsTo, IsCounted}
+use Rattle.rv_check.specs.Run.{Stands, IsRun}
+use Rattle.rv_check.proofs.BeginningLemmas.{played-more}
+use Rattle.rv_check.proofs.LostLemmas.{thrice-counted}
+use Rattle.rv_check.proofs.MoveLemmas.{may-allowed}
+use Rattle.rv_check.proofs.RunLemmas.{stand-at}
+
+-- the word of an act is told by the acts of the past
+word-same : (s : Setup) (js : List Judge) (past : List Entry) (e f : Entry) → e.act ≡ f.act → (act : Act) → word_on s js (e ∷ past) act ≡ word_on s js (f ∷ past) act
+word-same s js past e f same (Deliver slot hit) = ap (λ (x : Act). word_on s js (record { seat = 0; act = x; before = 0; after = 0 } ∷ past) (Deliver slot hit)) same
+word-same s js past e f same (Stop slot) = ap (λ (x : Act). word_on s js (record { seat = 0; act = x; before = 0; after = 0 } ∷ past) (Stop slot)) same
+word-same s js past e f same (Clear slot) = ap (λ (x : Act). word_on s js (record { seat = 0; act = x; before = 0; after = 0 } ∷ past) (Clear slot)) same
+word-same s js past e f same (End slot) = ap (λ (x : Act). word_on s js (record { seat = 0; act = x; before = 0; after = 0 } ∷ past) (End slot)) same
+word-same s js past e f same Look = ap (λ (x : Act). word_on s js (record { seat = 0; act = x; before = 0; after = 0 } ∷ past) Look) same
+word-same s js past e f same (Raise bits) = ap (λ (x : Act). word_on s js (record { seat = 0; act = x; before = 0; after = 0 } ∷ past) (Raise bits)) same
+word-same s js past e f same (Lower bits) = ap (λ (x : Act). word_on s js (record { seat = 0; act = x; before = 0; after = 0 } ∷ past) (Lower bits)) same
+
+-- an act's word is one of the words
+pub place-in : (s : Setup) (words : List ℕ) (act : Act) → length words ≡ sum s.shape + 1 → FitsAct s act → place_of act < length words
+place-in s words act count f = let low = place-below s act f in omega arith
+
+-- a count that stays at 3 is 3 where the number is 3 or more
+at-least : (lost n : ℕ) → CountsTo lost n → 3 ≤ n → 3 ≤ lost
+at-least lost n c three = on (nat_lt lost 3) refl
+  where
+    on : (b : Bool) → nat_lt lost 3 ≡ b → 3 ≤ lost
+    on true y =
+        let lt : lost < 3 = grind arith in
+        let is = c.below lt in
+        omega arith
+    on false y = grind arith
+
+module _ (s : Setup) (panics : ℕ) (works : List Work) (words : List ℕ) (nexts : List Next) (h : List Entry) (run : IsRun s panics works words nexts h)
+    (e : Entry) (k : ℕ) (lt : k < length works) (w : Work) (w_is : w ≡ get_or works k w) (n : Next) (n_is : n ≡ get_or nexts k n) (mine : 2 + w.cpu ≡ e.seat) where
+  abbrev js : List Judge
+  js = judges_of s
+
+  abbrev halts : ℕ → Bool
+  halts = has_bit panics
+
+  abbrev past : List Entry
+  past = reverse h
+
+  abbrev Begins : List Entry → Type 0
+  Begins = IsBeginning s js halts works
+
+  abbrev a : Answer
+  a = answer_at s js past e e.act
+
+  abbrev seat : ℕ
+  seat = 2 + w.cpu
+
+  abbrev stand : Stands s js halts h w n
+  stand = stand-at s panics works words nexts h run k lt w w_is n n_is
+
+  -- the tries that a stop needs
+  begun-lost : Begins (h ++ e ∷ []) → (due : Due) → n ≡ next.Deliver due → e.act ≡ Stop due.slot → 3 ≤ due.lost
+  begun-lost b due is act =
+      let earned : IsEarnedBy e.act e.seat h = at_each-last (λ before e. IsEarnedBy e.act e.seat before) h e b.sound.earned in
+      let lost : LostThrice due.slot e.seat h = subst (λ (x : Act). IsEarnedBy x e.seat h) act earned in
+      let three : 3 ≤ lost_of due.slot seat past = subst (λ (m : ℕ). 3 ≤ lost_of due.slot m past) (sym mine) (thrice-counted due.slot e.seat h lost) in
+      let counts : CountsTo due.lost (lost_of due.slot seat past) = subst (IsCounted seat past) is stand.counted in
+      at-least due.lost (lost_of due.slot seat past) counts three
+
+  -- the act of a longer beginning is allowed
+  pub begun-allowed : Begins (h ++ e ∷ []) → Allows w n e.act
+  begun-allowed b =
+      let P : Work → Type 0 = λ w. HasBegun s halts w (played s js (2 + w.cpu) (reverse (h ++ e ∷ []))) in
+      let begun : P w = subst P (sym w_is) (All-get_or P works k w lt b.cpus) in
+      let may = stand.may ((e, a) ∷ begun.0) (subst (Plays s halts w) (played-more s js seat h e mine begun.0) begun.1) in
+      may-allowed s halts w n e a begun.0 stand.is_next (begun-lost b) may
+
+  -- the word before it is the machine's
+  pub begun-before : Begins (h ++ e ∷ []) → FitsAct s e.act → e.before ≡ get_or words (place_of e.act) 0
+  begun-before b fits =
+      let told : FitsWords s js h e = at_each-last (FitsWords s js) h e b.sound.replays in
+      told.found ∙ sym (word_on-is s run.core.is_setup words past run.core.switches_are run.core.words_are e.act fits)
+
+  -- and so is the word after it
+  pub begun-after : Begins (h ++ e ∷ []) → (after : ℕ) → FitsAct s e.act → ActFits s e.act → e.before ≡ get_or words (place_of e.act) e.before
+      → after ≡ (acted (table_of_act s e.act) (start_of_act s e.act) e.before e.act).1 → after < 2 ^ 64 → e.after ≡ after
+  begun-after b after fits bits read is range =
+      let told : FitsWords s js h e = at_each-last (FitsWords s js) h e b.sound.replays in
+      let f : Entry = record { seat = e.seat; act = e.act; before = e.before; after = after } in
+      let made : FitsWords s js h f = fits-words s words h run.core e.seat e.act e.before after fits bits read is range in
+      told.left ∙ word-same s js past e f refl e.act ∙ sym made.left

@@ -1,0 +1,175 @@
+-- An entry that is allowed, with the machine's words, is taken.
+use Rattle.std.proofs.Common.{◌≡◌, ◌≢◌, ℕ, ◌+◌, ◌^◌, ◌<◌, ◌⊎◌, inl, inr, Bool, true, ◌==◌, List, [], ◌∷◌, ◌++◌, length, reverse, get_or, set, arith, refl, sym, ap, ◌∙◌, subst}
+use Rattle.std.specs.Prelude.{Any}
+use Rattle.std.proofs.lemmas.List.{reverse-append, get_or_default}
+use Rattle.rv_model.specs.declared.entry.Act.{Act}
+use Rattle.rv_model.specs.declared.entry.Act.TheVariants.{Look}
+use Rattle.rv_model.specs.declared.entry.Answer.{Answer}
+use Rattle.rv_model.specs.declared.entry.Answer.TheVariants.{Looked}
+use Rattle.rv_model.specs.declared.entry.Entry.{Entry}
+use Rattle.rv_model.specs.Cuts.{AtEach}
+use Rattle.rv_model.specs.Histories.{IsEarnedBy, IsHeldBy, IsSound}
+use Rattle.rv_model.specs.Judging.{Judge}
+use Rattle.rv_model.specs.Numbers.{has_bit}
+use Rattle.rv_model.specs.Scripts.{Played, played, Plays}
+use Rattle.rv_model.specs.Setups.{Setup}
+use Rattle.rv_model.specs.SharedWords.{answer_at}
+use Rattle.rv_model.specs.Works.{Work}
+use Rattle.rv_model.proofs.CutLemmas.{at_each-snoc}
+use Rattle.rv_model.proofs.ScriptLemmas.{played-other}
+use Rattle.rv_core.specs.Advance.{acted}
+use Rattle.rv_core.specs.Core.{IsCore}
+use Rattle.rv_core.specs.Setup.{ActFits, FitsAct, place_of, table_of_act, start_of_act, judges_of}
+use Rattle.rv_core.proofs.CoreLemmas.{core-after, core-answer}
+use Rattle.rv_check.specs.declared.next.Next.{Next}
+use Rattle.rv_check.specs.declared.next.Next.TheVariants as next
+use Rattle.rv_check.specs.Nexts.{IsFresh, Allows, Moves, IsCounted, watched}
+use Rattle.rv_check.specs.Run.{Stands, IsRun}
+use Rattle.rv_check.proofs.ServeLemmas.{look-is}
+use Rattle.rv_check.proofs.BeginningLemmas.{played-more}
+use Rattle.rv_check.proofs.MoveLemmas.{may-after, moves-on}
+use Rattle.rv_check.proofs.RunLemmas.{stand-at, fits-at}
+use Rattle.rv_check.proofs.WatchedLemmas.{watched-next, watched-may, may-watched, watched-counted}
+use Rattle.rv_check.proofs.AllowedLemmas.{allowed-fits, allowed-earned, allowed-held}
+
+-- equal or not
+same_or_not : (a b : ℕ) → (a ≡ b) ⊎ (a ≢ b)
+same_or_not a b = grind arith
+
+module _ (s : Setup) (panics : ℕ) (works : List Work) (words : List ℕ) (nexts : List Next) (h : List Entry) (run : IsRun s panics works words nexts h)
+    (e : Entry) (k : ℕ) (lt : k < length works) (w : Work) (w_is : w ≡ get_or works k w) (n : Next) (n_is : n ≡ get_or nexts k n) (mine : 2 + w.cpu ≡ e.seat) where
+  abbrev js : List Judge
+  js = judges_of s
+
+  abbrev halts : ℕ → Bool
+  halts = has_bit panics
+
+  abbrev past : List Entry
+  past = reverse h
+
+  abbrev a : Answer
+  a = answer_at s js past e e.act
+
+  abbrev seat : ℕ
+  seat = 2 + w.cpu
+
+  abbrev stand : Stands s js halts h w n
+  stand = stand-at s panics works words nexts h run k lt w w_is n n_is
+
+  -- its past has the entry first
+  back : reverse (h ++ e ∷ []) ≡ e ∷ past
+  back = reverse-append h (e ∷ [])
+
+  -- the entry is added
+  module _ (allowed : Allows w n e.act) (bits : ActFits s e.act) (read : e.before ≡ get_or words (place_of e.act) e.before) (range : e.after < 2 ^ 64)
+      (after_is : e.after ≡ (acted (table_of_act s e.act) (start_of_act s e.act) e.before e.act).1)
+      (m : Next) (moves : Moves s halts w n e.after (acted (table_of_act s e.act) (start_of_act s e.act) e.before e.act).0 m)
+      (nexts' : List Next) (count : length nexts' ≡ length works) (m_is : get_or nexts' k next.Over ≡ m)
+      (others : (j : ℕ) → j < length works → j ≢ k → get_or nexts' j next.Over ≡ watched e (get_or nexts j next.Over)) where
+    -- it fits the machine
+    fits : FitsAct s e.act
+    fits = allowed-fits s w n stand.is_next e.act allowed
+
+    -- whose words are those of the longer history
+    core : IsCore s (set words (place_of e.act) e.after) (h ++ e ∷ [])
+    core = core-after s words h run.core e.seat e.act e.before e.after fits bits read after_is range
+
+    -- what is next is told by its answer
+    moves-here : Moves s halts w n e.after a m
+    moves-here = subst (λ (x : Answer). Moves s halts w n e.after x m) (core-answer s words h run.core e.seat e.act e.before e.after fits bits read after_is range) moves
+
+    -- it has the tries that it needs
+    earned : IsEarnedBy e.act e.seat h
+    earned = subst (λ (i : ℕ). IsEarnedBy e.act i h) mine (allowed-earned w seat h n stand.counted e.act allowed)
+
+    -- its seat may do it
+    held : IsHeldBy e.act e.seat
+    held = allowed-held w e.seat n e.act allowed
+
+    -- its seat is that of a CPU
+    low : e.seat < 67
+    low = let c = (fits-at s panics works words nexts h run k lt w w_is n n_is).cpu in omega arith
+
+    -- the longer history is sound
+    sound : IsSound s js (h ++ e ∷ [])
+    sound = record {
+      replays = core.replays;
+      earned = at_each-snoc (λ before e. IsEarnedBy e.act e.seat before) h e run.sound.earned earned;
+      held = at_each-snoc (λ before e. (e.seat < 67) × IsHeldBy e.act e.seat) h e run.sound.held (low, held);
+    }
+
+    -- each entry is a work's
+    nobody_else : AtEach (λ before e. Any (λ w. e.seat ≡ 2 + w.cpu) works) (h ++ e ∷ [])
+    nobody_else = at_each-snoc (λ before e. Any (λ w. e.seat ≡ 2 + w.cpu) works) h e run.nobody_else (k, w, lt, sym w_is, sym mine)
+
+    -- a look tells the word behind it
+    shows : Allows w n e.act → (x : Answer) → x ≡ a → e.act ≡ Look → x ≡ Looked e.after
+    shows _ x is act = is ∙ ap (λ (z : Act). answer_at s js past e z) act
+
+    -- what is new has lost no try
+    fresh-counted : (x : Next) → IsFresh x → IsCounted seat (e ∷ past) x
+    fresh-counted (next.Look turn) f = tt
+    fresh-counted (next.Deliver due) f =
+        let y : (e.seat == seat) ≡ true = grind arith in
+        rw y (record { most = omega arith; below = λ lt. f; enough = λ three. absurd (omega arith) })
+    fresh-counted next.Raise f = tt
+    fresh-counted next.Over f = tt
+
+    -- its own script stands where it says
+    mine-stands : Stands s js halts (h ++ e ∷ []) w m
+    mine-stands =
+        let on = moves-on s halts w n m e.after a moves-here in
+        let after = λ (ps : List Played). may-after s halts w e a e.after ps n m stand.is_next allowed (λ look. shows allowed a refl (look-is e.act look)) moves-here in
+        record {
+          is_next = on.0;
+          counted = subst (λ (z : List Entry). IsCounted seat z m) (sym back) (fresh-counted m on.1);
+          may = λ ps plays. (after ps).0 (stand.may ((e, a) ∷ ps) (subst (Plays s halts w) (played-more s js seat h e mine ps) plays));
+          only = λ ps may. subst (Plays s halts w) (sym (played-more s js seat h e mine ps)) (stand.only ((e, a) ∷ ps) ((after ps).1 may));
+        }
+
+    -- and so do the others
+    other-stands : (j : ℕ) (d : Work) → j < length works → j ≢ k → Stands s js halts (h ++ e ∷ []) (get_or works j d) (watched e (get_or nexts j next.Over))
+    other-stands j d lj ne =
+        let v : Work = get_or works j d in
+        let x : Next = get_or nexts j next.Over in
+        let was = run.stand j d lj in
+        let apart : v.cpu ≡ w.cpu → ⊥ = λ same. cpus-apart j d lj ne same in
+        let other : e.seat ≢ 2 + v.cpu = λ is. apart (omega arith) in
+        let same : played s js (2 + v.cpu) (reverse (h ++ e ∷ [])) ≡ played s js (2 + v.cpu) past = ap (played s js (2 + v.cpu)) back ∙ played-other s js (2 + v.cpu) e past other in
+        record {
+          is_next = watched-next s v e x was.is_next;
+          counted = subst (λ (z : List Entry). IsCounted (2 + v.cpu) z (watched e x)) (sym back) (watched-counted s v e (2 + v.cpu) past x other was.counted);
+          may = λ ps plays. watched-may s v e halts x ps (was.may ps (subst (λ (z : List Played). Plays s halts v (z ++ ps)) same plays));
+          only = λ ps may. subst (λ (z : List Played). Plays s halts v (z ++ ps)) (sym same) (was.only ps (may-watched s v e halts x ps may));
+        }
+      where
+        three : (i j : ℕ) → (i < j) ⊎ ((i ≡ j) ⊎ (j < i))
+        three i j = grind arith
+
+        cpus-apart : (j : ℕ) (d : Work) → j < length works → j ≢ k → (get_or works j d).cpu ≡ w.cpu → ⊥
+        cpus-apart j d lj ne same = go (three j k)
+          where
+            is : w ≡ get_or works k d
+            is = w_is ∙ get_or_default works k w d lt
+
+            go : (j < k) ⊎ ((j ≡ k) ⊎ (k < j)) → ⊥
+            go (inl below) = run.fit.apart j k d below lt (same ∙ ap (λ (x : Work). x.cpu) is)
+            go (inr (inl here)) = ne here
+            go (inr (inr above)) = run.fit.apart k j d above lj (sym (same ∙ ap (λ (x : Work). x.cpu) is))
+
+    -- the longer history has begun too
+    pub run-takes : IsRun s panics works (set words (place_of e.act) e.after) nexts' (h ++ e ∷ [])
+    run-takes = record {
+      core = core;
+      fit = run.fit;
+      count = count;
+      stand = λ j d lj. elim (same_or_not j k) [
+        | inl here ↦
+            let is : w ≡ get_or works j d = w_is ∙ get_or_default works k w d lt ∙ ap (λ (i : ℕ). get_or works i d) (sym here) in
+            let at : m ≡ get_or nexts' j next.Over = sym m_is ∙ ap (λ (i : ℕ). get_or nexts' i next.Over) (sym here) in
+            subst (λ (x : Next). Stands s js halts (h ++ e ∷ []) (get_or works j d) x) at (subst (λ (v : Work). Stands s js halts (h ++ e ∷ []) v m) is mine-stands)
+        | inr ne ↦ subst (λ (x : Next). Stands s js halts (h ++ e ∷ []) (get_or works j d) x) (sym (others j lj ne)) (other-stands j d lj ne)
+      ];
+      sound = sound;
+      nobody_else = nobody_else;
+    }
