@@ -1,10 +1,12 @@
 -- A line's rules are those of its event.
-use Rattle.std.proofs.Common.{◌≡◌, ℕ, zero, suc, ◌<◌, ◌⊎◌, inl, inr, Bool, true, false, cond, List, [], ◌∷◌, ◌++◌, length, get_or, set, drop, ◌+◌, Option, Some, None, Result, Ok, Err, refl, sym, ap, ◌∙◌, subst, arith}
-use Rattle.std.specs.Prelude.{All, filter, option_and_then, bytes_eq, slice_get}
-use Rattle.std.specs.List.{find}
+use Rattle.std.proofs.Common.{◌≡◌, ℕ, ◌+◌, Bool, true, false, cond, List, [], ◌∷◌, ◌++◌, drop, Option, Some, None, Result, Ok, Err, Vec, refl, sym, ap, ◌∙◌, subst}
+use Rattle.std.specs.Prelude.{All, IfSome, filter, bytes_eq}
+use Rattle.std.specs.Map.{lookup}
 use Rattle.std.specs.Option.{is_some}
-use Rattle.std.proofs.lemmas.List.Elements.{All-head, All-tail, All-set, All-push, All-get_or, filter_passes}
-use Rattle.std.proofs.lemmas.Option.{slice_get-get_or, slice_get_within, get_or_from_slice_get}
+use Rattle.std.specs.declared.alloc.Global.{Global}
+use Rattle.std.proofs.lemmas.List.Elements.{All-head, All-tail, filter_passes}
+use Rattle.indexmap.specs.IndexMap.{insert_entry}
+use Rattle.indexmap.proofs.CallerLemmas.{insert_entry-new}
 use Rattle.rv_text.specs.declared.refusals.Refusal.{Refusal}
 use Rattle.rv_text.specs.Readings.{and_then}
 use Rattle.rv_trace.specs.declared.line.TraceLine.{TraceLine}
@@ -13,10 +15,9 @@ use Rattle.rv_bind.specs.RuleValues.{OnValue}
 use Rattle.rv_route.specs.declared.asking.Ask.{Ask}
 use Rattle.rv_route.specs.declared.event.Asked.{Asked}
 use Rattle.rv_route.specs.declared.event.Event.{Event}
-use Rattle.rv_route.specs.declared.index.Bucket.{Bucket}
 use Rattle.rv_route.specs.declared.asking.Ask.TheVariants as asks
 use Rattle.rv_route.specs.Asking.{text_at, ask_of, ask_on}
-use Rattle.rv_route.specs.Events.{is_on, IsEventOf, bucket_of, event_at, IsIndexOf}
+use Rattle.rv_route.specs.Events.{is_on, IsEventOf, Index, event_at, AreEventsOf, HasEvent, IsIndexOf}
 use Rattle.rv_route.specs.Routing.{Routes, answer, line_routes}
 use Rattle.rv_route.proofs.EventLemmas.{same_bytes, itself, At}
 use Rattle.rv_route.proofs.RoutingLemmas.{rule-more}
@@ -52,132 +53,95 @@ module _ (text : List ℕ) (line : TraceLine) (monitors : List Monitor) where
 -- ---- the event of a name
 
 module _ (name : List ℕ) where
-  is_named : Event → Bool
-  is_named event = bytes_eq name event.name
+  -- what the index has for a name asks for the rules that are on it
+  pub found-event : (rules : List OnValue) (index : Index) (event : Event) → IsIndexOf rules index → event_at index name ≡ Some event → IsEventOf rules name event
+  unfolding AreEventsOf
+  found-event rules index event of is = subst (λ (found : Option Event). IfSome found (IsEventOf rules name)) is (of.events name)
 
-  pub record Found (rules : List OnValue) (event : Event) : Type 0 where
-    pub named : name ≡ event.name
-    pub asks : IsEventOf rules event
-
-  find-named : (rules : List OnValue) (events : List Event) (event : Event) → All (IsEventOf rules) events → find (λ event. bytes_eq name event.name) events ≡ Some event → Found rules event
-  find-named rules [] event all is = cc
-  find-named rules (e ∷ events) event all is = go (bytes_eq name e.name) refl (find-named rules events event (All-tail (IsEventOf rules) e events all)) is
-    where
-      go : (b : Bool) → bytes_eq name e.name ≡ b → (find (λ event. bytes_eq name event.name) events ≡ Some event → Found rules event) → cond b (Some e) (find (λ event. bytes_eq name event.name) events) ≡ Some event → Found rules event
-      go true same rest is =
-          let one : e ≡ event = cc in
-          subst (Found rules) one (record { named = same_bytes name e.name same; asks = All-head (IsEventOf rules) e events all })
-      go false other rest is = rest is
-
-  -- what the index has for a name is its event
-  pub found-event : (rules : List OnValue) (index : List Bucket) (event : Event) → IsIndexOf rules index → event_at index name ≡ Some event → Found rules event
-  unfolding event_at
-  found-event rules index event of is = go (slice_get index (bucket_of name)) refl is
-    where
-      go : (b : Option Bucket) → slice_get index (bucket_of name) ≡ b → option_and_then (λ (bucket : Bucket). find (λ event. bytes_eq name event.name) bucket.events.items) b ≡ Some event → Found rules event
-      go None at is = cc
-      go (Some bucket) at is =
-          let inside = slice_get_within index (bucket_of name) bucket at in
-          let all : All (IsEventOf rules) bucket.events.items = subst (λ (b : Bucket). All (IsEventOf rules) b.events.items) (get_or_from_slice_get index (bucket_of name) bucket bucket at) (All-get_or (λ (b : Bucket). All (IsEventOf rules) b.events.items) index (bucket_of name) bucket inside of.events) in
-          find-named rules bucket.events.items event all is
-
-  none-on : (index : List Bucket) (rules : List OnValue) → event_at index name ≡ None → All (λ (rule : OnValue). is_some (event_at index rule.event) ≡ true) rules → filter (is_on name) rules ≡ []
+  none-on : (index : Index) (rules : List OnValue) → event_at index name ≡ None → All (λ (rule : OnValue). HasEvent index rule.event) rules → filter (is_on name) rules ≡ []
+  unfolding HasEvent
   none-on index [] none has = refl
-  none-on index (rule ∷ rules) none has = go (is_on name rule) refl (none-on index rules none (All-tail (λ (r : OnValue). is_some (event_at index r.event) ≡ true) rule rules has))
+  none-on index (rule ∷ rules) none has = go (is_on name rule) refl (none-on index rules none (All-tail (λ (r : OnValue). HasEvent index r.event) rule rules has))
     where
       go : (on : Bool) → is_on name rule ≡ on → filter (is_on name) rules ≡ [] → cond on (rule ∷ filter (is_on name) rules) (filter (is_on name) rules) ≡ []
       go true on rest =
-          let there : is_some (event_at index rule.event) ≡ true = All-head (λ (r : OnValue). is_some (event_at index r.event) ≡ true) rule rules has in
+          let there : is_some (event_at index rule.event) ≡ true = All-head (λ (r : OnValue). HasEvent index r.event) rule rules has in
           let gone : event_at index rule.event ≡ None = ap (event_at index) (sym (same_bytes name rule.event on)) ∙ none in
           let never : false ≡ true = sym (ap is_some gone) ∙ there in
           cc
       go false off rest = rest
 
 -- where the index has no event, no rule is on it
-pub line-none : (text : List ℕ) (line : TraceLine) (monitors : List Monitor) (rules : List OnValue) (index : List Bucket) (routes : Routes) → IsIndexOf rules index → event_at index (text_at text line.name) ≡ None → line_routes text line monitors rules routes ≡ Ok routes
+pub line-none : (text : List ℕ) (line : TraceLine) (monitors : List Monitor) (rules : List OnValue) (index : Index) (routes : Routes) → IsIndexOf rules index → event_at index (text_at text line.name) ≡ None → line_routes text line monitors rules routes ≡ Ok routes
 unfolding line_routes
 line-none text line monitors rules index routes of none =
     line-on text line monitors rules routes ∙ ap (λ (rs : List OnValue). line_routes text line monitors rs routes) (none-on (text_at text line.name) index rules none of.has)
 
 -- ---- one more event
 
-find-push : (name : List ℕ) (events : List Event) (event : Event) → is_some (find (λ event. bytes_eq name event.name) events) ≡ true → is_some (find (λ event. bytes_eq name event.name) (events ++ event ∷ [])) ≡ true
-find-push name [] event is = cc
-find-push name (e ∷ events) event is = go (bytes_eq name e.name) is (find-push name events event)
-  where
-    go : (b : Bool) → is_some (cond b (Some e) (find (λ event. bytes_eq name event.name) events)) ≡ true → (is_some (find (λ event. bytes_eq name event.name) events) ≡ true → is_some (find (λ event. bytes_eq name event.name) (events ++ event ∷ [])) ≡ true)
-        → is_some (cond b (Some e) (find (λ event. bytes_eq name event.name) (events ++ event ∷ []))) ≡ true
-    go true is rest = refl
-    go false is rest = rest is
+-- where another name comes last, a name keeps its event, and finds the new one only by being it
+module _ (name : List ℕ) where
+  abbrev event_in : List (Vec ℕ Global × Event) → Option Event
+  event_in = lookup (λ key. bytes_eq name key.items)
 
-find-new : (name : List ℕ) (events : List Event) (event : Event) → name ≡ event.name → is_some (find (λ event. bytes_eq name event.name) (events ++ event ∷ [])) ≡ true
-find-new name [] event named = rw (ap (bytes_eq name) (sym named) ∙ itself name) refl
-find-new name (e ∷ events) event named = go (bytes_eq name e.name) (find-new name events event named)
-  where
-    go : (b : Bool) → is_some (find (λ event. bytes_eq name event.name) (events ++ event ∷ [])) ≡ true → is_some (cond b (Some e) (find (λ event. bytes_eq name event.name) (events ++ event ∷ []))) ≡ true
-    go true rest = refl
-    go false rest = rest
-
-get-set : {X : Type 0} (xs : List X) (i : ℕ) (y : X) → i < length xs → slice_get (set xs i y) i ≡ Some y
-get-set [] i y inside = absurd (omega arith)
-get-set (x ∷ xs) zero y inside = refl
-get-set (x ∷ xs) (suc i) y inside = get-set xs i y (omega arith)
-
-get-set_other : {X : Type 0} (xs : List X) (i j : ℕ) (y : X) → (i ≡ j → ⊥) → slice_get (set xs i y) j ≡ slice_get xs j
-get-set_other [] i j y apart = refl
-get-set_other (x ∷ xs) zero zero y apart = absurd (apart refl)
-get-set_other (x ∷ xs) zero (suc j) y apart = refl
-get-set_other (x ∷ xs) (suc i) zero y apart = refl
-get-set_other (x ∷ xs) (suc i) (suc j) y apart = get-set_other xs i j y (λ same. apart (omega (arith, same)))
-
-module _ (index : List Bucket) (name : List ℕ) (bucket after : Bucket) (event : Event) (inside : bucket_of name < length index) (is : bucket ≡ get_or index (bucket_of name) bucket) (grown : after.events.items ≡ bucket.events.items ++ event ∷ []) where
-  abbrev in_bucket : List ℕ → Option Bucket → Option Event
-  in_bucket other found = option_and_then (λ (b : Bucket). find (λ event. bytes_eq other event.name) b.events.items) found
-
-  -- the event of the name is there
-  pub noted-new : name ≡ event.name → is_some (event_at (set index (bucket_of name) after) name) ≡ true
-  unfolding event_at
-  noted-new named =
-      ap (λ (b : Option Bucket). is_some (in_bucket name b)) (get-set index (bucket_of name) after inside)
-      ∙ ap (λ (es : List Event). is_some (find (λ event. bytes_eq name event.name) es)) grown
-      ∙ find-new name bucket.events.items event named
-
-  -- the events of other names are still there
-  pub noted-kept : (other : List ℕ) → is_some (event_at index other) ≡ true → is_some (event_at (set index (bucket_of name) after) other) ≡ true
-  unfolding event_at
-  noted-kept other has = go (three (bucket_of name) (bucket_of other))
+  push-some : (entries : List (Vec ℕ Global × Event)) (key : Vec ℕ Global) (event : Event) → is_some (event_in entries) ≡ true → event_in (entries ++ (key, event) ∷ []) ≡ event_in entries
+  push-some [] key event is = cc
+  push-some (e ∷ entries) key event is = go (bytes_eq name e.0.items) is (push-some entries key event)
     where
-      three : (p q : ℕ) → (p < q) ⊎ ((p ≡ q) ⊎ (q < p))
-      three p q = grind arith
+      go : (b : Bool) → is_some (cond b (Some e.1) (event_in entries)) ≡ true → (is_some (event_in entries) ≡ true → event_in (entries ++ (key, event) ∷ []) ≡ event_in entries)
+          → cond b (Some e.1) (event_in (entries ++ (key, event) ∷ [])) ≡ cond b (Some e.1) (event_in entries)
+      go true is rest = refl
+      go false is rest = rest is
 
-      apart : (bucket_of name ≡ bucket_of other → ⊥) → is_some (event_at (set index (bucket_of name) after) other) ≡ true
-      apart other_place = ap (λ (b : Option Bucket). is_some (in_bucket other b)) (get-set_other index (bucket_of name) (bucket_of other) after other_place) ∙ has
+  push-none : (entries : List (Vec ℕ Global × Event)) (key : Vec ℕ Global) (event : Event) → is_some (event_in entries) ≡ false → event_in (entries ++ (key, event) ∷ []) ≡ cond (bytes_eq name key.items) (Some event) None
+  push-none [] key event is = refl
+  push-none (e ∷ entries) key event is = go (bytes_eq name e.0.items) is (push-none entries key event)
+    where
+      go : (b : Bool) → is_some (cond b (Some e.1) (event_in entries)) ≡ false → (is_some (event_in entries) ≡ false → event_in (entries ++ (key, event) ∷ []) ≡ cond (bytes_eq name key.items) (Some event) None)
+          → cond b (Some e.1) (event_in (entries ++ (key, event) ∷ [])) ≡ cond (bytes_eq name key.items) (Some event) None
+      go true is rest = cc
+      go false is rest = rest is
 
-      go : (bucket_of name < bucket_of other) ⊎ ((bucket_of name ≡ bucket_of other) ⊎ (bucket_of other < bucket_of name)) → is_some (event_at (set index (bucket_of name) after) other) ≡ true
-      go (inl lt) = apart (λ same. omega (arith, same))
-      go (inr (inr lt)) = apart (λ same. omega (arith, same))
-      go (inr (inl same)) =
-          let here : slice_get (set index (bucket_of name) after) (bucket_of other) ≡ Some after = ap (slice_get (set index (bucket_of name) after)) (sym same) ∙ get-set index (bucket_of name) after inside in
-          let was : slice_get index (bucket_of other) ≡ Some bucket = ap (slice_get index) (sym same) ∙ slice_get-get_or index (bucket_of name) bucket inside ∙ ap Some (sym is) in
-          let had : is_some (find (λ event. bytes_eq other event.name) bucket.events.items) ≡ true = ap (λ (b : Option Bucket). is_some (in_bucket other b)) (sym was) ∙ has in
-          ap (λ (b : Option Bucket). is_some (in_bucket other b)) here
-          ∙ ap (λ (es : List Event). is_some (find (λ event. bytes_eq other event.name) es)) grown
-          ∙ find-push other bucket.events.items event had
+-- an index of no events
+pub none-noted : (rules : List OnValue) (index : Index) → index.entries ≡ [] → AreEventsOf rules index
+unfolding AreEventsOf
+none-noted rules index none name = subst (λ (entries : List (Vec ℕ Global × Event)). IfSome (event_in name entries) (IsEventOf rules name)) (sym none) tt
+
+abbrev same_name : Vec ℕ Global → Vec ℕ Global → Bool
+same_name key other = bytes_eq key.items other.items
+
+module _ (index after : Index) (name : List ℕ) (key : Vec ℕ Global) (event : Event) (named : key.items ≡ name) (new : is_some (event_at index name) ≡ false) (inserted : after.entries ≡ insert_entry same_name index.entries key event) where
+  missing : (found : Option Event) → is_some found ≡ false → found ≡ None
+  missing None is = refl
+  missing (Some event) is = cc
+
+  grown : after.entries ≡ index.entries ++ (key, event) ∷ []
+  grown = inserted ∙ insert_entry-new same_name index key event (ap (event_at index) named ∙ missing (event_at index name) new)
+
+  -- the name has its event
+  pub noted-new : HasEvent after name
+  unfolding HasEvent
+  noted-new = ap (λ es. is_some (event_in name es)) grown ∙ ap is_some (push-none name index.entries key event new) ∙ ap (λ b. is_some (cond b (Some event) None)) (ap (bytes_eq name) named ∙ itself name)
+
+  -- other names keep theirs
+  pub noted-kept : (other : List ℕ) → HasEvent index other → HasEvent after other
+  unfolding HasEvent
+  noted-kept other has = ap (λ es. is_some (event_in other es)) grown ∙ ap is_some (push-some other index.entries key event has) ∙ has
 
   -- all events ask for their rules
-  pub noted-all : (rules : List OnValue) → All (λ (b : Bucket). All (IsEventOf rules) b.events.items) index → IsEventOf rules event → All (λ (b : Bucket). All (IsEventOf rules) b.events.items) (set index (bucket_of name) after)
-  noted-all rules all asks =
-      let here : All (IsEventOf rules) bucket.events.items = subst (λ (b : Bucket). All (IsEventOf rules) b.events.items) (sym is) (All-get_or (λ (b : Bucket). All (IsEventOf rules) b.events.items) index (bucket_of name) bucket inside all) in
-      All-set (λ (b : Bucket). All (IsEventOf rules) b.events.items) index (bucket_of name) after
-      (subst (All (IsEventOf rules)) (sym grown) (All-push (IsEventOf rules) bucket.events.items event here asks)) all
+  pub noted-all : (rules : List OnValue) → AreEventsOf rules index → IsEventOf rules name event → AreEventsOf rules after
+  unfolding AreEventsOf
+  noted-all rules all asks other = go (is_some (event_at index other)) refl
+    where
+      here : (b : Bool) → bytes_eq other key.items ≡ b → IfSome (cond b (Some event) None) (IsEventOf rules other)
+      here true same = subst (λ (n : List ℕ). IsEventOf rules n event) (sym (same_bytes other key.items same ∙ named)) asks
+      here false apart = tt
 
--- ---- what the index has for a name, and what its rules do
+      go : (b : Bool) → is_some (event_at index other) ≡ b → IfSome (event_at after other) (IsEventOf rules other)
+      go true was = subst (λ (found : Option Event). IfSome found (IsEventOf rules other)) (sym (ap (event_in other) grown ∙ push-some other index.entries key event was)) (all other)
+      go false was = subst (λ (found : Option Event). IfSome found (IsEventOf rules other)) (sym (ap (event_in other) grown ∙ push-none other index.entries key event was)) (here (bytes_eq other key.items) refl)
 
-pub at-bucket : (index : List Bucket) (name : List ℕ) (place : ℕ) (bucket : Bucket) (found : Option Event) → place ≡ bucket_of name → place < length index → bucket ≡ get_or index place bucket → found ≡ find (λ event. bytes_eq name event.name) bucket.events.items → found ≡ event_at index name
-unfolding event_at
-at-bucket index name place bucket found place_is inside is found_is =
-    found_is ∙ ap (λ (b : Option Bucket). option_and_then (λ (b : Bucket). find (λ event. bytes_eq name event.name) b.events.items) b)
-    (sym (ap (slice_get index) (sym place_is) ∙ slice_get-get_or index place bucket inside ∙ ap Some (sym is)))
+-- ---- what the rules of a line's event do
 
 -- the next rule of the line's event
 pub fired : (text : List ℕ) (line : TraceLine) (monitors : List Monitor) (all : List OnValue) (names : List (List ℕ)) (event : List ℕ) (i : ℕ) (asked : Asked) (rule : OnValue) (ask : Ask) (routes : Routes) → bytes_eq (text_at text line.name) event ≡ true

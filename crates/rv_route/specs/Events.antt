@@ -1,9 +1,12 @@
 -- Rules by the events that they are on, and the fields that they name.
-use Rattle.std.specs.Prelude.{◌≡◌, ◌≤◌, ℕ, ◌+◌, ◌-◌, ◌*◌, ◌%◌, Bool, true, List, All, length, map, filter, Option, Some, None, IfSome, option_map, option_and_then, bytes_eq, slice_get, slice_index, slice_index_or}
-use Rattle.std.specs.List.{find, AllZip}
-use Rattle.std.specs.Option.{is_some}
+use Rattle.std.specs.Prelude.{◌≡◌, ◌≤◌, ℕ, Bool, List, All, length, map, filter, Option, Some, None, IsSome, IfSome, option_map, bytes_eq, slice_get, slice_index_or, Vec}
+use Rattle.std.specs.List.{AllZip}
 use Rattle.std.specs.Borrow.{Bor}
+use Rattle.std.specs.HashMap.{get_by, HashMap}
 use Rattle.std.specs.HashSet.{HashSet}
+use Rattle.std.specs.declared.alloc.Global.{Global}
+use Rattle.std.specs.declared.hash.BuildHasherDefault.{BuildHasherDefault}
+use Rattle.std.specs.declared.hash.FoldHasher.{FoldHasher}
 use Rattle.rv_trace.specs.Fields.{field_of}
 use Rattle.rv_trace.specs.declared.line.Span.{Span}
 use Rattle.rv_bind.specs.declared.bindings.Test.{Test}
@@ -11,7 +14,6 @@ use Rattle.rv_bind.specs.declared.bindings.Test.TheVariants.{Is, IsNot}
 use Rattle.rv_bind.specs.RuleValues.{OnValue}
 use Rattle.rv_route.specs.declared.event.Asked.{Asked}
 use Rattle.rv_route.specs.declared.event.Event.{Event}
-use Rattle.rv_route.specs.declared.index.Bucket.{Bucket}
 
 -- the field that a test names
 abbrev pub name_of : Test → List ℕ
@@ -44,23 +46,30 @@ pub record IsAsked (rules : List OnValue) (names : List (List ℕ)) (asked : Ask
 abbrev pub is_on : List ℕ → OnValue → Bool
 is_on event rule = bytes_eq event rule.event
 
--- the event asks for the rules that are on it, in their order
-abbrev pub IsEventOf : List OnValue → Event → Type 0
-IsEventOf rules event = AllZip (IsAsked rules event.fields.items) event.rules.items (filter (is_on event.name) rules)
+-- the event asks for the rules that are on this name, in their order
+abbrev pub IsEventOf : List OnValue → List ℕ → Event → Type 0
+IsEventOf rules name event = AllZip (IsAsked rules event.fields.items) event.rules.items (filter (is_on name) rules)
 
--- where the event of a name is kept: by the name's length and its last byte
-unfoldable pub bucket_of : List ℕ → ℕ
-bucket_of name = (length name % 64 * 8 + slice_index name (length name - 1)) % 64
+-- events by their names
+abbrev pub Index : Type 0
+Index = HashMap (Vec ℕ Global) Event (BuildHasherDefault FoldHasher)
 
 -- the event of a name
-unfoldable pub event_at : List Bucket → List ℕ → Option Event
-event_at index name = option_and_then (λ bucket. find (λ event. bytes_eq name event.name) bucket.events.items) (slice_get index (bucket_of name))
+abbrev pub event_at : Index → List ℕ → Option Event
+event_at index name = get_by (λ key. bytes_eq name key.items) index
+
+-- the event of each name asks for the rules that are on the name
+unfoldable pub AreEventsOf : List OnValue → Index → Type 0
+AreEventsOf rules index = (name : List ℕ) → IfSome (event_at index name) (IsEventOf rules name)
+
+-- the name has an event
+unfoldable pub HasEvent : Index → List ℕ → Type 0
+HasEvent index name = IsSome (event_at index name)
 
 -- each event asks for its rules, and each rule has its event
-pub record IsIndexOf (rules : List OnValue) (index : List Bucket) : Type 0 where
-  pub many : length index ≡ 64
-  pub events : All (λ bucket. All (IsEventOf rules) bucket.events.items) index
-  pub has : All (λ rule. is_some (event_at index rule.event) ≡ true) rules
+pub record IsIndexOf (rules : List OnValue) (index : Index) : Type 0 where
+  pub events : AreEventsOf rules index
+  pub has : All (λ rule. HasEvent index rule.event) rules
 
 -- the span lies in the fields
 abbrev pub IsInside : List ℕ → Option Span → Type 0

@@ -4,14 +4,13 @@ use Rattle.rv_text.specs.declared.refusals.Refused.{Refused}
 use Rattle.rv_trace.specs.declared.line.TraceLine.{TraceLine}
 use Rattle.rv_bind.specs.declared.bindings.Bindings.{Bindings}
 use Rattle.rv_bind.specs.WellFormed.{FitsKind, kinds_of}
-use Rattle.rv_route.specs.declared.index.Bucket.{Bucket}
-use Rattle.rv_route.specs.Events.{IsIndexOf}
+use Rattle.rv_route.specs.Events.{Index, IsIndexOf}
 use Rattle.rv_route.specs.Fitting.{Fits}
 use Rattle.rv_route.specs.Routing.{Routes, Reaches, line_routes}
 
--- the rules by their events, what has been routed, the least number of the next line, and the refusal that was given, if any
+-- the events by their names, what has been routed, the least number of the next line, and the refusal that was given, if any
 pub record RouterValue : Type 0 where
-  pub index : List Bucket
+  pub index : Index
   pub routes : Routes
   pub next : ℕ
   pub refused : Option Refused

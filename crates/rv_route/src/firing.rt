@@ -1,5 +1,5 @@
 //! What the rules do on one line.
-ghost use Rattle.std.specs.Prelude.{◌≡◌, true, filter, bytes_eq};
+ghost use Rattle.std.specs.Prelude.{filter};
 ghost use Rattle.rv_route.specs.Asking.{text_at};
 ghost use Rattle.rv_route.specs.Events.{is_on, IsEventOf, IsIndexOf};
 ghost use Rattle.rv_route.specs.Lines.{IsRoutable};
@@ -8,7 +8,7 @@ ghost use Rattle.rv_route.specs.Routing.{Reaches, line_routes};
 use crate::asking::{ask_for, look_up};
 use crate::deliveries::Deliveries;
 use crate::event::Event;
-use crate::index::{Bucket, event_at};
+use crate::index::Index;
 use rv_bind::Bindings;
 use rv_text::Refused;
 use rv_trace::{Span, TraceLine};
@@ -17,7 +17,7 @@ use rv_trace::{Span, TraceLine};
 pub(crate) fn take(
     deliveries: &mut Deliveries,
     bindings: &Bindings,
-    index: &[Bucket],
+    index: &Index,
     text: &[u8],
     line: &TraceLine,
     found: &mut Vec<Option<Span>>,
@@ -26,7 +26,7 @@ pub(crate) fn take(
     requires index { IsIndexOf bindings.now.rules.items index.now }
     ensures { Reaches result deliveries.new (line_routes text.now line.now bindings.now.monitors.items bindings.now.rules.items deliveries.old) }
 {
-    match event_at(index, &text[line.name.from as usize..line.name.to as usize]) {
+    match index.get(&text[line.name.from as usize..line.name.to as usize]) {
         Some(event) => fire(deliveries, bindings, event, text, line, found),
         None => Ok(()),
     }
@@ -42,9 +42,8 @@ fn fire(
     found: &mut Vec<Option<Span>>,
 ) -> Result<(), Refused>
     requires line { IsRoutable text.now line.now }
-    requires name { bytes_eq (text_at text.now line.now.name) event.now.name ≡ true }
-    requires rules { IsEventOf bindings.now.rules.items event.now }
-    ensures { Reaches result deliveries.new (line_routes text.now line.now bindings.now.monitors.items (filter (is_on event.now.name) bindings.now.rules.items) deliveries.old) }
+    requires event { IsEventOf bindings.now.rules.items (text_at text.now line.now.name) event.now }
+    ensures { Reaches result deliveries.new (line_routes text.now line.now bindings.now.monitors.items (filter (is_on (text_at text.now line.now.name)) bindings.now.rules.items) deliveries.old) }
 {
     let fields = &text[line.fields.from as usize..line.fields.to as usize];
     look_up(fields, event.fields.as_slice(), found)?;

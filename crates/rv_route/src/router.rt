@@ -9,7 +9,7 @@ ghost use Rattle.rv_route.specs.Routing.{nothing, works_of};
 
 use crate::deliveries::Deliveries;
 use crate::firing::take;
-use crate::index::{Bucket, index_of};
+use crate::index::{Index, index_of};
 use crate::routed::{Routed, works_in};
 use rv_bind::Bindings;
 use rv_model::CpuWork;
@@ -21,7 +21,7 @@ use std::marker::Model;
 /// What has been routed, and what is needed to route on. After a refusal every line is refused so.
 #[derive(Drop)]
 pub struct Router {
-    index: Vec<Bucket>,
+    index: Index,
     /// What a line's fields have.
     found: Vec<Option<Span>>,
     deliveries: Deliveries,
@@ -34,12 +34,16 @@ pub struct Router {
 impl Model for Router {
     ghost use Rattle.std.specs.Prelude.{◌≡◌, ◌≤◌, [], None, All};
     ghost use Rattle.std.specs.Vec.{vec_capacity};
+    ghost use Rattle.std.specs.Coded.{codes};
+    ghost use Rattle.indexmap.specs.Layout.{hash_map_code};
     ghost use Rattle.rv_route.specs.Lanes.{IsLane};
     ghost use Rattle.rv_route.specs.Routers.{RouterValue};
 
     ghost Value = { RouterValue };
 
-    ghost view = { λ r. record { index = r.index.items; routes = r.deliveries; next = r.next; refused = r.refused } };
+    ghost coded = { Prim.hlevel (codes, hash_map_code) };
+
+    ghost view = { λ r. record { index = r.index; routes = r.deliveries; next = r.next; refused = r.refused } };
 
     ghost invariant = { λ r. (r.works.items ≡ []) × (64 ≤ vec_capacity r.works) × (r.refused ≡ None → All IsLane r.deliveries.lanes) };
 }
@@ -83,11 +87,10 @@ impl Router {
         if let Some(refused) = self.refused {
             return Err(refused);
         }
-        let index = self.index.as_slice();
         match take(
             &mut self.deliveries,
             bindings,
-            index,
+            &self.index,
             text,
             line,
             &mut self.found,

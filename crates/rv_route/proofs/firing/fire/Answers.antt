@@ -11,7 +11,7 @@ use Rattle.rv_route.specs.Asking.{text_at, ask_on}
 use Rattle.rv_route.specs.Events.{is_on, IsAsked, HasFound}
 use Rattle.rv_route.specs.Routing.{Routes, line_routes}
 use Rattle.rv_text.specs.Readings.{and_then}
-use Rattle.rv_route.proofs.EventLemmas.{asked_at, asked-many, has_found}
+use Rattle.rv_route.proofs.EventLemmas.{asked_at, asked-many, has_found, itself}
 use Rattle.rv_route.proofs.IndexLemmas.{fired}
 use Rattle.rv_route.proofs.RoutingLemmas.{rules-end, refuses-then}
 use Rattle.rv_route.proofs.firing.fire.Goals as goal
@@ -20,8 +20,9 @@ pub index-rule-requires : goal.index-rule-requires
 index-rule-requires c =
     let all = c.args.bindings.now.rules.items in
     let event = c.args.event.now in
-    let those = filter (is_on event.name) all in
-    let are = subst (λ (list : List Asked). AllZip (IsAsked all event.fields.items) list those) (sym c.deref-asked-items.ensures.value) c.requires.rules in
+    let name = text_at c.args.text.now c.args.line.now.name in
+    let those = filter (is_on name) all in
+    let are = subst (λ (list : List Asked). AllZip (IsAsked all event.fields.items) list those) (sym c.deref-asked-items.ensures.value) c.requires.event in
     let at = asked_at all event.fields.items c.deref-asked-items.result.now those c.loop-asked.asked-index c.asked-item.result are (omega arith) c.asked-item.is in
     let inside : c.asked-item.result.rule < length all = slice_get_within all c.asked-item.result.rule at.rule at.asks.there in
     let many : vec_len c.args.bindings.now.rules ≡ length all = search rules in
@@ -31,8 +32,9 @@ pub ask_for-ask-requires-clause-found : goal.ask_for-ask-requires-clause-found
 ask_for-ask-requires-clause-found c =
     let all = c.args.bindings.now.rules.items in
     let event = c.args.event.now in
-    let those = filter (is_on event.name) all in
-    let are = subst (λ (list : List Asked). AllZip (IsAsked all event.fields.items) list those) (sym c.deref-asked-items.ensures.value) c.requires.rules in
+    let name = text_at c.args.text.now c.args.line.now.name in
+    let those = filter (is_on name) all in
+    let are = subst (λ (list : List Asked). AllZip (IsAsked all event.fields.items) list those) (sym c.deref-asked-items.ensures.value) c.requires.event in
     let at = asked_at all event.fields.items c.deref-asked-items.result.now those c.loop-asked.asked-index c.asked-item.result are (omega arith) c.asked-item.is in
     let rule : c.index-rule.result.now ≡ at.rule = c.index-rule.ensures ∙ get_or_from_slice_get all c.asked-item.result.rule at.rule _ at.asks.there in
     let fields = text_at c.args.text.now c.args.line.now.fields in
@@ -43,8 +45,9 @@ pub loop-asked-preserved : goal.loop-asked-preserved
 loop-asked-preserved c =
     let all = c.args.bindings.now.rules.items in
     let event = c.args.event.now in
-    let those = filter (is_on event.name) all in
-    let are = subst (λ (list : List Asked). AllZip (IsAsked all event.fields.items) list those) (sym c.deref-asked-items.ensures.value) c.requires.rules in
+    let name = text_at c.args.text.now c.args.line.now.name in
+    let those = filter (is_on name) all in
+    let are = subst (λ (list : List Asked). AllZip (IsAsked all event.fields.items) list those) (sym c.deref-asked-items.ensures.value) c.requires.event in
     let at = asked_at all event.fields.items c.deref-asked-items.result.now those c.loop-asked.asked-index c.asked-item.result are (omega arith) c.asked-item.is in
     let rule : c.index-rule.result.now ≡ at.rule = c.index-rule.ensures ∙ get_or_from_slice_get all c.asked-item.result.rule at.rule _ at.asks.there in
     let text = c.args.text.now in
@@ -53,15 +56,16 @@ loop-asked-preserved c =
     let i = c.loop-asked.asked-index in
     let next : Routes → Result Routes Refusal = line_routes text line monitors (drop (i + 1) those) in
     let ask = c.ask_for-ask.ensures ∙ ap (λ ms. ask_on (text_at text line.fields) line ms c.index-rule.result.now) c.deref.ensures.value in
-    let now = fired text line monitors all event.fields.items event.name i c.asked-item.result c.index-rule.result.now c.ask_for-ask.result c.loop-asked.deliveries c.requires.name at rule ask in
+    let now = fired text line monitors all event.fields.items name i c.asked-item.result c.index-rule.result.now c.ask_for-ask.result c.loop-asked.deliveries (itself name) at rule ask in
     c.loop-asked.invariant ∙ now ∙ ap (λ read. and_then read next) c.in_ok-answer.ensures
 
 pub returns-in_err-answer : goal.returns-in_err-answer
 returns-in_err-answer c =
     let all = c.args.bindings.now.rules.items in
     let event = c.args.event.now in
-    let those = filter (is_on event.name) all in
-    let are = subst (λ (list : List Asked). AllZip (IsAsked all event.fields.items) list those) (sym c.deref-asked-items.ensures.value) c.requires.rules in
+    let name = text_at c.args.text.now c.args.line.now.name in
+    let those = filter (is_on name) all in
+    let are = subst (λ (list : List Asked). AllZip (IsAsked all event.fields.items) list those) (sym c.deref-asked-items.ensures.value) c.requires.event in
     let at = asked_at all event.fields.items c.deref-asked-items.result.now those c.loop-asked.asked-index c.asked-item.result are (omega arith) c.asked-item.is in
     let rule : c.index-rule.result.now ≡ at.rule = c.index-rule.ensures ∙ get_or_from_slice_get all c.asked-item.result.rule at.rule _ at.asks.there in
     let text = c.args.text.now in
@@ -70,7 +74,7 @@ returns-in_err-answer c =
     let i = c.loop-asked.asked-index in
     let next : Routes → Result Routes Refusal = line_routes text line monitors (drop (i + 1) those) in
     let ask = c.ask_for-ask.ensures ∙ ap (λ ms. ask_on (text_at text line.fields) line ms c.index-rule.result.now) c.deref.ensures.value in
-    let now = fired text line monitors all event.fields.items event.name i c.asked-item.result c.index-rule.result.now c.ask_for-ask.result c.loop-asked.deliveries c.requires.name at rule ask in
+    let now = fired text line monitors all event.fields.items name i c.asked-item.result c.index-rule.result.now c.ask_for-ask.result c.loop-asked.deliveries (itself name) at rule ask in
     let given = err_from_is_err_and c.from_residual-in_err-answer.result c.from_residual-in_err-answer.ensures.1 in
     let rest = c.loop-asked.invariant ∙ now in
     rw (given.1, given.2, rest) (refuses-then c.in_err-answer.field-0.0 _ next c.in_err-answer.ensures)
@@ -79,6 +83,7 @@ pub returns : goal.returns
 returns c =
     let all = c.args.bindings.now.rules.items in
     let event = c.args.event.now in
-    let those = filter (is_on event.name) all in
-    let many : length c.deref-asked-items.result.now ≡ length those = ap length c.deref-asked-items.ensures.value ∙ asked-many all event.fields.items event.rules.items those c.requires.rules in
+    let name = text_at c.args.text.now c.args.line.now.name in
+    let those = filter (is_on name) all in
+    let many : length c.deref-asked-items.result.now ≡ length those = ap length c.deref-asked-items.ensures.value ∙ asked-many all event.fields.items event.rules.items those c.requires.event in
     c.loop-asked.invariant ∙ rules-end c.args.text.now c.args.line.now c.args.bindings.now.monitors.items those c.loop-asked.asked-index c.loop-asked.deliveries (omega arith)

@@ -10,7 +10,7 @@ invariant_of-result c = (c.in_ok-works.ensures.items, (let e = c.in_ok-works.ens
 
 pub returns-clause-made : goal.returns-clause-made
 returns-clause-made c = record {
-  index = subst (λ rules. IsIndexOf rules c.in_ok-index.index.items) c.as_slice.ensures.value c.in_ok-index.ensures;
+  index = subst (λ rules. IsIndexOf rules c.in_ok-index.index) c.as_slice.ensures.value c.in_ok-index.ensures;
   rules = c.requires;
   fits = λ _. fits_nothing (kinds_of c.args.bindings.now.monitors.items) c.in_ok-deliveries.deliveries c.in_ok-deliveries.ensures;
 }
