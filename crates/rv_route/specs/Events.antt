@@ -1,8 +1,9 @@
 -- Rules by the events that they are on, and the fields that they name.
-use Rattle.std.specs.Prelude.{◌≡◌, ◌≤◌, ℕ, Bool, List, All, length, map, filter, Option, Some, None, IsSome, IfSome, option_map, bytes_eq, slice_get, slice_index_or, Vec}
-use Rattle.std.specs.List.{AllZip}
+use Rattle.std.specs.Prelude.{◌≡◌, ◌≤◌, ℕ, Bool, List, All, length, map, filter, Option, Some, None, IsSome, IfSome, option_map, option_and_then, nat_eq, bytes_eq, slice_get, slice_index_or, if◌then◌else◌, [], ◌∷◌, ◌++◌, Vec}
+use Rattle.std.specs.List.{find, AllZip}
 use Rattle.std.specs.Borrow.{Bor}
-use Rattle.std.specs.HashMap.{get_by, HashMap}
+use Rattle.std.specs.Hash.FoldHasher as folding
+use Rattle.std.specs.HashMap.{get, HashMap}
 use Rattle.std.specs.HashSet.{HashSet}
 use Rattle.std.specs.declared.alloc.Global.{Global}
 use Rattle.std.specs.declared.hash.BuildHasherDefault.{BuildHasherDefault}
@@ -50,13 +51,32 @@ is_on event rule = bytes_eq event rule.event
 abbrev pub IsEventOf : List OnValue → List ℕ → Event → Type 0
 IsEventOf rules name event = AllZip (IsAsked rules event.fields.items) event.rules.items (filter (is_on name) rules)
 
--- events by their names
+-- the kit's hash of a name, which takes all bytes at once
+unfoldable pub key_of : List ℕ → ℕ
+key_of name = folding.finish (folding.write folding.initial name)
+
+-- events by the hashes of their names
 abbrev pub Index : Type 0
-Index = HashMap (Vec ℕ Global) Event (BuildHasherDefault FoldHasher)
+Index = HashMap ℕ (Vec Event Global) (BuildHasherDefault FoldHasher)
+
+-- the event of a name among these
+abbrev pub event_among : List ℕ → List Event → Option Event
+event_among name events = find (λ event. bytes_eq name event.name) events
 
 -- the event of a name
-abbrev pub event_at : Index → List ℕ → Option Event
-event_at index name = get_by (λ key. bytes_eq name key.items) index
+unfoldable pub event_at : Index → List ℕ → Option Event
+event_at index name = option_and_then (λ events. event_among name events.items) (get nat_eq index (key_of name))
+
+-- the events that a hash has
+abbrev pub events_of : Option (Vec Event Global) → List Event
+events_of None = []
+events_of (Some events) = events.items
+
+-- the event of a new name stands last among those of its hash, and others stay as they are
+pub record IsNoted (old new : Index) (name : List ℕ) (event : Event) : Type 0 where
+  pub events : Vec Event Global
+  pub last : events.items ≡ events_of (get nat_eq old (key_of name)) ++ event ∷ []
+  pub at : (key : ℕ) → get nat_eq new key ≡ (if nat_eq (key_of name) key then Some events else get nat_eq old key)
 
 -- the event of each name asks for the rules that are on the name
 unfoldable pub AreEventsOf : List OnValue → Index → Type 0

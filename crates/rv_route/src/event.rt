@@ -20,9 +20,10 @@ pub(crate) struct Asked {
     pub(crate) by: Option<usize>,
 }
 
-/// What is asked on the lines of an event.
+/// An event that rules are on.
 #[derive(Drop)]
 pub(crate) struct Event {
+    pub(crate) name: Name,
     /// The fields that its rules name, each once.
     pub(crate) fields: Vec<Name>,
     /// Its rules, in their order.
@@ -31,11 +32,13 @@ pub(crate) struct Event {
 
 /// The event of this name.
 pub(crate) fn event_of(alloc: Global, rules: &[On], name: &[u8]) -> Result<Event, AllocError>
-    ensures { IfOk result (IsEventOf rules.now name.now) }
+    ensures name { IfOk result (λ event. event.name ≡ name.now) }
+    ensures rules { IfOk result (IsEventOf rules.now name.now) }
 {
     let mut names = IndexSet::new(alloc);
     let asked = asked_on(alloc, rules, name, &mut names)?;
     Ok(Event {
+        name: Name::new(alloc, name)?,
         fields: owned(alloc, names.as_slice())?,
         rules: asked,
     })

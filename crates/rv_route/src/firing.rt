@@ -8,7 +8,7 @@ ghost use Rattle.rv_route.specs.Routing.{Reaches, line_routes};
 use crate::asking::{ask_for, look_up};
 use crate::deliveries::Deliveries;
 use crate::event::Event;
-use crate::index::Index;
+use crate::index::{Index, event_at};
 use rv_bind::Bindings;
 use rv_text::Refused;
 use rv_trace::{Span, TraceLine};
@@ -26,7 +26,7 @@ pub(crate) fn take(
     requires index { IsIndexOf bindings.now.rules.items index.now }
     ensures { Reaches result deliveries.new (line_routes text.now line.now bindings.now.monitors.items bindings.now.rules.items deliveries.old) }
 {
-    match index.get(&text[line.name.from as usize..line.name.to as usize]) {
+    match event_at(index, &text[line.name.from as usize..line.name.to as usize]) {
         Some(event) => fire(deliveries, bindings, event, text, line, found),
         None => Ok(()),
     }
