@@ -6,5 +6,6 @@ pub mod LaneLemmas
 pub mod MoveLemmas
 pub mod RoutedLemmas
 pub mod RoutingLemmas
+pub mod RuleLemmas
 pub mod TurnLemmas
 pub mod WorksLemmas

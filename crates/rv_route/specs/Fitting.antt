@@ -1,5 +1,5 @@
--- What routed works keep: they ascend by CPU, the lines of each ascend, no line makes turns of two CPUs, each delivery fits its monitor and its CPU, and none has more deliveries than a trace may have.
-use Rattle.std.specs.Prelude.{◌≡◌, ◌<◌, ◌≤◌, ℕ, List, [], ◌∷◌, length, All, AllPairs, Contains, Some, slice_get, slice_index_or}
+-- What routed works keep: they ascend by CPU, the lines of each ascend, no line makes turns of two CPUs, each delivery is one of a rule and fits its monitor and its CPU, and none has more deliveries than a trace may have.
+use Rattle.std.specs.Prelude.{◌≡◌, ◌<◌, ◌≤◌, ℕ, List, [], ◌∷◌, length, All, AllPairs, Any, Contains, Some, slice_get, slice_index_or}
 use Rattle.rv_model.specs.declared.work.Delivery.{Delivery}
 use Rattle.rv_model.specs.declared.work.Scope.TheVariants.{Cpu}
 use Rattle.rv_model.specs.declared.work.Turn.{Turn}
@@ -7,6 +7,7 @@ use Rattle.rv_model.specs.Works.{Work}
 use Rattle.rv_model.specs.Histories.{LinesApart}
 use Rattle.rv_slots.specs.Shapes.{count_of}
 use Rattle.rv_trace.specs.declared.line.TraceLine.{TraceLine}
+use Rattle.rv_bind.specs.RuleValues.{OnValue}
 use Rattle.rv_bind.specs.WellFormed.{Kind, FitsRule}
 use Rattle.rv_route.specs.declared.deliveries.TheConstants.{MAX_DELIVERIES}
 use Rattle.rv_route.specs.Lanes.{LaneValue}
@@ -38,6 +39,14 @@ pub record WorksFit (kinds : List Kind) (tasks : ℕ) (works : List Work) : Type
   pub apart : LinesApart works
   pub deliveries : All (λ w. All (FitsKindOf kinds tasks w.cpu) w.deliveries) works
   pub few : All (λ w. length w.deliveries ≤ MAX_DELIVERIES) works
+
+-- the delivery is one of the rule: to its monitor, with its hit
+abbrev pub IsDeliveryOf : Delivery → OnValue → Type 0
+IsDeliveryOf d rule = (d.monitor ≡ rule.monitor) × (d.hit ≡ rule.hit)
+
+-- each delivery is one of some rule
+abbrev pub FromRules : List OnValue → List Work → Type 0
+FromRules rules works = All (λ w. All (λ d. Any (IsDeliveryOf d) rules) w.deliveries) works
 
 -- each line is below the next one, and the last is at most this one
 abbrev pub AscendsTo : ℕ → List Turn → Type 0

@@ -1,12 +1,13 @@
-//! Routing does not depend on where a line stands.
-ghost use Rattle.std.specs.Prelude.{◌≡◌, ◌≤◌, ◌+◌, ◌++◌, [], ◌∷◌, length, ℕ, List, All};
+//! Routing does not depend on where a line stands, and delivers what rules ask for alone.
+ghost use Rattle.std.specs.Prelude.{◌≡◌, ◌≤◌, ◌+◌, ◌++◌, [], ◌∷◌, length, ℕ, List, All, IfOk};
 ghost use Rattle.rv_text.specs.Places.{between};
 ghost use Rattle.rv_text.specs.Readings.{and_then};
 ghost use Rattle.rv_trace.specs.Lines.{LiesIn, moved_line};
 ghost use Rattle.rv_trace.specs.declared.line.TraceLine.{TraceLine};
 ghost use Rattle.rv_bind.specs.declared.bindings.Monitor.{Monitor};
 ghost use Rattle.rv_bind.specs.RuleValues.{OnValue};
-ghost use Rattle.rv_route.specs.Routing.{Routes, line_routes, routes_of};
+ghost use Rattle.rv_route.specs.Fitting.{FromRules};
+ghost use Rattle.rv_route.specs.Routing.{Routes, line_routes, routes_of, route_of};
 
 /// Lines are routed alike whatever follows their text, one more of them goes last, and a line is routed by its own text
 /// as it is by a whole text that it stands in.
@@ -18,4 +19,10 @@ pub fn lines_are_routed_alike()
     ensures moved { (text own : List ℕ) (from : ℕ) (line : TraceLine) (monitors : List Monitor) (rules : List OnValue) (routes : Routes) →
         LiesIn own line → own ≡ between text from (from + length own) → from + length own ≤ length text →
         line_routes text (moved_line from line) monitors rules routes ≡ line_routes own line monitors rules routes }
+{}
+
+/// Each delivery of the works is to the monitor of one of the rules, with the rule's hit.
+pub fn works_are_from_rules()
+    ensures { (text : List ℕ) (monitors : List Monitor) (rules : List OnValue) (lines : List TraceLine) →
+        IfOk (route_of monitors rules text lines) (λ value. FromRules rules value.works) }
 {}

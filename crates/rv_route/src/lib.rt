@@ -15,7 +15,7 @@ mod tests;
 mod tracing;
 
 pub use deliveries::MAX_DELIVERIES;
-pub use laws::lines_are_routed_alike;
+pub use laws::{lines_are_routed_alike, works_are_from_rules};
 pub use routed::Routed;
 pub use router::Router;
 pub use tracing::route;
