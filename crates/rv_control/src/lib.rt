@@ -16,4 +16,5 @@ mod writes;
 
 pub use control::Control;
 pub use opening::opening_switches;
+pub use paths::is_joined;
 pub use script::{Command, Numbered, SCRIPT_LIMIT, read_script};

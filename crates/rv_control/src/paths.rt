@@ -61,7 +61,7 @@ fn is_behind(text: &[u8], name: &[u8]) -> bool
 }
 
 /// Whether the text is the container's name, a colon, and the name.
-fn is_joined(text: &[u8], container: &[u8], name: &[u8]) -> bool
+pub fn is_joined(text: &[u8], container: &[u8], name: &[u8]) -> bool
     ensures { result ≡ bytes_eq (container.now ++ codes ":" ++ name.now) text.now }
 {
     let size = container.len();

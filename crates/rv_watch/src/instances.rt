@@ -1,38 +1,14 @@
 //! Which slot two words of the command line name.
-ghost use Rattle.std.specs.Prelude.{◌≡◌, ◌++◌, ◌<◌, ◌≤◌, [], codes, bytes_eq, length, option_map, position, sum, slice_index, slice_index_or, IfSome};
+ghost use Rattle.std.specs.Prelude.{◌≡◌, ◌<◌, ◌≤◌, [], length, option_map, position, sum, slice_index, slice_index_or, IfSome};
 ghost use Rattle.std.specs.Option.{option_and_then};
 ghost use Rattle.rv_slots.specs.Shapes.{count_of};
 ghost use Rattle.rv_watch.specs.Instances.{is_named, task_by, instance_by, shape_of, slot_in, slot_named};
 
 use rv_bind::{Bindings, Monitor};
+use rv_control::is_joined;
 use rv_model::{Names, Scope};
 use rv_slots::{CPUS, Shape, Tasks};
 use rv_text::decimal;
-
-/// Whether the text is a colon, and the name.
-fn is_behind(text: &[u8], name: &[u8]) -> bool
-    ensures { result ≡ bytes_eq (codes ":" ++ name.now) text.now }
-{
-    match text {
-        [colon, rest @ ..] => *colon == b':' && name == rest,
-        [] => false,
-    }
-}
-
-/// Whether the text is the container's name, a colon, and the name.
-fn is_joined(text: &[u8], container: &[u8], name: &[u8]) -> bool
-    ensures { result ≡ bytes_eq (container.now ++ codes ":" ++ name.now) text.now }
-{
-    let size = container.len();
-    if text.len() < size {
-        return false;
-    }
-    if container == &text[..size] {
-        is_behind(&text[size..], name)
-    } else {
-        false
-    }
-}
 
 /// The name of the container at this place, where there is one.
 fn container_name(containers: &Names, place: u8) -> &[u8]
