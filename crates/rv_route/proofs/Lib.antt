@@ -4,6 +4,7 @@ pub mod FittingLemmas
 pub mod IndexLemmas
 pub mod LaneLemmas
 pub mod MoveLemmas
+pub mod NotedLemmas
 pub mod RoutedLemmas
 pub mod RoutingLemmas
 pub mod RuleLemmas

@@ -1,6 +1,6 @@
 use Rattle.std.proofs.lemmas.List.Elements.{All-nil}
 use Rattle.rv_route.specs.Events.{HasEvent}
-use Rattle.rv_route.proofs.IndexLemmas.{none-noted}
+use Rattle.rv_route.proofs.NotedLemmas.{none-noted}
 use Rattle.rv_route.proofs.index.index_of.Goals as goal
 
 pub loop-rule-init : goal.loop-rule-init

@@ -1,7 +1,7 @@
 use Rattle.std.proofs.Common.{sym, ap, ◌∙◌}
 use Rattle.std.specs.Option.{is_some}
 use Rattle.rv_route.specs.Events.{HasEvent}
-use Rattle.rv_route.proofs.IndexLemmas.{noted-all, noted-new, noted-kept, copied-some}
+use Rattle.rv_route.proofs.NotedLemmas.{noted-all, noted-new, noted-kept, copied-some}
 use Rattle.rv_route.proofs.index.note.Goals as goal
 
 pub returns-then-is_some-clause-noted : goal.returns-then-is_some-clause-noted
