@@ -1,9 +1,9 @@
 -- What the opening switches show on of routed works fits the counted words.
-use Rattle.std.proofs.Common.{◌≡◌, ◌≢◌, ℕ, zero, suc, ◌+◌, ◌-◌, ◌<◌, ◌≤◌, ◌^◌, Bool, true, false, List, [], ◌∷◌, length, map, refl, sym, ap, subst, arith}
-use Rattle.std.specs.Prelude.{◌||◌, All, MatchBool, Some, filter, slice_get, slice_index, slice_index_or}
-use Rattle.std.specs.List.{AllZip, list_any}
+use Rattle.std.proofs.Common.{◌≡◌, ◌≢◌, ℕ, zero, suc, ◌+◌, ◌-◌, ◌<◌, ◌≤◌, ◌^◌, Bool, true, false, List, [], ◌∷◌, length, map, get_or, refl, sym, ap, subst, arith}
+use Rattle.std.specs.Prelude.{All, MatchBool, Some, filter, slice_get, slice_index, slice_index_or}
+use Rattle.std.specs.List.{AllZip}
 use Rattle.std.proofs.Math.Pow.{pow_mono}
-use Rattle.std.proofs.lemmas.List.Elements.{All-nil, All-cons, All-head, All-tail, All-filter, AllZip-get_or, length_all_zip}
+use Rattle.std.proofs.lemmas.List.Elements.{All-nil, All-cons, All-filter, AllZip-get_or, length_all_zip}
 use Rattle.rv_model.specs.declared.formula.Spec.{Spec}
 use Rattle.rv_model.specs.declared.formula.Spec.TheVariants as specs
 use Rattle.rv_model.specs.declared.hit.Hit.{Hit}
@@ -34,7 +34,7 @@ use Rattle.rv_journal.specs.CountedWords.{IsBelow, most_entries}
 use Rattle.rv_journal.specs.Running.{FitsCountedWork}
 use Rattle.rv_shown.specs.Fitting.{IsOpened, ShownFit, ShownAscend}
 use Rattle.rv_shown.specs.Numbered.{atom_count, IsNumbered}
-use Rattle.rv_shown.specs.Shown.{IsShownWork, has_end, have_ends}
+use Rattle.rv_shown.specs.Shown.{IsShownWork}
 use Rattle.rv_shown.proofs.ShownLemmas.{filter-few}
 
 -- ---- one monitor
@@ -100,12 +100,6 @@ spec-fits spec hit goes fits = go (is_end hit.mode) goes fits
     go true e f = absurd (let n : true ≡ false = e in cc)
     go false e f = f
 
--- none of two
-neither : (a b : Bool) → (a || b) ≡ false → (a ≡ false) × (b ≡ false)
-neither false false e = (refl, refl)
-neither false true e = absurd (let n : true ≡ false = e in cc)
-neither true b e = absurd (let n : true ≡ false = e in cc)
-
 wider : (count levels n : ℕ) → count ≤ levels → n < 2 ^ count → n < 2 ^ levels
 wider count levels n le lt = let more : 2 ^ count ≤ 2 ^ levels = pow_mono le in omega arith
 
@@ -150,40 +144,26 @@ module _ (monitors : List Monitor) (tasks : ℕ) (s : Setup) (opened : IsOpened 
       go true y rest = rw y (All-cons (λ d. keep d ≡ true) d (filter keep ds) y rest)
       go false n rest = rw n rest
 
-  each-fits : (cpu : ℕ) (ds : List Delivery) → All (FitsKindOf (kinds_of monitors) tasks cpu) ds → list_any (λ (d : Delivery). is_end d.hit.mode) ds ≡ false → All (FitsCounted s) ds
-  each-fits cpu [] fit goes = All-nil (FitsCounted s)
-  each-fits cpu (d ∷ ds) fit goes =
-      let parts = neither (is_end d.hit.mode) (list_any (λ (d : Delivery). is_end d.hit.mode) ds) goes in
-      All-cons (FitsCounted s) d ds (delivery-fits cpu d (All-head (FitsKindOf (kinds_of monitors) tasks cpu) d ds fit) parts.0)
-      (each-fits cpu ds (All-tail (FitsKindOf (kinds_of monitors) tasks cpu) d ds fit) parts.1)
-
-  work-fits : (w v : Work) → w.cpu < 64 → length w.deliveries ≤ MAX_DELIVERIES → All (FitsKindOf (kinds_of monitors) tasks w.cpu) w.deliveries → IsShownWork s.switches w v → has_end v ≡ false → FitsCountedWork s v
-  work-fits w v cpu few fit shown goes =
+  work-fits : (w v : Work) → w.cpu < 64 → length w.deliveries ≤ MAX_DELIVERIES → All (FitsKindOf (kinds_of monitors) tasks w.cpu) w.deliveries → All (λ (d : Delivery). is_end d.hit.mode ≡ false) w.deliveries
+      → IsShownWork s.switches w v → FitsCountedWork s v
+  work-fits w v cpu few fit goes shown =
       let are = shown.deliveries_are in
-      let same : v.cpu ≡ w.cpu = shown.shown_of.cpu in
       let keep : Delivery → Bool = is_shown s.switches in
+      let fits : All (FitsCounted s) w.deliveries = (λ place none below. delivery-fits w.cpu (get_or w.deliveries place none) (fit place none below) (goes place none below)) in
       record {
-        cpu = subst (λ (n : ℕ). n < 64) (sym same) cpu;
+        cpu = subst (λ (n : ℕ). n < 64) (sym shown.shown_of.cpu) cpu;
         few = subst (λ (z : List Delivery). length z ≤ most_entries) (sym are) (let less = filter-few keep w.deliveries in omega arith);
-        fit = each-fits w.cpu v.deliveries (subst (All (FitsKindOf (kinds_of monitors) tasks w.cpu)) (sym are) (All-filter keep (FitsKindOf (kinds_of monitors) tasks w.cpu) w.deliveries fit)) goes;
+        fit = subst (All (FitsCounted s)) (sym are) (All-filter keep (FitsCounted s) w.deliveries fits);
         shown = subst (All (λ d. keep d ≡ true)) (sym are) (all-pass keep w.deliveries);
       }
 
-  all-fit : (works shown : List Work) → All (λ (w : Work). w.cpu < 64) works → All (λ (w : Work). length w.deliveries ≤ MAX_DELIVERIES) works → All (λ (w : Work). All (FitsKindOf (kinds_of monitors) tasks w.cpu) w.deliveries) works → AllZip (IsShownWork s.switches) works shown → have_ends shown ≡ false → All (FitsCountedWork s) shown
-  all-fit [] [] cpus few fit zip goes = All-nil (FitsCountedWork s)
-  all-fit [] (v ∷ shown) cpus few fit zip goes = absurd zip
-  all-fit (w ∷ works) [] cpus few fit zip goes = absurd zip
-  all-fit (w ∷ works) (v ∷ shown) cpus few fit zip goes =
-      let parts = neither (has_end v) (have_ends shown) goes in
-      let Cpu : Work → Type 0 = λ (w : Work). w.cpu < 64 in
-      let Few : Work → Type 0 = λ (w : Work). length w.deliveries ≤ MAX_DELIVERIES in
-      let Fit : Work → Type 0 = λ (w : Work). All (FitsKindOf (kinds_of monitors) tasks w.cpu) w.deliveries in
-      All-cons (FitsCountedWork s) v shown (work-fits w v (All-head Cpu w works cpus) (All-head Few w works few) (All-head Fit w works fit) zip.0 parts.0)
-      (all-fit works shown (All-tail Cpu w works cpus) (All-tail Few w works few) (All-tail Fit w works fit) zip.1 parts.1)
-
 -- what is shown of routed works fits
 pub shown_fit : ShownFit
-shown_fit monitors tasks s works shown opened numbered fit zip goes = all-fit monitors tasks s opened numbered works shown fit.cpus_below fit.few fit.deliveries zip goes
+shown_fit monitors tasks s works shown opened numbered fit goes zip place none below =
+    let many = length_all_zip (IsShownWork s.switches) works shown zip in
+    let within : place < length works = omega arith in
+    work-fits monitors tasks s opened numbered (get_or works place none) (get_or shown place none) (fit.cpus_below place none within) (fit.few place none within) (fit.deliveries place none within) (goes place none within)
+    (AllZip-get_or (IsShownWork s.switches) works shown place none none zip within)
 
 -- and it ascends by CPU
 pub shown_ascend : ShownAscend

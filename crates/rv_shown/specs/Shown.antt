@@ -1,6 +1,5 @@
 -- Works without the deliveries that the opening switches do not show on.
-use Rattle.std.specs.Prelude.{◌≡◌, ℕ, Bool, List, map, filter}
-use Rattle.std.specs.List.{list_any}
+use Rattle.std.specs.Prelude.{◌≡◌, ℕ, false, List, map, filter, All}
 use Rattle.rv_model.specs.Scripts.{is_shown, is_end}
 use Rattle.rv_model.specs.Works.{Work}
 use Rattle.rv_verdicts.specs.Shown.{IsShownOf}
@@ -11,10 +10,6 @@ pub record IsShownWork (look : ℕ) (w v : Work) : Type 0 where
   pub deliveries_are : v.deliveries ≡ filter (is_shown look) w.deliveries
   pub lines_are : map (λ t. t.line) v.turns ≡ map (λ t. t.line) w.turns
 
--- some delivery of the work ends its instance
-abbrev pub has_end : Work → Bool
-has_end w = list_any (λ d. is_end d.hit.mode) w.deliveries
-
--- some delivery of the works does
-abbrev pub have_ends : List Work → Bool
-have_ends works = list_any has_end works
+-- no delivery of the works ends its instance
+abbrev pub HaveNoEnds : List Work → Type 0
+HaveNoEnds works = All (λ w. All (λ d. is_end d.hit.mode ≡ false) w.deliveries) works

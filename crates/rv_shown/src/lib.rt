@@ -13,5 +13,5 @@ mod widths;
 pub use exit::exit_status;
 pub use laws::shown_works_fit;
 pub use numbered::is_numbered;
-pub use shown::{have_ends, shown_works};
+pub use shown::shown_works;
 pub use widths::widths_of;

@@ -3,7 +3,7 @@ ghost use Rattle.std.specs.Prelude.{◌≡◌, ◌≤◌, ◌++◌, IfOk, OnOk, 
 ghost use Rattle.std.specs.List.{AllZip};
 ghost use Rattle.rv_model.specs.Numbers.{has_bit};
 ghost use Rattle.rv_model.specs.Scripts.{is_shown};
-ghost use Rattle.rv_shown.specs.Shown.{IsShownWork, has_end, have_ends};
+ghost use Rattle.rv_shown.specs.Shown.{IsShownWork};
 
 use rv_model::{CpuWork, Delivery, Turn};
 use std::alloc::{AllocError, Global};
@@ -73,22 +73,6 @@ fn shown_work(alloc: Global, switches: u64, work: CpuWork) -> Result<CpuWork, Al
         turns,
         deliveries,
     })
-}
-
-/// Whether some delivery of the work ends its instance.
-fn has_end(work: &CpuWork) -> bool
-    ensures { result ≡ has_end work.now }
-{
-    work.deliveries
-        .iter()
-        .any(|delivery| delivery.hit.mode.is_end())
-}
-
-/// Whether some delivery of the works ends its instance.
-pub fn have_ends(works: &[CpuWork]) -> bool
-    ensures { result ≡ have_ends works.now }
-{
-    works.iter().any(|work| has_end(work))
 }
 
 /// What the switches show on of each work.

@@ -7,6 +7,7 @@ pub mod CpuLemmas
 pub mod FeedingLemmas
 pub mod GrowingTexts
 pub mod NamedLemmas
+pub mod NumberedLemmas
 pub mod PiecesLemmas
 pub mod ReadyLemmas
 pub mod RecordingLemmas

@@ -65,8 +65,9 @@ Journals i = TellsOf (IsJournalReport i)
 
 -- ---- what is read
 
--- it is ready, nothing changes beside the CPUs, and its monitors are narrow
+-- it is ready, nothing changes beside the CPUs, its monitors are narrow, and no rule ends an instance
 pub record IsToRecord (r : Ready) : Type 0 where
   pub ready : IsReady r
   pub unchanged : r.changes.items ≡ []
   pub numbered : IsNumbered r.bindings.monitors.items r.setup.tables
+  pub no_ends : list_any ends_instances r.bindings.rules.items ≡ false

@@ -4,7 +4,7 @@ use Rattle.rv_core.specs.Judged.{AllMean}
 use Rattle.rv_bind.specs.WellFormed.{kinds_of, HaveTables}
 use Rattle.rv_feed.specs.Changes.{IsBelowHalt}
 use Rattle.rv_feed.specs.Lane.{FitLanes, works_of}
-use Rattle.rv_route.specs.Fitting.{WorksFit}
+use Rattle.rv_route.specs.Fitting.{WorksFit, FromRules}
 use Rattle.rv_verdicts.specs.Lone.{IsByCpu}
 use Rattle.rv_tool.specs.declared.input.Ready.{Ready}
 use Rattle.rv_tool.specs.Inputs.{InputValue, setup_of, HasCpus}
@@ -16,7 +16,7 @@ ready_value r = record {
   changes = r.changes.items;
 }
 
--- the setup and the reactors are the bindings', the tables mean the specifications, the lanes fit and ascend by CPU, each CPU delivers to its own instance of a monitor by CPU, and no change halts; the tables are the monitors', which the works fit
+-- the setup and the reactors are the bindings', the tables mean the specifications, the lanes fit and ascend by CPU, each CPU delivers to its own instance of a monitor by CPU, and no change halts; the tables are the monitors', which the works fit, and each delivery is one of a rule
 pub record IsReady (r : Ready) : Type 0 where
   pub setup : r.setup ≡ setup_of (ready_value r).bound (length r.tasks)
   pub reactors : r.reactors.items ≡ map (λ m. m.reactor) r.bindings.monitors.items
@@ -29,3 +29,4 @@ pub record IsReady (r : Ready) : Type 0 where
   pub few_containers : length r.bindings.containers ≤ 32
   pub tables : HaveTables (kinds_of r.bindings.monitors.items) r.setup.tables
   pub routed : WorksFit (kinds_of r.bindings.monitors.items) (length r.tasks) (works_of r.lanes.items)
+  pub rules : FromRules r.bindings.rules.items (works_of r.lanes.items)

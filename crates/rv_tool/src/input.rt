@@ -4,7 +4,7 @@ ghost use Rattle.rv_bind.specs.Outcomes.{Comes, Names};
 ghost use Rattle.rv_bind.specs.BoundViews.{bound_value};
 ghost use Rattle.rv_bind.specs.WellFormed.{HaveTables, kinds_of, IsWellFormed};
 ghost use Rattle.rv_route.specs.Routed.{routed_value};
-ghost use Rattle.rv_route.specs.Fitting.{WorksFit};
+ghost use Rattle.rv_route.specs.Fitting.{WorksFit, FromRules};
 ghost use Rattle.rv_feed.specs.Lane.{IsNewLane, works_of};
 ghost use Rattle.rv_tool.specs.Inputs.{opened, run_input};
 ghost use Rattle.rv_tool.specs.Ready.{ready_value, IsReady};
@@ -60,6 +60,7 @@ pub(crate) fn read_input<S: Store>(
 fn prepare(alloc: Global, bound: Bound, routed: Routed) -> Result<Ready, AllocError>
     requires formed { IsWellFormed (bound_value bound) }
     requires fit { WorksFit (kinds_of bound.bindings.monitors.items) (length routed.tasks) routed.works.items }
+    requires rules { FromRules bound.bindings.rules.items routed.works.items }
     ensures ready { IfOk result IsReady }
     ensures value { IfOk result (λ ready. ready_value ready ≡ record { bound = bound_value bound; routed = routed_value routed; changes = [] }) }
 {

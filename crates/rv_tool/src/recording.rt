@@ -13,7 +13,7 @@ use crate::trace_text::refused;
 use rv_bind::{BindFault, On};
 use rv_io::{Gate, Store};
 use rv_journal::{journal_text, record_run};
-use rv_shown::{exit_status, have_ends, is_numbered, shown_works, widths_of};
+use rv_shown::{exit_status, is_numbered, shown_works, widths_of};
 use rv_text::{NOT_NUMBERED, Refusal, Refused};
 use std::alloc::{AllocError, Global};
 use std::thread::Threads;
@@ -57,7 +57,7 @@ fn numbered(alloc: Global, bindings: &str, ready: Ready) -> Result<Ready, BindFa
 }
 
 /// Reads the bindings and the trace, and finds whether the monitors can be numbered.
-#[tactic(auto, using(crate::proofs::RecordingLemmas::numbered_named))]
+#[tactic(auto, using(crate::proofs::NumberedLemmas::numbered_named))]
 pub(crate) fn read_numbered<S: Store>(
     alloc: Global,
     store: &mut S,
@@ -95,10 +95,6 @@ pub(crate) fn recorded<R: Threads + Sync, G: Gate + Send>(
     setup.known();
     let works = works(alloc, lanes)?;
     let shown = shown_works(alloc, setup.switches, works)?;
-    if have_ends(shown.as_slice()) {
-        // No rule ends an instance, so no delivery does.
-        return Err(AllocError);
-    }
     let widths = widths_of(alloc, bindings.monitors.as_slice(), &setup)?;
     let recorded = record_run(rt, alloc, setup, widths, shown, gate)?;
     let text = journal_text(alloc, recorded.entries.as_slice())?;

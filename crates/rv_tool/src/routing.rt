@@ -4,7 +4,7 @@ ghost use Rattle.rv_text.specs.Readings.{Gives, Refuses, and_then};
 ghost use Rattle.rv_trace.specs.Streams.{part_read};
 ghost use Rattle.rv_trace.specs.Traces.{trace_of};
 ghost use Rattle.rv_bind.specs.WellFormed.{FitsKind, kinds_of};
-ghost use Rattle.rv_route.specs.Fitting.{WorksFit};
+ghost use Rattle.rv_route.specs.Fitting.{WorksFit, FromRules};
 ghost use Rattle.rv_route.specs.Routed.{routed_value};
 ghost use Rattle.rv_route.specs.Routing.{route_of};
 ghost use Rattle.rv_tool.specs.Pieces.{passed, IsRouted};
@@ -78,6 +78,7 @@ impl Routing {
         requires { IsOpen bindings.now self }
         ensures value { Gives routed_value result (and_then (trace_of self.lines.fed) (route_of bindings.now.monitors.items bindings.now.rules.items self.lines.fed)) }
         ensures fit { IfOk result (λ routed. WorksFit (kinds_of bindings.now.monitors.items) (length routed.tasks) routed.works.items) }
+        ensures rules { IfOk result (λ routed. FromRules bindings.now.rules.items routed.works.items) }
     {
         let Routing {
             mut lines,

@@ -8,7 +8,7 @@ ghost use Rattle.rv_route.specs.Routed.{routed_value};
 ghost use Rattle.rv_route.specs.Routing.{route_of};
 ghost use Rattle.rv_text.specs.Readings.{and_then};
 ghost use Rattle.rv_trace.specs.Traces.{trace_of};
-ghost use Rattle.rv_route.specs.Fitting.{WorksFit};
+ghost use Rattle.rv_route.specs.Fitting.{WorksFit, FromRules};
 ghost use Rattle.rv_tool.specs.Inputs.{routed_in};
 ghost use Rattle.rv_tool.specs.Faults.{IsFaultIn, Tells, FaultComes, FaultNames};
 ghost use Rattle.rv_tool.specs.Feeding.{IsOpen, IsFed, IsAll, IsPieceOf};
@@ -169,6 +169,7 @@ pub(crate) fn read_routed<S: Store>(
     ensures kept { S.files store.new ≡ S.files store.old }
     ensures later { S.faults store.old ≤ S.faults store.new }
     ensures fit { IfOk result (λ routed. WorksFit (kinds_of bound.now.bindings.monitors.items) (length routed.tasks) routed.works.items) }
+    ensures rules { IfOk result (λ routed. FromRules bound.now.bindings.rules.items routed.works.items) }
     ensures value { Comes routed_value (S.files store.old) (S.faults store.old) (S.faults store.new) result (λ files. routed_in files trace.now (bound_value bound.now)) }
     ensures named { Names (S.files store.old) result (λ files. routed_in files trace.now (bound_value bound.now)) }
 {
@@ -198,6 +199,7 @@ fn end_routing(
 ) -> Result<Routed, BindFault>
     requires { IsOpen bound.now.bindings routing }
     ensures fit { IfOk result (λ routed. WorksFit (kinds_of bound.now.bindings.monitors.items) (length routed.tasks) routed.works.items) }
+    ensures rules { IfOk result (λ routed. FromRules bound.now.bindings.rules.items routed.works.items) }
     ensures value { Tells routed_value result (of_file name.now (and_then (trace_of routing.lines.fed) (route_of bound.now.bindings.monitors.items bound.now.bindings.rules.items routing.lines.fed))) }
 {
     match routing.end(&bound.bindings) {

@@ -3,6 +3,7 @@ use Rattle.std.specs.Prelude.{All}
 use Rattle.std.proofs.lemmas.List.Elements.{All-nil}
 use Rattle.rv_feed.specs.Changes.{IsBelowHalt}
 use Rattle.rv_bind.specs.declared.bindings.Monitor.{Monitor}
+use Rattle.rv_route.specs.Fitting.{FromRules}
 use Rattle.rv_tool.proofs.ReadyLemmas.{ready_made}
 use Rattle.rv_tool.proofs.input.prepare.Goals as goal
 
@@ -22,4 +23,5 @@ returns-clause-ready c =
       few_containers = c.requires.formed.few_containers;
       tables = made.tables;
       routed = made.routed;
+      rules = subst (FromRules c.args.bound.bindings.rules.items) (sym c.in_ok-lanes.ensures.0) c.requires.rules;
     }

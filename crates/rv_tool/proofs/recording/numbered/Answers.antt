@@ -1,10 +1,8 @@
 -- What is ready is recorded, or the bindings are refused.
-use Rattle.std.proofs.Common.{◌≡◌, Bool, true, false, ◌&&◌, refl, ap, sym, ◌∙◌}
+use Rattle.std.proofs.Common.{◌≡◌, Bool, true, false, ◌&&◌, refl, ap, ◌∙◌}
 use Rattle.std.specs.Prelude.{not}
-use Rattle.std.specs.List.{list_any}
 use Rattle.rv_tool.specs.declared.input.Ready.{Ready}
-use Rattle.rv_tool.specs.Journals.{ends_instances}
-use Rattle.rv_tool.proofs.RecordingLemmas.{may_record, ready_told, not_told}
+use Rattle.rv_tool.proofs.NumberedLemmas.{may_record, ready_told, not_told}
 use Rattle.rv_tool.proofs.recording.numbered.Goals as goal
 
 -- where a rule ends an instance, or the monitors are not narrow, the test is false
@@ -29,7 +27,7 @@ returns-then-narrow c = record {
       (c.as_slice-monitors.ensures.value ∙ ap (λ (r : Ready). r.bindings.monitors.items) c.ready.view_is)
       (c.as_slice.ensures.value ∙ ap (λ (r : Ready). r.setup.tables) c.ready.view_is)
       (c.as_slice-2.ensures.value ∙ ap (λ (r : Ready). r.bindings.rules.items) c.ready.view_is)
-      c.is_numbered-narrow.ensures c.end_instances-ends.ensures c.requires.ready c.requires.unchanged c.if-narrow.true;
+      c.is_numbered-narrow.ensures c.end_instances-ends.ensures c.requires.ready c.requires.unchanged c.if-narrow.true c.if-ends.false;
   value = ready_told c.args.ready c.as_slice-monitors.result.now c.as_slice.result.now c.is_numbered-narrow.result c.as_slice-2.result.now c.end_instances-ends.result
       (c.as_slice-monitors.ensures.value ∙ ap (λ (r : Ready). r.bindings.monitors.items) c.ready.view_is)
       (c.as_slice.ensures.value ∙ ap (λ (r : Ready). r.setup.tables) c.ready.view_is)

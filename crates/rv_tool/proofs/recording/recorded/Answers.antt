@@ -1,10 +1,9 @@
-use Rattle.std.proofs.Common.{◌≡◌, ℕ, false, List, [], sym, ap, ◌∙◌, subst}
+use Rattle.std.proofs.Common.{ℕ, List, sym, ap, ◌∙◌, subst}
 use Rattle.std.specs.List.{AllZip}
-use Rattle.rv_model.specs.declared.entry.Entry.{Entry}
 use Rattle.rv_model.specs.Works.{Work}
 use Rattle.rv_core.specs.Setup.{judges_of}
 use Rattle.rv_journal.specs.EntryTexts.{journal_of}
-use Rattle.rv_shown.specs.Shown.{IsShownWork, have_ends}
+use Rattle.rv_shown.specs.Shown.{IsShownWork}
 use Rattle.rv_shown.specs.Whole.{IsWholeRun}
 use Rattle.rv_verdicts.specs.Exits.{exit_of}
 use Rattle.rv_tool.specs.Inputs.{run_of}
@@ -17,8 +16,7 @@ record_run-requires g c =
     let ready = c.args.ready in
     let shown = c.in_ok-shown.shown.items in
     let are = subst (λ (z : ℕ × List Work). AllZip (IsShownWork z.0) z.1 shown) (λ i. ((c.setup.view_is i).switches, c.in_ok-works.ensures i)) c.in_ok-shown.ensures in
-    let goes : have_ends shown ≡ false = ap have_ends (sym c.as_slice.ensures.value) ∙ sym c.have_ends.ensures ∙ c.if-have_ends.false in
-    (c.type_bounds.send-G, (c.type_bounds.sync-R, (c.in_ok-widths.ensures, (shown_fits ready c.requires shown are goes, (shown_ascends ready c.requires shown are, runs_on ready c.requires shown are)))))
+    (c.type_bounds.send-G, (c.type_bounds.sync-R, (c.in_ok-widths.ensures, (shown_fits ready c.requires shown are, (shown_ascends ready c.requires shown are, runs_on ready c.requires shown are)))))
 
 pub returns : goal.returns
 returns g c =
@@ -27,9 +25,8 @@ returns g c =
     let recorded = c.in_ok-recorded.recorded in
     let ran = c.in_ok-recorded.ensures in
     let are = subst (λ (z : ℕ × List Work). AllZip (IsShownWork z.0) z.1 shown) (λ i. ((c.setup.view_is i).switches, c.in_ok-works.ensures i)) c.in_ok-shown.ensures in
-    let goes : have_ends shown ≡ false = ap have_ends (sym c.as_slice.ensures.value) ∙ sym c.have_ends.ensures ∙ c.if-have_ends.false in
-    let fit = shown_fits ready c.requires shown are goes in
+    let fit = shown_fits ready c.requires shown are in
     recorded_report ready c.requires shown are recorded.closed recorded.entries.items c.in_ok-text.text.items c.exit_status-status.result
     (record { is_setup = c.known.ensures; fit = fit; legal = ran.legal }) (ran.specs (run_of (ready_value ready)).specs c.requires.ready.mean) ran.closed ran.entries
-    (c.in_ok-text.ensures ∙ ap journal_of c.as_slice-3.ensures.value)
-    (λ whole. c.exit_status-status.ensures ready.setup shown (subst (IsWholeRun ready.setup shown) (sym c.as_slice-4.ensures.value) whole) ∙ ap (exit_of ready.setup (judges_of ready.setup)) c.as_slice-4.ensures.value)
+    (c.in_ok-text.ensures ∙ ap journal_of c.as_slice-2.ensures.value)
+    (λ whole. c.exit_status-status.ensures ready.setup shown (subst (IsWholeRun ready.setup shown) (sym c.as_slice-3.ensures.value) whole) ∙ ap (exit_of ready.setup (judges_of ready.setup)) c.as_slice-3.ensures.value)
