@@ -46,6 +46,7 @@ module _ (P : Delivery → Type 0) where
   lane-in (lane ∷ lanes) zero all = All-head InLane lane lanes all
   lane-in (lane ∷ lanes) (suc cpu) all = lane-in lanes cpu (All-tail InLane lane lanes all)
 
+  -- one delivery more
   deliver-in : (line : TraceLine) (rule : OnValue) (instance : ℕ) (routes : Routes) → Delivers rule → InRoutes routes → IfOk (deliver routes line rule instance) InRoutes
   deliver-in line rule instance routes delivers all = go (nat_lt routes.count MAX_DELIVERIES)
     where
@@ -56,6 +57,7 @@ module _ (P : Delivery → Type 0) where
           All-set InLane routes.lanes line.cpu (with_delivery lane line.number d) (All-push P lane.deliveries d (lane-in routes.lanes line.cpu all) (delivers d (refl, refl))) all
       go false = tt
 
+  -- whatever the rule asks for
   answer-in : (line : TraceLine) (rule : OnValue) (ask : Ask) (routes : Routes) → Delivers rule → InRoutes routes → IfOk (answer routes line rule ask) InRoutes
   answer-in line rule asks.Quiet routes delivers all = all
   answer-in line rule (asks.Instance instance) routes delivers all = deliver-in line rule instance routes delivers all
@@ -75,6 +77,7 @@ module _ (P : Delivery → Type 0) where
   both-in (Err refusal) next is keeps = tt
 
   module _ (text : List ℕ) (monitors : List Monitor) where
+    -- the rules on one line
     rules-in : (line : TraceLine) (rules : List OnValue) → All Delivers rules → (routes : Routes) → InRoutes routes → IfOk (line_routes text line monitors rules routes) InRoutes
     unfolding line_routes
     rules-in line [] deliver routes all = all
@@ -82,12 +85,14 @@ module _ (P : Delivery → Type 0) where
         both-in (answer routes line rule (ask_of text line monitors rule)) (line_routes text line monitors rules) (answer-in line rule (ask_of text line monitors rule) routes (All-head Delivers rule rules deliver) all)
         (rules-in line rules (All-tail Delivers rule rules deliver))
 
+    -- the rules on all lines
     lines-in : (rules : List OnValue) → All Delivers rules → (lines : List TraceLine) (routes : Routes) → InRoutes routes → IfOk (routes_of text monitors rules lines routes) InRoutes
     unfolding routes_of
     lines-in rules deliver [] routes all = all
     lines-in rules deliver (line ∷ lines) routes all =
         both-in (line_routes text line monitors rules routes) (routes_of text monitors rules lines) (rules-in line rules deliver routes all) (lines-in rules deliver lines)
 
+  -- so it is of the works
   works-in : (cpu : ℕ) (lanes : List LaneValue) → All InLane lanes → All InWork (works_from cpu lanes)
   works-in cpu [] all = All-nil InWork
   works-in cpu (lane ∷ lanes) all = go (length lane.deliveries == 0) refl (All-head InLane lane lanes all) (works-in (cpu + 1) lanes (All-tail InLane lane lanes all))
@@ -102,6 +107,7 @@ module _ (P : Delivery → Type 0) where
 all_deliver : (rules : List OnValue) → All (Delivers (λ d. Any (IsDeliveryOf d) rules)) rules
 all_deliver rules k none below d is = (k, get_or rules k none, below, get_or_default rules k (get_or rules k none) none below, is)
 
+-- nothing has no delivery
 nothing-in : (P : Delivery → Type 0) → InRoutes P nothing
 unfolding nothing
 nothing-in P = All-replicate (InLane P) 64 no_lane (All-nil P)

@@ -144,6 +144,7 @@ module _ (monitors : List Monitor) (tasks : ℕ) (s : Setup) (opened : IsOpened 
       go true y rest = rw y (All-cons (λ d. keep d ≡ true) d (filter keep ds) y rest)
       go false n rest = rw n rest
 
+  -- what is shown of a work fits, where none of its deliveries ends an instance
   work-fits : (w v : Work) → w.cpu < 64 → length w.deliveries ≤ MAX_DELIVERIES → All (FitsKindOf (kinds_of monitors) tasks w.cpu) w.deliveries → All (λ (d : Delivery). is_end d.hit.mode ≡ false) w.deliveries
       → IsShownWork s.switches w v → FitsCountedWork s v
   work-fits w v cpu few fit goes shown =

@@ -53,6 +53,7 @@ no-end rules d none (place, rule, below, there, is) = go (ends_instances rule) r
     go false e = ap (λ (h : Hit). is_end h.mode) is.1 ∙ e
     go true e = absurd (let n : true ≡ false = sym (list_any-from_Any ends_instances rules (place, rule, below, there, e)) ∙ none in cc)
 
+-- so no delivery of the works does
 no-ends : (rules : List OnValue) (works : List Work) → list_any ends_instances rules ≡ false → FromRules rules works → HaveNoEnds works
 no-ends rules works none from =
     All-weaker (λ (w : Work). All (λ d. Any (IsDeliveryOf d) rules) w.deliveries) (λ (w : Work). All (λ d. is_end d.hit.mode ≡ false) w.deliveries)
