@@ -2,3 +2,4 @@ pub mod AtomLemmas
 pub mod CubesSay
 pub mod MeetLemmas
 pub mod SizeLemmas
+pub mod ThreadLemmas

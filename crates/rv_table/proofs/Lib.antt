@@ -1,7 +1,6 @@
 pub mod BuildLemmas
 pub mod KeepLemmas
 pub mod LabelLemmas
-pub mod MaskLemmas
 pub mod NumberedRows
 pub mod PassLemmas
 pub mod RowLemmas

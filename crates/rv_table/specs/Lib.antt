@@ -1,4 +1,3 @@
 pub mod Kinds
-pub mod Masks
 pub mod Numbered
 pub mod Rows

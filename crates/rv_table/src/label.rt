@@ -1,4 +1,4 @@
-//! Labels while a table is made, each once for all the rows that have it.
+//! Labels, each once for all the rows that have it.
 ghost use Rattle.std.specs.Prelude.{◌≡◌, ◌≢◌, ℕ, ◌<◌, ◌==◌, ◌&&◌, ◌||◌, not, map, length, All, IfOk, IfSome, IfNone, OnOk};
 ghost use Rattle.rv_model.specs.Numbers.{has_bit};
 ghost use Rattle.rv_model.specs.Formulas.{ltl};

@@ -2,14 +2,13 @@
 #![tactic(auto)]
 
 mod bits;
+mod filtering;
 mod label;
-mod mask;
 mod node;
 mod nodes;
 mod row;
 mod steps;
 mod table;
-mod truth;
 
 pub use node::Node;
 pub use table::Table;

@@ -8,8 +8,8 @@ ghost use Rattle.rv_model.specs.Numbers.{has_bit};
 ghost use Rattle.rv_model.specs.Table.{node_at};
 ghost use Rattle.rv_table.specs.Rows.{IsLabel, node_rows};
 
-use crate::label::enter_all;
-use crate::mask::{Mask, filter_all, formulas_of, masks_of};
+use crate::filtering::filter_all;
+use crate::label::{Label, enter_all};
 use crate::node::Node;
 use rv_model::Formula;
 use std::alloc::{AllocError, Global};
@@ -22,30 +22,27 @@ struct Numbered {
     next: u32,
 }
 
-/// The rows from row 0 on, and each of their labels once, with its mask.
+/// The rows from row 0 on, and each of their labels once, as masks.
 #[derive(Drop)]
 pub struct Nodes {
-    labels: Vec<Formula>,
-    masks: Vec<Mask>,
+    labels: Vec<Label>,
     rows: Vec<Numbered>,
 }
 
 impl Model for Nodes {
-    ghost use Rattle.std.specs.Prelude.{List, map};
+    ghost use Rattle.std.specs.Prelude.{List};
     ghost use Rattle.std.specs.Coded.{coded_list};
     ghost use Rattle.rv_model.specs.Table.{Node as NodeValue};
     ghost use Rattle.rv_table.specs.Rows.{coded_node};
-    ghost use Rattle.rv_model.specs.Formulas.{ltl};
-    ghost use Rattle.rv_table.specs.Masks.{AreMasks, labels_in};
     ghost use Rattle.rv_table.specs.Numbered.{nodes_by, IsNumbered};
 
     ghost Value = { List NodeValue };
 
     ghost coded = { coded_list coded_node };
 
-    ghost view = { λ n. nodes_by (labels_in (map ltl n.labels.items) n.masks.items) n.rows.items };
+    ghost view = { λ n. nodes_by n.labels.items n.rows.items };
 
-    ghost invariant = { λ n. IsNumbered (labels_in (map ltl n.labels.items) n.masks.items) n.rows.items × AreMasks (map ltl n.labels.items) n.masks.items };
+    ghost invariant = { λ n. IsNumbered n.labels.items n.rows.items };
 }
 
 impl Nodes {
@@ -69,13 +66,7 @@ impl Nodes {
                 next: node.next,
             })?;
         }
-        let masks = masks_of(alloc, &labels)?;
-        let labels = formulas_of(alloc, &labels)?;
-        Ok(Nodes {
-            labels,
-            masks,
-            rows,
-        })
+        Ok(Nodes { labels, rows })
     }
 
     /// How many rows there are, with row 0.
@@ -108,13 +99,13 @@ impl Nodes {
         ensures { ltl result.now ≡ slice_index_or (node_at self.now row).labels place True }
     {
         let number = self.rows[row].labels[place];
-        &self.labels[number]
+        self.labels[number].masks.label()
     }
 
     /// The rows of the set whose labels the letter makes true.
     pub fn entered(&self, rows: u32, letter: u32) -> u32
         ensures { (q : ℕ) → q < 32 → has_bit result q ≡ (has_bit rows q && list_all (true_on letter) (node_at self.now q).labels) }
     {
-        filter_all(&self.masks, &self.labels, rows, letter)
+        filter_all(&self.labels, rows, letter)
     }
 }
