@@ -7,13 +7,13 @@
 #include <sys/syscall.h>
 #include <unistd.h>
 
-static unsigned long made;
+static _Atomic unsigned long made;
 static int has_ended;
 
 static int is_refused(void) {
     const char *refused = getenv("REFUSED");
-    made += 1;
-    return !has_ended && refused && made == strtoul(refused, NULL, 10);
+    unsigned long call = ++made;
+    return !has_ended && refused && call == strtoul(refused, NULL, 10);
 }
 
 void *malloc(size_t size) {

@@ -11,9 +11,10 @@ use Rattle.rv_bind.specs.declared.bindings.Test.{Test}
 use Rattle.rv_bind.specs.declared.limits.TheConstants.{MAX_RULES}
 use Rattle.rv_bind.specs.Values.{OnValue, BoundValue}
 use Rattle.rv_bind.specs.LineReads.{after}
-use Rattle.rv_bind.specs.Forms.{Words}
+use Rattle.rv_bind.specs.LineWords.{Words}
 use Rattle.rv_bind.specs.Changes.{allows_hit, brought, atom_bit}
-use Rattle.rv_bind.specs.Bound.{monitor_named, allows_by, rule_bound, changed, change_bound, beginning, begin_bound}
+use Rattle.rv_bind.specs.Bound.{monitor_named}
+use Rattle.rv_bind.specs.MonitorLines.{allows_by, rule_bound, changed, change_bound, beginning, begin_bound}
 
 -- a monitor is changed where it stands
 pub changed-set : (change : Monitor → Monitor) (monitors : List Monitor) (place : ℕ) (m : Monitor) → place < length monitors → get_or monitors place m ≡ m
@@ -24,15 +25,18 @@ changed-set change (x ∷ monitors) (suc place) m lt is = ap (λ ms. x ∷ ms) (
 
 -- ---- a name in a list, with none at a lower place
 module _ (names : List (List ℕ)) (name : List ℕ) where
+  -- no lower place has the name
   abbrev pub NoneBelow : ℕ → Type 0
   NoneBelow place = (k : ℕ) → k < place → bytes_eq (slice_index_or names k []) name ≡ false
 
+  -- a place that has the name, where no lower one has it, is the name's place
   pub found_at : (place : ℕ) (held : List ℕ) → slice_get names place ≡ Some held → bytes_eq held name ≡ true → NoneBelow place → place ≡ position_or_len (λ other. bytes_eq other name) names
   found_at place held is same none =
       let within : place < length names = slice_get_within names place held is in
       let at : get_or names place [] ≡ held = get_or_from_slice_get names place held [] is in
       sym (position_or_len_is (λ other. bytes_eq other name) names place [] (omega arith) none (λ lt. ap (λ h. bytes_eq h name) at ∙ same))
 
+  -- one more place does not have the name
   pub none_below : (place : ℕ) (held : List ℕ) → slice_get names place ≡ Some held → bytes_eq held name ≡ false → NoneBelow place → NoneBelow (place + 1)
   none_below place held is apart none k lt = elim (cases k place lt) [
     | inl below ↦ none k below
@@ -42,6 +46,7 @@ module _ (names : List (List ℕ)) (name : List ℕ) where
       cases : (k place : ℕ) → k < place + 1 → (k < place) ⊎ (k ≡ place)
       cases k place lt = grind arith
 
+  -- where no place has the name, the search ends at the number of names
   pub not_found : (place count : ℕ) → count ≡ length names → count ≤ place → NoneBelow place → count ≡ position_or_len (λ other. bytes_eq other name) names
   not_found place count is le none =
       let all : (k : ℕ) → k < length names → bytes_eq (slice_index_or names k []) name ≡ false = λ k lt. none k (omega arith) in

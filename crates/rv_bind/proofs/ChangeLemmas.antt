@@ -19,7 +19,7 @@ use Rattle.rv_text.specs.declared.numbers.TheConstants.{UNKNOWN_ATOM}
 use Rattle.rv_ltl.specs.Texts.{texts}
 use Rattle.rv_bind.specs.declared.fault.LineFault.{LineFault}
 use Rattle.rv_bind.specs.LineReads.{Reads}
-use Rattle.rv_bind.specs.Forms.{Words}
+use Rattle.rv_bind.specs.LineWords.{Words}
 use Rattle.rv_bind.specs.Changes.{runs_its_event, is_change, stands_twice, allows_what, may_end, allows_hit, place_named, signed, are_known, event_at, event_of, what_of, brought, bit_at_place, atom_bit}
 use Rattle.rv_bind.specs.WellFormed.{FitsEvents, FitsAtoms, FitsSpec, FitsRule, StartsIn}
 
@@ -35,22 +35,26 @@ pub number_none : (has : ℕ → Bool) → 0 ≡ number_of has 0
 unfolding number_of
 number_none has = refl
 
+-- a set of lower places is below the power of the place
 pub number_below : (has : ℕ → Bool) (place set : ℕ) → set ≡ number_of has place → set < 2 ^ place
 number_below has place set is = subst (λ n. n < 2 ^ place) (sym is) (number_of-lt has place)
 
 -- ---- what is brought
 
+-- an event that is found by its name is one of the events
 event_at-fits : (events : List (List ℕ)) (name : List ℕ) (what : What) (p : Option ℕ) → place_named events name ≡ p → event_at p ≡ Ok what → FitsEvents (length events) what
 event_at-fits events name what None found e = cc
 event_at-fits events name what (Some place) found e =
     let same : whats.Da place ≡ what = cc in
     subst (FitsEvents (length events)) same (position-Some (λ other. bytes_eq other name) events place [] found).0
 
+-- the one event of the words is one of the events
 event-fits : (events : List (List ℕ)) (words : Words) (what : What) → event_of events words ≡ Ok what → FitsEvents (length events) what
 event-fits events [] what e = cc
 event-fits events (word ∷ []) what e = event_at-fits events word what (place_named events word) refl e
 event-fits events (word ∷ next ∷ words) what e = cc
 
+-- the changes of known atoms are sets of the rule's atoms
 change-fits : (atoms : List (List ℕ)) (words : Words) (what : What) (known : Bool)
     → (if known then Ok (whats.Ltl (signed 43 atoms words) (signed 45 atoms words) (signed 42 atoms words)) else Err UNKNOWN_ATOM) ≡ Ok what → FitsAtoms (length atoms) what
 change-fits atoms words what true e =
@@ -58,6 +62,7 @@ change-fits atoms words what true e =
     subst (FitsAtoms (length atoms)) same (number_of-lt _ (length atoms), number_of-lt _ (length atoms), number_of-lt _ (length atoms))
 change-fits atoms words what false e = cc
 
+-- a mode that runs its event is no start without it
 mode-fits : (mode : Mode) (rest : Bool) → (runs_its_event mode && rest) ≡ true → mode ≢ modes.Start
 mode-fits modes.Event rest e same = cc
 mode-fits modes.Start rest e same = cc
@@ -92,6 +97,7 @@ hit_fits scope spec mode words what allowed e = go (is_end mode) allowed e
 
 -- ---- starting values
 
+-- the bit of a named atom is a set of the rule's atoms
 bit-fits : (atoms : List (List ℕ)) (name : List ℕ) (bit : ℕ) (p : Option ℕ) → place_named atoms name ≡ p → bit_at_place p ≡ Ok bit → bit < 2 ^ length atoms
 bit-fits atoms name bit None found e = cc
 bit-fits atoms name bit (Some place) found e =

@@ -7,7 +7,9 @@ use Rattle.std.proofs.lemmas.List.{map-append, append_assoc, append-nil}
 use Rattle.rv_ltl.specs.Texts.{texts}
 use Rattle.rv_text.specs.declared.numbers.TheConstants.{BIND_SYNTAX}
 use Rattle.rv_bind.specs.LineReads.{after}
-use Rattle.rv_bind.specs.Forms.{FormValue, on, Words, Read, when, by_at, tests_at, hit_form, on_form, with_next, on_read}
+use Rattle.rv_bind.specs.Forms.{FormValue, on, by_at, tests_at, hit_form, on_form}
+use Rattle.rv_bind.specs.FormsAhead.{with_next, on_read}
+use Rattle.rv_bind.specs.LineWords.{Words, Read, when}
 
 -- text is kept as it is
 pub text_kept : (bytes text : List ℕ) → (text ≡ bytes) × IsUtf8 bytes → when (is_utf8 bytes) bytes ≡ Ok text
@@ -28,6 +30,7 @@ next-after (Err number) rest none = refl
 next-after (Ok (y, [])) rest none = sym (none y)
 next-after (Ok (y, word ∷ words)) rest none = refl
 
+-- behind the event, reading with one word ahead reads the same
 on-behind : (name called : List ℕ) (words : Words)
     → after (with_next (by_at words)) (λ by. after (with_next (tests_at (by.0.1 ∷ by.1))) (λ tests. hit_form (on name called by.0.0 tests.0.0) (tests.0.1 ∷ tests.1)))
     ≡ after (by_at words) (λ by. after (tests_at by.1) (λ tests. hit_form (on name called by.0 tests.0) tests.1))

@@ -1,5 +1,6 @@
 pub mod BoundLemmas
 pub mod ChangeLemmas
+pub mod ChangedLemmas
 pub mod FormLemmas
 pub mod OutcomeLemmas
 pub mod ReachedLemmas

@@ -20,9 +20,11 @@ use Rattle.rv_bind.proofs.OutcomeLemmas.{of_name-reading}
 
 -- ---- an outcome without a file is that it is missing, or what it is with the file
 
+-- without a file the outcome comes to that file, or stays what it is
 abbrev pub IsLocal : {Y : Type 0} → (Files → Outcome Y) → Type 0
 IsLocal outcome = (files : Files) → (file : List ℕ) → IsReached outcome files file ⊎ (outcome (without file files) ≡ outcome files)
 
+-- where this holds of a step and of what is read on from it, it holds of both together
 pub reading-local : {X Y : Type 0} (step : Files → Outcome X) (next : Files → X → Outcome Y) → IsLocal step → ((x : X) → IsLocal (λ files. next files x)) → IsLocal (λ files. reading (step files) (next files))
 reading-local {X} {Y} step next step_is next_is files file = go (step_is files file)
   where
@@ -38,6 +40,7 @@ reading-local {X} {Y} step next step_is next_is files file = go (step_is files f
     go (inl reached) = inl (ap (λ o. reading o (next (without file files))) reached)
     go (inr is) = same (step files) (step (without file files)) is
 
+-- where this holds of what is read of each text, it holds of what is read of a file
 pub of_name-local : {X : Type 0} (name : List ℕ) (read : Files → List ℕ → Outcome X) → ((text : List ℕ) → IsLocal (λ files. read files text)) → IsLocal (λ files. of_name files name (read files))
 of_name-local {X} name read each files file = go (bytes_eq name file) refl
   where
@@ -66,6 +69,7 @@ monitor-local here line bound name scope kind file holder =
     reading-local (λ files. of_line here line (place_for bound name holder)) (λ files place. reading (compiled_in files kind file) (λ compiled. accepted (with_monitor bound name place scope file compiled))) (λ files f. inr refl)
     (λ place. reading-local (λ files. compiled_in files kind file) (λ files compiled. accepted (with_monitor bound name place scope file compiled)) (spec-local kind file) (λ compiled files f. inr refl))
 
+-- this holds of what a form adds
 form-local : (here : List ℕ) (line : ℕ) (bound : BoundValue) (form : FormValue) → IsLocal (λ files. form_bound files here line bound form)
 form-local here line bound skipped = λ files file. inr refl
 form-local here line bound (container name) = λ files file. inr refl
@@ -75,6 +79,7 @@ form-local here line bound (react name reactor) = λ files file. inr refl
 form-local here line bound (off name) = λ files file. inr refl
 form-local here line bound (begin name atom) = λ files file. inr refl
 
+-- this holds of what a line adds
 pub line-local : (here : List ℕ) (bound : BoundValue) (line : LineText) → IsLocal (λ files. line_bound files here bound line)
 line-local here bound line =
     reading-local (λ files. of_line here line.number (form_in line)) (λ files form. form_bound files here line.number bound form) (λ files file. inr refl) (λ form. form-local here line.number bound form)

@@ -16,10 +16,12 @@ use Rattle.rv_tableau.specs.Nodes.{nodes_of}
 use Rattle.rv_tableau.specs.Rows.{rows_of, tableau_of}
 use Rattle.rv_bind.specs.Compiling.{formula_table}
 
+-- a table that is made of nodes has rows with labels
 nodes_labelled : (t : Table) (ps : List Piece) (nodes : Result (List Pair) Refusal) → and_then nodes (λ nodes. Ok (of_labels (rows_of ps nodes))) ≡ Ok t → (rows : List Node) × (t ≡ of_labels rows)
 nodes_labelled t ps (Err refusal) e = cc
 nodes_labelled t ps (Ok nodes) e = (rows_of ps nodes, cc)
 
+-- a table that is made of a formula's parts has rows with labels
 parts_labelled : (t : Table) (parts : Result (List Piece) Refusal) → and_then parts tableau_of ≡ Ok t → (rows : List Node) × (t ≡ of_labels rows)
 parts_labelled t (Err refusal) e = cc
 parts_labelled t (Ok ps) e = nodes_labelled t ps (nodes_of ps) e

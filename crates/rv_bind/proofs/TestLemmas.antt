@@ -5,7 +5,9 @@ use Rattle.std.proofs.lemmas.List.{append_assoc, append-nil}
 use Rattle.rv_text.specs.declared.numbers.TheConstants.{BIND_SYNTAX}
 use Rattle.rv_bind.specs.declared.bindings.Test.{Test}
 use Rattle.rv_bind.specs.LineReads.{after}
-use Rattle.rv_bind.specs.Forms.{Words, Read, word_at, or_syntax, test_of, tests_at, with_next, test_next, with_test, with_tests}
+use Rattle.rv_bind.specs.Forms.{tests_at, with_test}
+use Rattle.rv_bind.specs.FormsAhead.{with_next, test_next, with_tests}
+use Rattle.rv_bind.specs.LineWords.{Words, Read, word_at, or_syntax, test_of}
 
 -- a test, and the word behind it, from the test's word on
 abbrev next_of : Words → Option Test → Read (Test × List ℕ)
@@ -21,6 +23,7 @@ with_tests-more tests test (Err number) = refl
 with_tests-more tests test (Ok later) = ap (λ (ts : List Test). Ok (ts, later.1)) (append_assoc tests (test ∷ []) later.0)
 
 module _ (next : List ℕ) (another : bytes_eq next (codes "if") ≡ true) where
+  -- where one more test is read, it is the first of those that are left
   tests_at-more : (words : Words) (x : (Test × List ℕ) × Words) → test_next words ≡ Ok x → tests_at (next ∷ words) ≡ with_test x.0.0 (tests_at (x.0.1 ∷ x.1))
   tests_at-more [] x e = cc
   tests_at-more (word ∷ []) x e = go (test_of word) e
@@ -41,6 +44,7 @@ module _ (next : List ℕ) (another : bytes_eq next (codes "if") ≡ true) where
   tests_more whole tests more words x so_far e is =
       so_far ∙ ap (with_tests tests) (tests_at-more words x e) ∙ sym (with_tests-more tests x.0.0 (tests_at (x.0.1 ∷ x.1))) ∙ ap (λ ts. with_tests ts (tests_at (x.0.1 ∷ x.1))) (sym is)
 
+  -- where one more test is refused, all are refused by the same number
   tests_at-fault : (words : Words) (number : ℕ) → test_next words ≡ Err number → (tests : List Test) → with_next (with_tests tests (tests_at (next ∷ words))) ≡ Err number
   tests_at-fault [] number e tests = rw another (same_fault BIND_SYNTAX number e)
   tests_at-fault (word ∷ []) number e tests = rw another (go (test_of word) e)

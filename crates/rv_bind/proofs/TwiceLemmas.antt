@@ -11,7 +11,7 @@ use Rattle.std.proofs.lemmas.List.{take_rest}
 use Rattle.std.proofs.lemmas.Map.Text.{is_eq-slice_cmp}
 use Rattle.std.proofs.lemmas.Map.Lookups.{exact_bytes}
 use Rattle.rv_ltl.specs.Texts.{texts}
-use Rattle.rv_bind.specs.Forms.{Words}
+use Rattle.rv_bind.specs.LineWords.{Words}
 use Rattle.rv_bind.specs.Changes.{atom_in, stands_twice}
 
 -- the order of two names by their bytes
@@ -32,21 +32,25 @@ stands_beside keys words = any_met keys words || stands_twice words
 
 -- ---- either
 
+-- of three alternatives the first two change places
 swap_or : (a b c : Bool) → (a || (b || c)) ≡ (b || (a || c))
 swap_or true true c = refl
 swap_or true false c = refl
 swap_or false b c = refl
 
+-- an alternative twice is the same as once
 once_or : (a b : Bool) → (a || b) ≡ (a || (a || b))
 once_or true b = refl
 once_or false b = refl
 
+-- of two pairs of alternatives the inner two change places
 pair_or : (a b c d : Bool) → ((a || b) || (c || d)) ≡ ((a || c) || (b || d))
 pair_or true b c d = refl
 pair_or false true true d = refl
 pair_or false true false d = refl
 pair_or false false c d = refl
 
+-- of three alternatives the second comes first
 turn_or : (a b c : Bool) → ((a || b) || c) ≡ (b || (a || c))
 turn_or true true c = refl
 turn_or true false c = refl

@@ -7,7 +7,6 @@ use Rattle.rv_text.specs.declared.numbers.TheConstants.{BIND_SYNTAX, NAME_TWICE,
 use Rattle.rv_model.specs.declared.hit.Mode.{Mode}
 use Rattle.rv_model.specs.declared.hit.What.{What}
 use Rattle.rv_model.specs.declared.work.Scope.{Scope}
-use Rattle.rv_model.specs.declared.formula.Spec.{Spec}
 use Rattle.rv_model.specs.Table.{Table}
 use Rattle.rv_bind.specs.declared.bindings.Monitor.{Monitor}
 use Rattle.rv_bind.specs.declared.bindings.Item.{Item}
@@ -15,15 +14,16 @@ use Rattle.rv_bind.specs.declared.bindings.Item.TheVariants as items
 use Rattle.rv_bind.specs.declared.bindings.Test.{Test}
 use Rattle.rv_bind.specs.declared.compile.Compiled.{Compiled}
 use Rattle.rv_bind.specs.declared.limits.TheConstants.{MAX_CONTAINERS, MAX_RULES}
-use Rattle.rv_bind.specs.LineReads.{after}
 use Rattle.rv_bind.specs.Values.{OnValue, BoundValue}
-use Rattle.rv_bind.specs.Forms.{Words}
-use Rattle.rv_bind.specs.Changes.{allows_hit, brought, atom_bit}
+use Rattle.rv_bind.specs.LineWords.{Words}
+use Rattle.rv_bind.specs.Changes.{allows_hit, brought}
 use Rattle.rv_bind.specs.Compiling.{Compiles}
-use Rattle.rv_bind.specs.Bound.{nothing_bound, is_taken, allows_by, with_rule, rule_at, rule_bound, changed, with_change, change_bound, beginning, begin_at, begin_bound, container_bound, items_of, with_monitor}
-use Rattle.rv_bind.specs.WellFormed.{Kind, kind_of, kinds_of, FitsRule, HasTable, HaveTables, FitsKind, holders_of, IsHolder, IsItem, IsWellFormed}
-use Rattle.rv_bind.proofs.ChangeLemmas.{hit_fits, starts_at_first, starts_more}
+use Rattle.rv_bind.specs.Bound.{nothing_bound, is_taken, container_bound, items_of, with_monitor}
+use Rattle.rv_bind.specs.MonitorLines.{allows_by, with_rule, rule_at, rule_bound}
+use Rattle.rv_bind.specs.WellFormed.{Kind, kind_of, kinds_of, HasTable, HaveTables, FitsKind, holders_of, IsHolder, IsItem, IsWellFormed}
+use Rattle.rv_bind.proofs.ChangeLemmas.{hit_fits, starts_at_first}
 
+-- bindings of nothing are well formed
 pub nothing_formed : IsWellFormed nothing_bound
 nothing_formed = record {
   few_containers = omega arith;
@@ -35,104 +35,16 @@ nothing_formed = record {
   items = All-nil (IsItem 0 0);
 }
 
--- ---- a change of a monitor
-
-changed-map : {X : Type 0} (change : Monitor → Monitor) (f : Monitor → X) → ((m : Monitor) → f (change m) ≡ f m) → (monitors : List Monitor) (place : ℕ) → map f (changed change monitors place) ≡ map f monitors
-changed-map change f same [] place = refl
-changed-map change f same (m ∷ monitors) zero = ap (λ x. x ∷ map f monitors) (same m)
-changed-map change f same (m ∷ monitors) (suc place) = ap (λ xs. f m ∷ xs) (changed-map change f same monitors place)
-
-changed-length : (change : Monitor → Monitor) (monitors : List Monitor) (place : ℕ) → length (changed change monitors place) ≡ length monitors
-changed-length change [] place = refl
-changed-length change (m ∷ monitors) zero = refl
-changed-length change (m ∷ monitors) (suc place) = ap (λ n. suc n) (changed-length change monitors place)
-
--- a change that leaves what tables and rules go by
-pub change_formed : (b after : BoundValue) (place : Option ℕ) (change : Monitor → Monitor) → ((m : Monitor) → kind_of (change m) ≡ kind_of m) → ((m : Monitor) → (change m).container ≡ m.container)
-    → IsWellFormed b → change_bound b place change ≡ Ok after → IsWellFormed after
-change_formed b after None change kind holder w e = cc
-change_formed b after (Some place) change kind holder w e =
-    let is : with_change b change place ≡ after = cc in
-    subst IsWellFormed is (record {
-      few_containers = w.few_containers;
-      few_monitors = rw (changed-length change b.monitors place) w.few_monitors;
-      few_rules = w.few_rules;
-      tables = rw (changed-map change kind_of kind b.monitors place) w.tables;
-      rules = rw (changed-map change kind_of kind b.monitors place) w.rules;
-      holders = rw (changed-map change (λ m. m.container) holder b.monitors place) w.holders;
-      items = rw (changed-length change b.monitors place) w.items;
-    })
-
--- ---- an atom that starts true
-
--- a kind that differs in its starting value alone
-record Began (kinds : List Kind) (i : ℕ) (kind : Kind) : Type 0 where
-  other : Kind
-  there : slice_get kinds i ≡ Some other
-  scope : other.scope ≡ kind.scope
-  spec : other.spec ≡ kind.spec
-
-kinds-began : (bit : ℕ) (monitors : List Monitor) (place i : ℕ) (kind : Kind) → slice_get (kinds_of monitors) i ≡ Some kind → Began (kinds_of (changed (beginning bit) monitors place)) i kind
-kinds-began bit [] place i kind e = cc
-kinds-began bit (m ∷ monitors) zero zero kind e =
-    let same : kind_of m ≡ kind = cc in
-    record { other = kind_of (beginning bit m); there = refl; scope = ap (λ (k : Kind). k.scope) same; spec = ap (λ (k : Kind). k.spec) same }
-kinds-began bit (m ∷ monitors) zero (suc i) kind e = record { other = kind; there = e; scope = refl; spec = refl }
-kinds-began bit (m ∷ monitors) (suc place) zero kind e = record { other = kind; there = e; scope = refl; spec = refl }
-kinds-began bit (m ∷ monitors) (suc place) (suc i) kind e =
-    let later = kinds-began bit monitors place i kind e in
-    record { other = later.other; there = later.there; scope = later.scope; spec = later.spec }
-
-fits-began : (bit : ℕ) (monitors : List Monitor) (place : ℕ) (r : OnValue) → FitsKind (kinds_of monitors) r → FitsKind (kinds_of (changed (beginning bit) monitors place)) r
-fits-began bit monitors place r f =
-    let began = kinds-began bit monitors place r.monitor f.kind f.there in
-    record {
-      kind = began.other;
-      there = began.there;
-      hit = subst (λ (s : Spec). FitsRule s r.hit) (sym began.spec) f.hit;
-      by = subst (λ (s : Scope). allows_by s r.by ≡ true) (sym began.scope) f.by;
-    }
-
-module _ (atom : List ℕ) (bit : ℕ) (m : Monitor) (found : atom_bit m.spec atom ≡ Ok bit) where
-  tables-began : (monitors : List Monitor) (tables : List Table) (place : ℕ) → slice_get monitors place ≡ Some m → HaveTables (kinds_of monitors) tables → HaveTables (kinds_of (changed (beginning bit) monitors place)) tables
-  tables-began [] tables place e h = cc
-  tables-began (x ∷ monitors) [] place e h = absurd h
-  tables-began (x ∷ monitors) (t ∷ tables) zero e h =
-      let same : x ≡ m = cc in
-      (record { compiles = h.0.compiles; starting = starts_more x.spec atom x.starting bit (subst (λ (y : Monitor). atom_bit y.spec atom ≡ Ok bit) (sym same) found) h.0.starting }, h.1)
-  tables-began (x ∷ monitors) (t ∷ tables) (suc place) e h = (h.0, tables-began monitors tables place e h.1)
-
-  began_formed : (b : BoundValue) (place : ℕ) → slice_get b.monitors place ≡ Some m → IsWellFormed b → IsWellFormed (with_change b (beginning bit) place)
-  began_formed b place there w = record {
-    few_containers = w.few_containers;
-    few_monitors = rw (changed-length (beginning bit) b.monitors place) w.few_monitors;
-    few_rules = w.few_rules;
-    tables = tables-began b.monitors b.tables place there w.tables;
-    rules = All-weaker (FitsKind (kinds_of b.monitors)) (FitsKind (kinds_of (changed (beginning bit) b.monitors place))) (fits-began bit b.monitors place) b.rules w.rules;
-    holders = rw (changed-map (beginning bit) (λ m. m.container) (λ m. refl) b.monitors place) w.holders;
-    items = rw (changed-length (beginning bit) b.monitors place) w.items;
-  }
-
-begin_at_formed : (b done : BoundValue) (place : ℕ) (atom : List ℕ) → IsWellFormed b → (m : Option Monitor) → slice_get b.monitors place ≡ m → begin_at b place m atom ≡ Ok done → IsWellFormed done
-begin_at_formed b done place atom w None there e = cc
-begin_at_formed b done place atom w (Some m) there e = go (atom_bit m.spec atom) refl e
-  where
-    go : (bit : Result ℕ ℕ) → atom_bit m.spec atom ≡ bit → after bit (λ bit. Ok (with_change b (beginning bit) place)) ≡ Ok done → IsWellFormed done
-    go (Err number) found e = cc
-    go (Ok bit) found e = let is : with_change b (beginning bit) place ≡ done = cc in subst IsWellFormed is (began_formed atom bit m found b place there w)
-
-pub begin_formed : (b done : BoundValue) (place : Option ℕ) (atom : List ℕ) → IsWellFormed b → begin_bound b place atom ≡ Ok done → IsWellFormed done
-begin_formed b done None atom w e = cc
-begin_formed b done (Some place) atom w e = begin_at_formed b done place atom w (slice_get b.monitors place) refl e
-
 -- ---- a rule
 
+-- what a list has at a place the mapped list has there, mapped
 slice_get-map : {X Y : Type 0} (f : X → Y) (xs : List X) (i : ℕ) (x : X) → slice_get xs i ≡ Some x → slice_get (map f xs) i ≡ Some (f x)
 slice_get-map f [] i x e = cc
 slice_get-map f (y ∷ ys) zero x e = let same : y ≡ x = cc in ap (λ z. Some (f z)) same
 slice_get-map f (y ∷ ys) (suc i) x e = slice_get-map f ys i x e
 
 module _ (b done : BoundValue) (place : ℕ) (event : List ℕ) (by : Option (List ℕ)) (tests : List Test) (mode : Mode) (words : Words) (w : IsWellFormed b) where
+  -- one more rule that its monitor allows, where there is room, keeps bindings well formed
   with_rule_formed : (m : Monitor) → slice_get b.monitors place ≡ Some m → allows_by m.scope by ≡ true → allows_hit m.scope m.spec mode words ≡ true → length b.rules < MAX_RULES
       → (what : Result What ℕ) → brought m.spec mode words ≡ what → with_rule b place event by tests mode what ≡ Ok done → IsWellFormed done
   with_rule_formed m there allowed fits room (Err number) found e = cc
@@ -155,6 +67,7 @@ module _ (b done : BoundValue) (place : ℕ) (event : List ℕ) (by : Option (Li
   abbrev in_room : Monitor → Bool → Result BoundValue ℕ
   in_room m few = if few then with_rule b place event by tests mode (brought m.spec mode words) else Err TOO_MANY_RULES
 
+  -- a rule of the monitor at a place keeps bindings well formed
   rule_at_formed : (m : Option Monitor) → slice_get b.monitors place ≡ m → rule_at b place m event by tests mode words ≡ Ok done → IsWellFormed done
   rule_at_formed None there e = cc
   rule_at_formed (Some m) there e = by_form (allows_by m.scope by) refl (allows_hit m.scope m.spec mode words) refl e
@@ -169,6 +82,7 @@ module _ (b done : BoundValue) (place : ℕ) (event : List ℕ) (by : Option (Li
       by_form false is true fits e = cc
       by_form false is false fits e = cc
 
+-- a line with a rule keeps bindings well formed
 pub rule_formed : (b done : BoundValue) (place : Option ℕ) (event : List ℕ) (by : Option (List ℕ)) (tests : List Test) (mode : Mode) (words : Words)
     → IsWellFormed b → rule_bound b place event by tests mode words ≡ Ok done → IsWellFormed done
 rule_formed b done None event by tests mode words w e = cc
@@ -176,10 +90,12 @@ rule_formed b done (Some place) event by tests mode words w e = rule_at_formed b
 
 -- ---- a container
 
+-- a container that there is, or none, is so among more containers
 IsHolder-more : (n m : ℕ) → n ≤ m → (holder : Option ℕ) → IsHolder n holder → IsHolder m holder
 IsHolder-more n m le None h = tt
 IsHolder-more n m le (Some place) h = omega arith
 
+-- an item that there is is there among more monitors and containers
 IsItem-more : (n m c d : ℕ) → n ≤ m → c ≤ d → (item : Item) → IsItem n c item → IsItem m d item
 IsItem-more n m c d le few (items.Monitor place) h = omega arith
 IsItem-more n m c d le few (items.Container place) h = omega arith
@@ -189,6 +105,7 @@ module _ (b : BoundValue) (name : List ℕ) (w : IsWellFormed b) where
   abbrev contained : BoundValue
   contained = record b { containers = b.containers ++ name ∷ []; items = b.items ++ items.Container (length b.containers) ∷ [] }
 
+  -- where there is room, one more container keeps bindings well formed
   contained_formed : length b.containers < 32 → IsWellFormed contained
   contained_formed room =
       let more : length contained.containers ≡ length b.containers + 1 = rw length-append refl in
@@ -205,6 +122,7 @@ module _ (b : BoundValue) (name : List ℕ) (w : IsWellFormed b) where
         items = rw more (All-push (IsItem (length b.monitors) (n + 1)) b.items (items.Container n) old (omega arith));
       }
 
+  -- a line with a container keeps bindings well formed
   pub container_formed : (done : BoundValue) → container_bound b name ≡ Ok done → IsWellFormed done
   container_formed done e = go (nat_lt (length b.containers) MAX_CONTAINERS) refl (is_taken b name) e
     where
@@ -216,17 +134,20 @@ module _ (b : BoundValue) (name : List ℕ) (w : IsWellFormed b) where
 
 -- ---- a monitor
 
+-- with one more kind and its table, all kinds have their tables
 HaveTables-push : (kinds : List Kind) (tables : List Table) (kind : Kind) (t : Table) → HaveTables kinds tables → HasTable kind t → HaveTables (kinds ++ kind ∷ []) (tables ++ t ∷ [])
 HaveTables-push [] [] kind t h has = (has, tt)
 HaveTables-push [] (u ∷ tables) kind t h has = absurd h
 HaveTables-push (k ∷ kinds) [] kind t h has = absurd h
 HaveTables-push (k ∷ kinds) (u ∷ tables) kind t h has = (h.0, HaveTables-push kinds tables kind t h.1 has)
 
+-- what a list has at a place it has there when more follows
 slice_get-front : {X : Type 0} (xs ys : List X) (i : ℕ) (x : X) → slice_get xs i ≡ Some x → slice_get (xs ++ ys) i ≡ Some x
 slice_get-front [] ys i x e = cc
 slice_get-front (z ∷ zs) ys zero x e = e
 slice_get-front (z ∷ zs) ys (suc i) x e = slice_get-front zs ys i x e
 
+-- a rule that fits some kinds fits them when more follow
 FitsKind-more : (kinds more : List Kind) (r : OnValue) → FitsKind kinds r → FitsKind (kinds ++ more) r
 FitsKind-more kinds more r f = record { kind = f.kind; there = slice_get-front kinds more r.monitor f.kind f.there; hit = f.hit; by = f.by }
 
@@ -241,6 +162,7 @@ items-more monitors containers old container all = go container
     go None = All-push (IsItem (monitors + 1) containers) old (items.Monitor monitors) kept (omega arith)
     go (Some place) = subst (All (IsItem (monitors + 1) containers)) (sym (append-nil old)) kept
 
+-- one more monitor with its table, where there is room, keeps bindings well formed
 pub monitor_formed : (b : BoundValue) (name : List ℕ) (container : Option ℕ) (scope : Scope) (file : List ℕ) (compiled : Compiled)
     → IsWellFormed b → length b.monitors < 32 → IsHolder (length b.containers) container → Compiles compiled.spec compiled.table → IsWellFormed (with_monitor b name container scope file compiled)
 monitor_formed b name container scope file compiled w room holder compiles =

@@ -1,31 +1,28 @@
 -- What a bindings file says (this project's choice: docs/FORMATS.md, "Bindings").
-use Rattle.std.specs.Prelude.{ℕ, zero, suc, Bool, true, false, ◌&&◌, ◌||◌, List, [], ◌∷◌, ◌++◌, length, nat_lt, bit_or, bytes_eq, position, is_some, Option, Some, None, option_map, Result, Ok, Err, slice_get, if◌then◌else◌}
-use Rattle.rv_text.specs.declared.numbers.TheConstants.{BIND_SYNTAX, NAME_TWICE, TOO_MANY_MONITORS, TOO_MANY_RULES}
+use Rattle.std.specs.Prelude.{ℕ, Bool, true, ◌||◌, List, [], ◌∷◌, ◌++◌, length, nat_lt, bytes_eq, position, is_some, Option, Some, None, option_map, Result, Ok, Err, if◌then◌else◌}
+use Rattle.rv_text.specs.declared.numbers.TheConstants.{BIND_SYNTAX, NAME_TWICE, TOO_MANY_MONITORS}
 use Rattle.rv_text.specs.TextLines.{LineText, lines_of}
 use Rattle.rv_text.specs.Words.{words_of}
 use Rattle.rv_io.specs.Files.{Files}
-use Rattle.rv_model.specs.declared.hit.Mode.{Mode}
-use Rattle.rv_model.specs.declared.hit.What.{What}
 use Rattle.rv_model.specs.declared.work.Scope.{Scope}
-use Rattle.rv_model.specs.declared.work.Scope.TheVariants as scopes
-use Rattle.rv_model.specs.declared.reactor.Reactor.{Reactor}
 use Rattle.rv_model.specs.declared.reactor.Reactor.TheVariants as reactors
 use Rattle.rv_bind.specs.declared.bindings.Monitor.{Monitor}
 use Rattle.rv_bind.specs.declared.bindings.Item.{Item}
 use Rattle.rv_bind.specs.declared.bindings.Item.TheVariants as items
-use Rattle.rv_bind.specs.declared.bindings.Test.{Test}
 use Rattle.rv_bind.specs.declared.compile.Compiled.{Compiled}
 use Rattle.rv_bind.specs.declared.forms.SpecKind.{SpecKind}
-use Rattle.rv_bind.specs.declared.limits.TheConstants.{TEXT_LIMIT, MAX_CONTAINERS, MAX_MONITORS, MAX_RULES}
+use Rattle.rv_bind.specs.declared.limits.TheConstants.{TEXT_LIMIT, MAX_CONTAINERS, MAX_MONITORS}
 use Rattle.rv_bind.specs.LineReads.{after}
 use Rattle.rv_bind.specs.Values.{BoundValue}
-use Rattle.rv_bind.specs.Forms.{Words, FormValue, skipped, container, monitor, on, react, off, begin, form_of, or_syntax}
-use Rattle.rv_bind.specs.Changes.{allows_hit, brought, atom_bit}
+use Rattle.rv_bind.specs.Forms.{FormValue, skipped, container, monitor, on, react, off, begin, form_of}
+use Rattle.rv_bind.specs.LineWords.{or_syntax}
 use Rattle.rv_bind.specs.Compiling.{compiled_of}
 use Rattle.rv_bind.specs.Outcomes.{Outcome, accepted, reading, of_file, of_line, of_name}
+use Rattle.rv_bind.specs.MonitorLines.{begin_bound, change_bound, disabled, reacting, rule_bound}
 
 -- ---- one line
 
+-- the monitor has this name
 abbrev pub is_called : List ℕ → Monitor → Bool
 is_called name m = bytes_eq m.name name
 
@@ -63,6 +60,7 @@ with_monitor bound name holder scope file compiled = record bound {
   tables = bound.tables ++ compiled.table ∷ [];
 }
 
+-- what the specification's file is compiled to
 abbrev pub compiled_in : Files → SpecKind → List ℕ → Outcome Compiled
 compiled_in files kind file = of_name files file (λ text. of_file file (compiled_of kind text))
 
@@ -78,64 +76,7 @@ container_bound bound name =
     then (if is_taken bound name then Err NAME_TWICE else Ok (record bound { containers = bound.containers ++ name ∷ []; items = bound.items ++ items.Container (length bound.containers) ∷ [] }))
     else Err BIND_SYNTAX
 
--- `by` stands only at a task monitor
-abbrev pub allows_by : Scope → Option (List ℕ) → Bool
-allows_by scope None = true
-allows_by scopes.Task (Some field) = true
-allows_by scopes.Global (Some field) = false
-allows_by scopes.Cpu (Some field) = false
-
-abbrev pub with_rule : BoundValue → ℕ → List ℕ → Option (List ℕ) → List Test → Mode → Result What ℕ → Result BoundValue ℕ
-with_rule bound place event by tests mode (Err number) = Err number
-with_rule bound place event by tests mode (Ok what) =
-    Ok (record bound { rules = bound.rules ++ record { monitor = place; event = event; by = by; tests = tests; hit = record { mode = mode; what = what } } ∷ [] })
-
--- a rule of the monitor at a place
-abbrev pub rule_at : BoundValue → ℕ → Option Monitor → List ℕ → Option (List ℕ) → List Test → Mode → Words → Result BoundValue ℕ
-rule_at bound place None event by tests mode words = Err BIND_SYNTAX
-rule_at bound place (Some m) event by tests mode words =
-    if allows_by m.scope by && allows_hit m.scope m.spec mode words
-    then (if nat_lt (length bound.rules) MAX_RULES then with_rule bound place event by tests mode (brought m.spec mode words) else Err TOO_MANY_RULES)
-    else Err BIND_SYNTAX
-
-abbrev pub rule_bound : BoundValue → Option ℕ → List ℕ → Option (List ℕ) → List Test → Mode → Words → Result BoundValue ℕ
-rule_bound bound None event by tests mode words = Err BIND_SYNTAX
-rule_bound bound (Some place) event by tests mode words = rule_at bound place (slice_get bound.monitors place) event by tests mode words
-
--- the monitor at this place is changed, and the others stay what they are
-abbrev pub changed : (Monitor → Monitor) → List Monitor → ℕ → List Monitor
-changed change [] place = []
-changed change (m ∷ monitors) zero = change m ∷ monitors
-changed change (m ∷ monitors) (suc place) = m ∷ changed change monitors place
-
-abbrev pub with_change : BoundValue → (Monitor → Monitor) → ℕ → BoundValue
-with_change bound change place = record bound { monitors = changed change bound.monitors place }
-
--- it has this reactor
-abbrev pub reacting : Reactor → Monitor → Monitor
-reacting reactor m = record m { reactor = reactor }
-
--- it is not enabled when a run begins
-abbrev pub disabled : Monitor → Monitor
-disabled m = record m { enabled = false }
-
--- these atoms start true too
-abbrev pub beginning : ℕ → Monitor → Monitor
-beginning bits m = record m { starting = bit_or m.starting bits }
-
-abbrev pub change_bound : BoundValue → Option ℕ → (Monitor → Monitor) → Result BoundValue ℕ
-change_bound bound None change = Err BIND_SYNTAX
-change_bound bound (Some place) change = Ok (with_change bound change place)
-
--- an atom of the monitor at a place starts true
-abbrev pub begin_at : BoundValue → ℕ → Option Monitor → List ℕ → Result BoundValue ℕ
-begin_at bound place None atom = Err BIND_SYNTAX
-begin_at bound place (Some m) atom = after (atom_bit m.spec atom) (λ bit. Ok (with_change bound (beginning bit) place))
-
-abbrev pub begin_bound : BoundValue → Option ℕ → List ℕ → Result BoundValue ℕ
-begin_bound bound None atom = Err BIND_SYNTAX
-begin_bound bound (Some place) atom = begin_at bound place (slice_get bound.monitors place) atom
-
+-- what a line of this form makes of the bindings
 abbrev pub form_bound : Files → List ℕ → ℕ → BoundValue → FormValue → Outcome BoundValue
 form_bound files here line bound skipped = accepted bound
 form_bound files here line bound (container name) = of_line here line (container_bound bound name)
@@ -149,15 +90,18 @@ form_bound files here line bound (begin name atom) = of_line here line (begin_bo
 abbrev pub form_in : LineText → Result FormValue ℕ
 form_in line = if nat_lt TEXT_LIMIT line.end then Err BIND_SYNTAX else form_of (words_of line.bytes)
 
+-- what a line makes of the bindings, or its refusal
 abbrev pub line_bound : Files → List ℕ → BoundValue → LineText → Outcome BoundValue
 line_bound files here bound line = reading (of_line here line.number (form_in line)) (form_bound files here line.number bound)
 
 -- ---- the whole file
 
+-- the lines in order, up to the first refusal or missing file
 abbrev pub lines_bound : Files → List ℕ → BoundValue → List LineText → Outcome BoundValue
 lines_bound files here bound [] = accepted bound
 lines_bound files here bound (line ∷ lines) = reading (line_bound files here bound line) (λ next. lines_bound files here next lines)
 
+-- no line was read yet
 abbrev pub nothing_bound : BoundValue
 nothing_bound = record { containers = []; monitors = []; rules = []; items = []; tables = [] }
 

@@ -12,7 +12,7 @@ use Rattle.rv_model.specs.declared.formula.Spec.{Spec}
 use Rattle.rv_model.specs.declared.formula.Spec.TheVariants as specs
 use Rattle.rv_model.specs.Numbers.{number_of}
 use Rattle.rv_model.specs.Scripts.{is_end}
-use Rattle.rv_bind.specs.Forms.{Words}
+use Rattle.rv_bind.specs.LineWords.{Words}
 
 -- ---- single words
 
@@ -43,12 +43,14 @@ abbrev pub stands_twice : Words → Bool
 stands_twice [] = false
 stands_twice (word ∷ words) = list_any (λ other. bytes_eq (atom_in other) (atom_in word)) words || stands_twice words
 
+-- such a hit is no end, and begins no run without its event
 abbrev pub runs_its_event : Mode → Bool
 runs_its_event modes.Event = true
 runs_its_event modes.Start = false
 runs_its_event modes.StartRun = true
 runs_its_event modes.End = false
 
+-- there is one word, and no more
 abbrev pub is_one : Words → Bool
 is_one [] = false
 is_one (word ∷ []) = true
@@ -88,6 +90,7 @@ abbrev pub change_of : List (List ℕ) → Words → Result What ℕ
 change_of atoms words =
     if are_known atoms words then Ok (whats.Ltl (signed 43 atoms words) (signed 45 atoms words) (signed 42 atoms words)) else Err UNKNOWN_ATOM
 
+-- an automaton's event by its place, where its name was found
 abbrev pub event_at : Option ℕ → Result What ℕ
 event_at None = Err UNKNOWN_EVENT
 event_at (Some place) = Ok (whats.Da place)
@@ -98,6 +101,7 @@ event_of events [] = Err BIND_SYNTAX
 event_of events (word ∷ []) = event_at (place_named events word)
 event_of events (word ∷ next ∷ words) = Err BIND_SYNTAX
 
+-- an automaton is brought the event of the words, and a rule their changes of atoms
 abbrev pub what_of : Spec → Words → Result What ℕ
 what_of (specs.Da automaton) words = event_of automaton.events words
 what_of (specs.Ltl rule) words = change_of rule.atoms words
@@ -106,6 +110,7 @@ what_of (specs.Ltl rule) words = change_of rule.atoms words
 abbrev pub brought : Spec → Mode → Words → Result What ℕ
 brought spec mode words = if is_end mode then Ok whats.Nothing else what_of spec words
 
+-- the set of the atom at a place alone, where its name was found
 abbrev pub bit_at_place : Option ℕ → Result ℕ ℕ
 bit_at_place None = Err UNKNOWN_ATOM
 bit_at_place (Some place) = Ok (2 ^ place)

@@ -2,9 +2,12 @@ pub mod Bound
 pub mod BoundViews
 pub mod Changes
 pub mod Compiling
-pub mod Forms
 pub mod FormViews
+pub mod Forms
+pub mod FormsAhead
 pub mod LineReads
+pub mod LineWords
+pub mod MonitorLines
 pub mod Outcomes
 pub mod RuleValues
 pub mod Values

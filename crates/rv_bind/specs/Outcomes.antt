@@ -7,6 +7,7 @@ use Rattle.rv_bind.specs.declared.fault.LineFault.TheVariants as lines
 use Rattle.rv_bind.specs.declared.fault.BindFault.{BindFault}
 use Rattle.rv_bind.specs.declared.fault.BindFault.TheVariants as faults
 
+-- a value, or a refusal with its file, or a missing file
 pub data Outcome (Y : Type 0) : Type 0 where
   accepted : Y → Outcome Y
   -- the file and the refusal

@@ -14,7 +14,7 @@ use Rattle.rv_bind.specs.declared.bindings.Item.{Item}
 use Rattle.rv_bind.specs.declared.bindings.Item.TheVariants as items
 use Rattle.rv_bind.specs.Values.{OnValue, BoundValue}
 use Rattle.rv_bind.specs.Compiling.{Compiles}
-use Rattle.rv_bind.specs.Bound.{allows_by}
+use Rattle.rv_bind.specs.MonitorLines.{allows_by}
 
 -- what a monitor's table and rules go by
 pub record Kind : Type 0 where
@@ -22,12 +22,15 @@ pub record Kind : Type 0 where
   pub spec : Spec
   pub starting : ℕ
 
+-- the scope, the specification and the starting value of a monitor
 abbrev pub kind_of : Monitor → Kind
 kind_of m = record { scope = m.scope; spec = m.spec; starting = m.starting }
 
+-- the kinds of all monitors, in order
 abbrev pub kinds_of : List Monitor → List Kind
 kinds_of monitors = map kind_of monitors
 
+-- it is an event, and one of so many
 abbrev pub FitsEvents : ℕ → What → Type 0
 FitsEvents count (whats.Da event) = event < count
 FitsEvents count (whats.Ltl on off pulse) = ⊥
@@ -58,6 +61,7 @@ pub record HasTable (kind : Kind) (t : Table) : Type 0 where
   pub compiles : Compiles kind.spec t
   pub starting : StartsIn kind.spec kind.starting
 
+-- in order, each kind has its table, and there is no table more
 abbrev pub HaveTables : List Kind → List Table → Type 0
 HaveTables [] [] = Unit {0}
 HaveTables [] (t ∷ tables) = ⊥
@@ -80,10 +84,12 @@ abbrev pub IsHolder : ℕ → Option ℕ → Type 0
 IsHolder containers None = Unit {0}
 IsHolder containers (Some place) = place < containers
 
+-- a monitor or a container that there is, of so many
 abbrev pub IsItem : ℕ → ℕ → Item → Type 0
 IsItem monitors containers (items.Monitor place) = place < monitors
 IsItem monitors containers (items.Container place) = place < containers
 
+-- no list is too long, each monitor has its table, and the rules, containers and items fit what there is
 pub record IsWellFormed (b : BoundValue) : Type 0 where
   pub few_containers : length b.containers ≤ 32
   pub few_monitors : length b.monitors ≤ 32

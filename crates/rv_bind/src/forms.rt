@@ -3,7 +3,8 @@ ghost use Rattle.std.specs.Prelude.{◌≡◌, ◌∷◌, option_copied, IfOk};
 ghost use Rattle.rv_ltl.specs.Texts.{texts};
 ghost use Rattle.rv_text.specs.Words.{words_of};
 ghost use Rattle.rv_bind.specs.LineReads.{Reads, Takes};
-ghost use Rattle.rv_bind.specs.Forms.{container_form, monitor_form, holder_at, react_form, off_form, begin_form, on_read, with_next, by_at, tests_at, test_next, form_of};
+ghost use Rattle.rv_bind.specs.Forms.{container_form, monitor_form, holder_at, react_form, off_form, begin_form, by_at, tests_at, form_of};
+ghost use Rattle.rv_bind.specs.FormsAhead.{on_read, with_next, test_next};
 ghost use Rattle.rv_bind.specs.FormViews.{form_value};
 
 use crate::bindings::Test;

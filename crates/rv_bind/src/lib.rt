@@ -10,8 +10,6 @@ mod files;
 mod forms;
 mod limits;
 mod reader;
-#[cfg(test)]
-mod tests;
 mod words;
 
 pub use bindings::{Bindings, Bound, Item, Monitor, On, Test};

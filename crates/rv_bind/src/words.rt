@@ -2,7 +2,7 @@
 ghost use Rattle.std.specs.Prelude.{◌≡◌, ◌≤◌, ℕ, List, Option, Some, None, not, bytes_eq, position, codes, length, IfSome, IfOk, MatchOption, IsTrue};
 ghost use Rattle.std.specs.List.{list_all};
 ghost use Rattle.rv_bind.specs.LineReads.{Faults, Reads, Takes};
-ghost use Rattle.rv_bind.specs.Forms.{word_at, ended, is_name, is_name_byte, is_field, is_field_byte, scope_named, kind_named, mode_named, reactor_named, test_of, test_behind, or_syntax, when};
+ghost use Rattle.rv_bind.specs.LineWords.{word_at, ended, is_name, is_name_byte, is_field, is_field_byte, scope_named, kind_named, mode_named, reactor_named, test_of, test_behind, or_syntax, when};
 ghost use Rattle.std.specs.Str.{is_utf8};
 
 use crate::bindings::Test;

@@ -10,6 +10,5 @@ pub mod SoundLemmas
 pub mod SplitLemmas
 pub mod StepLemmas
 pub mod ViewLemmas
-pub mod WakingLemmas
 pub mod WordSteps
 pub mod ThreadLemmas

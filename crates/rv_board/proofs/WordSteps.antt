@@ -7,7 +7,7 @@ use Rattle.rv_model.specs.Numbers.{list_of}
 use Rattle.rv_model.specs.Setups.{Setup}
 use Rattle.rv_model.specs.SharedWords.{answer_at}
 use Rattle.rv_model.specs.Histories.{FitsWords, Replays}
-use Rattle.rv_model.proofs.MeansLemmas.{length-list_of, get_or-list_of}
+use Rattle.rv_model.proofs.FoundLemmas.{length-list_of, get_or-list_of}
 use Rattle.rv_core.specs.Advance.{acted}
 use Rattle.rv_core.specs.Setup.{FitsAct, ActFits, place_of, table_of_act, start_of_act, judges_of}
 use Rattle.rv_core.specs.Core.{IsCore}

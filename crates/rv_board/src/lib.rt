@@ -7,8 +7,6 @@ mod delivery;
 mod rule;
 mod seat;
 mod sharing;
-#[cfg(test)]
-mod tests;
 mod view;
 
 pub use board::{Board, BoardStart};

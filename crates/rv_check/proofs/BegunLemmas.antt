@@ -16,7 +16,8 @@ use Rattle.rv_model.specs.Works.{Work}
 use Rattle.rv_model.proofs.CutLemmas.{at_each-last}
 use Rattle.rv_core.specs.Advance.{acted}
 use Rattle.rv_core.specs.Setup.{ActFits, FitsAct, place_of, table_of_act, start_of_act, judges_of}
-use Rattle.rv_core.proofs.CoreLemmas.{place-below, word_on-is, fits-words}
+use Rattle.rv_core.proofs.CoreLemmas.{word_on-is, fits-words}
+use Rattle.rv_core.proofs.ActLemmas.{place-below}
 use Rattle.rv_check.specs.declared.next.Due.{Due}
 use Rattle.rv_check.specs.declared.next.Next.{Next}
 use Rattle.rv_check.specs.declared.next.Next.TheVariants as next
@@ -55,24 +56,31 @@ at-least lost n c three = on (nat_lt lost 3) refl
 
 module _ (s : Setup) (panics : ℕ) (works : List Work) (words : List ℕ) (nexts : List Next) (h : List Entry) (run : IsRun s panics works words nexts h)
     (e : Entry) (k : ℕ) (lt : k < length works) (w : Work) (w_is : w ≡ get_or works k w) (n : Next) (n_is : n ≡ get_or nexts k n) (mine : 2 + w.cpu ≡ e.seat) where
+  -- the judges by the setup's tables
   abbrev js : List Judge
   js = judges_of s
 
+  -- which monitors' reactor is panic
   abbrev halts : ℕ → Bool
   halts = has_bit panics
 
+  -- the entries of the history, the newest first
   abbrev past : List Entry
   past = reverse h
 
+  -- a history is a beginning of the works
   abbrev Begins : List Entry → Type 0
   Begins = IsBeginning s js halts works
 
+  -- the answer of the entry's act behind the history
   abbrev a : Answer
   a = answer_at s js past e e.act
 
+  -- the seat of the work's CPU
   abbrev seat : ℕ
   seat = 2 + w.cpu
 
+  -- the work's script stands where what is next for it says
   abbrev stand : Stands s js halts h w n
   stand = stand-at s panics works words nexts h run k lt w w_is n n_is
 

@@ -87,23 +87,29 @@ good-none r none b = record {
 
 -- ---- what it answers
 module _ (r : RunValue) (lines : List (List ℕ)) where
+  -- the checker that has these lines
   abbrev pub value : CheckerValue
   value = record { setup = r.setup; panics = r.panics; works = r.works; lines = lines }
 
+  -- where it is good, its lines have begun
   pub checker-begun : (good : Bool) → IsChecker r good lines → good ≡ true → IsBegun value
   checker-begun true k is = (r.history, k.journal, k.begins)
   checker-begun false k is = absurd (cc)
 
+  -- where its lines have begun, it is good
   pub begun-checker : (good : Bool) → IsChecker r good lines → IsBegun value → good ≡ true
   begun-checker true k b = refl
   begun-checker false k (h, j, b) = absurd (k h j b)
 
+  -- where it is good and all scripts are played, its lines are whole
   pub checker-whole : (specs : List Spec) → IsGood r lines → AllPlayed r → IsWhole value specs
   checker-whole specs k all = (r.history, k.journal, begins-legal r.setup (judges_of r.setup) (has_bit r.panics) r.works specs r.history k.begins all)
 
+  -- where its lines are whole, it is good
   pub whole-good : (specs : List Spec) (good : Bool) → IsChecker r good lines → IsWhole value specs → good ≡ true
   whole-good specs good k (h, j, l) = begun-checker good k (h, j, legal-begins r.setup (judges_of r.setup) (has_bit r.panics) r.works specs h l)
 
+  -- where its lines are good and whole, all scripts are played
   pub whole-played : (specs : List Spec) → IsGood r lines → IsWhole value specs → AllPlayed r
   whole-played specs k (h, j, l) = subst (λ (z : List Entry). AllPlayed (record r { history = z })) (k.only h j) l.cpus
 

@@ -28,6 +28,7 @@ reader-stopped c new tail line stopped text later same over is_text s =
 pub open-of : (c : CheckerValue) (tail : List ℕ) (line : ℕ) (stopped : Bool) (text : List ℕ) → stopped ≡ false → IsReader c tail line stopped text → IsOpen c tail line text
 open-of c tail line stopped text going r = subst (λ (b : Bool). IsReader c tail line b text) going r
 
+-- where it has stopped, its line is stuck
 pub stopped-of : (c : CheckerValue) (tail : List ℕ) (line : ℕ) (stopped : Bool) (text : List ℕ) → stopped ≡ true → IsReader c tail line stopped text → IsStopped (journal_by c text) line
 stopped-of c tail line stopped text over r = subst (λ (b : Bool). IsReader c tail line b text) over r
 

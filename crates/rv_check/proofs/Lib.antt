@@ -11,7 +11,6 @@ pub mod ReaderLemmas
 pub mod RunLemmas
 pub mod ServeLemmas
 pub mod SettleLemmas
-pub mod StartLemmas
 pub mod TakenLemmas
 pub mod TextLemmas
 pub mod TurnLemmas

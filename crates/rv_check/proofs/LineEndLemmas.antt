@@ -66,14 +66,17 @@ pub end-inside : (text : List ℕ) (r : Option ℕ) → IsFirstByte (is_byte 10)
 end-inside text None first = tt
 end-inside text (Some end) first = first.0.high
 
+-- where one is found, no line end stands before it
 pub end-before : (text : List ℕ) (r : Option ℕ) → IsFirstByte (is_byte 10) text r → IfSome r (λ end. has_no_end (take end text) ≡ true)
 end-before text None first = tt
 end-before text (Some end) first = no_end-before text end (λ k l m is. first.0.before k (omega arith) l (eq-eqb _ _ is))
 
+-- it parts the text into what stands before it and what stands behind it
 pub end-split : (text : List ℕ) (r : Option ℕ) → IsFirstByte (is_byte 10) text r → IfSome r (λ end. text ≡ take end text ++ 10 ∷ drop (end + 1) text)
 end-split text None first = tt
 end-split text (Some end) first = split-at text end first.0.high (eqb-true _ _ first.1) ∙ ap (λ n. take end text ++ 10 ∷ drop n text) (sym (add-one end))
 
+-- where none is found, the text has no line end
 pub end-none : (text : List ℕ) (r : Option ℕ) → IsFirstByte (is_byte 10) text r → IfNone r (has_no_end text ≡ true)
 end-none text None first = no_end-each text (λ k l is. first k (omega arith) l (eq-eqb _ _ is))
 end-none text (Some end) first = tt

@@ -31,6 +31,7 @@ changes-reverse slot (e ∷ a) =
     let one : changes_in slot (e ∷ a) ≡ changes_in slot (e ∷ []) + changes_in slot a = ap length (filter-append p (e ∷ []) a) ∙ length-append (filter p (e ∷ [])) (filter p a) in
     ap (changes_in slot) (reverse-append (e ∷ []) a) ∙ ap length (filter-append p (reverse a) (e ∷ [])) ∙ both ∙ omega arith
 
+-- one more entry counts where it changed the slot's word
 one-change : (slot : ℕ) (e : Entry) (a : List Entry) (b : Bool) → changed slot e ≡ b → changes_in slot (e ∷ a) ≡ cond b 1 0 + changes_in slot a
 one-change slot e a true y = rw y (omega arith)
 one-change slot e a false n = rw n (omega arith)
@@ -62,6 +63,7 @@ record Since (slot seat : ℕ) (past : List Entry) : Type 0 where
   pub none : NoneOf seat front
   pub count : lost_of slot seat past ≡ changes_in slot front
 
+-- every past has such entries
 since : (slot seat : ℕ) (past : List Entry) → Since slot seat past
 since slot seat [] = record { front = []; tail = []; is = refl; none = tt; count = refl }
 since slot seat (e ∷ past) = go (since slot seat past) (e.seat == seat) refl

@@ -30,15 +30,19 @@ found-work works seat found k w same lt cpus is =
     (subst (λ (ws : List Work). k < length ws) same lt, ap (λ (v : Work). 2 + v.cpu) (is ∙ ap (λ (ws : List Work). get_or ws k w) (sym same)) ∙ cpus w)
 
 module _ (s : Setup) (panics : ℕ) (works : List Work) (words : List ℕ) (nexts : List Next) (h : List Entry) (run : IsRun s panics works words nexts h) where
+  -- the judges by the setup's tables
   abbrev js : List Judge
   js = judges_of s
 
+  -- which monitors' reactor is panic
   abbrev halts : ℕ → Bool
   halts = has_bit panics
 
+  -- the entries of the history, the newest first
   abbrev past : List Entry
   past = reverse h
 
+  -- a history is a beginning of the works
   abbrev Begins : List Entry → Type 0
   Begins = IsBeginning s js halts works
 

@@ -33,6 +33,7 @@ halt-is (Clear _) x = absurd x
 halt-is (End _) x = absurd x
 
 module _ (s : Setup) (w : Work) (due : Due) (is : IsDue s w due) where
+  -- the delivery that is due
   abbrev d : Delivery
   d = delivery_in w due.place
 

@@ -17,6 +17,7 @@ abbrev pub shown_in : Work → ℕ → ℕ → ℕ → List Delivery
 shown_in w look place to = filter (is_shown look) (slice_range w.deliveries place to)
 
 module _ (w : Work) (look at to : ℕ) (lt : at < to) (le : to ≤ length w.deliveries) where
+  -- the deliveries between the two places begin with the one at the first place
   first : slice_range w.deliveries at to ≡ delivery_in w at ∷ slice_range w.deliveries (at + 1) to
   first = slice-first w.deliveries at to _ lt le
 

@@ -3,5 +3,4 @@ pub mod Checker
 pub mod Nexts
 pub mod Readings
 pub mod Run
-pub mod Starts
 pub mod Verdicts

@@ -9,8 +9,6 @@ mod next;
 mod reading;
 mod run;
 mod script;
-#[cfg(test)]
-mod tests;
 mod work;
 
 pub use checker::Checker;

@@ -11,7 +11,7 @@ use Rattle.rv_model.specs.declared.work.Change.{Change}
 use Rattle.rv_model.specs.Numbers.{has_bit}
 use Rattle.rv_model.proofs.NumberLemmas.{number_of-lt}
 use Rattle.rv_bind.specs.declared.bindings.Item.{Item}
-use Rattle.rv_bind.specs.Forms.{reactor_named}
+use Rattle.rv_bind.specs.LineWords.{reactor_named}
 use Rattle.rv_control.specs.declared.sets.Those.{Those}
 use Rattle.rv_control.specs.declared.sets.Those.TheVariants as those
 use Rattle.rv_control.specs.declared.paths.Path.{Path}
@@ -32,6 +32,7 @@ mapped : {X Y : Type 0} (P : Y → Type 0) (f : X → Y) → ((x : X) → P (f x
 mapped P f each None = tt
 mapped P f each (Some x) = each x
 
+-- what a second step makes of a value has a fact, where the step gives it of each value
 chained : {X Y : Type 0} (P : Y → Type 0) (f : X → Option Y) → ((x : X) → IfSome (f x) P) → (o : Option X) → IfSome (option_and_then f o) P
 chained P f each None = tt
 chained P f each (Some x) = each x
@@ -44,45 +45,56 @@ module _ (tree : Tree) (few : length tree.monitors ≤ 32) where
       let le : 2 ^ length tree.monitors ≤ 2 ^ 32 = pow_mono few in
       omega arith
 
+  -- a change of nothing touches no bit from the halted one on
   none-below : IsBelow no_change
   none-below = (omega arith, omega arith)
 
+  -- nor does a lower switch that goes on, where it is not on already
   raised-below : (bit : ℕ) → 2 ^ bit < 2 ^ 34 → (b : Bool) → IsBelow (if b then no_change else record no_change { raise = 2 ^ bit })
   raised-below bit lt true = none-below
   raised-below bit lt false = (omega arith, lt)
 
+  -- nor does a lower switch that goes off, where it is not off already
   lowered-below : (bit : ℕ) → 2 ^ bit < 2 ^ 34 → (b : Bool) → IsBelow (if b then record no_change { lower = 2 ^ bit } else no_change)
   lowered-below bit lt true = (lt, omega arith)
   lowered-below bit lt false = none-below
 
+  -- nor does a lower switch that goes on or off
   switching-below : (bit : ℕ) → 2 ^ bit < 2 ^ 34 → (on : Bool) → IsBelow (switching tree bit on)
   switching-below bit lt true = raised-below bit lt (has_bit tree.switches bit)
   switching-below bit lt false = lowered-below bit lt (has_bit tree.switches bit)
 
+  -- nor does enabling a container or a monitor
   enabling-below : (item : Item) → IsBelow (enabling tree item)
   enabling-below item = (omega arith, set-below (Some item) those.Disabled)
 
+  -- nor does disabling it
   disabling-below : (item : Item) → IsBelow (disabling tree item)
   disabling-below item = (set-below (Some item) those.Enabled, omega arith)
 
+  -- nor does either of the two
   turning-below : (item : Item) (on : Bool) → IsBelow (turning tree item on)
   turning-below item true = enabling-below item
   turning-below item false = disabling-below item
 
+  -- nor does an order that replaces what was enabled
   replacing-below : (order : Order) → IsBelow (replacing tree order)
   replacing-below orders.Nothing = (set-below None those.Enabled, omega arith)
   replacing-below (orders.Enable item) = (set-below None those.Enabled, set-below (Some item) those.All)
   replacing-below (orders.Disable item) = (set-below None those.Enabled, omega arith)
 
+  -- nor does an order that is appended
   appending-below : (order : Order) → IfSome (appending tree order) IsBelow
   appending-below orders.Nothing = tt
   appending-below (orders.Enable item) = enabling-below item
   appending-below (orders.Disable item) = disabling-below item
 
+  -- nor does any order
   ordering-below : (append : Bool) (order : Order) → IfSome (ordering tree append order) IsBelow
   ordering-below true order = appending-below order
   ordering-below false order = replacing-below order
 
+  -- nor does what a text asks of a file
   change-below : (file : Path) (text : List ℕ) (append : Bool) → IfSome (change_of tree file text append) IsBelow
   change-below MonitoringOn text append = mapped IsBelow (switching tree 32) (switching-below 32 (omega arith)) (flag_of text)
   change-below ReactingOn text append = mapped IsBelow (switching tree 33) (switching-below 33 (omega arith)) (flag_of text)
@@ -93,13 +105,16 @@ module _ (tree : Tree) (few : length tree.monitors ≤ 32) where
   change-below (Desc item) text append = tt
   change-below (Reactors place) text append = tt
 
+  -- what is written touches no bit from the halted one on
   abbrev pub WritesBelow : Option (Tree × Change) → Type 0
   WritesBelow o = IfSome o (λ done. IsBelow done.1)
 
+  -- it is so where the change touches none
   with_change-below : (o : Option Change) → IfSome o IsBelow → WritesBelow (option_map (with_change tree) o)
   with_change-below None is = tt
   with_change-below (Some change) is = is
 
+  -- it is so of every text at every file
   written-below : (file : Path) (text : List ℕ) (append : Bool) → WritesBelow (written tree file text append)
   written-below (Reactors place) text append = mapped (λ (done : Tree × Change). IsBelow done.1) (with_reactor tree place) (λ reactor. none-below) (reactor_named text)
   written-below MonitoringOn text append = with_change-below _ (change-below MonitoringOn text append)

@@ -3,6 +3,7 @@ use Rattle.std.proofs.Common.{◌≡◌, ℕ, ◌-◌, ◌<◌, ◌≤◌, Bool,
 use Rattle.std.specs.Prelude.{bytes_eq, codes}
 use Rattle.std.proofs.lemmas.List.{take_rest}
 
+-- of three tests it is the same which two are joined first
 and_assoc : (a b c : Bool) → a && (b && c) ≡ (a && b) && c
 and_assoc true b c = refl
 and_assoc false b c = refl
@@ -14,6 +15,7 @@ apart [] (first ∷ front) back long = absurd (omega arith)
 apart (byte ∷ text) (first ∷ front) back long = ap (λ b. eqb first byte && b) (apart text front back (omega arith)) ∙ and_assoc (eqb first byte) _ _
 
 module _ (text front back : List ℕ) where
+  -- where the text is long enough, it is the joined text exactly where both its parts are
   parts : length front ≤ length text → (bytes_eq front (take (length front) text) && bytes_eq (codes ":" ++ back) (drop (length front) text)) ≡ bytes_eq (front ++ codes ":" ++ back) text
   parts long = sym (apart text front (codes ":" ++ back) long) ∙ ap (λ (z : List ℕ). bytes_eq z text) (sym (append_assoc front (codes ":") back))
 

@@ -14,6 +14,7 @@ unfolding held
 held-none tree container old = sym (append-nil old)
 
 module _ (tree : Tree) (container n : ℕ) (old listed : List Item) where
+  -- one monitor more, by whether it is in the container
   held_more : (b : Bool) → is_in container (slice_get tree.monitors n) ≡ b → held tree container (n + 1) ≡ held tree container n ++ (if b then items.Monitor n ∷ [] else [])
   unfolding held
   held_more b is = ap (held tree container) (add-one n) ∙ ap (λ (t : Bool). held tree container n ++ (if t then items.Monitor n ∷ [] else [])) is

@@ -9,7 +9,7 @@ use Rattle.rv_model.specs.declared.reactor.Reactor.{Reactor}
 use Rattle.rv_model.specs.declared.work.Change.{Change}
 use Rattle.rv_model.specs.Numbers.{has_bit}
 use Rattle.rv_bind.specs.declared.bindings.Item.{Item}
-use Rattle.rv_bind.specs.Forms.{reactor_named}
+use Rattle.rv_bind.specs.LineWords.{reactor_named}
 use Rattle.rv_control.specs.declared.sets.Those.TheVariants as those
 use Rattle.rv_control.specs.declared.paths.Path.{Path}
 use Rattle.rv_control.specs.declared.paths.Path.TheVariants.{AvailableMonitors, AvailableReactors, EnabledMonitors, MonitoringOn, ReactingOn, Desc, Enable, Reactors}
@@ -36,6 +36,7 @@ order_of tree (byte ∷ bytes) = if byte == 33 then option_map orders.Disable (i
 
 -- ---- changes
 
+-- no switch goes off or on, and no monitor is cleared
 abbrev pub no_change : Change
 no_change = record { lower = 0; clear = 0; raise = 0 }
 
@@ -77,6 +78,7 @@ appending tree orders.Nothing = None
 appending tree (orders.Enable item) = Some (enabling tree item)
 appending tree (orders.Disable item) = Some (disabling tree item)
 
+-- an order is appended, or it replaces what was enabled
 abbrev pub ordering : Tree → Bool → Order → Option Change
 ordering tree true order = appending tree order
 ordering tree false order = Some (replacing tree order)

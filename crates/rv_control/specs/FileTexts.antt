@@ -42,9 +42,11 @@ abbrev pub is_listed : Tree → Bool → Item → Bool
 is_listed tree true item = is_enabled tree item
 is_listed tree false item = true
 
+-- the line with the shown name of a container or a monitor, where it is listed
 abbrev pub name_line : Tree → Bool → Item → List ℕ
 name_line tree enabled item = if is_listed tree enabled item then shown tree item ++ line_end else []
 
+-- a line for each container and each monitor that is listed
 abbrev pub names_text : Tree → Bool → List ℕ
 names_text tree enabled = flat_map (name_line tree enabled) (listed tree)
 
@@ -54,10 +56,12 @@ names_text tree enabled = flat_map (name_line tree enabled) (listed tree)
 abbrev pub flag_text : Bool → List ℕ
 flag_text on = (if on then codes "1" else codes "0") ++ line_end
 
+-- how a kind of specification is written
 abbrev pub kind_text : Kind → List ℕ
 kind_text Da = codes "da"
 kind_text Ltl = codes "ltl"
 
+-- how a scope is written
 abbrev pub scope_text : Scope → List ℕ
 scope_text Global = codes "global"
 scope_text Cpu = codes "cpu"
@@ -68,6 +72,7 @@ abbrev pub watched_text : Option Watched → List ℕ
 watched_text None = []
 watched_text (Some m) = kind_text m.kind ++ codes " " ++ scope_text m.scope ++ codes " " ++ m.file ++ line_end
 
+-- a container says that it is one, and a monitor how it is specified
 abbrev pub desc_text : Tree → Item → List ℕ
 desc_text tree (items.Container place) = codes "container" ++ line_end
 desc_text tree (items.Monitor place) = watched_text (slice_get tree.monitors place)

@@ -10,6 +10,7 @@ use Rattle.rv_control.specs.declared.watched.Kind.TheVariants as kinds
 use Rattle.rv_control.specs.declared.watched.Watched.{Watched}
 use Rattle.rv_control.specs.Trees.{Tree}
 
+-- whether the specification is an automaton or a rule
 abbrev pub kind_of : Spec → Kind
 kind_of (specs.Da automaton) = kinds.Da
 kind_of (specs.Ltl rule) = kinds.Ltl
@@ -18,6 +19,7 @@ kind_of (specs.Ltl rule) = kinds.Ltl
 abbrev pub watched : Monitor → Watched
 watched m = record { name = m.name; container = m.container; kind = kind_of m.spec; scope = m.scope; file = m.file }
 
+-- there is a monitor, and it is enabled when the run begins
 abbrev pub is_enabled : Option Monitor → Bool
 is_enabled None = false
 is_enabled (Some m) = m.enabled

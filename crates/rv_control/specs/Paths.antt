@@ -28,6 +28,7 @@ pieces_left (Some text) = pieces_of text
 abbrev pub container_named : Tree → List ℕ → Option ℕ
 container_named tree name = position (λ other. bytes_eq other name) tree.containers
 
+-- both name one container, or neither names any
 abbrev pub is_same : Option ℕ → Option ℕ → Bool
 is_same None None = true
 is_same None (Some other) = false
@@ -103,6 +104,7 @@ file_by tree (top ∷ container ∷ monitor ∷ name ∷ more ∷ pieces) = None
 abbrev pub path_of : Tree → List ℕ → Option Path
 path_of tree path = file_by tree (pieces_of path)
 
+-- there is a file, and it is a monitor's reactors
 abbrev pub is_reactors_file : Option Path → Bool
 is_reactors_file (Some (Reactors place)) = true
 is_reactors_file _ = false

@@ -17,6 +17,7 @@ abbrev pub is_of_any : Tree → Option Item → ℕ → Bool
 is_of_any tree None place = true
 is_of_any tree (Some item) place = is_of tree item place
 
+-- the monitor at this place is one of the item's, where there is an item, and one of those that are meant
 abbrev pub is_chosen : Tree → Option Item → Those → ℕ → Bool
 is_chosen tree item which place = is_of_any tree item place && is_those tree.switches which place
 

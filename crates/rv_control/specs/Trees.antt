@@ -26,6 +26,7 @@ abbrev pub shown_in : List (List ℕ) → Option ℕ → List ℕ → List ℕ
 shown_in containers None name = name
 shown_in containers (Some place) name = slice_index_or containers place [] ++ codes ":" ++ name
 
+-- the shown name of a monitor, and an empty one where there is no monitor
 abbrev pub shown_name : Tree → Option Watched → List ℕ
 shown_name tree None = []
 shown_name tree (Some m) = shown_in tree.containers m.container m.name
@@ -37,6 +38,7 @@ shown tree (items.Monitor place) = shown_name tree (slice_get tree.monitors plac
 
 -- ---- containers and their monitors
 
+-- a monitor's container is this one, where it has one
 abbrev pub is_holder : ℕ → Option ℕ → Bool
 is_holder container None = false
 is_holder container (Some place) = place == container

@@ -8,8 +8,6 @@ mod paths;
 mod pieces;
 mod script;
 mod sets;
-#[cfg(test)]
-mod tests;
 mod texts;
 mod watched;
 mod writes;

@@ -1,6 +1,6 @@
 //! What a write to a control file does.
 ghost use Rattle.std.specs.Prelude.{◌≡◌, ◌≤◌, ◌<◌, ◌^◌, option_map, None, Some, Ok, Err, IfSome, IfNone, IfOk, IfErr, OnErr};
-ghost use Rattle.rv_bind.specs.Forms.{reactor_named};
+ghost use Rattle.rv_bind.specs.LineWords.{reactor_named};
 ghost use Rattle.rv_control.specs.Effects.{without_end, flag_of, no_change, switching, change_of, changed, with_reactor, effect};
 
 use crate::control::Control;

@@ -1,5 +1,5 @@
 -- One act keeps what the machine keeps, and its answer is the model's.
-use Rattle.std.proofs.Common.{◌≡◌, ◌≢◌, ℕ, ◌+◌, ◌^◌, ◌<◌, Bool, ◌⊎◌, inl, inr, List, [], ◌∷◌, ◌++◌, length, get_or, set, arith, refl, sym, ap, ◌∙◌, subst, get_or-set_same, get_or-set_other, length-set, reverse, sum}
+use Rattle.std.proofs.Common.{◌≡◌, ◌≢◌, ℕ, ◌+◌, ◌^◌, ◌<◌, Bool, inl, inr, List, [], ◌∷◌, ◌++◌, length, get_or, set, arith, refl, sym, ap, ◌∙◌, subst, get_or-set_same, get_or-set_other, length-set, reverse, sum}
 use Rattle.std.proofs.lemmas.List.{get_or_default, get_or-map, reverse-append}
 use Rattle.std.proofs.lemmas.List.Elements.{All-get_or}
 use Rattle.rv_model.specs.declared.entry.Act.{Act}
@@ -16,50 +16,13 @@ use Rattle.rv_model.specs.Setups.{Setup, monitor_of, judge_of, start_of}
 use Rattle.rv_model.specs.Histories.{FitsWords}
 use Rattle.rv_model.proofs.CutLemmas.{at_each-snoc}
 use Rattle.rv_model.proofs.TableJudgeLemmas.{every_table_is_judged}
-use Rattle.rv_core.specs.Advance.{FitsTable, acted}
+use Rattle.rv_core.specs.Advance.{acted}
 use Rattle.rv_core.specs.Setup.{IsSetup, ActFits, FitsAct, place_of, table_at, no_table, table_of_act, start_of_act, judges_of}
 use Rattle.rv_core.specs.Core.{IsCore, IsLive, slot_phase}
 use Rattle.rv_core.proofs.PlaceLemmas.{monitor_of-lt}
 use Rattle.rv_core.proofs.SwitchLemmas.{switch-acted, switch-other}
-use Rattle.rv_core.proofs.TurnLemmas.{fits-start}
-use Rattle.rv_core.proofs.WordLemmas.{Acts, acted-same, live-same, deliver-answer, packed-other, phase_after-other}
-
--- ---- places
-same_or_not : (a b : ℕ) → (a ≡ b) ⊎ (a ≢ b)
-same_or_not a b = grind arith
-
--- an act's word is one of the words
-pub place-below : (s : Setup) (act : Act) → FitsAct s act → place_of act < sum s.shape + 1
-place-below s (Deliver slot hit) f = let l = f.0 in omega arith
-place-below s (Stop slot) f = omega arith
-place-below s (Clear slot) f = omega arith
-place-below s (End slot) f = omega arith
-place-below s Look f = omega arith
-place-below s (Raise _) f = omega arith
-place-below s (Lower _) f = omega arith
-
--- an act on a slot's word is on that slot, and fits its table
-acts-on : (s : Setup) (i : ℕ) (act : Act) → FitsAct s act → ActFits s act → place_of act ≡ i + 1 → Acts (table_at s i) (start_of s i) act
-acts-on s i (Deliver slot hit) f b e =
-    let same : slot ≡ i = omega arith in
-    let fits : FitsTable (table_at s i) hit = subst (λ (n : ℕ). FitsTable (table_at s n) hit) same f.1 in
-    (b, fits-start (table_at s i) hit.mode hit.what fits.1)
-acts-on s i (Stop _) f b e = tt
-acts-on s i (Clear slot) f b e = let same : slot ≡ i = omega arith in subst (λ (n : ℕ). start_of s n < 2 ^ 32) same b
-acts-on s i (End slot) f b e = let same : slot ≡ i = omega arith in subst (λ (n : ℕ). start_of s n < 2 ^ 32) same b
-acts-on s i Look f b e = tt
-acts-on s i (Raise _) f b e = tt
-acts-on s i (Lower _) f b e = tt
-
--- what an act makes of the word of its slot, by the slot's table and starting levels
-acted-at : (s : Setup) (w i : ℕ) (act : Act) → place_of act ≡ i + 1 → (acted (table_of_act s act) (start_of_act s act) w act).1 ≡ (acted (table_at s i) (start_of s i) w act).1
-acted-at s w i (Deliver slot hit) e = let same : slot ≡ i = omega arith in ap (λ (n : ℕ). (acted (table_at s n) (start_of s i) w (Deliver slot hit)).1) same
-acted-at s w i (Stop _) e = refl
-acted-at s w i (Clear slot) e = let same : slot ≡ i = omega arith in ap (λ (n : ℕ). 2 ^ 32 + start_of s n) same
-acted-at s w i (End slot) e = let same : slot ≡ i = omega arith in ap (λ (n : ℕ). 2 ^ 32 + start_of s n) same
-acted-at s w i Look e = refl
-acted-at s w i (Raise _) e = refl
-acted-at s w i (Lower _) e = refl
+use Rattle.rv_core.proofs.WordLemmas.{acted-same, live-same, deliver-answer, packed-other, phase_after-other}
+use Rattle.rv_core.proofs.ActLemmas.{acted-at, acts-on, place-below, same_or_not}
 
 -- the entry of an act
 abbrev entry_of : ℕ → Act → ℕ → ℕ → Entry
@@ -116,24 +79,31 @@ module _ (s : Setup) (k : IsSetup s) where
 module _ (s : Setup) (words : List ℕ) (h : List Entry) (k : IsCore s words h)
     (seat : ℕ) (act : Act) (before after : ℕ) (fits : FitsAct s act) (bits : ActFits s act)
     (read : before ≡ get_or words (place_of act) before) (after_is : after ≡ (acted (table_of_act s act) (start_of_act s act) before act).1) (after_fits : after < 2 ^ 64) where
+  -- the entry of this act
   abbrev e : Entry
   e = entry_of seat act before after
 
+  -- the entries before it, the newest first
   abbrev past : List Entry
   past = reverse h
 
+  -- the place of the word that the act is on
   abbrev place : ℕ
   place = place_of act
 
+  -- it is a place of the words
   in_words : place < length words
   in_words = let b = place-below s act fits in let c = k.count in omega arith
 
+  -- the word that was read stands there
   before_is : before ≡ get_or words place 0
   before_is = read ∙ get_or_default words place before 0 in_words
 
+  -- afterwards the act's word stands there
   at_place : get_or (set words place after) place 0 ≡ after
   at_place = let h = in_words in rw get_or-set_same refl
 
+  -- the first word is that of the switches after the act
   switches_are : get_or (set words place after) 0 0 ≡ switches_of s.switches (e ∷ past)
   switches_are =
       elim (same_or_not place 0) [
@@ -180,15 +150,18 @@ module _ (s : Setup) (words : List ℕ) (h : List Entry) (k : IsCore s words h)
         | inr other ↦ subst (IsLive j) (sym (phase_after-other j on i act (slot_phase s past i) other)) (k.live i lt)
       ]
 
+  -- the entry has the words that the past gives
   pub fits-words : FitsWords s (judges_of s) h e
   fits-words = record {
     found = before_is ∙ word_on-is s k.is_setup words past k.switches_are k.words_are act fits;
     left = sym at_place ∙ word_on-is s k.is_setup (set words place after) (e ∷ past) switches_are slot_is act fits;
   }
 
+  -- the history that ends with the entry begins with it when it is read backwards
   back : reverse (h ++ e ∷ []) ≡ e ∷ reverse h
   back = reverse-append h (e ∷ [])
 
+  -- what the machine keeps holds after the act, with the entry in the history
   pub core-after : IsCore s (set words place after) (h ++ e ∷ [])
   core-after = record {
     is_setup = k.is_setup;

@@ -1,10 +1,11 @@
+pub mod ActLemmas
 pub mod CoreLemmas
 pub mod JudgedLemmas
 pub mod LevelLemmas
 pub mod OpeningLemmas
 pub mod PlaceLemmas
 pub mod SwitchLemmas
+pub mod ThreadLemmas
 pub mod TickingLemmas
 pub mod TurnLemmas
 pub mod WordLemmas
-pub mod ThreadLemmas

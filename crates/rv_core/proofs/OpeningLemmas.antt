@@ -4,7 +4,7 @@ use Rattle.rv_model.specs.Numbers.{number_of, list_of, has_bit}
 use Rattle.rv_model.specs.Setups.{Setup, start_of}
 use Rattle.rv_model.specs.Histories.{FitsWords}
 use Rattle.rv_model.proofs.CutLemmas.{at_each-nil}
-use Rattle.rv_model.proofs.MeansLemmas.{length-list_of, get_or-list_of}
+use Rattle.rv_model.proofs.FoundLemmas.{length-list_of, get_or-list_of}
 use Rattle.rv_model.proofs.NumberLemmas.{number_of-bits}
 use Rattle.rv_core.specs.Setup.{IsSetup, judges_of}
 use Rattle.rv_core.specs.Core.{IsCore}

@@ -106,6 +106,7 @@ module _ (t : Table) (it : IsTable t) (j : Judge) (judges : JudgesByTable t j) w
   lives word some true a h answer = (holds-rows t it j judges word h, rows-not_one t it j judges word (inl some))
   lives word some false a h answer = tt
 
+  -- a run that may begin with no letter has rows, and not row 0 alone
   begun : MayStart t mode.Start → (rows_of j [] ≢ 0) × (rows_of j [] ≢ 1)
   begun (inl run) = absurd run
   begun (inr one) =

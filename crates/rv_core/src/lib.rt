@@ -4,8 +4,6 @@
 mod act;
 mod machine;
 mod setup;
-#[cfg(test)]
-mod tests;
 mod turn;
 mod word;
 

@@ -16,7 +16,8 @@ use Rattle.rv_dot.specs.Canonical.{arc_named}
 use Rattle.rv_dot.specs.Dot.{ends_declared, states_from, events_from, bits_of, marked_or_initial, initial_of, machine_of, dot_of}
 use Rattle.rv_dot.specs.Drawn.{IsDrawnBy, IsDotOf}
 use Rattle.rv_dot.proofs.InitialLaws.{machine_given, is_drawn, machine_is}
-use Rattle.rv_dot.proofs.MachineLaws.{move_of, moves_in_order, edges_back, calm_edges, edges_later, events_up, states_again, arc_number}
+use Rattle.rv_dot.proofs.MachineLaws.{edges_later, events_up, states_again, arc_number}
+use Rattle.rv_dot.proofs.OrderLaws.{move_of, moves_in_order, edges_back, calm_edges}
 use Rattle.rv_dot.proofs.MemberLaws.{member_at, member_map, map_member, all_member, list_all_from}
 use Rattle.rv_dot.proofs.MoveSets.{moves_total, same_move, moves_ascend, moves_members}
 use Rattle.rv_dot.proofs.NameSets.{set_ascends, set_members, set_is_only}
@@ -88,6 +89,7 @@ module _ (claims : List Claim) (a : Machine) (h : IsAutomaton a) (d : IsDrawnBy 
   calm : has_clash (moves_of (map (numbered a.states a.events) (arcs_in claims))) ≡ false
   calm = ap has_clash (sym are_moves) ∙ calm_edges a.edges (edges_later a h)
 
+  -- so the claims give this automaton
   pub machine_drawn : machine_of claims ≡ Ok a
   machine_drawn =
       let first = get_or a.states 0 [] in

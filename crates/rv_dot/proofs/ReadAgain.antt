@@ -21,7 +21,8 @@ use Rattle.rv_dot.proofs.CanonicalLaws.{names_marked}
 use Rattle.rv_dot.proofs.DrawnAgain.{IsNamed, IsApart, arcs_read, states_read, targets_read, fit_read, marks_read, bits_again}
 use Rattle.rv_dot.proofs.InitialLaws.{machine_given, is_drawn, machine_is}
 use Rattle.rv_dot.proofs.Layouts.{claims_drawn}
-use Rattle.rv_dot.proofs.MachineLaws.{split_first, ascends_from, move_of, edges_back, calm_edges, edges_later, states_again, events_again, moves_again}
+use Rattle.rv_dot.proofs.MachineLaws.{edges_later, states_again, events_again, moves_again}
+use Rattle.rv_dot.proofs.OrderLaws.{split_first, ascends_from, move_of, edges_back, calm_edges}
 use Rattle.rv_dot.proofs.MemberLaws.{member_at, member_map, all_member, list_all_from}
 use Rattle.rv_dot.proofs.PlainLaws.{state_plain, event_plain}
 use Rattle.rv_dot.proofs.Places.{below_test}

@@ -2,11 +2,10 @@
 use Rattle.std.proofs.Common.{◌≡◌, ℕ, List, length, arith, ap, ◌∙◌, Some, true, Vec, Global}
 use Rattle.std.specs.Prelude.{Result, Ok, Err, IfOk}
 use Rattle.rv_dot.specs.declared.token.Token.{Token}
-use Rattle.rv_dot.specs.declared.fact.Fact.{Fact}
 use Rattle.rv_dot.specs.declared.fault.ReadError.{ReadError}
 use Rattle.rv_dot.specs.Tokens.{GivesSome, lexemes, tokens_of}
 use Rattle.rv_dot.specs.Pieces.{Piece, Reads, tokens_in}
-use Rattle.rv_dot.specs.Statements.{claims, claims_of}
+use Rattle.rv_dot.specs.Statements.{Claim, claims_of}
 use Rattle.rv_dot.specs.Grammar.{File, file_says}
 use Rattle.rv_dot.specs.Text.{IsTextOf, said_by}
 use Rattle.rv_dot.proofs.MarkLaws.{bind_some}
@@ -30,10 +29,9 @@ text_again bytes f h =
     rw (tokens_are_read bytes h.1 h.2) (ap claims_of h.3 ∙ file_again f h.0)
 
 -- a text that is read is one of the grammar
-pub text_is_found : (bytes : List ℕ) (r : Result (Vec Fact Global) ReadError) → GivesSome (λ v. claims v.items) r (said_by bytes) → IfOk r (λ v. (f : File) × IsTextOf bytes f × (file_says f ≡ claims v.items))
-text_is_found bytes (Ok v) h =
-    let ts = bind_some (tokens_of bytes) claims_of (claims v.items) h in
+pub text_is_found : (bytes : List ℕ) (claims : List Claim) → said_by bytes ≡ Some claims → (f : File) × IsTextOf bytes f × (file_says f ≡ claims)
+text_is_found bytes claims h =
+    let ts = bind_some (tokens_of bytes) claims_of claims h in
     let ps = tokens_take (length bytes) true bytes ts.0 ts.1 in
-    let f = file_takes ts.0 (claims v.items) ts.2 in
+    let f = file_takes ts.0 claims ts.2 in
     (f.0, (f.1, ps.0, ps.1, ps.2 ∙ f.2), f.3)
-text_is_found bytes (Err e) h = tt

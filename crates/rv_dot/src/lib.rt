@@ -8,6 +8,7 @@ mod fact;
 mod fault;
 mod front;
 mod gather;
+mod grammar;
 mod label;
 mod lists;
 mod marks;
@@ -18,9 +19,8 @@ mod reading;
 mod runs;
 mod saying;
 mod statement;
-#[cfg(test)]
-mod tests;
 mod token;
 
 pub use canonical::{canonical_texts_are_read, write_dot};
+pub use grammar::the_grammar;
 pub use reading::{automata_are_drawn, read_dot};

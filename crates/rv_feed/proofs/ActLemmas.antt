@@ -35,8 +35,10 @@ fits-delivered s slot hit goes fits = go (is_end hit.mode) goes fits
 pub hit-free : (slot : ℕ) (hit : Hit) → IsNoStop (hit_act slot hit)
 hit-free slot hit = by_hit IsNoStop slot hit tt tt
 
+-- each seat may do it
 pub hit-held : (seat slot : ℕ) (hit : Hit) → IsHeldBy (hit_act slot hit) seat
 hit-held seat slot hit = by_hit (λ (a : Act). IsHeldBy a seat) slot hit tt tt
 
+-- it is done with its answer
 pub hit-done : (slot : ℕ) (hit : Hit) (answer : Answer) → outcome_of (hit_act slot hit) answer ≡ Done answer
 hit-done slot hit answer = by_hit (λ (a : Act). outcome_of a answer ≡ Done answer) slot hit refl refl

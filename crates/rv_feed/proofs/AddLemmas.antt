@@ -15,7 +15,7 @@ use Rattle.rv_model.specs.declared.work.Delivery.{Delivery}
 use Rattle.rv_model.specs.Histories.{NoneOf, IsSound}
 use Rattle.rv_model.specs.Judging.{Judge}
 use Rattle.rv_model.specs.Seats.{known_of, entries_of as entries_by, EndsWith}
-use Rattle.rv_model.specs.Scripts.{Played, played, is_end, hit_act}
+use Rattle.rv_model.specs.Scripts.{Played, played, is_end}
 use Rattle.rv_model.specs.Setups.{Setup, slot_of}
 use Rattle.rv_model.specs.SharedWords.{answer_at}
 use Rattle.rv_model.proofs.ScriptLemmas.{played-own}

@@ -56,6 +56,7 @@ one-at seat (p ∷ ps) by one (x ∷ b) e a eq =
     let r = quiet-at seat ps one.1 b e a rest in
     omega arith
 
+-- a turn has one look of its seat
 pub one-looks : (seat : ℕ) (ps : List Played) → AllBy seat ps → IsOneTurn ps → looks_of seat (entries_of ps) ≡ 1
 one-looks seat [] by one = absurd one
 one-looks seat (p ∷ ps) by one =

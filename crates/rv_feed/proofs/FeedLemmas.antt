@@ -1,7 +1,6 @@
--- A turn of a feeder, delivery by delivery, and a script, turn by turn.
-use Rattle.std.proofs.Common.{◌≡◌, ℕ, ◌+◌, ◌-◌, ◌<◌, ◌≤◌, ◌^◌, Bool, true, false, ◌&&◌, List, [], ◌∷◌, ◌++◌, length, arith, refl, sym, ap, ◌∙◌, subst, append-nil, take, drop, get_or, length-append}
+-- A turn of a feeder, delivery by delivery.
+use Rattle.std.proofs.Common.{◌≡◌, ℕ, ◌+◌, ◌-◌, ◌<◌, ◌≤◌, ◌^◌, Bool, true, false, ◌&&◌, List, [], ◌∷◌, ◌++◌, length, arith, sym, ap, ◌∙◌, subst, append-nil, drop, get_or, length-append}
 use Rattle.std.specs.Prelude.{filter, slice_range}
-use Rattle.std.proofs.lemmas.List.{take_more, take_all, take-append-drop, get_or_default}
 use Rattle.std.proofs.lemmas.List.Elements.{filter-append}
 use Rattle.rv_model.specs.declared.entry.Act.TheVariants.{Raise}
 use Rattle.rv_model.specs.declared.entry.Answer.TheVariants.{Looked, Switched}
@@ -9,20 +8,16 @@ use Rattle.rv_model.specs.declared.record.Delivered.{Delivered}
 use Rattle.rv_model.specs.declared.record.Record.{Record}
 use Rattle.rv_model.specs.declared.work.Delivery.{Delivery}
 use Rattle.rv_model.specs.declared.work.Turn.{Turn}
-use Rattle.rv_model.specs.Histories.{IsSound}
 use Rattle.rv_model.specs.Numbers.{has_bit}
-use Rattle.rv_model.specs.Records.{failed_outcome, record_of, script_records}
-use Rattle.rv_model.specs.ScriptParts.{Part, LastPart, turn_lists, GoesOn, Ends}
-use Rattle.rv_model.specs.Scripts.{Played, is_shown, fails, PlaysTurns}
+use Rattle.rv_model.specs.Records.{failed_outcome, record_of}
+use Rattle.rv_model.specs.ScriptParts.{Part, LastPart}
+use Rattle.rv_model.specs.Scripts.{Played, is_shown, fails}
 use Rattle.rv_model.specs.Setups.{Setup}
-use Rattle.rv_model.specs.Works.{Work, IsWork}
-use Rattle.rv_model.proofs.ScriptPartLemmas.{part-nothing, part-join, last-join, part-one, last-one, turn-goes, turn-ends, turn-halted, goes-nothing, goes-join, goes-end, goes-whole}
-use Rattle.rv_core.specs.Setup.{judges_of}
+use Rattle.rv_model.proofs.ScriptPartLemmas.{part-nothing, part-join, last-join, part-one, last-one, turn-goes, turn-ends, turn-halted}
 use Rattle.rv_board.specs.Seats.{BoardId, SeatValue, Looks, Does}
 use Rattle.rv_feed.specs.Lane.{LaneValue, AddsRecords}
-use Rattle.rv_feed.specs.Feeding.{Adds, Serves, FeedsDelivery, FeedsPart, FeedsTurn, CanFeed, FedSoFar, Feeds}
-use Rattle.rv_feed.proofs.AddLemmas.{adds-none, adds-then, adds-look, adds-raise}
-use Rattle.rv_feed.proofs.LaneLemmas.{names-in, names-next}
+use Rattle.rv_feed.specs.Feeding.{Adds, Serves, FeedsDelivery, FeedsPart, FeedsTurn}
+use Rattle.rv_feed.proofs.AddLemmas.{adds-then, adds-look, adds-raise}
 use Rattle.rv_feed.proofs.TurnLemmas.{slice-more, slice-split, filter-one, filter-none, adds-nothing, adds-join}
 
 -- a seat stays on its board
@@ -36,9 +31,11 @@ record-for line look d outcome = record { order = d.order; line = line; monitor 
 -- ---- a delivery
 
 module _ (panics : ℕ → Bool) (look line : ℕ) (d : Delivery) (outcome : Delivered) (old mid : SeatValue) (lane lane' : LaneValue) (v : Serves old mid d outcome) (kept : AddsRecords lane lane' (record-for line look d outcome ∷ [])) where
+  -- the record of the entry and its answer is that of the delivery's outcome
   made-is : record_of line look (d, (v.entry, v.answer)) ≡ record-for line look d outcome
   made-is = ap (record-for line look d) v.outcome_is
 
+  -- the answer and the outcome tell the same of whether the run halts
   same-test : (fails v.answer && (panics d.monitor && has_bit look 33)) ≡ (failed_outcome outcome && (panics d.monitor && has_bit look 33))
   same-test = ap (λ (b : Bool). b && (panics d.monitor && has_bit look 33)) v.fails_is
 
@@ -67,6 +64,7 @@ module _ (panics : ℕ → Bool) (look line : ℕ) (d : Delivery) (outcome : Del
 -- ---- a turn
 
 module _ (panics : ℕ → Bool) (word : ℕ) (turn : Turn) (lane : LaneValue) where
+  -- the deliveries of the lane's work
   abbrev ds : List Delivery
   ds = lane.work.deliveries
 
@@ -172,71 +170,3 @@ module _ (panics : ℕ → Bool) (word : ℕ) (turn : Turn) (lane : LaneValue) w
     kept = done.kept;
     few = done.few;
   }
-
--- ---- a script
-
--- before the first turn
-pub fed-none : (panics : ℕ → Bool) (a : SeatValue) (lane : LaneValue) → IsSound a.board.setup (judges_of a.board.setup) a.part.seen → CanFeed a.board lane → FedSoFar panics a a lane lane 0
-fed-none panics a lane sound can =
-    let none : lane.records ≡ [] = can.new_lane.no_records in
-    record {
-      ps = [];
-      adds = adds-none a sound;
-      goes = subst (λ (rs : List Record). GoesOn a.board.setup panics lane.work.deliveries [] [] rs) (sym none) (goes-nothing a.board.setup panics lane.work.deliveries);
-      work_is = refl;
-      kept = λ t lt. let l : length lane.records ≡ 0 = rw none refl in omega arith;
-      room = can.new_lane.room;
-    }
-
-module _ (panics : ℕ → Bool) (old cur new : SeatValue) (lane lane' lane'' : LaneValue) (place : ℕ) (so_far : FedSoFar panics old cur lane lane' place) (turn : Turn) (turn_is : turn ≡ get_or lane.work.turns place turn) (lt : place < length lane.work.turns) where
-  abbrev s : Setup
-  s = old.board.setup
-
-  abbrev turns : List Turn
-  turns = lane.work.turns
-
-  one-more : take (place + 1) turns ≡ take place turns ++ turn ∷ []
-  one-more = take_more turns place turn lt ∙ ap (λ (t : Turn). take place turns ++ t ∷ []) (sym turn_is)
-
-  -- a turn after which the script goes on
-  pub fed-more : IsWork lane.work → FeedsTurn cur new panics turn lane' lane'' false → FedSoFar panics old new lane lane'' (place + 1)
-  fed-more is_work v =
-      let goes = subst (λ (w : Work). GoesOn s panics w.deliveries (turn ∷ []) (v.first ∷ v.more) v.rs) so_far.work_is (subst (λ (z : Setup). GoesOn z panics lane'.work.deliveries (turn ∷ []) (v.first ∷ v.more) v.rs) (same-setup old cur so_far.ps so_far.adds) v.script) in
-      record {
-        ps = so_far.ps ++ v.first ∷ v.more;
-        adds = adds-then old cur new so_far.ps v.first v.more so_far.adds v.adds;
-        goes = subst (λ (ts : List Turn). GoesOn s panics lane.work.deliveries ts (so_far.ps ++ v.first ∷ v.more) lane''.records) (sym one-more)
-            (subst (λ (rs : List Record). GoesOn s panics lane.work.deliveries (take place turns ++ turn ∷ []) (so_far.ps ++ v.first ∷ v.more) rs) (sym v.kept.records_are)
-            (goes-join s panics lane.work.deliveries (take place turns) (turn ∷ []) so_far.ps (v.first ∷ v.more) lane'.records v.rs so_far.goes goes));
-        work_is = v.kept.work_is ∙ so_far.work_is;
-        kept = λ t later.
-            let next = names-next 0 turns (length lane.work.deliveries) is_work place t later in
-            let order = (names-in 0 turns (length lane.work.deliveries) is_work place t lt).0 in
-            let k = so_far.kept t lt in
-            let same : turn ≡ get_or turns place t = turn_is ∙ get_or_default turns place turn t lt in
-            let few : length v.rs ≤ (get_or turns place t).to - (get_or turns place t).from = subst (λ (x : Turn). length v.rs ≤ x.to - x.from) same v.few in
-            let many : length lane''.records ≡ length lane'.records + length v.rs = ap length v.kept.records_are ∙ length-append lane'.records v.rs in
-            omega arith;
-        room = let a = so_far.room in let b = v.kept.room in omega arith;
-      }
-
-  -- a turn with which it ends
-  pub fed-last : FeedsTurn cur new panics turn lane' lane'' true → Feeds panics old new lane lane''
-  fed-last v =
-      let ends = subst (λ (w : Work). Ends s panics w.deliveries (turn ∷ []) (v.first ∷ v.more) v.rs) so_far.work_is (subst (λ (z : Setup). Ends z panics lane'.work.deliveries (turn ∷ []) (v.first ∷ v.more) v.rs) (same-setup old cur so_far.ps so_far.adds) v.script) in
-      let whole = goes-end s panics lane.work.deliveries (take place turns) (turn ∷ []) so_far.ps (v.first ∷ v.more) lane'.records v.rs so_far.goes ends in
-      let all : (take place turns ++ turn ∷ []) ++ drop (place + 1) turns ≡ turns = ap (λ (ts : List Turn). ts ++ drop (place + 1) turns) (sym one-more) ∙ take-append-drop (place + 1) turns in
-      record {
-        script = so_far.ps ++ v.first ∷ v.more;
-        adds = adds-then old cur new so_far.ps v.first v.more so_far.adds v.adds;
-        plays = subst (λ (ts : List Turn). PlaysTurns s panics (turn_lists lane.work.deliveries ts) (so_far.ps ++ v.first ∷ v.more)) all (whole.plays (drop (place + 1) turns));
-        records = ap (λ (ts : List Turn). script_records lane.work.deliveries ts (so_far.ps ++ v.first ∷ v.more)) (sym all) ∙ whole.records (drop (place + 1) turns) ∙ sym v.kept.records_are;
-        work_is = v.kept.work_is ∙ so_far.work_is;
-      }
-
--- after the last turn
-pub fed-all : (panics : ℕ → Bool) (old cur : SeatValue) (lane lane' : LaneValue) (place : ℕ) → FedSoFar panics old cur lane lane' place → length lane.work.turns ≤ place → Feeds panics old cur lane lane'
-fed-all panics old cur lane lane' place so_far all =
-    let goes = subst (λ (ts : List Turn). GoesOn old.board.setup panics lane.work.deliveries ts so_far.ps lane'.records) (take_all place lane.work.turns all) so_far.goes in
-    let whole = goes-whole old.board.setup panics lane.work.deliveries lane.work.turns so_far.ps lane'.records goes in
-    record { script = so_far.ps; adds = so_far.adds; plays = whole.0; records = whole.1; work_is = so_far.work_is }

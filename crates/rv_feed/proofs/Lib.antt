@@ -5,8 +5,9 @@ pub mod ChangeLemmas
 pub mod ClearLemmas
 pub mod DoneLemmas
 pub mod EntryLemmas
-pub mod FeederLemmas
+pub mod FedLemmas
 pub mod FeedLemmas
+pub mod FeederLemmas
 pub mod JoinAllLemmas
 pub mod JoinedLemmas
 pub mod LaneLemmas

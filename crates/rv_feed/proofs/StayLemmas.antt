@@ -12,6 +12,7 @@ use Rattle.rv_feed.specs.Lane.{LaneValue}
 use Rattle.rv_feed.specs.SoFar.{place_of, IsPending, next_line, Going, Ended, LaneSoFar}
 
 module _ (s : Setup) (panics : ℕ → Bool) (old more es : List Entry) (places : List ℕ) (from line cpu place' : ℕ) (m : LaneValue) where
+  -- entries of other seats leave the lane's script going on or ended
   still : (script : List Played) → NoneOf (2 + m.work.cpu) es → Going s panics more m (place_of places m) script ⊎ Ended s panics m (place_of places m) script → Going s panics (more ++ es) m (place_of places m) script ⊎ Ended s panics m (place_of places m) script
   still script none (inl g) = inl (record { goes = g.goes; looks = looks_on-none (2 + m.work.cpu) more es none ∙ g.looks; kept = g.kept })
   still script none (inr e) = inr e

@@ -52,6 +52,7 @@ adds-join a b c rs us one two = record {
 }
 
 module _ (panics : ℕ → Bool) (seat word : ℕ) (turn : Turn) (lane : LaneValue) where
+  -- the deliveries of the lane's work
   abbrev ds : List Delivery
   ds = lane.work.deliveries
 

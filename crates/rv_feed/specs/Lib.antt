@@ -2,6 +2,7 @@ pub mod AtOnce
 pub mod Changes
 pub mod Feeders
 pub mod Feeding
+pub mod Kept
 pub mod Lane
 pub mod One
 pub mod Order

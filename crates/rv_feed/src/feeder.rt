@@ -1,5 +1,6 @@
 //! One CPU's script on a board.
-ghost use Rattle.std.specs.Prelude.{◌≡◌, ◌&&◌, ◌<◌, ◌≤◌, length, All};
+ghost use Rattle.std.specs.Prelude.{◌≡◌, ◌&&◌, ◌<◌, ◌≤◌, length, slice_index_or, All};
+ghost use Rattle.rv_model.specs.declared.work.Delivery.{Delivery};
 ghost use Rattle.rv_model.specs.Numbers.{has_bit};
 ghost use Rattle.rv_model.specs.Records.{failed_outcome};
 ghost use Rattle.rv_feed.specs.Lane.{FitsDelivery, panics_of};
@@ -10,7 +11,7 @@ use crate::lane::{Lane, cpu_of, delivery_at, keep, known, turn_at, turn_count};
 use crate::turn::{halts, has_switch, is_shown};
 use rv_board::{Board, Seat};
 use rv_io::Gate;
-use rv_model::{Answer, Delivered, Delivery, Reactor, Record, Turn};
+use rv_model::{Answer, Delivered, Delivery, Reactor, Turn};
 
 /// A CPU's seat, its lane, and the gate that it passes.
 #[derive(Drop)]
@@ -50,33 +51,26 @@ fn serve<G: Gate>(
     board.deliver(seat, cpu, slot, &delivery.hit, gate)
 }
 
-/// A delivery that a look shows on, and its record. True where the script ends here.
+/// The delivery at this place, which a look shows on, and its record. True where the script ends here.
 fn deliver<G: Gate>(
     board: &Board,
     seat: &mut Seat,
     reactors: &[Reactor],
     word: u64,
     line: u32,
-    delivery: &Delivery,
+    place: u32,
     lane: &mut Lane,
     gate: &mut G,
 ) -> bool
     requires board { seat.old.board ≡ board.now }
-    requires fits { FitsDelivery board.now.setup delivery.now }
+    requires place { place < length lane.old.work.deliveries }
+    requires fits { (d : Delivery) → FitsDelivery board.now.setup (slice_index_or lane.old.work.deliveries place d) }
     requires room { length lane.old.records < lane.old.room }
-    ensures { FeedsDelivery seat.old seat.new (panics_of reactors.now) word line delivery.now lane.old lane.new result }
+    ensures { (d : Delivery) → FeedsDelivery seat.old seat.new (panics_of reactors.now) word line (slice_index_or lane.old.work.deliveries place d) lane.old lane.new result }
 {
-    let outcome = serve(board, seat, cpu_of(lane), delivery, gate);
-    let record = Record {
-        order: delivery.order,
-        line,
-        monitor: delivery.monitor,
-        instance: delivery.instance,
-        hit: delivery.hit,
-        outcome,
-        reacting: has_switch(word, 33),
-    };
-    keep(lane, record);
+    let delivery = delivery_at(lane, place);
+    let outcome = serve(board, seat, cpu_of(lane), &delivery, gate);
+    keep(lane, place, line, outcome, has_switch(word, 33));
     let ends = ends(reactors, word, delivery.monitor, outcome);
     if ends {
         board.halt(seat);
@@ -108,9 +102,7 @@ fn play_turn<G: Gate>(
     for place in turn.from..turn.to {
         let delivery = delivery_at(lane, place);
         if is_shown(word, &delivery) {
-            if deliver(
-                board, seat, reactors, word, turn.line, &delivery, lane, gate,
-            ) {
+            if deliver(board, seat, reactors, word, turn.line, place, lane, gate) {
                 return true;
             }
         }

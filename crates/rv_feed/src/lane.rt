@@ -3,25 +3,32 @@ ghost use Rattle.std.specs.Prelude.{◌≡◌, ◌+◌, ◌<◌, ◌∷◌, [], 
 ghost use Rattle.rv_model.specs.declared.work.Delivery.{Delivery};
 ghost use Rattle.rv_model.specs.declared.work.Turn.{Turn};
 ghost use Rattle.rv_model.specs.Works.{IsWork};
+ghost use Rattle.rv_model.specs.declared.record.Record.{Record};
+ghost use Rattle.rv_feed.specs.Kept.{record_on};
 ghost use Rattle.rv_feed.specs.Lane.{panics_of, AddsRecords, IsNewLane};
 
-use rv_model::{CpuWork, Delivery, Reactor, Record, Turn};
+use crate::kept::{Kept, Outcome};
+use rv_model::{CpuWork, Delivered, Delivery, Reactor, Record, Turn};
 use std::alloc::{AllocError, Global};
 use std::marker::Model;
 
 /// The work of one CPU, and the records of its deliveries in the order in which they were made.
 #[derive(Drop)]
 pub struct Lane {
-    pub work: CpuWork,
-    pub records: Vec<Record>,
+    pub(crate) work: CpuWork,
+    kept: Vec<Kept>,
 }
 
 impl Model for Lane {
+    ghost use Rattle.std.specs.Prelude.{◌<◌, map, length, All};
+    ghost use Rattle.rv_feed.specs.Kept.{record_kept};
     ghost use Rattle.rv_feed.specs.Lane.{LaneValue};
 
     ghost Value = { LaneValue };
 
-    ghost view = { λ l. record { work = l.work; records = l.records.items; room = l.records.cap } };
+    ghost view = { λ l. record { work = l.work; records = map (record_kept l.work.deliveries) l.kept.items; room = l.kept.cap } };
+
+    ghost invariant = { λ l. All (λ k. k.place < length l.work.deliveries) l.kept.items };
 }
 
 impl Lane {
@@ -29,8 +36,30 @@ impl Lane {
     pub fn new(alloc: Global, work: CpuWork) -> Result<Lane, AllocError>
         ensures { IfOk result (λ lane. IsNewLane work lane) }
     {
-        let records = Vec::with_capacity(alloc, work.deliveries.len())?;
-        Ok(Lane { work, records })
+        let kept = Vec::with_capacity(alloc, work.deliveries.len())?;
+        Ok(Lane { work, kept })
+    }
+
+    /// How many records there are.
+    pub fn count(&self) -> usize
+        ensures { result ≡ length self.now.records }
+    {
+        self.kept.len()
+    }
+
+    /// The record at this place, from 0.
+    pub fn record(&self, place: usize) -> Record
+        requires { place < length self.now.records }
+        ensures { (r : Record) → result ≡ slice_index_or self.now.records place r }
+    {
+        self.kept[place].record(self.work.deliveries.as_slice())
+    }
+
+    /// The work alone.
+    pub fn into_work(self) -> CpuWork
+        ensures { result ≡ self.work }
+    {
+        self.work
     }
 }
 
@@ -41,12 +70,19 @@ pub(crate) fn known(lane: &Lane)
     let _ = &lane.work.turns;
 }
 
-/// Keeps a record, for which there is room.
-pub(crate) fn keep(lane: &mut Lane, made: Record)
-    requires { length lane.old.records < lane.old.room }
-    ensures { AddsRecords lane.old lane.new (made ∷ []) }
+/// Keeps the record of the delivery at this place, for which there is room.
+pub(crate) fn keep(lane: &mut Lane, place: u32, line: u32, outcome: Delivered, reacting: bool)
+    requires place { place < length lane.old.work.deliveries }
+    requires room { length lane.old.records < lane.old.room }
+    ensures { (d : Delivery) → AddsRecords lane.old lane.new (record_on line outcome reacting (slice_index_or lane.old.work.deliveries place d) ∷ []) }
 {
-    match lane.records.push(made) {
+    let kept = Kept {
+        place,
+        line,
+        outcome: Outcome::of(outcome),
+        reacting,
+    };
+    match lane.kept.push(kept) {
         Ok(()) => (),
         Err(_) => unreachable!(),
     }

@@ -5,11 +5,10 @@ mod at_once;
 mod changer;
 mod feeder;
 mod feeders;
+mod kept;
 mod lane;
 mod one;
 mod order;
-#[cfg(test)]
-mod tests;
 mod turn;
 
 pub use at_once::{Fed, feed, join_all, seat_lanes};

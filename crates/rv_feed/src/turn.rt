@@ -1,5 +1,6 @@
 //! One turn of a script.
-ghost use Rattle.std.specs.Prelude.{◌≡◌, ◌+◌, ◌<◌, ◌≤◌, ◌&&◌, ◌++◌, ◌∷◌, [], length, All};
+ghost use Rattle.std.specs.Prelude.{◌≡◌, ◌+◌, ◌<◌, ◌≤◌, ◌&&◌, ◌++◌, ◌∷◌, [], length, slice_index_or, All};
+ghost use Rattle.rv_model.specs.declared.work.Delivery.{Delivery};
 ghost use Rattle.rv_model.specs.Numbers.{has_bit};
 ghost use Rattle.rv_model.specs.Scripts.{is_shown, fails, hit_act};
 ghost use Rattle.rv_feed.specs.Lane.{panics_of, FitsDelivery};
@@ -7,7 +8,7 @@ ghost use Rattle.rv_feed.specs.Turns.{LooksAt, Delivers, PlaysTurn};
 
 use crate::lane::{Lane, delivery_at, is_panic, keep, seat_of};
 use rv_core::Core;
-use rv_model::{Act, Answer, Delivered, Delivery, Hit, Reactor, Record, Turn};
+use rv_model::{Act, Answer, Delivered, Delivery, Hit, Reactor, Turn};
 
 /// Whether the word has this bit.
 pub(crate) fn has_switch(word: u64, bit: u8) -> bool
@@ -58,33 +59,31 @@ fn look(core: &mut Core, seat: u32) -> u64
     }
 }
 
-/// A delivery that a look shows on, and its record. True where the script ends here.
+/// The delivery at this place, which a look shows on, and its record. True where the script ends here.
 fn deliver(
     core: &mut Core,
     seat: u32,
     reactors: &[Reactor],
     word: u64,
     line: u32,
-    delivery: &Delivery,
+    place: u32,
     lane: &mut Lane,
 ) -> bool
-    requires fits { FitsDelivery core.old.setup delivery.now }
+    requires place { place < length lane.old.work.deliveries }
+    requires fits { (d : Delivery) → FitsDelivery core.old.setup (slice_index_or lane.old.work.deliveries place d) }
     requires room { length lane.old.records < lane.old.room }
-    ensures { Delivers core.old core.new (panics_of reactors.now) seat word line delivery.now lane.old lane.new result }
+    ensures { (d : Delivery) → Delivers core.old core.new (panics_of reactors.now) seat word line (slice_index_or lane.old.work.deliveries place d) lane.old lane.new result }
 {
+    let delivery = delivery_at(lane, place);
     let slot = core.shape().slot(delivery.monitor, delivery.instance);
-    let hit = delivery.hit;
-    let answer = core.step(seat, &hit_act(slot, &hit));
-    let record = Record {
-        order: delivery.order,
+    let answer = core.step(seat, &hit_act(slot, &delivery.hit));
+    keep(
+        lane,
+        place,
         line,
-        monitor: delivery.monitor,
-        instance: delivery.instance,
-        hit,
-        outcome: Delivered::Done(answer),
-        reacting: has_switch(word, 33),
-    };
-    keep(lane, record);
+        Delivered::Done(answer),
+        has_switch(word, 33),
+    );
     let ends = halts(reactors, word, delivery.monitor, answer);
     if ends {
         let _answer = core.step(seat, &Act::Raise { bits: 1 << 34 });
@@ -109,7 +108,7 @@ pub(crate) fn play_turn(core: &mut Core, reactors: &[Reactor], lane: &mut Lane, 
     for place in turn.from..turn.to {
         let delivery = delivery_at(lane, place);
         if is_shown(word, &delivery) {
-            if deliver(core, seat, reactors, word, turn.line, &delivery, lane) {
+            if deliver(core, seat, reactors, word, turn.line, place, lane) {
                 return true;
             }
         }

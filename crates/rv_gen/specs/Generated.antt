@@ -7,6 +7,7 @@ use Rattle.rv_gen.specs.declared.trace.Run.{Run}
 
 -- ---- the automata (Linux, Documentation/trace/rv, monitor_wip.rst and monitor_wwnr.rst)
 
+-- the edge that leads from a state to another by an event
 abbrev pub edge : ℕ → ℕ → ℕ → Edge
 edge from event to = record { from = from; event = event; to = to }
 
@@ -61,6 +62,7 @@ second_pid cpu = first_pid cpu + 1
 abbrev pub first_run : ℕ → Run
 first_run cpu = record { comm = 116; pid = first_pid cpu }
 
+-- the second task of a CPU, with its name and pid
 abbrev pub second_run : ℕ → Run
 second_run cpu = record { comm = 117; pid = second_pid cpu }
 

@@ -3,8 +3,6 @@
 
 mod automata;
 mod files;
-#[cfg(test)]
-mod tests;
 mod trace;
 
 pub use files::{Generated, MAX_BLOCKS, generate};

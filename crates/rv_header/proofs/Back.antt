@@ -1,19 +1,18 @@
 -- A header's text gives its name and its automaton.
-use Rattle.std.proofs.Common.{◌≡◌, ℕ, suc, ◌+◌, ◌*◌, ◌<◌, ◌≤◌, true, false, List, [], ◌∷◌, ◌++◌, length, get_or, drop, Some, refl, sym, ap, ◌∙◌, arith, ◌⊎◌, inl, inr}
-use Rattle.std.specs.Prelude.{map, codes, ◌/◌, slice_index_or}
+use Rattle.std.proofs.Common.{◌≡◌, ℕ, ◌+◌, ◌*◌, ◌<◌, ◌≤◌, true, false, List, [], ◌∷◌, ◌++◌, length, get_or, drop, Some, refl, sym, ap, ◌∙◌, arith}
+use Rattle.std.specs.Prelude.{map, codes, slice_index_or}
 use Rattle.std.specs.List.{AllByRecursion, flat_map, enumerate_from}
 use Rattle.std.proofs.lemmas.List.Folds.{flat_map-map}
 use Rattle.rv_model.specs.declared.automaton.Edge.{Edge}
 use Rattle.rv_model.specs.Machine.{Machine}
-use Rattle.rv_model.specs.WellFormed.{EdgeIsBefore, IsAutomaton}
-use Rattle.rv_dot.specs.Gathered.{Arc}
+use Rattle.rv_model.specs.WellFormed.{IsAutomaton}
 use Rattle.rv_dot.specs.Members.{IsMember}
-use Rattle.rv_dot.specs.Canonical.{State, quoted, states_marked, arc_named, drawing_text, dot_text}
-use Rattle.rv_dot.proofs.MemberLaws.{AllLater, all_member}
+use Rattle.rv_dot.specs.Canonical.{quoted, states_marked, arc_named, dot_text}
+use Rattle.rv_dot.proofs.MemberLaws.{all_member}
 use Rattle.rv_dot.proofs.SetOrder.{all_from_members}
 use Rattle.rv_dot.proofs.MachineLaws.{edges_later}
 use Rattle.rv_header.specs.Naming.{is_header_name, has_no_tables}
-use Rattle.rv_header.specs.HeaderText.{tagged, enumerators, enum_text, struct_text, list_text, cells, row_text, function_text, mark_text, marks, declarations, tables, header_text}
+use Rattle.rv_header.specs.HeaderText.{tagged, enumerators, enum_text, struct_text, list_text, cells, row_text, function_text, marks, declarations, tables, header_text}
 use Rattle.rv_header.specs.Taking.{pieces, piece, quoted_in, members_in, rows_arcs, marked_by, name_in, states_in, events_in, rows_in, marks_in, are_few, file_in}
 use Rattle.rv_header.proofs.Cuts.{lacks, simple, cut, both_lack, all_lack, simple_lacks, and_then, dotless}
 use Rattle.rv_header.proofs.Listed.{quoted_back}
@@ -23,44 +22,22 @@ use Rattle.rv_header.proofs.CellsBack.{written_back}
 use Rattle.rv_header.proofs.NamesBack.{name_simple, states_simple, events_simple, states_few, events_few}
 use Rattle.rv_header.proofs.MarksBack.{marks_simple, marks_back}
 use Rattle.rv_header.proofs.TextBack.{apart_name, apart_tables, six, list_lacks, quoted_lack, all_simple_lack, at_simple, marks_taken, tag_lacks, rows_are, rows_lack, enum_lacks, with_most}
-
--- edges in order have ascending cells
-keys_ascend : (edges : List Edge) → AllByRecursion (λ e. e.event < 64) edges → AllLater EdgeIsBefore edges → AllLater (λ e f. key e < key f) edges
-keys_ascend [] few up = tt
-keys_ascend (e ∷ edges) few up = (go edges up.0, keys_ascend edges few.1 up.1)
-  where
-    step : (c d : ℕ) → (e.from < c) ⊎ ((e.from ≡ c) × (e.event < d)) → e.from * 64 + e.event < c * 64 + d
-    step c d (inl x) = omega (arith, x, few.0)
-    step c d (inr x) = omega (arith, x.0, x.1)
-
-    go : (fs : List Edge) → AllByRecursion (λ f. EdgeIsBefore e f) fs → AllByRecursion (λ f. key e < key f) fs
-    go [] h = tt
-    go (f ∷ fs) h = (step f.from f.event h.0, go fs h.1)
-
--- as many marks as states
-as_many : (bits : ℕ) (names : List (List ℕ)) → length (map (λ (s : State). mark_text s.is_marked) (states_marked bits names)) ≡ length names
-as_many bits [] = refl
-as_many bits (n ∷ names) = ap suc (as_many (bits / 2) names)
-
--- three equal parts draw the same
-same_drawing : (initial initial' : List ℕ) (states states' : List State) (arcs arcs' : List Arc) → initial ≡ initial' → states ≡ states' → arcs ≡ arcs'
-    → drawing_text (record { initial = initial; states = states; arcs = arcs }) ≡ drawing_text (record { initial = initial'; states = states'; arcs = arcs' })
-same_drawing initial initial' states states' arcs arcs' p q r =
-    ap (λ (x : List ℕ). drawing_text (record { initial = x; states = states; arcs = arcs })) p
-    ∙ ap (λ (x : List State). drawing_text (record { initial = initial'; states = x; arcs = arcs })) q
-    ∙ ap (λ (x : List Arc). drawing_text (record { initial = initial'; states = states'; arcs = x })) r
+use Rattle.rv_header.proofs.DrawingLemmas.{as_many, keys_ascend, same_drawing}
 
 module _ (name : List ℕ) (a : Machine) (named : is_header_name name ≡ true) (formed : IsAutomaton a) (fit : has_no_tables a ≡ false) where
   -- the names are simple
   plain : simple name ≡ true
   plain = name_simple name named
 
+  -- the states have simple names
   states : AllByRecursion (λ n. simple n ≡ true) a.states
   states = states_simple a formed fit
 
+  -- the events have simple names
   events : AllByRecursion (λ n. simple n ≡ true) a.events
   events = events_simple a formed
 
+  -- the marks of the states are simple
   marked : AllByRecursion (λ n. simple n ≡ true) (marks a)
   marked = marks_simple (states_marked a.marked a.states)
 
@@ -164,6 +141,7 @@ module _ (name : List ℕ) (a : Machine) (named : is_header_name name ≡ true) 
   abbrev all_rows : List (List (List ℕ))
   all_rows = map (λ (state : ℕ × List ℕ). cells name a state.0) (enumerate_from 0 a.states)
 
+  -- what is taken as rows are the pieces of the rows' texts behind their opening braces
   rows_taken : rows_in (header_text name a) ≡ drop 1 (pieces 123 (codes "\n" ++ (flat_map row_text all_rows ++ codes "\t},\n\t")))
   rows_taken =
       let rest : List ℕ = codes "\n" ++ (function_text name a ++ codes "\t},\n\t") in

@@ -8,8 +8,6 @@ mod reading;
 mod rows;
 mod tables;
 mod taking;
-#[cfg(test)]
-mod tests;
 
 pub use naming::is_header_name;
 pub use reading::{Header, headers_are_read_again, read_header};

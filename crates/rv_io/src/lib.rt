@@ -11,8 +11,6 @@ mod piece;
 mod sink;
 mod stdout;
 mod store;
-#[cfg(test)]
-mod tests;
 
 pub use disk::Disk;
 pub use gate::{Gate, OpenGate};

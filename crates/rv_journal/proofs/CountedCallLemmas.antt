@@ -48,9 +48,11 @@ unused-begun h p b none =
 number-same : (v w : View) → w ≡ with_seen v w.part.seen → w.part.number ≡ v.part.number
 number-same v w same = ap (λ (z : View). z.part.number) same
 
+-- it has the same end of its numbers
 end-same : (v w : View) → w ≡ with_seen v w.part.seen → w.part.end ≡ v.part.end
 end-same v w same = ap (λ (z : View). z.part.end) same
 
+-- it has the same setup
 setup-same : (v w : View) → w ≡ with_seen v w.part.seen → w.setup ≡ v.setup
 setup-same v w same = ap (λ (z : View). z.setup) same
 

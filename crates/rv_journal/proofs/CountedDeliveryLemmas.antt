@@ -27,6 +27,7 @@ module _ (old : SeatValue) (u w x : View) (slot first lost raw found : ℕ) (s :
   pub u-setup : u.setup ≡ old.board.setup
   u-setup = ap (λ (z : View). z.setup) s.0.same
 
+  -- it is still that of the board after the lost tries
   pub w-setup : w.setup ≡ old.board.setup
   w-setup = ap (λ (z : View). z.setup) l.plain.same ∙ u-setup
 

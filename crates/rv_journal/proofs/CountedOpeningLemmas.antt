@@ -6,7 +6,7 @@ use Rattle.rv_model.specs.declared.entry.Act.{Act}
 use Rattle.rv_model.specs.Numbers.{list_of}
 use Rattle.rv_model.specs.Setups.{Setup, monitor_of, start_of}
 use Rattle.rv_model.specs.SharedWords.{word_of}
-use Rattle.rv_model.proofs.MeansLemmas.{length-list_of, get_or-list_of}
+use Rattle.rv_model.proofs.FoundLemmas.{length-list_of, get_or-list_of}
 use Rattle.rv_model.proofs.NumberLemmas.{number_of-bits}
 use Rattle.rv_table.specs.Rows.{IsRows}
 use Rattle.rv_word.specs.Words.{packed}
@@ -55,6 +55,7 @@ module _ (s : Setup) (widths : List Width) (fits : FitsShape s) (are : AreWidths
       let more = pow_mono {i = (slice_index_or widths (monitor_of s.shape slot) no_width).atoms} {j = 32 - rows_at s slot} (omega arith) in
       omega arith
 
+  -- the rows of the slot's table are at most 32
   pub rows-fit : rows_at s slot ≤ 32
   rows-fit = let w = width-at in let all = w.fits in let rows = w.wide in omega arith
 

@@ -29,9 +29,11 @@ module _ (k : Setup) (u w : View) (slot lost raw : ℕ) (l : LostCounted u w slo
   counted : IsCounted k w.part.seen
   counted = subst (λ (z : Setup). IsCounted z w.part.seen) setup l.counted
 
+  -- what it has seen is sound
   sound : IsSound k (judges_of k) w.part.seen
   sound = subst (λ (z : Setup). IsSound z (judges_of z) w.part.seen) setup l.plain.sound
 
+  -- the word that was found is the one that it gives
   raw-is : raw ≡ counted_at k w.part.seen (slot + 1)
   raw-is = l.raw_is ∙ ap (λ (z : Setup). counted_at z w.part.seen (slot + 1)) setup
 

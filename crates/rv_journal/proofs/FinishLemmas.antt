@@ -58,6 +58,7 @@ new-more lanes i cursors waits waits' new grown = record {
     last l lt = grind arith
 
 module _ (setup : Setup) (seen : List Entry) (lanes : List CountedLaneValue) (can : CanMerge setup seen lanes) (k : IsSetup setup) (works : All (λ l. IsWork l.work) lanes) (numbers : All (λ l. All NumbersFit l.counted) lanes) where
+  -- the merge is given these lanes, with all items that they have as its whole list
   given : IsGiven (run_of setup seen) lanes (all_items setup seen lanes can k numbers)
   given = record {
     can = can;

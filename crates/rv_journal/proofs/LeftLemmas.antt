@@ -27,6 +27,7 @@ left-is n m is = go m.placed refl (m.item.entry.seat == n) refl is
 
 -- no item that is left to the seat has any of something, so all have none of it
 module _ (count : Counted → ℕ) (sum : List Counted → ℕ) (empty : sum [] ≡ 0) (more : (c : Counted) (items : List Counted) → sum (c ∷ items) ≡ count c + sum items) (n : ℕ) where
+  -- where no unplaced item of the seat has any, the items that are left to the seat have none
   pub none-left : (marks : List Mark) → ((b : List Mark) (d : Counted) (a : List Mark) → marks ≡ b ++ mark false d ∷ a → d.entry.seat ≡ n → count d ≡ 0) → sum (items_in (filter (is_left n) marks)) ≡ 0
   none-left [] all = empty
   none-left (m ∷ marks) all = go (is_left n m) refl (none-left marks (λ b d a eq. all (m ∷ b) d a (ap (λ (z : List Mark). m ∷ z) eq)))

@@ -49,7 +49,6 @@ pub mod ToldLemmas
 pub mod TotalLemmas
 pub mod UnderWayLemmas
 pub mod WaitLemmas
-pub mod WakingWidthLemmas
 pub mod WholeLemmas
 pub mod WidthLemmas
 pub mod ThreadLemmas

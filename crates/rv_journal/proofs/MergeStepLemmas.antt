@@ -83,6 +83,7 @@ items-append [] b = refl
 items-append (Opens ∷ a) b = items-append a b
 items-append (Item c ∷ a) b = ap (λ (z : List Counted). c ∷ z) (items-append a b)
 
+-- the steps of items and of no turn have just these items
 pub items-steps : (items : List Counted) → items_of (item_steps items) ≡ items
 items-steps [] = refl
 items-steps (c ∷ items) = ap (λ (z : List Counted). c ∷ z) (items-steps items)

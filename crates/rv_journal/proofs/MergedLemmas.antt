@@ -158,6 +158,7 @@ module _ (s : Setup) (seen : List Entry) (lanes : List CountedLaneValue) (can : 
   entries-all : entries_in (items_in u.marks) ≡ seen
   entries-all = ap entries_in u.marks_are ∙ entries_are
 
+  -- on each slot the entries that changed its word are those that were seen, in the same order
   changes-all : (slot : ℕ) → filter (changed slot) history ≡ filter (changed slot) seen
   changes-all slot =
       let d = u.divides slot in
@@ -176,6 +177,7 @@ module _ (s : Setup) (seen : List Entry) (lanes : List CountedLaneValue) (can : 
       let front : entries_in (items_in m.before) ≡ before = ap entries_in m.front_is ∙ cut.front_is in
       subst (λ (x : Entry). StandsAs history before x) cut.entry_is (subst (λ (z : List Entry). StandsAs history z cut.item.entry) front stands)
 
+  -- but for looks, each seat has the entries that were seen of it, in their order
   seats-all : (seat : ℕ) → filter (λ e. not (is_look_act e.act)) (entries_of (λ n. n == seat) history) ≡ entries_of (λ n. n == seat) seen
   seats-all seat = elim (find (λ l. seat_of (lane_at l)) seat (length lanes)) [
     | inl found ↦ subst (λ (n : ℕ). filter (λ e. not (is_look_act e.act)) (entries_of (λ m. m == n) history) ≡ entries_of (λ m. m == n) seen) found.2 (own found.0 found.1)
@@ -193,5 +195,6 @@ module _ (s : Setup) (seen : List Entry) (lanes : List CountedLaneValue) (can : 
           ∙ (without-looks (seat_of (lane_at l)) s.switches ((lanes_of lanes).script l) (λ b c a eq. (all-served s (lane_at l).work.deliveries (lane_at l).counted fit.fit fit.served b c a (sym steps ∙ eq)).0)
           ∙ (ap entries_in steps ∙ fit.part.entries_are))
 
+  -- where all is placed, the history is a legal one that was merged from what was seen
   pub merged : IsMergeOf s seen lanes history
   merged = record { legal = legal; fits = u.fits; from = record { seats = seats-all; changes = changes-all; between = between-all } }

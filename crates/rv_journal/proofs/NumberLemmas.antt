@@ -36,6 +36,7 @@ record IsRead (word : List ℕ) (n : ℕ) : Type 0 where
   fits : n < 2 ^ 64
   value : number_of word ≡ n
 
+-- a word that is read as a number has digits, and they make that number
 decimal-parts : (word : List ℕ) (n : ℕ) → decimal_of word ≡ Some n → IsRead word n
 unfolding decimal_of
 decimal-parts word n = on (nat_lt 0 (length word)) (all_digits word) (nat_lt (number_of word) (2 ^ 64)) refl refl refl

@@ -89,9 +89,11 @@ entries-all seat (x ∷ xs) all =
     rw same (ap (λ (l : List Entry). x ∷ l) (entries-all seat xs (All-tail (λ (e : Entry). e.seat ≡ seat) x xs all)))
 
 module _ (old new : CountedValue) (h : List Entry) (fresh : old.seat.part.seen ≡ []) (has : old.seat.part.number < old.seat.part.end) (later : Follows h new.seat.part) (ds : List Delivery) (counted : List Counted) (feeds : FeedsCounted old new ds counted) where
+  -- the number of the seat
   seat : ℕ
   seat = old.seat.part.number
 
+  -- which numbers the seat knew before the deliveries
   knows : ℕ → Bool
   knows = known_of old.seat.part
 

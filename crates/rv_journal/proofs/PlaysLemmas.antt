@@ -37,6 +37,7 @@ abbrev pub LooksTell : List Played → Type 0
 LooksTell [] = Unit {0}
 LooksTell (p ∷ ps) = (p.0.act ≡ Look → p.1 ≡ Looked p.0.after) × LooksTell ps
 
+-- all looks tell their words still with one more entry, which tells its own where it is a look
 looks-snoc : (ps : List Played) (p : Played) → LooksTell ps → (p.0.act ≡ Look → p.1 ≡ Looked p.0.after) → LooksTell (ps ++ p ∷ [])
 looks-snoc [] p all tells = (tells, tt)
 looks-snoc (q ∷ ps) p all tells = (all.0, looks-snoc ps p all.1 tells)
@@ -65,6 +66,7 @@ module _ (s : Setup) (js : List Judge) (seat : ℕ) where
           let none : played s js seat (e ∷ past) ≡ played s js seat past = rw n refl in
           ap acted_in none ∙ (rest ∙ (sym (append-nil (entries_of (λ n. n == seat) (reverse past))) ∙ (ap (λ (z : List Entry). entries_of (λ n. n == seat) (reverse past) ++ z) (sym (filter_no (λ (x : Entry). x.seat == seat) e [] n)) ∙ (sym split ∙ ap (entries_of (λ n. n == seat)) (sym back)))))
 
+  -- every look that the seat has played tells the word that it found
   played-looks : (past : List Entry) → LooksTell (played s js seat past)
   played-looks [] = tt
   played-looks (e ∷ past) = by (e.seat == seat) refl (played-looks past)
@@ -73,9 +75,11 @@ module _ (s : Setup) (js : List Judge) (seat : ℕ) where
       by true y rest = rw y (looks-snoc (played s js seat past) (e, answer_at s js past e e.act) rest (λ is. ap (answer_at s js past e) is))
       by false n rest = rw n rest
 
+  -- what the seat has played in a history is its entries, in their order
   pub played-is : (history : List Entry) → acted_in (played s js seat (reverse history)) ≡ entries_of (λ n. n == seat) history
   played-is history = played-entries (reverse history) ∙ ap (entries_of (λ n. n == seat)) (reverse-reverse history)
 
+  -- and every look among them tells the word that it found
   pub looks-tell : (history : List Entry) → LooksTell (played s js seat (reverse history))
   looks-tell history = played-looks (reverse history)
 
@@ -102,9 +106,11 @@ no-panic : (b c : Bool) → (b && (false && c)) ≡ false
 no-panic true c = refl
 no-panic false c = refl
 
+-- where a test fails, the second of two cases is the one that has to hold
 match_false : (b : Bool) (P Q : Type 0) → b ≡ false → Q → MatchBool b P Q
 match_false b P Q e q = rw e q
 
+-- where there is no entry, nothing was played
 no-played : (ps : List Played) → acted_in ps ≡ [] → ps ≡ []
 no-played [] e = refl
 no-played (p ∷ ps) e = absurd (cc)
@@ -118,14 +124,17 @@ ahead-names q to (turn ∷ turns) count names lt = let e = names.0 in ((omega ar
 no_delivery : Delivery
 no_delivery = record { order = 0; monitor = 0; instance = 0; hit = record { mode = Event; what = Da 0 } }
 
+-- an item, where there is none
 no_counted : Counted
 no_counted = record { entry = record { seat = 0; act = Look; before = 0; after = 0 }; first = 0; count = 0; outcome = Racing }
 
 -- ---- scripts
 module _ (s : Setup) (seat look : ℕ) (ds : List Delivery) (items : List Counted) (served : AllServed s ds items) (many : length items ≡ length ds) (shown : All (λ d. is_shown look d ≡ true) ds) (going : All (λ d. is_end d.hit.mode ≡ false) ds) (running : has_bit look 34 ≡ false) where
+  -- no reactor is panic
   abbrev panics : ℕ → Bool
   panics = λ _. false
 
+  -- the deliveries of each turn
   abbrev lists : List Turn → List (List Delivery)
   lists turns = map (λ turn. slice_range ds turn.from turn.to) turns
 
@@ -133,6 +142,7 @@ module _ (s : Setup) (seat look : ℕ) (ds : List Delivery) (items : List Counte
   abbrev Goes : ℕ → ℕ → List Turn → Type 0
   Goes place to turns = (ps : List Played) → acted_in ps ≡ step_entries seat look (steps_from items place turns) → LooksTell ps → Delivers s panics look (filter (is_shown look) (slice_range ds place to)) (PlaysTurns s panics (lists turns)) ps
 
+  -- it holds from an item on where it holds from behind that item on
   one-item : (place to : ℕ) (turns : List Turn) → place < to → to ≤ length items → Ahead (suc place) turns (length items) → Goes (suc place) to turns → Goes place to turns
   one-item place to turns lt within ahead rest [] is tells =
       absurd (let steps = steps-item items place no_counted turns (omega arith) ahead in

@@ -72,6 +72,7 @@ module _ (s : Setup) (seen : List Entry) (lanes : List CountedLaneValue) (can : 
   pub script-items : (l : ℕ) → l < length lanes → items_of ((lanes_of lanes).script l) ≡ (get_or lanes l no_lane).counted
   script-items l lt = steps-items (get_or lanes l no_lane).counted 0 (get_or lanes l no_lane).work.turns (first-cursor (get_or lanes l no_lane) (names-at l lt))
 
+  -- the empty history is one that is being merged, where all steps are left to the lanes
   pub starts : IsUnderWay s (all_items s seen lanes can k numbers) (lanes_of lanes) [] (lanes_of lanes).script
   starts =
       let items : List Counted = all_items s seen lanes can k numbers in

@@ -24,6 +24,7 @@ use Rattle.rv_journal.proofs.UnderWayLemmas.{item-cut}
 use Rattle.rv_journal.proofs.WholeLemmas.{seat_at, Whole, whole}
 
 module _ (s : Setup) (seen : List Entry) (lanes : List CountedLaneValue) (can : CanMerge s seen lanes) (k : IsSetup s) (numbers : All (λ l. All NumbersFit l.counted) lanes) where
+  -- the whole list of items for all that was seen
   w : Whole s seen lanes can k numbers [] seen
   w = whole s seen lanes can k numbers
 
@@ -56,9 +57,11 @@ module _ (s : Setup) (seen : List Entry) (lanes : List CountedLaneValue) (can : 
   pub machine-empty : IsMachine s []
   machine-empty = record { is_setup = k; live = λ i low. tt }
 
+  -- a cut of a front is a cut of all that was seen
   longer : (front rest b : List Entry) (e : Entry) (a : List Entry) → seen ≡ front ++ rest → front ≡ b ++ e ∷ a → seen ≡ b ++ e ∷ (a ++ rest)
   longer front rest b e a eq cut = eq ∙ (ap (λ (z : List Entry). z ++ rest) cut ∙ append_assoc b (e ∷ a) rest)
 
+  -- what runs has rows after each front of what was seen
   machine-at : (front rest : List Entry) → seen ≡ front ++ rest → IsMachine s front
   machine-at front rest eq = machine-more [] front (λ b e a cut. entry-at b e (a ++ rest) (longer front rest b e a eq cut)) machine-empty
 
@@ -75,6 +78,7 @@ module _ (s : Setup) (seen : List Entry) (lanes : List CountedLaneValue) (can : 
       let n : (word_of s (judges_of s) (reverse []) i == 0) ≡ false = grind (arith, nat_tests) in
       rw n refl
 
+  -- after each front, a slot's changes are its count, and one more where its instance is stopped
   count-at : (i : ℕ) (front rest : List Entry) → seen ≡ front ++ rest → changes_on i front ≡ count_on i front + stop_count (word_of s (judges_of s) (reverse front) i)
   count-at i front rest eq = counted-more s i [] front (λ b e a cut. both-at [] seen refl b e (a ++ rest) (longer front rest b e a eq cut)) (begins i)
 

@@ -74,9 +74,11 @@ held-stop slot step c steps is =
 
 -- ---- one entry more
 module _ (s : Setup) (lanes : Lanes) where
+  -- how many lanes there are
   abbrev many : ℕ
   many = lanes.many
 
+  -- the seat of each lane
   abbrev seat : ℕ → ℕ
   seat = lanes.seat
 

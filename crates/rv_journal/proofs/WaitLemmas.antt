@@ -16,6 +16,7 @@ pub leaving-append : (slot r : ℕ) (a b : List Counted) → leaving slot r (a +
 leaving-append slot r [] b = omega arith
 leaving-append slot r (c ∷ a) b = let rest = leaving-append slot r a b in omega arith
 
+-- and so for the Stops that were lost from a gap on
 pub losing-append : (slot r : ℕ) (a b : List Counted) → losing slot r (a ++ b) ≡ losing slot r a + losing slot r b
 losing-append slot r [] b = omega arith
 losing-append slot r (c ∷ a) b = let rest = losing-append slot r a b in omega arith

@@ -11,16 +11,12 @@ mod merging;
 mod names;
 mod pieces;
 mod printing;
-#[cfg(test)]
-mod races;
 mod reading;
 mod rule;
 mod running;
 mod seat;
 mod sharing;
 mod steps;
-#[cfg(test)]
-mod tests;
 mod told;
 mod waits;
 mod words;

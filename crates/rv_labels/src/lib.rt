@@ -8,8 +8,6 @@ mod joining;
 mod laws;
 mod masks;
 mod sizes;
-#[cfg(test)]
-mod tests;
 mod truth;
 
 pub use cube::Cube;

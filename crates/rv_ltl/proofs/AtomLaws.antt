@@ -16,6 +16,7 @@ use Rattle.rv_ltl.proofs.Collecting.{names_rise, names_made, names_only}
 abbrev IsLast : List Def → ℕ → ℕ → Type 0
 IsLast ds x y = (body_of ds y ≡ None) × ((x ≡ y) ⊎ Reaches ds x y)
 
+-- what an undefined name stands for mentions no other name
 free_last : (ds : List Def) (n x : ℕ) (f : Expr) (y : ℕ) → body_of ds x ≡ None → value_of ds n x ≡ Some f → Mentions f y → IsLast ds x y
 free_last ds n x f y b h m =
     let v = value_free ds n x b in
@@ -25,6 +26,7 @@ free_last ds n x f y b h m =
     let Q : ℕ → Type 0 = λ z. body_of ds z ≡ None in
     (subst Q same b, inl same)
 
+-- an undefined name that is the used name, or is reached from it, is reached from the name that uses it
 last_on : (ds : List Def) (x z y : ℕ) → Uses ds x z → IsLast ds z y → IsLast ds x y
 last_on ds x z y u l = (l.0, inr (elim l.1 [ inl e ↦ (let P : ℕ → Type 0 = λ w. Uses ds x w in Step (subst P e u)) | inr r ↦ Then u r ]))
 
@@ -72,5 +74,6 @@ atoms_reached ds root n body f b h y = (there, back)
     back : IsAtom ds root y → Has (atoms_of f) y
     back a = names_made (λ x. true) f [] y (reached_value ds a.0 a.1 n f h) refl
 
+-- each atom of a formula is larger than the one before
 pub atoms_ascend : (f : Expr) → Rises 0 (atoms_of f)
 atoms_ascend f = names_rise (λ x. true) f [] tt

@@ -15,7 +15,7 @@ use Rattle.rv_ltl.specs.Atoms.{place_of, one_of, two_of, numbered}
 use Rattle.rv_ltl.specs.Machine.{Values, value, run, last_of, computed, defs, AllCoded}
 use Rattle.rv_ltl.specs.Weights.{index_of, def_at}
 use Rattle.rv_ltl.specs.Collected.{ltls, built}
-use Rattle.rv_ltl.proofs.Sound.{bind_some}
+use Rattle.rv_ltl.proofs.OperatorLaws.{bind_some}
 use Rattle.rv_ltl.proofs.Elements.{value_at}
 use Rattle.rv_ltl.proofs.Settling.{Found, Free, Held, found, value_free, value_defined, value_zero}
 
@@ -33,10 +33,12 @@ pub no_formula : (v : Values Ltl) (steps : List Step) (i : ℕ) (items : List Fo
 no_formula v steps i [] le none h = ap (λ (s : List Ltl). last_of (v.constant true) s) (ap (λ (s : List Step). run v s []) (sym (drop_all i steps le)) ∙ h)
 no_formula v steps i (x ∷ items) le none h = absurd (omega arith)
 
+-- what is built for a defined name is the value of its formula, with definitions one less deep
 built_some : (ds : List Def) (atoms : List ℕ) (n x i : ℕ) → index_of ds x ≡ Some i → built ds atoms (suc n) x ≡ value (ltls (built ds atoms n)) (def_at ds i).body
 unfolding built
 built_some ds atoms n x i h = rw (h, built) refl
 
+-- what is built for a name that is not defined is the atom at its place
 built_none : (ds : List Def) (atoms : List ℕ) (n x : ℕ) → index_of ds x ≡ None → built ds atoms n x ≡ Ltl.Atom (place_of atoms x)
 unfolding built
 built_none ds atoms zero x h = rw (h, built) refl

@@ -22,6 +22,7 @@ name_case : (b : Bool) (x : ℕ) (xs : List ℕ) (P : List ℕ → Type 0) → (
 name_case true x xs P f g = f refl
 name_case false x xs P f g = g refl
 
+-- an ascending list stays so with the names of a formula
 pub names_rise : (test : ℕ → Bool) (e : Expr) (xs : List ℕ) → Rises 0 xs → Rises 0 (names_into test e xs)
 names_rise test Expr.True xs h = h
 names_rise test Expr.False xs h = h
@@ -30,6 +31,7 @@ names_rise test (Paren e) xs h = names_rise test e xs h
 names_rise test (One op e) xs h = names_rise test e xs h
 names_rise test (Two op a b) xs h = names_rise test b (names_into test a xs) (names_rise test a xs h)
 
+-- a list with the names of a formula is no shorter
 pub names_more : (test : ℕ → Bool) (e : Expr) (xs : List ℕ) → length xs ≤ length (names_into test e xs)
 names_more test Expr.True xs = omega arith
 names_more test Expr.False xs = omega arith
@@ -46,6 +48,7 @@ names_keep test (Paren e) xs y h = names_keep test e xs y h
 names_keep test (One op e) xs y h = names_keep test e xs y h
 names_keep test (Two op a b) xs y h = names_keep test b (names_into test a xs) y (names_keep test a xs y h)
 
+-- a name that the formula mentions and that passes the test is in the list
 pub names_made : (test : ℕ → Bool) (e : Expr) (xs : List ℕ) (y : ℕ) → Mentions e y → test y ≡ true → Has (names_into test e xs) y
 names_made test Expr.True xs y m f = absurd m
 names_made test Expr.False xs y m f = absurd m
@@ -58,6 +61,7 @@ names_made test (One op e) xs y m f = names_made test e xs y m f
 names_made test (Two op a b) xs y (inl m) f = names_keep test b (names_into test a xs) y (names_made test a xs y m f)
 names_made test (Two op a b) xs y (inr m) f = names_made test b (names_into test a xs) y m f
 
+-- what is in the list was there before, or the formula mentions it and it passes the test
 pub names_only : (test : ℕ → Bool) (e : Expr) (xs : List ℕ) (y : ℕ) → Has (names_into test e xs) y → Has xs y ⊎ (Mentions e y × (test y ≡ true))
 names_only test Expr.True xs y h = inl h
 names_only test Expr.False xs y h = inl h
@@ -89,6 +93,7 @@ code_names test (Two op a b) xs =
     code_append test (code a) (code b ++ steps.Binary op ∷ []) xs ∙ ap (λ (ys : List ℕ). code_into test (code b ++ steps.Binary op ∷ []) ys) (code_names test a xs)
     ∙ code_append test (code b) (steps.Binary op ∷ []) (names_into test a xs) ∙ code_names test b (names_into test a xs)
 
+-- a code that is that of a formula has that formula's names
 pub coded_names : (test : ℕ → Bool) (steps : List Step) (xs : List ℕ) → code (computed formulas steps) ≡ steps → code_into test steps xs ≡ names_into test (computed formulas steps) xs
 coded_names test steps xs h = ap (λ (s : List Step). code_into test s xs) (sym h) ∙ code_names test (computed formulas steps) xs
 
@@ -117,6 +122,7 @@ def_case : (b : Bool) (ys xs : List ℕ) (P : List ℕ → Type 0) → (b ≡ tr
 def_case true ys xs P f g = f refl
 def_case false ys xs P f g = g refl
 
+-- the names of the flagged definitions ascend
 pub atoms_rise : (test : ℕ → Bool) (ds : List Def) (fs : List Bool) (n : ℕ) → Rises 0 (atoms_from test ds fs n)
 atoms_rise test ds fs zero = tt
 atoms_rise test ds fs (suc n) =
@@ -129,6 +135,7 @@ def_keep test ds fs n xs y h = def_case (flag_at fs n) (names_into test (def_at 
 def_more : (test : ℕ → Bool) (ds : List Def) (fs : List Bool) (n : ℕ) (xs : List ℕ) → length xs ≤ length (def_into test ds fs n xs)
 def_more test ds fs n xs = def_case (flag_at fs n) (names_into test (def_at ds n).body xs) xs (λ ys. length xs ≤ length ys) (λ t. names_more test (def_at ds n).body xs) (λ t. omega arith)
 
+-- a name that a flagged definition mentions and that passes the test is among them
 pub atoms_made : (test : ℕ → Bool) (ds : List Def) (fs : List Bool) (n y i : ℕ) → i < n → flag_at fs i ≡ true → Mentions (def_at ds i).body y → test y ≡ true → Has (atoms_from test ds fs n) y
 atoms_made test ds fs zero y i lt t m f = absurd (omega arith)
 atoms_made test ds fs (suc n) y i lt t m f =
@@ -141,6 +148,7 @@ atoms_made test ds fs (suc n) y i lt t m f =
           def_case (flag_at fs n) (names_into test (def_at ds n).body (atoms_from test ds fs n)) (atoms_from test ds fs n) (λ ys. Has ys y) (λ u. names_made test (def_at ds n).body (atoms_from test ds fs n) y r.1 f) (λ u. absurd (false≢true (sym u ∙ r.0)))
     ]
 
+-- each of them is mentioned by a flagged definition and passes the test
 pub atoms_only : (test : ℕ → Bool) (ds : List Def) (fs : List Bool) (n y : ℕ) → Has (atoms_from test ds fs n) y → Flagged test ds fs n y
 atoms_only test ds fs zero y h = absurd h
 atoms_only test ds fs (suc n) y h =

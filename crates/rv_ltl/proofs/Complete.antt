@@ -8,7 +8,8 @@ use Rattle.rv_ltl.specs.Grammar.{Expr, Paren, One, Two, Whole, Chain, spell, Fit
 use Rattle.rv_ltl.specs.Parse.{operator, chain_at, term_at, expr_by, after_term, ◌>>=◌}
 use Rattle.rv_ltl.specs.Operators.{joins}
 use Rattle.rv_ltl.proofs.ChainSteps.{chain_end, chain_step, term_paren, term_unary}
-use Rattle.rv_ltl.proofs.Sound.{got, same_self, some_joins}
+use Rattle.rv_ltl.proofs.Sound.{got}
+use Rattle.rv_ltl.proofs.OperatorLaws.{same_self, some_joins}
 
 -- the expression was read so far, and the chain goes on with the operator
 abbrev Begins : ℕ → Binary → ℕ → Expr → Type 0
@@ -45,12 +46,14 @@ joined depth op a b j rest lt h t =
     ap (λ (m : List Token). expr_by (term_at depth) m) (append_assoc (spell a) (token.Binary op ∷ spell b) rest)
     ∙ h ∙ s ∙ ap (λ (n : ℕ). chain_at (term_at depth) op n (Two op a b) rest) k
 
+-- a chain that is read so far and a term behind it are a longer chain that is read so far
 two_chain : (depth : ℕ) (op : Binary) (a b : Expr) → Reads depth a → Reads depth b → (k : ℕ) → Fits depth (Chain op (k - 1)) a → Fits depth (Chain And 0) b → 0 < k → k < joins op → Begins depth op k (Two op a b)
 two_chain depth op a b ra rb k fa fb some lt rest =
     let s = ra.chain op (k - 1) fa (omega arith) (spell b ++ token.Binary op ∷ rest) in
     let t = rb.term fb (token.Binary op ∷ rest) in
     (s.0 + 1, omega (arith, s.1), joined depth op a b s.0 (token.Binary op ∷ rest) (omega (arith, s.1)) s.2 t)
 
+-- a chain and a term behind it, with no operator after them, are read as an expression
 two_whole : (depth : ℕ) (op : Binary) (a b : Expr) → Reads depth a → Reads depth b → Fits depth (Chain op (joins op - 1)) a → Fits depth (Chain And 0) b → (rest : List Token) → operator rest ≡ None
     → expr_by (term_at depth) (spell (Two op a b) ++ rest) ≡ got (Two op a b) rest
 two_whole depth op a b ra rb fa fb rest o =
@@ -59,6 +62,7 @@ two_whole depth op a b ra rb fa fb rest o =
     let t = rb.term fb rest in
     joined depth op a b s.0 rest (omega (arith, s.1)) s.2 t ∙ chain_end (term_at depth) op (joins op - (s.0 + 1)) (Two op a b) rest o
 
+-- each tree is read so at each place where it fits
 reads : (e : Expr) (depth : ℕ) → Reads depth e
 unfolding term_at
 reads Expr.True zero = of_term 0 Expr.True (λ h rest. refl) (λ h. h) (λ op k h. h)
@@ -89,5 +93,6 @@ reads (Two op a b) depth =
       whole = λ h rest o. two_whole depth op a b ra rb h.0 h.1 rest o;
     }
 
+-- an expression that fits is read as a whole where no operator follows it
 pub whole_reads : (depth : ℕ) (e : Expr) (rest : List Token) → Fits depth Whole e → operator rest ≡ None → expr_by (term_at depth) (spell e ++ rest) ≡ got e rest
 whole_reads depth e rest h o = (reads e depth).whole h rest o

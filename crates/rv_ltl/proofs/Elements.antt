@@ -10,10 +10,12 @@ use Rattle.rv_ltl.specs.Machine.{Values, value, computed, formulas, def, defs, A
 use Rattle.rv_ltl.specs.Weights.{index_of, def_at}
 use Rattle.rv_ltl.proofs.Running.{coded_value}
 
+-- there are as many definitions as the program has
 pub length-defs : (xs : List Definition) → length (defs xs) ≡ length xs
 length-defs [] = refl
 length-defs (x ∷ xs) = let h = length-defs xs in omega arith
 
+-- the definition at a place is that of the program's one at this place
 pub read_def : (xs : List Definition) (i : ℕ) (x : Definition) → i < length xs → x ≡ get_or xs i x → def_at (defs xs) i ≡ def x
 read_def [] i x lt e = absurd (omega arith)
 read_def (y ∷ xs) zero x lt e = ap def (sym e)
@@ -34,6 +36,7 @@ value_at v xs i x steps lt e h s =
 abbrev pub IsNoneBefore : List Def → ℕ → ℕ → Type 0
 IsNoneBefore ds x i = (j : ℕ) → j < i → (def_at ds j).name ≢ x
 
+-- a definition of the name with none before it is the first of that name
 pub index_first : (ds : List Def) (x i : ℕ) → IsNoneBefore ds x i → i < length ds → (def_at ds i).name ≡ x → index_of ds x ≡ Some i
 index_first [] x i none lt e = absurd (omega arith)
 index_first (d ∷ ds) x zero none lt e = by_test (eqb d.name x) refl
@@ -47,6 +50,7 @@ index_first (d ∷ ds) x (suc i) none lt e = by_test (eqb d.name x) refl (index_
     by_test true t r = absurd (none 0 (omega arith) (eqb-true d.name x t))
     by_test false t r = rw r refl
 
+-- a name that no definition has is not defined
 pub index_nowhere : (ds : List Def) (x : ℕ) → IsNoneBefore ds x (length ds) → index_of ds x ≡ None
 index_nowhere [] x none = refl
 index_nowhere (d ∷ ds) x none = by_test (eqb d.name x) refl (index_nowhere ds x (λ j below. none (suc j) (omega arith)))

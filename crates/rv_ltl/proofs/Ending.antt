@@ -29,6 +29,7 @@ pub record Ends (ds : List Def) (root : ℕ) (wanted : List ℕ) (weight : Weigh
   pub weighs : weight ≡ limited (weight_of formula)
   pub mentioned : (y : ℕ) → Has wanted y → IsMentioned ds y
 
+-- where no definition is endless, the collected names are the atoms and what is known is the weight
 pub the_end : (ds : List Def) (root place n : ℕ) (ws : List Weight) (rows rows' : List (Vec Bool Global)) (fs fs' : List Bool) → index_of ds root ≡ Some place → once ds ≡ true → IsSettled ds ws → any_endless ds ds ≡ false
     → AreUses ds rows n → n ≡ length ds → rows' ≡ rows → IsReached rows' place fs → fs' ≡ fs → Ends ds root (atoms_from (is_free ds) ds fs' n) (known_at ws place)
 the_end ds root place n ws rows rows' fs fs' at each_once s ends uses count same reached flags =
@@ -54,6 +55,7 @@ end_many ds root wanted weight o e h none =
     let lt : 32 < length wanted = subst P none h in
     e.checks ∙ many_atoms e.formula (omega (arith, lt, ap (λ (xs : List ℕ). length xs) e.atoms))
 
+-- a list that was made is the wanted one, and that has at most 32
 few : (wanted : List ℕ) (o : Option (Vec ℕ Global)) (v : Vec ℕ Global) → Collects wanted o → o ≡ Some v → (v.items ≡ wanted) × (length wanted ≤ 32)
 few wanted o v h some =
     let P : Option (Vec ℕ Global) → Type 0 = λ x. Collects wanted x in

@@ -38,6 +38,7 @@ data Scanned (ds : List Def) (n : ℕ) (xs : List ℕ) : Type 0 where
   Takes : (x : ℕ) (others : List ℕ) → HasValue ds n x → length xs ≡ suc (length others) → ((y : ℕ) → In xs y → (x ≡ y) ⊎ In others y) → ((y : ℕ) → In others y → In xs y) → Scanned ds n xs
   Stops : ((y : ℕ) → In xs y → value_of ds n y ≡ None) → Scanned ds n xs
 
+-- one of any names has a value, or none has
 scanned : (ds : List Def) (n : ℕ) (xs : List ℕ) → Scanned ds n xs
 scanned ds n [] = Stops (λ y h. absurd h)
 scanned ds n (x ∷ xs) = go (value_of ds n x) refl (scanned ds n xs)
@@ -53,6 +54,7 @@ scanned ds n (x ∷ xs) = go (value_of ds n x) refl (scanned ds n xs)
 abbrev Sorted : List Def → ℕ → List ℕ → Type 0
 Sorted ds n xs = (x : ℕ) (e : Expr) → body_of ds x ≡ Some e → In xs x ⊎ HasValue ds n x
 
+-- each of the names is defined
 abbrev Defined : List Def → List ℕ → Type 0
 Defined ds xs = (x : ℕ) → In xs x → (e : Expr) × (body_of ds x ≡ Some e)
 
@@ -93,17 +95,20 @@ names_of : List Def → List ℕ
 names_of [] = []
 names_of (d ∷ ds) = d.name ∷ names_of ds
 
+-- there are as many names as definitions
 names_length : (ds : List Def) → length (names_of ds) ≡ length ds
 unfolding names_of
 names_length [] = refl
 names_length (d ∷ ds) = let h = names_length ds in omega arith
 
+-- the name of each definition is among these names
 name_in : (ds : List Def) (i : ℕ) → i < length ds → In (names_of ds) (def_at ds i).name
 unfolding names_of
 name_in [] i lt = absurd (omega arith)
 name_in (d ∷ ds) zero lt = inl refl
 name_in (d ∷ ds) (suc i) lt = inr (name_in ds i (omega arith))
 
+-- each of these names is that of a definition
 in_name : (ds : List Def) (x : ℕ) → In (names_of ds) x → (i : ℕ) × (i < length ds) × ((def_at ds i).name ≡ x)
 unfolding names_of
 in_name [] x h = absurd h
@@ -124,6 +129,7 @@ has_body (d ∷ ds) (suc i) lt = by_test (eqb d.name (def_at ds i).name) (has_bo
     by_test true r = (d.body, refl)
     by_test false r = r
 
+-- where there is nothing, there is no formula
 none_some : (o : Option Expr) (f : Expr) → o ≡ None → o ≡ Some f → ⊥
 none_some o f k v = absurd cc
 

@@ -6,6 +6,7 @@ use Rattle.std.proofs.lemmas.Bool.{eqb-true, eqb-false, ltb-true, ltb-false}
 use Rattle.rv_ltl.specs.Atoms.{Has, Rises, inserted}
 use Rattle.rv_ltl.specs.Collected.{below, stands}
 
+-- an ascending list with one number more at its place ascends
 pub rises_inserted : (low x : ℕ) (xs : List ℕ) → low ≤ x → Rises low xs → Rises low (inserted x xs)
 rises_inserted low x [] le h = (le, tt)
 rises_inserted low x (y ∷ ys) le h = by_less (ltb y x) refl (λ lt. rises_inserted (suc y) x ys lt h.1)
@@ -21,6 +22,7 @@ rises_inserted low x (y ∷ ys) le h = by_less (ltb y x) refl (λ lt. rises_inse
     by_less true t ih = let lt : y < x = ltb-true y x t in (h.0, ih (omega arith))
     by_less false t ih = by_same (eqb y x) refl t
 
+-- what stands in it is the number or stood there before
 pub has_inserted : (x y : ℕ) (xs : List ℕ) → Has (inserted x xs) y → (x ≡ y) ⊎ Has xs y
 has_inserted x y [] (inl e) = inl e
 has_inserted x y [] (inr n) = absurd n
@@ -31,6 +33,7 @@ has_inserted x y (z ∷ zs) h = by_tests (ltb z x) (eqb z x) h (has_inserted x y
     by_tests false true h ih = inr h
     by_tests false false h ih = h
 
+-- the number stands in it
 pub inserted_has : (x : ℕ) (xs : List ℕ) → Has (inserted x xs) x
 inserted_has x [] = inl refl
 inserted_has x (z ∷ zs) = by_tests (ltb z x) (eqb z x) refl (inserted_has x zs)
@@ -40,6 +43,7 @@ inserted_has x (z ∷ zs) = by_tests (ltb z x) (eqb z x) refl (inserted_has x zs
     by_tests false true t ih = inl (eqb-true z x t)
     by_tests false false t ih = inl refl
 
+-- what stood there before still stands in it
 pub inserted_keeps : (x y : ℕ) (xs : List ℕ) → Has xs y → Has (inserted x xs) y
 inserted_keeps x y [] h = absurd h
 inserted_keeps x y (z ∷ zs) h = by_tests (ltb z x) (eqb z x) (inserted_keeps x y zs)
@@ -49,6 +53,7 @@ inserted_keeps x y (z ∷ zs) h = by_tests (ltb z x) (eqb z x) (inserted_keeps x
     by_tests false true ih = h
     by_tests false false ih = inr h
 
+-- the list with one number more is no shorter
 pub length_inserted : (x : ℕ) (xs : List ℕ) → length xs ≤ length (inserted x xs)
 length_inserted x [] = omega arith
 length_inserted x (z ∷ zs) = by_tests (ltb z x) (eqb z x) (length_inserted x zs)
@@ -58,6 +63,7 @@ length_inserted x (z ∷ zs) = by_tests (ltb z x) (eqb z x) (length_inserted x z
     by_tests false true ih = omega arith
     by_tests false false ih = omega arith
 
+-- a list in which the number stands stays as it is
 pub inserted_there : (x : ℕ) (xs : List ℕ) → stands x xs ≡ true → inserted x xs ≡ xs
 inserted_there x [] h = absurd cc
 inserted_there x (z ∷ zs) h = by_tests (ltb z x) (eqb z x) h (inserted_there x zs)
@@ -67,6 +73,7 @@ inserted_there x (z ∷ zs) h = by_tests (ltb z x) (eqb z x) h (inserted_there x
     by_tests false true h ih = refl
     by_tests false false h ih = absurd cc
 
+-- a number that does not stand there goes behind those that are below it
 pub inserted_new : (x : ℕ) (xs : List ℕ) → stands x xs ≡ false → inserted x xs ≡ insert xs (below x xs) x
 inserted_new x [] h = refl
 inserted_new x (z ∷ zs) h = by_tests (ltb z x) (eqb z x) h (inserted_new x zs)
@@ -77,6 +84,7 @@ inserted_new x (z ∷ zs) h = by_tests (ltb z x) (eqb z x) h (inserted_new x zs)
     by_tests false true h ih = absurd cc
     by_tests false false h ih = refl
 
+-- no more numbers are below another than the list has
 below_le : (x : ℕ) (xs : List ℕ) → below x xs ≤ length xs
 below_le x [] = omega arith
 below_le x (z ∷ zs) = by_test (ltb z x) (below_le x zs)
@@ -85,12 +93,15 @@ below_le x (z ∷ zs) = by_test (ltb z x) (below_le x zs)
     by_test true h = omega arith
     by_test false h = omega arith
 
+-- a new number makes the list longer by one
 pub length-inserted_new : (x : ℕ) (xs : List ℕ) → stands x xs ≡ false → length (inserted x xs) ≡ length xs + 1
 length-inserted_new x xs h = ap length (inserted_new x xs h) ∙ length-insert xs (below x xs) x (below_le x xs)
 
+-- a list of at most 32 in which the number stands is the list with that number
 pub put_there : (x : ℕ) (xs : List ℕ) (b : Bool) → true ≡ stands x xs → length xs ≤ 32 → (xs ≡ inserted x xs) × (length (inserted x xs) ≤ 32)
 put_there x xs b h le = let e = inserted_there x xs (sym h) in (sym e, omega (arith, ap length e))
 
+-- a list of fewer than 32 with the new number at its place is the list with that number
 pub put_new : (x place : ℕ) (xs new : List ℕ) → false ≡ stands x xs → place ≡ below x xs → new ≡ insert xs place x → length xs ≤ 32 → length xs ≢ 32 → (new ≡ inserted x xs) × (length (inserted x xs) ≤ 32)
 put_new x place xs new h p i le ne =
     let e = inserted_new x xs (sym h) in
@@ -105,6 +116,7 @@ has_low low [] x r h = absurd h
 has_low low (y ∷ ys) x r (inl e) = let k : low ≤ y = r.0 in omega (arith, e, k)
 has_low low (y ∷ ys) x r (inr h) = let k : low ≤ y = r.0 in let l = has_low (suc y) ys x r.1 h in omega (arith, l, k)
 
+-- where the heads are the same number, what stands in the one tail stands in the other
 rest : (x y : ℕ) (xs ys : List ℕ) → x ≡ y → Rises (suc x) xs → ((z : ℕ) → Has (x ∷ xs) z → Has (y ∷ ys) z) → (z : ℕ) → Has xs z → Has ys z
 rest x y xs ys e r f z h =
     elim (f z (inr h)) [

@@ -11,6 +11,7 @@ use Rattle.rv_ltl.specs.Weights.{def_at, known_at, weight_at, weights_by, weighe
 use Rattle.rv_ltl.proofs.Settling.{set_sure, sure_after, never, endless_at, none_endless}
 use Rattle.rv_ltl.proofs.WeightLaws.{weighed_none}
 
+-- when something becomes known of an open definition, one fewer is open
 one_fewer : (ws : List Weight) (i : ℕ) (w : Weight) → i < length ws → known_at ws i ≡ Open → w ≢ Open → open_count (set ws i w) + 1 ≡ open_count ws
 one_fewer [] i w lt h n = absurd (omega arith)
 one_fewer (Open ∷ ws) zero Open lt h n = absurd (n refl)
@@ -29,6 +30,7 @@ counts (Open ∷ ws) = let r = counts ws in omega arith
 counts (Large ∷ ws) = let r = counts ws in omega arith
 counts (Is x ∷ ws) = let r = counts ws in omega arith
 
+-- a flag counts for at most one
 flag_le : (b : Bool) → flag b ≤ 1
 flag_le true = omega arith
 flag_le false = omega arith

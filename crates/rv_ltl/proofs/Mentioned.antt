@@ -11,7 +11,7 @@ use Rattle.rv_ltl.specs.Weights.{index_of, def_at, IsDistinct}
 use Rattle.rv_ltl.specs.Reached.{flag_at, row_at, Flags, IsReached, AreUses}
 use Rattle.rv_ltl.specs.Collected.{is_free, atoms_from}
 use Rattle.rv_ltl.specs.RuleFile.{atoms_of}
-use Rattle.rv_ltl.proofs.Sound.{bind_some}
+use Rattle.rv_ltl.proofs.OperatorLaws.{bind_some}
 use Rattle.rv_ltl.proofs.Values.{replaced_some}
 use Rattle.rv_ltl.proofs.Settling.{Found, Free, Held, found, body_at, body_none, value_free, value_defined, value_zero}
 use Rattle.rv_ltl.proofs.Inserting.{same_list}
@@ -82,6 +82,7 @@ value_step ds (suc n) i f distinct lt h = (n, refl, sym (value_defined ds n (def
 abbrev OnTheWay : List Def → Expr → ℕ → Type 0
 OnTheWay ds f i = (n : ℕ) × (g : Expr) × (value_of ds n (def_at ds i).name ≡ Some g) × ((y : ℕ) → Mentions g y → Mentions f y)
 
+-- what a definition on the way uses is on the way too
 way_step : (ds : List Def) (rows : List (Vec Bool Global)) (f : Expr) (i j : ℕ) → IsDistinct ds → AreUses ds rows (length ds) → i < length ds → j < length ds → Flags rows i j → OnTheWay ds f i → OnTheWay ds f j
 way_step ds rows f i j distinct uses li lj h w =
     let s = value_step ds w.0 i w.1 distinct li w.2 in
@@ -89,27 +90,32 @@ way_step ds rows f i j distinct uses li lj h w =
     let r = replaced_some (value_of ds s.0) (def_at ds i).body w.1 (def_at ds j).name s.2 m in
     (s.0, r.0, r.1, λ y k. w.3 y (replaced_has (value_of ds s.0) (def_at ds i).body w.1 (def_at ds j).name r.0 y s.2 m r.1 k))
 
+-- a place that is flagged is one of the places
 flag_inside : (fs : List Bool) (i : ℕ) → flag_at fs i ≡ true → i < length fs
 flag_inside [] i h = absurd cc
 flag_inside (f ∷ fs) zero h = omega arith
 flag_inside (f ∷ fs) (suc i) h = let r = flag_inside fs i h in omega arith
 
+-- a row with a flag is one of the rows
 row_inside : (rows : List (Vec Bool Global)) (i j : ℕ) → Flags rows i j → i < length rows
 row_inside [] i j h = absurd cc
 row_inside (r ∷ rows) zero j h = omega arith
 row_inside (r ∷ rows) (suc i) j h = let k = row_inside rows i j h in omega arith
 
+-- what a row flags is one of the definitions
 flags_inside : (ds : List Def) (rows : List (Vec Bool Global)) (i j : ℕ) → AreUses ds rows (length ds) → Flags rows i j → j < length ds
 flags_inside ds rows i j uses h =
     let li : i < length ds = omega (arith, row_inside rows i j h, uses.each) in
     omega (arith, flag_inside (row_at rows i) j h, uses.width i li)
 
+-- what a definition on the way leads to is on the way too
 way_leads : (ds : List Def) (rows : List (Vec Bool Global)) (f : Expr) → IsDistinct ds → AreUses ds rows (length ds) → {i j : ℕ} → Leads (Flags rows) i j → OnTheWay ds f i → OnTheWay ds f j
 way_leads ds rows f distinct uses (Step {x = i} {y = j} h) w =
     way_step ds rows f i j distinct uses (omega (arith, row_inside rows i j h, uses.each)) (flags_inside ds rows i j uses h) h w
 way_leads ds rows f distinct uses (Then {x = i} {z = k} h p) w =
     way_leads ds rows f distinct uses p (way_step ds rows f i k distinct uses (omega (arith, row_inside rows i k h, uses.each)) (flags_inside ds rows i k uses h) h w)
 
+-- a name that the test tells to be free has no first definition
 free_is : (ds : List Def) (y : ℕ) → is_free ds y ≡ true → index_of ds y ≡ None
 free_is ds y h = go (index_of ds y) h
   where

@@ -64,11 +64,13 @@ gathers_none pieces i d keys lt other so_far =
 
 -- ---- the order
 
+-- what holds of all holds of the one at a place
 pub all_at : {K : Type 0} (P : K → Type 0) (xs : List K) (i : ℕ) (d : K) → AllByRecursion P xs → i < length xs → P (get_or xs i d)
 all_at P [] i d all lt = absurd (omega arith)
 all_at P (x ∷ xs) zero d all lt = all.0
 all_at P (x ∷ xs) (suc i) d all lt = all_at P xs i d all.1 (omega arith)
 
+-- what follows from a fact that holds of all holds of all too
 all_more : {K : Type 0} (P Q : K → Type 0) (xs : List K) → ((x : K) → P x → Q x) → AllByRecursion P xs → AllByRecursion Q xs
 all_more P Q [] f all = tt
 all_more P Q (x ∷ xs) f all = (f x all.0, all_more P Q xs f all.1)
@@ -129,6 +131,7 @@ fold_ascends (piece ∷ pieces) names h = fold_ascends pieces (with_piece names 
     go true = insert_ascends (slice_cmp nat_cmp) nat_list_cmp_total piece names h
     go false = h
 
+-- the names among the pieces ascend by their bytes
 pub names_ascend : (pieces : List (List ℕ)) → Ascends (slice_cmp nat_cmp) (names_of pieces)
 unfolding names_of
 names_ascend pieces = fold_ascends pieces [] tt

@@ -15,7 +15,7 @@ use Rattle.rv_ltl.specs.Reach.{Mentions}
 use Rattle.rv_ltl.specs.Replace.{plain, plain_def}
 use Rattle.rv_ltl.specs.Weights.{def_at}
 use Rattle.rv_ltl.specs.Rules.{AllNamed}
-use Rattle.rv_ltl.proofs.Sound.{bind_some}
+use Rattle.rv_ltl.proofs.OperatorLaws.{bind_some}
 
 -- a name of a token is below n
 abbrev InMark : ℕ → Token → Type 0
@@ -33,6 +33,7 @@ abbrev pub InMarks : ℕ → List Token → Type 0
 InMarks n [] = Unit {0}
 InMarks n (mark ∷ marks) = InMark n mark × InMarks n marks
 
+-- the place of a word among the names is below their number
 place_below : (names : List (List ℕ)) (word : List ℕ) (i : ℕ) → place_in names word ≡ Some i → i < length names
 place_below [] word i h = absurd cc
 place_below (name ∷ names) word i h = go (bytes_eq name word) h (λ k e. place_below names word k e)
@@ -44,15 +45,18 @@ place_below (name ∷ names) word i h = go (bytes_eq name word) h (λ k e. place
         let k : suc s.0 ≡ i = cc in
         omega (arith, ih s.0 s.1, k)
 
+-- whichever of two tokens a test picks has its name below n, where both have
 pick : (n : ℕ) (b : Bool) (mark : Token) (o : Option Token) (found : Token) → InMark n mark → (o ≡ Some found → InMark n found) → cond b (Some mark) o ≡ Some found → InMark n found
 pick n true mark o found h f e = let k : mark ≡ found = cc in let P : Token → Type 0 = λ m. InMark n m in subst P k h
 pick n false mark o found h f e = f e
 
+-- a mark or a constant has no name, and so none from n on
 plain_in : (n : ℕ) (piece : List ℕ) (mark : Token) → plain_of piece ≡ Some mark → InMark n mark
 plain_in n piece mark h =
     pick n (bytes_eq piece (codes "(")) token.Open _ mark tt (pick n (bytes_eq piece (codes ")")) token.Close _ mark tt (pick n (bytes_eq piece (codes "=")) token.Equals _ mark tt
     (pick n (bytes_eq piece (codes "true")) token.True _ mark tt (pick n (bytes_eq piece (codes "false")) token.False None mark tt (λ e. absurd cc))))) h
 
+-- a name that is a piece's token is below the number of names
 token_in : (names : List (List ℕ)) (piece : List ℕ) (mark : Token) → token_of names piece ≡ Some mark → InMark (length names) mark
 token_in names piece mark h = by_plain (plain_of piece) (plain_in (length names) piece) h
   where
@@ -89,14 +93,17 @@ tokens_in names (piece ∷ pieces) marks h =
     let P : List Token → Type 0 = λ m. InMarks (length names) m in
     subst P k (token_in names piece a.0 a.1, tokens_in names pieces b.0 b.1)
 
+-- where all tokens have their names below n, so have those in front
 in_front : (n : ℕ) (front back : List Token) → InMarks n (front ++ back) → InMarks n front
 in_front n [] back h = tt
 in_front n (mark ∷ front) back h = (h.0, in_front n front back h.1)
 
+-- where all tokens have their names below n, so have those behind
 in_back : (n : ℕ) (front back : List Token) → InMarks n (front ++ back) → InMarks n back
 in_back n [] back h = h
 in_back n (mark ∷ front) back h = in_back n front back h.1
 
+-- where the tokens of a formula have their names below n, it mentions only names below n
 spelled : (n : ℕ) (e : Expr) → InMarks n (spell e) → (x : ℕ) → Mentions e x → x < n
 spelled n Expr.True h x m = absurd m
 spelled n Expr.False h x m = absurd m
@@ -111,6 +118,7 @@ pub file_named : (n : ℕ) (ds : List Def) → InMarks n (spell_file ds) → All
 file_named n [] h = tt
 file_named n (d ∷ ds) h = (spelled n d.body (in_front n (spell d.body) (spell_file ds) h.1.1), file_named n ds (in_back n (spell d.body) (spell_file ds) h.1.1))
 
+-- what a formula mentions without its parentheses it mentions with them
 plain_mentions : (e : Expr) (x : ℕ) → Mentions (plain e) x → Mentions e x
 plain_mentions Expr.True x m = m
 plain_mentions Expr.False x m = m

@@ -9,6 +9,7 @@ use Rattle.rv_ltl.specs.Reached.{flag_at, row_at, Flags, IsReached, IsUnderWay, 
 use Rattle.rv_ltl.proofs.Cycle.{append_leads}
 use Rattle.rv_ltl.proofs.Rows.{set_only}
 
+-- a place that is flagged is one of the places
 flag_inside : (fs : List Bool) (i : ℕ) → flag_at fs i ≡ true → i < length fs
 flag_inside [] i h = absurd cc
 flag_inside (f ∷ fs) zero h = omega arith
@@ -50,6 +51,7 @@ way_end rows root fs done w n = record {
   closed = λ i j h lt p. w.followed i j (n i (omega (arith, w.each_done, w.each, flag_inside fs i h)) h) lt p;
 }
 
+-- when one that is not done becomes done, fewer are not done
 pub undone-set : (done : List Bool) (i : ℕ) → i < length done → flag_at done i ≡ false → undone (set done i true) < undone done
 undone-set [] i lt h = absurd (omega arith)
 undone-set (true ∷ fs) zero lt h = absurd cc

@@ -56,11 +56,13 @@ no_tokens pieces names Syntax n h =
 
 -- ---- the rule
 
+-- the rule is that of the formula that RULE stands for
 pub rule_found : (names : List (List ℕ)) (ds : List Def) (root : ℕ) (f : Expr) → place_in names (codes "RULE") ≡ Some root → formula_of ds root ≡ Ok f → rule_in names ds ≡ Ok (rule_of names f)
 rule_found names ds root f p h = rw (p, rule_in) (ap (λ (r : Result Expr Refusal). and_then r (λ g. Ok (rule_of names g))) h)
 
 -- ---- the text
 
+-- a text of more than 1,048,576 bytes is refused
 pub too_long : (bytes : List ℕ) → 1048576 < length bytes → ltl_of bytes ≡ refused_with LTL_SYNTAX
 unfolding ltl_of
 too_long bytes lt = by_test (ltb 1048576 (length bytes)) refl
@@ -79,6 +81,7 @@ rest_of o = elim o [
   | Some pieces ↦ elim (definitions_of pieces) [ None ↦ refused_with LTL_SYNTAX | Some ds ↦ rule_in (names_of pieces) ds ]
 ]
 
+-- a text of at most 1,048,576 bytes gives what its pieces give
 short : (bytes : List ℕ) → length bytes ≤ 1048576 → ltl_of bytes ≡ rest_of (pieces_of false bytes)
 unfolding ltl_of
 short bytes le = by_test (ltb 1048576 (length bytes)) refl
@@ -87,14 +90,17 @@ short bytes le = by_test (ltb 1048576 (length bytes)) refl
     by_test true t = absurd (omega (arith, le, ltb-true 1048576 (length bytes) t))
     by_test false t = refl
 
+-- a text of which no pieces are read is refused
 pub no_pieces : (bytes : List ℕ) (unread : Unread) → length bytes ≤ 1048576 → Fails unread (pieces_of false bytes) → Refuses (of_unread unread) (ltl_of bytes)
 no_pieces bytes Memory le h = tt
 no_pieces bytes Syntax le h = short bytes le ∙ ap rest_of h
 
+-- a text of which pieces but no definitions are read is refused
 pub no_definitions : (bytes : List ℕ) (pieces : List (List ℕ)) (unread : Unread) → length bytes ≤ 1048576 → pieces_of false bytes ≡ Some pieces → Fails unread (definitions_of pieces) → Refuses (of_unread unread) (ltl_of bytes)
 no_definitions bytes pieces Memory le p h = tt
 no_definitions bytes pieces Syntax le p h = short bytes le ∙ ap rest_of p ∙ ap (λ (o : Option (List Def)). elim o as (λ _. Result RuleValue Refusal) [ None ↦ refused_with LTL_SYNTAX | Some ds ↦ rule_in (names_of pieces) ds ]) h
 
+-- a text of which definitions are read gives the rule of these
 pub the_rule : (bytes : List ℕ) (pieces names : List (List ℕ)) (ds : List Def) → length bytes ≤ 1048576 → pieces_of false bytes ≡ Some pieces → names ≡ names_of pieces → definitions_of pieces ≡ Some ds → ltl_of bytes ≡ rule_in names ds
 the_rule bytes pieces names ds le p n h =
     short bytes le ∙ ap rest_of p ∙ ap (λ (o : Option (List Def)). elim o as (λ _. Result RuleValue Refusal) [ None ↦ refused_with LTL_SYNTAX | Some es ↦ rule_in (names_of pieces) es ]) h ∙ ap (λ (ns : List (List ℕ)). rule_in ns ds) (sym n)

@@ -29,6 +29,7 @@ set_keeps (f ∷ fs) zero (suc j) h = h
 set_keeps (f ∷ fs) (suc i) zero h = h
 set_keeps (f ∷ fs) (suc i) (suc j) h = set_keeps fs i j h
 
+-- where one more flag is set, what is flagged is that place or was flagged before
 pub set_only : (fs : List Bool) (i j : ℕ) → flag_at (set fs i true) j ≡ true → (j ≡ i) ⊎ (flag_at fs j ≡ true)
 set_only [] i j h = absurd cc
 set_only (f ∷ fs) zero zero h = inl refl
@@ -53,6 +54,7 @@ holds_back : (front back : List Step) (x : ℕ) → Holds back x → Holds (fron
 holds_back [] back x h = h
 holds_back (s ∷ front) back x h = inr (holds_back front back x h)
 
+-- a name that stands in one code and another behind it stands in one of the two
 holds_parts : (front back : List Step) (x : ℕ) → Holds (front ++ back) x → Holds front x ⊎ Holds back x
 holds_parts [] back x h = inr h
 holds_parts (s ∷ front) back x (inl n) = inl (inl n)
@@ -96,6 +98,7 @@ row_same ds front step fs nothing r = record {
   only = λ j lt h. holds_front front (step ∷ []) (def_at ds j).name (r.only j lt h);
 }
 
+-- with the flag of the name's definition the row is that of the code with the name behind it
 row_name : (ds : List Def) (front : List Step) (x : ℕ) (fs : List Bool) → IsDistinct ds → IsRow ds front fs → IsRow ds (front ++ steps.Name x ∷ []) (flagged ds (steps.Name x) fs)
 row_name ds front x fs distinct r = by_index (index_of ds x) refl
   where

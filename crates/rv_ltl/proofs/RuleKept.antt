@@ -21,26 +21,31 @@ use Rattle.rv_ltl.proofs.NameSets.{all_at}
 use Rattle.rv_ltl.proofs.Inserting.{has_low}
 use Rattle.rv_ltl.proofs.Collecting.{names_rise, names_made}
 
+-- a mapped list has at a place what the list's element there is mapped to
 map_at : {A B : Type 0} (f : A → B) (xs : List A) (i : ℕ) (a : A) (b : B) → i < length xs → get_or (map f xs) i b ≡ f (get_or xs i a)
 map_at f [] i a b lt = absurd (omega arith)
 map_at f (x ∷ xs) zero a b lt = refl
 map_at f (x ∷ xs) (suc i) a b lt = map_at f xs i a b (omega arith)
 
+-- a mapped list is as long as the list
 map_length : {A B : Type 0} (f : A → B) (xs : List A) → length (map f xs) ≡ length xs
 map_length f [] = refl
 map_length f (x ∷ xs) = let h = map_length f xs in omega arith
 
+-- the number at a place of a list stands in the list
 has_at : (xs : List ℕ) (i : ℕ) → i < length xs → Has xs (get_or xs i 0)
 has_at [] i lt = absurd (omega arith)
 has_at (x ∷ xs) zero lt = inl refl
 has_at (x ∷ xs) (suc i) lt = inr (has_at xs i (omega arith))
 
+-- of two places in an ascending list the later one has the larger number
 rises_at : (low : ℕ) (xs : List ℕ) (i j : ℕ) → Rises low xs → i < j → j < length xs → get_or xs i 0 < get_or xs j 0
 rises_at low [] i j r lt l = absurd (omega arith)
 rises_at low (x ∷ xs) i zero r lt l = absurd (omega arith)
 rises_at low (x ∷ xs) zero (suc j) r lt l = let h = has_low (suc x) xs (get_or xs j 0) r.1 (has_at xs j (omega arith)) in omega (arith, h)
 rises_at low (x ∷ xs) (suc i) (suc j) r lt l = rises_at (suc x) xs i j r.1 (omega arith) (omega arith)
 
+-- of two places in ascending names the earlier one has the name that comes first by bytes
 before_at : (names : List (List ℕ)) (i j : ℕ) (d : List ℕ) → Ascends (slice_cmp nat_cmp) names → i < j → j < length names → slice_cmp nat_cmp (get_or names i d) (get_or names j d) ≡ Less
 before_at [] i j d h lt l = absurd (omega arith)
 before_at (x ∷ xs) i zero d h lt l = absurd (omega arith)
@@ -55,6 +60,7 @@ pairs names xs ascends rises inside i j d lt l =
     let at_j = map_at (name_at names) xs j 0 d below in
     rw (at_i, at_j) (before_at names (get_or xs i 0) (get_or xs j 0) [] ascends (rises_at 0 xs i j rises lt below) (inside (get_or xs j 0) (has_at xs j below)))
 
+-- the place of an atom is below the number of atoms
 place_inside : (xs : List ℕ) (y : ℕ) → Has xs y → place_of xs y < length xs
 place_inside [] y h = absurd h
 place_inside (x ∷ xs) y h = by_test (eqb x y) refl h (place_inside xs y)
@@ -64,12 +70,14 @@ place_inside (x ∷ xs) y h = by_test (eqb x y) refl h (place_inside xs y)
     by_test false t (inl e) ih = absurd (eqb-false x y t e)
     by_test false t (inr k) ih = let r = ih k in omega (arith, r)
 
+-- a formula under an operator has its atoms below n where the operand has
 one_below : (n : ℕ) (op : Unary) (f : Ltl) → HasAtomsBelow n f → HasAtomsBelow n (one_of op f)
 one_below n unary.Always f h = h
 one_below n unary.Eventually f h = h
 one_below n unary.Next f h = h
 one_below n unary.Not f h = h
 
+-- two formulas with an operator between them have their atoms below n where both have
 two_below : (n : ℕ) (op : Binary) (f g : Ltl) → HasAtomsBelow n f → HasAtomsBelow n g → HasAtomsBelow n (two_of op f g)
 two_below n binary.And f g h k = (h, k)
 two_below n binary.Or f g h k = (h, k)
@@ -79,6 +87,7 @@ two_below n binary.WeakUntil f g h k = (h, k)
 two_below n binary.Imply f g h k = (h, k)
 two_below n binary.Equivalent f g h k = (h, k)
 
+-- where all names of a formula are among the atoms, the numbered formula has its atoms below their number
 atoms_below : (xs : List ℕ) (f : Expr) → ((y : ℕ) → Mentions f y → Has xs y) → HasAtomsBelow (length xs) (numbered xs f)
 atoms_below xs Expr.True h = tt
 atoms_below xs Expr.False h = tt

@@ -14,10 +14,12 @@ use Rattle.rv_ltl.proofs.Settling.{Found, Free, Held, found, body_at, body_none}
 
 -- ---- no name twice
 
+-- two tests that hold together hold each
 both_hold : (a b : Bool) → (a && b) ≡ true → (a ≡ true) × (b ≡ true)
 both_hold true b e = (refl, e)
 both_hold false b e = absurd cc
 
+-- a name has no first definition exactly where it has no formula
 same_none : (ds : List Def) (x : ℕ) → is_none (index_of ds x) ≡ is_none (body_of ds x)
 same_none ds x = by_case (found ds x)
   where
@@ -25,6 +27,7 @@ same_none ds x = by_case (found ds x)
     by_case (Free i b) = ap (λ (o : Option ℕ). is_none o) i ∙ sym (ap (λ (o : Option Expr). is_none o) b)
     by_case (Held i lt n k b) = ap (λ (o : Option ℕ). is_none o) k ∙ sym (ap (λ (o : Option Expr). is_none o) b)
 
+-- where the test finds no name defined twice, each definition is the first of its name
 pub once_distinct : (ds : List Def) → once ds ≡ true → IsDistinct ds
 once_distinct [] h i lt = absurd (omega arith)
 once_distinct (d ∷ ds) h zero lt = by_test (eqb d.name d.name) refl
@@ -44,6 +47,7 @@ once_distinct (d ∷ ds) h (suc i) lt = by_test (eqb d.name (def_at ds i).name) 
         absurd cc
     by_test false t p q = rw q refl
 
+-- without the definition in front, each is still the first of its name
 tail_distinct : (d : Def) (ds : List Def) → IsDistinct (d ∷ ds) → IsDistinct ds
 tail_distinct d ds h i lt = by_test (eqb d.name (def_at ds i).name) (index_of ds (def_at ds i).name) (h (suc i) (omega arith))
   where
@@ -52,6 +56,7 @@ tail_distinct d ds h i lt = by_test (eqb d.name (def_at ds i).name) (index_of ds
     by_test false None e = absurd cc
     by_test false (Some k) e = let s : suc k ≡ suc i = cc in let t : k ≡ i = omega arith in ap (λ (m : ℕ). Some m) t
 
+-- where each definition is the first of its name, the test finds no name defined twice
 pub distinct_once : (ds : List Def) → IsDistinct ds → once ds ≡ true
 distinct_once [] h = refl
 distinct_once (d ∷ ds) h = both (is_none (body_of ds d.name)) (once ds) (by_case (found ds d.name)) (distinct_once ds (tail_distinct d ds h))
@@ -86,9 +91,11 @@ no_rule ds root h = rw (body_none ds root h) refl
 defined : (ds : List Def) (root place : ℕ) → index_of ds root ≡ Some place → is_none (body_of ds root) ≡ false
 defined ds root place h = ap (λ (o : Option Expr). is_none o) (body_at ds root place h).2
 
+-- a name that is defined twice is refused
 pub twice : (ds : List Def) (root place : ℕ) → index_of ds root ≡ Some place → once ds ≡ false → formula_of ds root ≡ refused_with DEFINED_TWICE
 twice ds root place h o = rw (defined ds root place h, o) refl
 
+-- an endless definition is refused
 pub cyclic : (ds : List Def) (root place : ℕ) → index_of ds root ≡ Some place → once ds ≡ true → any_endless ds ds ≡ true → formula_of ds root ≡ refused_with CYCLE
 cyclic ds root place h o e = rw (defined ds root place h, o, e) refl
 
@@ -106,9 +113,11 @@ ends_at all (d ∷ ds) e (suc i) lt = ends_at all ds (go (is_none (value_of all 
     go true k = absurd cc
     go false k = k
 
+-- where no other check refuses it, the formula is checked against the limits
 pub formula_is : (ds : List Def) (root place : ℕ) (f : Expr) → index_of ds root ≡ Some place → once ds ≡ true → any_endless ds ds ≡ false → value_of ds (length ds) root ≡ Some f → formula_of ds root ≡ within_limits f
 formula_is ds root place f h o e v = rw (defined ds root place h, o, e, v) refl
 
+-- a formula of more than 32 atoms is refused
 pub many_atoms : (f : Expr) → 32 < length (atoms_of f) → within_limits f ≡ refused_with TOO_MANY_ATOMS
 many_atoms f lt = by_test (ltb 32 (length (atoms_of f))) refl
   where
@@ -116,6 +125,7 @@ many_atoms f lt = by_test (ltb 32 (length (atoms_of f))) refl
     by_test true t = refl
     by_test false t = absurd (omega (arith, lt, ltb-false 32 (length (atoms_of f)) t))
 
+-- at most 32 atoms are not too many
 few_atoms : (f : Expr) → length (atoms_of f) ≤ 32 → ltb 32 (length (atoms_of f)) ≡ false
 few_atoms f le = by_test (ltb 32 (length (atoms_of f))) refl
   where
@@ -123,6 +133,7 @@ few_atoms f le = by_test (ltb 32 (length (atoms_of f))) refl
     by_test true t = absurd (omega (arith, le, ltb-true 32 (length (atoms_of f)) t))
     by_test false t = refl
 
+-- a formula of at most 32 atoms and of a weight within the limit is taken
 pub small : (f : Expr) (w : ℕ) → length (atoms_of f) ≤ 32 → limited (weight_of f) ≡ Is w → within_limits f ≡ Ok f
 small f w le h = rw (few_atoms f le) (by_test (ltb 1024 (weight_of f)) h)
   where
@@ -130,6 +141,7 @@ small f w le h = rw (few_atoms f le) (by_test (ltb 1024 (weight_of f)) h)
     by_test true k = absurd cc
     by_test false k = refl
 
+-- a formula of at most 32 atoms and of a weight over the limit is refused
 pub heavy : (f : Expr) → length (atoms_of f) ≤ 32 → ((w : ℕ) → limited (weight_of f) ≢ Is w) → within_limits f ≡ refused_with TOO_BIG
 heavy f le h = rw (few_atoms f le) (by_test (ltb 1024 (weight_of f)) (h (weight_of f)))
   where

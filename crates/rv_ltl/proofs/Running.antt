@@ -10,6 +10,7 @@ use Rattle.rv_ltl.specs.Postfix.{code, Coded, coded_def, seen, AreCodes}
 use Rattle.rv_ltl.specs.Replace.{plain, plain_def}
 use Rattle.rv_ltl.specs.Machine.{Values, value, one_step, two_step, stepped, run, last_of, computed, formulas, def, defs, AllCoded}
 
+-- code behind other code runs on the stack that the other leaves
 run-append : {A : Type 0} (v : Values A) (front back : List Step) (stack : List A) → run v (front ++ back) stack ≡ run v back (run v front stack)
 run-append v [] back stack = refl
 run-append v (step ∷ front) back stack = run-append v front back (stepped v step stack)
@@ -29,6 +30,7 @@ run-code v (Two op a b) stack =
 pub computed-code : {A : Type 0} (v : Values A) (e : Expr) → computed v (code e) ≡ value v e
 computed-code v e = ap (λ s. last_of (v.constant true) s) (run-code v e [])
 
+-- with formulas as values, the value of a formula is the formula without its parentheses
 value-plain : (e : Expr) → value formulas e ≡ plain e
 value-plain Expr.True = refl
 value-plain Expr.False = refl
@@ -37,6 +39,7 @@ value-plain (Paren e) = value-plain e
 value-plain (One op e) = ap (λ (f : Expr). One op f) (value-plain e)
 value-plain (Two op a b) = ap (λ (f : Expr). Two op f (value formulas b)) (value-plain a) ∙ ap (λ (f : Expr). Two op (plain a) f) (value-plain b)
 
+-- a formula without its parentheses has the same code
 code-plain : (e : Expr) → code (plain e) ≡ code e
 code-plain Expr.True = refl
 code-plain Expr.False = refl
@@ -49,11 +52,13 @@ code-plain (Two op a b) = ap (λ (c : List Step). c ++ (code (plain b) ++ steps.
 pub coded_value : {A : Type 0} (v : Values A) (steps : List Step) → code (computed formulas steps) ≡ steps → computed v steps ≡ value v (computed formulas steps)
 coded_value v steps coded = ap (λ s. computed v s) (sym coded) ∙ computed-code v (computed formulas steps)
 
+-- a definition that the program has is the one that was read, without parentheses
 one_def : (d : Def) (definition : Definition) → seen definition ≡ coded_def d → def definition ≡ plain_def d
 one_def d definition e =
     let same : computed formulas definition.code.items ≡ plain d.body = ap (λ s. computed formulas s) (ap (λ (c : Coded). c.code) e) ∙ computed-code formulas d.body ∙ value-plain d.body in
     ap (λ (x : ℕ). record { name = x; body = computed formulas definition.code.items }) (ap (λ (c : Coded). c.name) e) ∙ ap (λ (x : Expr). record { name = d.name; body = x }) same
 
+-- the code of a definition that was read is that of a formula
 one_coded : (d : Def) (definition : Definition) → seen definition ≡ coded_def d → code (computed formulas definition.code.items) ≡ definition.code.items
 one_coded d definition e =
     let text : definition.code.items ≡ code d.body = ap (λ (c : Coded). c.code) e in

@@ -19,6 +19,7 @@ pub data Found (ds : List Def) (x : ℕ) : Type 0 where
   Free : index_of ds x ≡ None → body_of ds x ≡ None → Found ds x
   Held : (i : ℕ) → i < length ds → (def_at ds i).name ≡ x → index_of ds x ≡ Some i → body_of ds x ≡ Some (def_at ds i).body → Found ds x
 
+-- each name is not defined, or its first definition is found
 pub found : (ds : List Def) (x : ℕ) → Found ds x
 found [] x = Free refl refl
 found (d ∷ ds) x = by_test (eqb d.name x) refl (found ds x)
@@ -39,6 +40,7 @@ body_at ds x i h = by_case (found ds x)
         let P : ℕ → Type 0 = λ m. (m < length ds) × ((def_at ds m).name ≡ x) × (body_of ds x ≡ Some (def_at ds m).body) in
         subst P e (lt, n, b)
 
+-- a name without a first definition has no formula
 pub body_none : (ds : List Def) (x : ℕ) → index_of ds x ≡ None → body_of ds x ≡ None
 body_none ds x h = by_case (found ds x)
   where
@@ -46,6 +48,7 @@ body_none ds x h = by_case (found ds x)
     by_case (Free k b) = b
     by_case (Held j lt n k b) = absurd cc
 
+-- a name without a formula has no first definition
 pub index_none : (ds : List Def) (x : ℕ) → body_of ds x ≡ None → index_of ds x ≡ None
 index_none ds x h = by_case (found ds x)
   where
@@ -66,6 +69,7 @@ pub value_defined : (ds : List Def) (n x : ℕ) (e : Expr) → body_of ds x ≡ 
 unfolding value_of
 value_defined ds n x e b = rw (b, value_of) refl
 
+-- with no definitions in one another a defined name stands for nothing
 pub value_zero : (ds : List Def) (x : ℕ) (e : Expr) → body_of ds x ≡ Some e → value_of ds 0 x ≡ None
 unfolding value_of
 value_zero ds x e b = rw (b, value_of) refl
@@ -86,9 +90,11 @@ replaced_none val (Two op a b) x (inr m) h = go (replaced val a) (replaced_none 
 
 -- ---- what is known
 
+-- a name that is not defined weighs 1
 pub weight_free : (ds : List Def) (ws : List Weight) (x : ℕ) → index_of ds x ≡ None → weight_at ds ws x ≡ Is 1
 weight_free ds ws x h = rw (h, weight_at) refl
 
+-- what is known of a defined name is what is known of its first definition
 pub weight_held : (ds : List Def) (ws : List Weight) (x i : ℕ) → index_of ds x ≡ Some i → weight_at ds ws x ≡ known_at ws i
 weight_held ds ws x i h = rw (h, weight_at) refl
 
@@ -154,6 +160,7 @@ never ds ws distinct stuck (suc n) i lt o =
 
 -- ---- endless definitions
 
+-- where the name of one definition stands for nothing, one is endless
 pub endless_at : (all ds : List Def) (i : ℕ) → i < length ds → value_of all (length all) (def_at ds i).name ≡ None → any_endless all ds ≡ true
 endless_at all [] i lt h = absurd (omega arith)
 endless_at all (d ∷ ds) zero lt h = rw h refl
@@ -163,6 +170,7 @@ endless_at all (d ∷ ds) (suc i) lt h = go (is_none (value_of all (length all) 
     go true r = refl
     go false r = r
 
+-- where the name of each definition stands for something, none is endless
 pub none_endless : (all ds : List Def) → ((i : ℕ) → i < length ds → value_of all (length all) (def_at ds i).name ≢ None) → any_endless all ds ≡ false
 none_endless all [] h = refl
 none_endless all (d ∷ ds) h = go (value_of all (length all) d.name) (h 0 (omega arith)) (none_endless all ds (λ i lt. h (suc i) (omega arith)))

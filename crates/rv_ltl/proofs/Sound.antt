@@ -1,95 +1,23 @@
 -- What is read is of the grammar, and what is of the grammar is read.
-use Rattle.std.proofs.Common.{◌≡◌, ℕ, zero, suc, ◌+◌, ◌-◌, ◌<◌, ◌≤◌, Bool, true, false, cond, List, [], ◌∷◌, ◌++◌, drop, Option, Some, None, refl, sym, ap, subst, ◌∙◌, append_assoc, arith}
+use Rattle.std.proofs.Common.{◌≡◌, ℕ, zero, suc, ◌+◌, ◌-◌, ◌<◌, ◌≤◌, Bool, true, false, List, [], ◌∷◌, ◌++◌, drop, Option, Some, None, refl, sym, ap, subst, ◌∙◌, append_assoc, arith}
 use Rattle.rv_ltl.specs.declared.token.Token.{Token}
 use Rattle.rv_ltl.specs.declared.token.Token.TheVariants as token
 use Rattle.rv_ltl.specs.declared.token.Binary.{Binary}
-use Rattle.rv_ltl.specs.declared.token.Binary.TheVariants.{And, Or, Until, Release, WeakUntil, Imply, Equivalent}
+use Rattle.rv_ltl.specs.declared.token.Binary.TheVariants.{And}
 use Rattle.rv_ltl.specs.Grammar.{Expr, Paren, One, Two, Place, Whole, Chain, spell, Fits}
-use Rattle.rv_ltl.specs.Parse.{Reader, operator, chain_at, term_at, expr_by, after_term, closed, is_close, ◌>>=◌}
-use Rattle.std.proofs.lemmas.Bool.{eqb-true}
-use Rattle.rv_ltl.specs.Operators.{is_same, joins, row_of}
+use Rattle.rv_ltl.specs.Parse.{Reader, operator, chain_at, term_at, expr_by, after_term, closed, is_close}
+use Rattle.rv_ltl.specs.Operators.{is_same, joins}
 use Rattle.rv_ltl.proofs.ChainSteps.{chain_end, chain_full, chain_other, chain_more}
+use Rattle.rv_ltl.proofs.OperatorLaws.{bind_some, close_is, operator_is, same_is, test_some}
 
 -- what a reader took from the front
 pub record Takes (depth : ℕ) (place : Place) (marks : List Token) (e : Expr) (rest : List Token) : Type 0 where
   pub text : marks ≡ spell e ++ rest
   pub fits : Fits depth place e
 
+-- what the reader reads fits the place, and the tokens that it took spell it
 abbrev pub Sound : ℕ → Place → Reader → Type 0
 Sound depth place read = (marks : List Token) (e : Expr) (rest : List Token) → read marks ≡ Some (e, rest) → Takes depth place marks e rest
-
--- the value of a step that did not fail
-pub bind_some : {A B : Type 0} (o : Option A) (f : A → Option B) (y : B) → (o >>= f) ≡ Some y → (x : A) × (o ≡ Some x) × (f x ≡ Some y)
-bind_some (Some x) f y e = (x, refl, e)
-bind_some None f y e = absurd cc
-
--- a test that did not fail
-pub test_some : {A : Type 0} (b : Bool) (x : Option A) (y : A) → cond b x None ≡ Some y → (b ≡ true) × (x ≡ Some y)
-test_some true x y e = (refl, e)
-test_some false x y e = absurd cc
-
-operator_is : (marks : List Token) (op : Binary) → operator marks ≡ Some op → marks ≡ token.Binary op ∷ drop 1 marks
-operator_is [] op e = absurd cc
-operator_is (token.Binary op ∷ rest) op' e = ap (λ (o : Binary). token.Binary o ∷ rest) cc
-operator_is (token.Open ∷ rest) op e = absurd cc
-operator_is (token.Close ∷ rest) op e = absurd cc
-operator_is (token.Equals ∷ rest) op e = absurd cc
-operator_is (token.True ∷ rest) op e = absurd cc
-operator_is (token.False ∷ rest) op e = absurd cc
-operator_is (token.Name n ∷ rest) op e = absurd cc
-operator_is (token.Unary u ∷ rest) op e = absurd cc
-
-close_is : (marks : List Token) → is_close marks ≡ true → marks ≡ token.Close ∷ drop 1 marks
-close_is [] e = absurd cc
-close_is (token.Close ∷ rest) e = refl
-close_is (token.Binary op ∷ rest) e = absurd cc
-close_is (token.Open ∷ rest) e = absurd cc
-close_is (token.Equals ∷ rest) e = absurd cc
-close_is (token.True ∷ rest) e = absurd cc
-close_is (token.False ∷ rest) e = absurd cc
-close_is (token.Name n ∷ rest) e = absurd cc
-close_is (token.Unary u ∷ rest) e = absurd cc
-
--- the operator of a row
-abbrev in_row : ℕ → Binary
-in_row zero = And
-in_row (suc zero) = Or
-in_row (suc (suc zero)) = Until
-in_row (suc (suc (suc zero))) = Release
-in_row (suc (suc (suc (suc zero)))) = WeakUntil
-in_row (suc (suc (suc (suc (suc zero))))) = Imply
-in_row (suc (suc (suc (suc (suc (suc n)))))) = Equivalent
-
-row_back : (op : Binary) → in_row (row_of op) ≡ op
-row_back And = refl
-row_back Or = refl
-row_back Until = refl
-row_back Release = refl
-row_back WeakUntil = refl
-row_back Imply = refl
-row_back Equivalent = refl
-
--- operators of one row are one
-pub same_is : (a b : Binary) → is_same a b ≡ true → b ≡ a
-same_is a b e = sym (row_back b) ∙ ap in_row (sym (eqb-true (row_of a) (row_of b) e)) ∙ row_back a
-
-pub same_self : (a : Binary) → is_same a a ≡ true
-same_self And = refl
-same_self Or = refl
-same_self Until = refl
-same_self Release = refl
-same_self WeakUntil = refl
-same_self Imply = refl
-same_self Equivalent = refl
-
-pub some_joins : (op : Binary) → 0 < joins op
-some_joins And = omega arith
-some_joins Or = omega arith
-some_joins Until = omega arith
-some_joins Release = omega arith
-some_joins WeakUntil = omega arith
-some_joins Imply = omega arith
-some_joins Equivalent = omega arith
 
 -- a chain may be of fewer
 more_room : (depth : ℕ) (op : Binary) (j k : ℕ) (e : Expr) → j ≤ k → Fits depth (Chain op j) e → Fits depth (Chain op k) e
@@ -120,6 +48,7 @@ as_whole depth op (Two o a b) h =
     let P : Binary → Type 0 = λ p. Fits depth (Chain p (joins p - 1)) a in
     (subst P (sym h.0) h.2, h.3)
 
+-- a term is an expression
 term_whole : (depth : ℕ) (e : Expr) → Fits depth (Chain And 0) e → Fits depth Whole e
 term_whole depth e h = as_whole depth And e (more_room depth And 0 (joins And) e (omega arith) h)
 
@@ -129,21 +58,25 @@ data Went (read : Reader) (op : Binary) (n : ℕ) (left : Expr) (marks : List To
   More : (right : Expr) (after : List Token) → marks ≡ token.Binary op ∷ drop 1 marks → 0 < n → read (drop 1 marks) ≡ Some (right, after)
       → chain_at read op (n - 1) (Two op left right) after ≡ Some (e, rest) → Went read op n left marks e rest
 
+-- a tree and the tokens that are left, as what was read
 abbrev pub got : Expr → List Token → Option (Expr × List Token)
 got e rest = Some (e, rest)
 
+-- where two readings are the same, so are their trees and the tokens that are left
 some_pair : (a c : Expr) (b d : List Token) → got a b ≡ got c d → (a ≡ c) × (b ≡ d)
 some_pair a c b d e =
     let first : Option (Expr × List Token) → Expr = λ o. elim o [ None ↦ a | Some x ↦ x.0 ] in
     let second : Option (Expr × List Token) → List Token = λ o. elim o [ None ↦ b | Some x ↦ x.1 ] in
     (ap first e, ap second e)
 
+-- a chain that was read and has its operator in front read one more operand
 went_more : (read : Reader) (op other : Binary) (n : ℕ) (left : Expr) (marks : List Token) (e : Expr) (rest : List Token) → operator marks ≡ Some other → is_same op other ≡ true → 0 < n
     → chain_at read op n left marks ≡ Some (e, rest) → Went read op n left marks e rest
 went_more read op other n left marks e rest o s lt h =
     let b = bind_some (read (drop 1 marks)) (λ (x : Expr × List Token). chain_at read op (n - 1) (Two op left x.0) x.1) (e, rest) (sym (chain_more read op other n left marks o s lt) ∙ h) in
     More b.0.0 b.0.1 (operator_is marks op (o ∙ ap (λ (p : Binary). Some p) (same_is op other s))) lt b.1 b.2
 
+-- a chain that was read ended or read one more operand, whatever is in front
 went_with : (read : Reader) (op : Binary) (n : ℕ) (left : Expr) (marks : List Token) (e : Expr) (rest : List Token) (o : Option Binary) → operator marks ≡ o → chain_at read op n left marks ≡ Some (e, rest) → Went read op n left marks e rest
 went_with read op n left marks e rest None o h =
     let p = some_pair left e marks rest (sym (chain_end read op n left marks o) ∙ h) in
@@ -160,9 +93,11 @@ went_with read op (suc n) left marks e rest (Some other) o h = went_same read op
         let p : None ≡ got e rest = sym (chain_other read op other (suc n) left marks o s) ∙ h in
         absurd cc
 
+-- a chain that was read ended here, or read one more operand
 went : (read : Reader) (op : Binary) (n : ℕ) (left : Expr) (marks : List Token) (e : Expr) (rest : List Token) → chain_at read op n left marks ≡ Some (e, rest) → Went read op n left marks e rest
 went read op n left marks e rest h = went_with read op n left marks e rest (operator marks) refl h
 
+-- the tree is a chain, and spells what was read before and the tokens that were taken after it
 abbrev Chained : ℕ → Binary → Expr → List Token → Expr → List Token → Type 0
 Chained depth op left marks e rest = (spell left ++ marks ≡ spell e ++ rest) × Fits depth (Chain op (joins op)) e
 
@@ -195,6 +130,7 @@ expr_with depth read sound first marks e rest fits (Some op) o h =
     let c = chain_sound depth read sound op (joins op) 0 first marks e rest (omega arith) (as_chain depth op first fits) (went read op (joins op) first marks e rest h') in
     (c.0, as_whole depth op e c.1)
 
+-- where terms are read soundly, so are expressions
 expr_sound : (depth : ℕ) (read : Reader) → Sound depth (Chain And 0) read → Sound depth Whole (expr_by read)
 expr_sound depth read sound marks e rest h =
     let b = bind_some (read marks) (λ (x : Expr × List Token). after_term read x.0 x.1) (e, rest) h in
@@ -202,6 +138,7 @@ expr_sound depth read sound marks e rest h =
     let w = expr_with depth read sound b.0.0 b.0.1 e rest t.fits (operator b.0.1) refl b.2 in
     record { text = t.text ∙ w.0; fits = w.1 }
 
+-- a tree of one token takes that token
 one_takes : (depth : ℕ) (place : Place) (mark : Token) (a e : Expr) (marks rest : List Token) → spell a ≡ mark ∷ [] → Fits depth place a → got a marks ≡ got e rest → Takes depth place (mark ∷ marks) e rest
 one_takes depth place mark a e marks rest s f h =
     let p = some_pair a e marks rest h in
@@ -211,6 +148,7 @@ one_takes depth place mark a e marks rest s f h =
       fits = subst F p.0 f;
     }
 
+-- what is read as a term is a term, and its tokens spell it
 pub term_sound : (depth : ℕ) → Sound depth (Chain And 0) (term_at depth)
 unfolding term_at
 term_sound zero [] e rest h = absurd cc
@@ -254,5 +192,6 @@ term_sound (suc n) (token.Open ∷ marks) e rest h =
       fits = subst F p.0 f;
     }
 
+-- what is read as an expression is an expression, and its tokens spell it
 pub whole_sound : (depth : ℕ) → Sound depth Whole (expr_by (term_at depth))
 whole_sound depth = expr_sound depth (term_at depth) (term_sound depth)

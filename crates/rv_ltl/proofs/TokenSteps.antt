@@ -10,6 +10,7 @@ use Rattle.rv_ltl.specs.Tokens.{token_of, tokens_of}
 abbrev pub before : List Token → Option (List Token) → Option (List Token)
 before front read = read >>= λ marks. Some (front ++ marks)
 
+-- a token before those that are read is the last of those before
 regroup : (front : List Token) (mark : Token) (read : Option (List Token)) → before front (read >>= λ marks. Some (mark ∷ marks)) ≡ before (front ++ mark ∷ []) read
 regroup front mark None = refl
 regroup front mark (Some marks) = ap (λ (x : List Token). Some x) (simp append_assoc)
@@ -40,5 +41,6 @@ pub begins : (read : Option (List Token)) → before [] read ≡ read
 begins None = refl
 begins (Some marks) = refl
 
+-- with no pieces left the tokens before are all
 pub ends : (names : List (List ℕ)) (front : List Token) → before front (tokens_of names []) ≡ Some front
 ends names front = ap (λ (x : List Token). Some x) (append-nil front)

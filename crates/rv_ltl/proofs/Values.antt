@@ -5,7 +5,7 @@ use Rattle.rv_ltl.specs.Parse.{◌>>=◌}
 use Rattle.rv_ltl.specs.File.{Def}
 use Rattle.rv_ltl.specs.Reach.{Mentions, Uses, Step, Then, Reaches}
 use Rattle.rv_ltl.specs.Replace.{body_of, replaced, value_of}
-use Rattle.rv_ltl.proofs.Sound.{bind_some}
+use Rattle.rv_ltl.proofs.OperatorLaws.{bind_some}
 
 -- each name of a formula that is replaced stands for something
 pub replaced_some : (value : ℕ → Option Expr) (e f : Expr) (x : ℕ) → replaced value e ≡ Some f → Mentions e x → (g : Expr) × (value x ≡ Some g)
@@ -38,6 +38,7 @@ replaced_more value more k (Two op a b) f h =
     let q = bind_some (replaced value b) (λ (k : Expr). Some (Two op p.0 k)) f p.2 in
     rw (replaced_more value more k a p.0 p.1, replaced_more value more k b q.0 q.1) q.2
 
+-- what a name stands for stays so with definitions one deeper
 pub value_more : (ds : List Def) (n : ℕ) (x : ℕ) (f : Expr) → value_of ds n x ≡ Some f → value_of ds (suc n) x ≡ Some f
 unfolding value_of
 value_more ds zero x f h = at (body_of ds x) h
@@ -54,10 +55,12 @@ value_more ds (suc n) x f h = at (body_of ds x) h (λ e g k. replaced_more (valu
     at None h k = h
     at (Some e) h k = k e f h
 
+-- what a name stands for stays so with definitions however much deeper
 pub value_after : (ds : List Def) (n more : ℕ) (x : ℕ) (f : Expr) → value_of ds n x ≡ Some f → value_of ds (n + more) x ≡ Some f
 value_after ds n zero x f h = let k : n + 0 ≡ n = omega arith in rw k h
 value_after ds n (suc m) x f h = let k : n + suc m ≡ suc (n + m) = omega arith in rw k (value_more ds (n + m) x f (value_after ds n m x f h))
 
+-- no formula, as what a name stands for
 abbrev nowhere : Option Expr
 nowhere = None
 
@@ -72,6 +75,7 @@ value_uses ds (suc n) x y f h u =
     let r = replaced_some (value_of ds n) u.0 f y p u.2 in
     (n, refl, r.0, r.1)
 
+-- what is reached from a name that stands for something stands for something, with definitions less deep
 value_reaches : (ds : List Def) {x y : ℕ} → Reaches ds x y → (n : ℕ) (f : Expr) → value_of ds n x ≡ Some f → (m : ℕ) × (m < n) × (g : Expr) × (value_of ds m y ≡ Some g)
 value_reaches ds (Step {x = x} {y = y} u) n f h =
     let r = value_uses ds n x y f h u in

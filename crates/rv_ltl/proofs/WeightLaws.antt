@@ -13,6 +13,7 @@ use Rattle.rv_ltl.specs.Replace.{weight_of, replaced}
 use Rattle.rv_ltl.specs.Machine.{value}
 use Rattle.rv_ltl.specs.Weights.{limited, weighed, one_weight, two_weights, weights_by}
 
+-- two operands with an operator weigh no less than the left one
 left_weight : (op : Binary) (a b : ℕ) → a ≤ weight_two op a b
 left_weight And a b = omega arith
 left_weight Or a b = omega arith
@@ -22,6 +23,7 @@ left_weight WeakUntil a b = omega arith
 left_weight Imply a b = omega arith
 left_weight Equivalent a b = omega arith
 
+-- two operands with an operator weigh no less than the right one
 right_weight : (op : Binary) (a b : ℕ) → b ≤ weight_two op a b
 right_weight And a b = omega arith
 right_weight Or a b = omega arith
@@ -47,6 +49,7 @@ not_open w = by_test (ltb 1024 w)
     by_test true = λ e. absurd cc
     by_test false = λ e. absurd cc
 
+-- the limited weight under an operator is the limited weight of one more
 one_limited : (w : ℕ) → one_weight (limited w) ≡ limited (1 + w)
 one_limited w = by_test (ltb 1024 w) refl
   where
@@ -54,6 +57,7 @@ one_limited w = by_test (ltb 1024 w) refl
     by_test true t = sym (large (1 + w) (omega (arith, ltb-true 1024 w t)))
     by_test false t = refl
 
+-- two limited weights with an operator between them are the limited weight of both with it
 two_limited : (op : Binary) (w x : ℕ) → two_weights op (limited w) (limited x) ≡ limited (weight_two op w x)
 two_limited op w x = by_tests (ltb 1024 w) (ltb 1024 x) refl refl
   where
@@ -97,11 +101,13 @@ is_weighed names val h (Two op a b) n =
     ap (λ (w : Weight). two_weights op w (value (weights_by names) b)) s.2 ∙ ap (λ (w : Weight). two_weights op (limited (weight_of s.0)) w) t.2 ∙ two_limited op (weight_of s.0) (weight_of t.0)
     ∙ sym (ap (λ (o : Option Expr). weighed (o >>= λ f. replaced val b >>= λ g. Some (Two op f g))) s.1 ∙ ap (λ (o : Option Expr). weighed (o >>= λ g. Some (Two op s.0 g))) t.1)
 
+-- where nothing is known under an operator, nothing is known of its operand
 one_open : (a : Weight) → one_weight a ≡ Open → a ≡ Open
 one_open Open e = refl
 one_open Large e = absurd cc
 one_open (Is w) e = absurd (not_open (1 + w) e)
 
+-- where nothing is known of two operands with an operator, nothing is known of one of them
 two_open : (op : Binary) (a b : Weight) → two_weights op a b ≡ Open → (a ≡ Open) ⊎ (b ≡ Open)
 two_open op Open b e = inl refl
 two_open op Large Open e = inr refl

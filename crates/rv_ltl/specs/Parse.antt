@@ -7,6 +7,7 @@ use Rattle.rv_ltl.specs.declared.token.Token.TheVariants as token
 use Rattle.rv_ltl.specs.declared.token.Binary.{Binary}
 
 infixl 10 ◌>>=◌
+-- goes on with what was found, and finds nothing where nothing was found
 abbrev pub ◌>>=◌ : {A B : Type 0} → Option A → (A → Option B) → Option B
 (Some x) >>= f = f x
 None >>= f = None
@@ -39,14 +40,17 @@ chain_at read op (suc n) left marks =
 abbrev pub after_term : Reader → Expr → Reader
 after_term read first marks = elim (operator marks) [ None ↦ Some (first, marks) | Some op ↦ chain_at read op (joins op) first marks ]
 
+-- an expression is read as a term and the chain behind it
 abbrev pub expr_by : Reader → Reader
 expr_by read marks = read marks >>= λ x. after_term read x.0 x.1
 
+-- a closing parenthesis is at the front
 abbrev pub is_close : List Token → Bool
 is_close [] = false
 is_close (token.Close ∷ rest) = true
 is_close (mark ∷ rest) = false
 
+-- the expression stands in parentheses, where the closing one is at the front
 abbrev pub closed : Expr → Reader
 closed e marks = if is_close marks then Some (Paren e, drop 1 marks) else None
 

@@ -15,8 +15,6 @@ mod reached;
 mod reading;
 mod replacing;
 mod settle;
-#[cfg(test)]
-mod tests;
 mod token;
 mod unread;
 mod uses;

@@ -4,6 +4,7 @@ use Rattle.std.proofs.lemmas.List.{reverse-append}
 use Rattle.rv_model.specs.declared.entry.Entry.{Entry}
 use Rattle.rv_model.specs.Cuts.{AtEach}
 
+-- an empty history has no cut
 no_cut : (before : List Entry) (e : Entry) (after : List Entry) → [] ≡ before ++ e ∷ after → ⊥
 no_cut [] e after eq = cc
 no_cut (x ∷ before) e after eq = cc
@@ -22,6 +23,7 @@ last-cut (y ∷ h) e (x ∷ before) f after eq =
       | inr rest ↦ inr (rest.0, ap (λ (z : Entry). z ∷ h) head ∙ ap (λ (zs : List Entry). x ∷ zs) rest.1)
     ]
 
+-- any fact holds at each entry of an empty history
 pub at_each-nil : (P : List Entry → Entry → Type 0) → AtEach P []
 at_each-nil P before e after eq = absurd (no_cut before e after eq)
 
@@ -33,15 +35,19 @@ at_each-snoc P h e all here before f after eq =
       | inr rest ↦ all before f rest.0 rest.1
     ]
 
+-- what holds at each entry holds at the last one
 pub at_each-last : (P : List Entry → Entry → Type 0) (h : List Entry) (e : Entry) → AtEach P (h ++ e ∷ []) → P h e
 at_each-last P h e all = all h e [] refl
 
+-- what holds at each entry holds at each entry of a front
 pub at_each-front : (P : List Entry → Entry → Type 0) (h more : List Entry) → AtEach P (h ++ more) → AtEach P h
 at_each-front P h more all before e after eq = all before e (after ++ more) (ap (λ (z : List Entry). z ++ more) eq ∙ append_assoc before (e ∷ after) more)
 
+-- where one fact follows from another, it holds at each entry at which the other does
 pub at_each-weaker : (P Q : List Entry → Entry → Type 0) → ((before : List Entry) (e : Entry) → P before e → Q before e) → (h : List Entry) → AtEach P h → AtEach Q h
 at_each-weaker P Q weaker h all before e after eq = weaker before e (all before e after eq)
 
+-- a cut of a history, read backwards
 pub reverse-cut : (before : List Entry) (e : Entry) (after : List Entry) → reverse (before ++ e ∷ after) ≡ reverse after ++ e ∷ reverse before
 reverse-cut before e after =
     reverse-append before (e ∷ after) ∙ ap (λ (z : List Entry). z ++ reverse before) (reverse-append (e ∷ []) after) ∙ append_assoc (reverse after) (e ∷ []) (reverse before)

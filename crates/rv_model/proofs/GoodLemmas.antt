@@ -20,20 +20,24 @@ record Cuts (p : Meaning) : Type 0 where
   weak : (w more : List ℕ) → p Weak (w ++ more) ≡ true → p Weak w ≡ true
   strong : (w more : List ℕ) → p Strong w ≡ true → p Strong (w ++ more) ≡ true
 
+-- where two tests pass whenever two others do, one of them passes whenever one of the others does
 or_mono : (a b c d : Bool) → (a ≡ true → c ≡ true) → (b ≡ true → d ≡ true) → (a || b) ≡ true → (c || d) ≡ true
 or_mono true b c d f g e = rw (f refl) refl
 or_mono false b true d f g e = refl
 or_mono false b false d f g e = g e
 
+-- and both of them pass whenever both others do
 and_mono : (a b c d : Bool) → (a ≡ true → c ≡ true) → (b ≡ true → d ≡ true) → (a && b) ≡ true → (c && d) ≡ true
 and_mono true b c d f g e = rw (f refl) (g e)
 and_mono false b c d f g e = cc
 
+-- where a test does not pass, no test passes from which it follows
 not_anti : (a b : Bool) → (b ≡ true → a ≡ true) → not a ≡ true → not b ≡ true
 not_anti true true f e = cc
 not_anti false true f e = absurd (false≢true (f refl))
 not_anti a false f e = refl
 
+-- the constant true passes weakly on each front, and strongly on each extension
 true_cuts : Cuts true_m
 true_cuts = record { weak = weak; strong = strong }
   where
@@ -45,6 +49,7 @@ true_cuts = record { weak = weak; strong = strong }
     strong [] more e = cc
     strong (x ∷ t) more e = refl
 
+-- so does the constant false
 false_cuts : Cuts (meaning False)
 false_cuts = record { weak = weak; strong = strong }
   where
@@ -56,6 +61,7 @@ false_cuts = record { weak = weak; strong = strong }
     strong [] more e = cc
     strong (x ∷ t) more e = cc
 
+-- so does an atom
 atom_cuts : (a : ℕ) → Cuts (meaning (Atom a))
 atom_cuts a = record { weak = weak; strong = strong }
   where
@@ -67,6 +73,7 @@ atom_cuts a = record { weak = weak; strong = strong }
     strong [] more e = cc
     strong (x ∷ t) more e = e
 
+-- so does a negation, where its operand does
 not_cuts : (p : Meaning) → Cuts p → Cuts (not_m p)
 not_cuts p h = record { weak = weak; strong = strong }
   where
@@ -78,6 +85,7 @@ not_cuts p h = record { weak = weak; strong = strong }
     strong [] more e = cc
     strong (x ∷ t) more e = not_anti (p Weak (x ∷ t)) (p Weak (x ∷ t ++ more)) (h.weak (x ∷ t) more) e
 
+-- so does a conjunction, where its operands do
 and_cuts : (p q : Meaning) → Cuts p → Cuts q → Cuts (and_m p q)
 and_cuts p q h k = record { weak = weak; strong = strong }
   where
@@ -89,6 +97,7 @@ and_cuts p q h k = record { weak = weak; strong = strong }
     strong [] more e = cc
     strong (x ∷ t) more e = and_mono _ _ (p Strong (x ∷ t ++ more)) (q Strong (x ∷ t ++ more)) (h.strong (x ∷ t) more) (k.strong (x ∷ t) more) e
 
+-- so does a disjunction, where its operands do
 or_cuts : (p q : Meaning) → Cuts p → Cuts q → Cuts (or_m p q)
 or_cuts p q h k = record { weak = weak; strong = strong }
   where
@@ -100,6 +109,7 @@ or_cuts p q h k = record { weak = weak; strong = strong }
     strong [] more e = cc
     strong (x ∷ t) more e = or_mono _ _ (p Strong (x ∷ t ++ more)) (q Strong (x ∷ t ++ more)) (h.strong (x ∷ t) more) (k.strong (x ∷ t) more) e
 
+-- so does a next, where its operand does
 next_cuts : (p : Meaning) → Cuts p → Cuts (next_m p)
 next_cuts p h = record { weak = weak; strong = strong }
   where
@@ -111,24 +121,29 @@ next_cuts p h = record { weak = weak; strong = strong }
     strong [] more e = cc
     strong (x ∷ t) more e = h.strong t more e
 
+-- an until passes weakly on each front, where its operands do
 until_weak : (p q : Meaning) → Cuts p → Cuts q → (w more : List ℕ) → until_m p q Weak (w ++ more) ≡ true → until_m p q Weak w ≡ true
 until_weak p q h k [] more e = refl
 until_weak p q h k (x ∷ t) more e =
     or_mono _ _ (q Weak (x ∷ t)) (p Weak (x ∷ t) && until_m p q Weak t) (k.weak (x ∷ t) more)
     (and_mono _ _ (p Weak (x ∷ t)) (until_m p q Weak t) (h.weak (x ∷ t) more) (until_weak p q h k t more)) e
 
+-- an until passes strongly on each extension, where its operands do
 until_strong : (p q : Meaning) → Cuts p → Cuts q → (w more : List ℕ) → until_m p q Strong w ≡ true → until_m p q Strong (w ++ more) ≡ true
 until_strong p q h k [] more e = cc
 until_strong p q h k (x ∷ t) more e =
     or_mono _ _ (q Strong (x ∷ t ++ more)) (p Strong (x ∷ t ++ more) && until_m p q Strong (t ++ more)) (k.strong (x ∷ t) more)
     (and_mono _ _ (p Strong (x ∷ t ++ more)) (until_m p q Strong (t ++ more)) (h.strong (x ∷ t) more) (until_strong p q h k t more)) e
 
+-- an until does both, where its operands do
 until_cuts : (p q : Meaning) → Cuts p → Cuts q → Cuts (until_m p q)
 until_cuts p q h k = record { weak = until_weak p q h k; strong = until_strong p q h k }
 
+-- so does a release, where its operands do
 release_cuts : (p q : Meaning) → Cuts p → Cuts q → Cuts (release_m p q)
 release_cuts p q h k = not_cuts _ (until_cuts _ _ (not_cuts _ h) (not_cuts _ k))
 
+-- each formula passes weakly on each front, and strongly on each extension
 cuts : (f : Ltl) → Cuts (meaning f)
 cuts True = true_cuts
 cuts False = false_cuts
@@ -153,10 +168,12 @@ path_front a state (x ∷ front) back (next ∷ path) p =
     let later = path_front a next front back path p.1 in
     (next ∷ later.0, (p.0, later.1))
 
+-- the letters are good while there are none
 good_empty : (spec : Spec) → IsGood spec []
 good_empty (Da a) = ([], tt)
 good_empty (Rule r) = (tells r.formula Weak []).0 (proper r.formula Weak)
 
+-- good letters stay good where their end is cut off
 good_cut : (spec : Spec) (front back : List Letter) → IsGood spec (front ++ back) → IsGood spec front
 good_cut (Da a) front back (path, p) = path_front a 0 front back path p
 good_cut (Rule r) front back good =
@@ -164,8 +181,10 @@ good_cut (Rule r) front back good =
     subst (λ w. meaning r.formula Weak w ≡ true) (map-append atoms_in front back) ((tells r.formula Weak (map atoms_in (front ++ back))).1 good) in
     (tells r.formula Weak (map atoms_in front)).0 ((cuts r.formula).weak (map atoms_in front) (map atoms_in back) whole)
 
+-- a formula that holds strongly holds strongly whatever letters follow
 strong_goes_on : (f : Ltl) (front back : List ℕ) → Satisfies Strong front f → Satisfies Strong (front ++ back) f
 strong_goes_on f front back h = (tells f Strong (front ++ back)).0 ((cuts f).strong front back ((tells f Strong front).1 h))
 
+-- so the law of good letters holds
 pub good_letters : GoodLetters
 good_letters = record { empty = good_empty; cut = good_cut; strong = strong_goes_on }

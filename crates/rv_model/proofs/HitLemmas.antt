@@ -19,6 +19,7 @@ by_hit P slot hit ends delivers = go (is_end hit.mode)
 pub hit-no_look : (slot : ℕ) (hit : Hit) → look_count (hit_act slot hit) ≡ 0
 hit-no_look slot hit = by_hit (λ act. look_count act ≡ 0) slot hit refl refl
 
+-- it does not pass the test for a look
 pub hit-not_look : (slot : ℕ) (hit : Hit) → is_look_act (hit_act slot hit) ≡ false
 hit-not_look slot hit = by_hit (λ act. is_look_act act ≡ false) slot hit refl refl
 

@@ -12,26 +12,32 @@ use Rattle.rv_model.proofs.NumberLemmas.{nat_lt_or, number_of-same, has_bit-numb
 use Rattle.rv_model.proofs.ReachLemmas.{Reaches-nil, Reaches-start, Reaches-snoc, Reaches-unsnoc}
 use Rattle.rv_model.specs.Stepping.{IsTable, start_set, some_follows, step_set, JudgesAreOne}
 
+-- no test has both answers
 pub true_not_false : true ≡ false → ⊥
 true_not_false e = cc
 
+-- of two tests one passes, where both parts of the second do
 or_true : (a : Bool) → (a || (true && true)) ≡ true
 or_true true = refl
 or_true false = refl
 
+-- where one of two tests passes, it is the first or the second
 or_cases : (a b : Bool) → (a || b) ≡ true → (a ≡ true) ⊎ (b ≡ true)
 or_cases true b e = inl refl
 or_cases false b e = inr e
 
+-- where two tests pass together, each of them passes
 and_parts : (a b : Bool) → (a && b) ≡ true → (a ≡ true) × (b ≡ true)
 and_parts true b e = (refl, e)
 and_parts false b e = absurd (true_not_false (sym e))
 
+-- a number that has no bit is 0
 pub number_of-none : (n : ℕ) → number_of (λ _. false) n ≡ 0
 unfolding number_of
 number_of-none zero = refl
 number_of-none (suc n) = rw (number_of-none n) (omega arith)
 
+-- the number that has bit 0 alone is 1, and the one that has bit 1 alone is 2
 number_of-first : (n : ℕ) → n ≤ 1 → number_of (λ q. q == n) 32 ≡ (if n == 1 then 2 else 1)
 unfolding number_of
 number_of-first zero le = refl
@@ -50,11 +56,13 @@ path-below t it from [] word p r = r
 path-below t it from (to ∷ path) [] p r = absurd p
 path-below t it from (to ∷ path) (x ∷ word) p r = path-below t it to path word p.1 (it.in_range from x to p.0).1
 
+-- a path that begins past row 0 ends past it
 path-positive : (t : Table) → IsTable t → (from : ℕ) (path : List ℕ) (word : List Letter) → IsPath (Follows t) from path word → 1 ≤ from → 1 ≤ end_of from path
 path-positive t it from [] word p r = r
 path-positive t it from (to ∷ path) [] p r = absurd p
 path-positive t it from (to ∷ path) (x ∷ word) p r = path-positive t it to path word p.1 (it.in_range from x to p.0).0
 
+-- a row that is reached is in range
 pub Reaches-below : (t : Table) → IsTable t → (word : List Letter) (row : ℕ) → Reaches t word row → row < 32
 Reaches-below t it word row (path, p, e) =
     let P : ℕ → Type 0 = λ n. n < 32 in subst P e (path-below t it (first_row t) path word p (let f = it.first in omega arith))
@@ -64,6 +72,7 @@ abbrev pub HasLetter : List Letter → Type 0
 HasLetter [] = ⊥
 HasLetter (x ∷ word) = Unit {0}
 
+-- a row that is reached after a letter, or from row 1, is not row 0
 pub Reaches-positive : (t : Table) → IsTable t → (word : List Letter) (row : ℕ) → HasLetter word ⊎ (first_row t ≡ 1) → Reaches t word row → 1 ≤ row
 Reaches-positive t it word row (inr one) (path, p, e) =
     let P : ℕ → Type 0 = λ n. 1 ≤ n in subst P e (path-positive t it (first_row t) path word p (omega arith))
@@ -72,6 +81,7 @@ Reaches-positive t it (x ∷ word) row (inl some) ([], p, e) = absurd p
 Reaches-positive t it (x ∷ word) row (inl some) (to ∷ path, p, e) =
     let P : ℕ → Type 0 = λ n. 1 ≤ n in subst P e (path-positive t it to path word p.1 (it.in_range (first_row t) x to p.0).0)
 
+-- a row that follows a row of the set follows the set
 pub some_follows-intro : (t : Table) (set : ℕ) (x : Letter) (n row q : ℕ) → row < n → has_bit set row ≡ true → follows t row x q ≡ true → some_follows t set x n q ≡ true
 unfolding some_follows
 some_follows-intro t set x zero row q lt b e = absurd (omega arith)
@@ -84,12 +94,14 @@ some_follows-intro t set x (suc n) row q lt b e =
           rw (bn, en) (or_true (some_follows t set x n q))
     ]
 
+-- a row of the set, below the number, that the other row follows
 pub record Followed (t : Table) (set : ℕ) (x : Letter) (n q : ℕ) : Type 0 where
   pub row : ℕ
   pub below : row < n
   pub has : has_bit set row ≡ true
   pub entry_is : follows t row x q ≡ true
 
+-- a row that follows the set follows such a row of it
 pub some_follows-elim : (t : Table) (set : ℕ) (x : Letter) (n q : ℕ) → some_follows t set x n q ≡ true → Followed t set x n q
 unfolding some_follows
 some_follows-elim t set x zero q e = cc
@@ -103,6 +115,7 @@ some_follows-elim t set x (suc n) q e =
 
 -- the rows after one more letter
 module _ (t : Table) (it : IsTable t) (j : Judge) (judges : JudgesByTable t j) where
+  -- one more letter leads to the rows that follow those reached before
   pub rows_of-snoc : (word : List Letter) (x : Letter) → rows_of j (word ++ x ∷ []) ≡ step_set t (rows_of j word) x
   rows_of-snoc word x = number_of-same (j.reaches (word ++ x ∷ [])) (some_follows t (rows_of j word) x 32) 32 (λ q h. same_test _ _ (there q) (back q))
     where
@@ -130,12 +143,14 @@ module _ (t : Table) (it : IsTable t) (j : Judge) (judges : JudgesByTable t j) w
       let z : has_bit 0 r.0 ≡ false = rw (bit_at-zero r.0) refl in
       true_not_false (sym b ∙ z)
 
+  -- where the letters do not hold, the number is 0
   pub fails-rows : (word : List Letter) → j.holds word ≡ false → rows_of j word ≡ 0
   fails-rows word h = number_of-same (j.reaches word) (λ _. false) 32 (λ q lt. same_test _ _ (none q) (λ e. absurd (true_not_false (sym e)))) ∙ number_of-none 32
     where
       none : (q : ℕ) → j.reaches word q ≡ true → false ≡ true
       none q r = sym h ∙ (judges.holds word).1 (q, (judges.reaches word q).0 r)
 
+  -- the letters hold exactly where the number is not 0
   pub holds-test : (word : List Letter) → j.holds word ≡ not (rows_of j word == 0)
   holds-test word = go (j.holds word) refl
     where
@@ -167,5 +182,6 @@ judges-same Holds t j k by_j by_k =
     let reaches : (word : List Letter) (row : ℕ) → j.reaches word row ≡ k.reaches word row = λ word row. same_test _ _ (λ h. (by_k.reaches word row).1 ((by_j.reaches word row).0 h)) (λ h. (by_j.reaches word row).1 ((by_k.reaches word row).0 h)) in
     λ i. record { holds = λ word. holds word i; reaches = λ word row. reaches word row i }
 
+-- so there is one judge by a specification, and one by a table's paths
 pub judges_are_one : JudgesAreOne
 judges_are_one = record { by_spec = λ spec t j k. judges-same (IsGood spec) t j k; by_table = λ t j k. judges-same (ReachesSome t) t j k }

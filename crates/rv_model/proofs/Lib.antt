@@ -1,10 +1,13 @@
+pub mod ActLemmas
 pub mod AgreeLemmas
 pub mod CutLemmas
+pub mod FoundLemmas
 pub mod GoodLemmas
 pub mod HitLemmas
 pub mod JudgeLemmas
 pub mod MeansLemmas
 pub mod NumberLemmas
+pub mod OneJudgeLemmas
 pub mod ReachLemmas
 pub mod ScriptLemmas
 pub mod ScriptPartLemmas

@@ -1,8 +1,7 @@
 -- The table of an automaton means the automaton.
-use Rattle.std.proofs.Common.{◌≡◌, ℕ, zero, suc, ◌+◌, ◌<◌, ◌≤◌, ◌==◌, ◌&&◌, Bool, true, false, cond, ◌⊎◌, inl, inr, List, [], ◌∷◌, ◌++◌, length, get_or, Option, Some, None, arith, IsTrue, refl, sym, ap, ◌∙◌, subst, add-one, length-append}
+use Rattle.std.proofs.Common.{◌≡◌, ℕ, ◌+◌, ◌<◌, ◌≤◌, ◌==◌, ◌&&◌, Bool, true, false, ◌⊎◌, inl, inr, List, [], ◌∷◌, length, get_or, Option, Some, None, arith, IsTrue, refl, sym, ap, ◌∙◌, add-one}
 use Rattle.std.proofs.lemmas.Option.{slice_get-get_or, slice_get_past}
-use Rattle.std.proofs.lemmas.List.{get_or_append_left, get_or_default}
-use Rattle.std.proofs.Math.Seq.{get_or-append_seam}
+use Rattle.std.proofs.lemmas.List.{get_or_default}
 use Rattle.std.specs.Prelude.{find, option_map, option_and_then, slice_get}
 use Rattle.rv_model.specs.declared.hit.Letter.{Letter}
 use Rattle.rv_model.specs.declared.hit.Letter.TheVariants.{Event, Atoms}
@@ -16,70 +15,28 @@ use Rattle.rv_model.specs.declared.formula.Spec.TheVariants.{Da}
 use Rattle.rv_model.specs.Table.{Table, first_row, next_row, table_of, entry, is_next, Follows, end_of, Reaches}
 use Rattle.rv_model.specs.Judging.{IsGood, Judge, Means, JudgesByTable, JudgesBySpec}
 use Rattle.rv_model.proofs.GoodLemmas.{good_letters}
-use Rattle.rv_model.proofs.NumberLemmas.{nat_lt_or}
 use Rattle.rv_model.proofs.ReachLemmas.{Reaches-start}
-
--- ---- lists by their places
-pub length-list_of : {X : Type 0} (f : ℕ → X) (n : ℕ) → length (list_of f n) ≡ n
-unfolding list_of
-length-list_of f zero = refl
-length-list_of f (suc n) = rw (length-append, length-list_of f n) (omega arith)
-
-pub get_or-list_of : {X : Type 0} (f : ℕ → X) (n i : ℕ) (d : X) → i < n → get_or (list_of f n) i d ≡ f i
-unfolding list_of
-get_or-list_of f zero i d lt = absurd (omega arith)
-get_or-list_of f (suc n) i d lt =
-    elim (nat_lt_or i n (omega arith)) [
-      | inl below ↦
-          let l : i < length (list_of f n) = rw (length-list_of f n) below in
-          get_or_append_left (list_of f n) (f n ∷ []) d i l ∙ get_or-list_of f n i d below
-      | inr same ↦
-          let e : i ≡ length (list_of f n) = same ∙ sym (length-list_of f n) in
-          ap (λ k. get_or (list_of f n ++ f n ∷ []) k d) e ∙ get_or-append_seam (list_of f n) (f n) [] d ∙ ap f (sym same)
-    ]
-
--- ---- the first element that passes
-pub record Found {X : Type 0} (p : X → Bool) (xs : List X) (x : X) : Type 0 where
-  pub place : ℕ
-  pub below : place < length xs
-  pub is : get_or xs place x ≡ x
-  pub passes : p x ≡ true
-
-pub find-found : {X : Type 0} (p : X → Bool) (xs : List X) (x : X) → find p xs ≡ Some x → Found p xs x
-find-found p [] x e = cc
-find-found p (y ∷ ys) x e = go (p y) refl (find-found p ys x)
-  where
-    go : (b : Bool) → p y ≡ b → (find p ys ≡ Some x → Found p ys x) → Found p (y ∷ ys) x
-    go true h rest =
-        let here : Some y ≡ Some x = subst (λ b. cond b (Some y) (find p ys) ≡ Some x) h e in
-        let same : y ≡ x = cc in
-        record { place = 0; below = omega arith; is = same; passes = rw (← same) h }
-    go false h rest =
-        let f = rest (subst (λ b. cond b (Some y) (find p ys) ≡ Some x) h e) in
-        record { place = suc f.place; below = let b = f.below in omega arith; is = f.is; passes = f.passes }
-
-pub find-some : {X : Type 0} (p : X → Bool) (xs : List X) (k : ℕ) (d : X) → k < length xs → p (get_or xs k d) ≡ true → (x : X) × (find p xs ≡ Some x)
-find-some p [] k d lt h = absurd (omega arith)
-find-some p (y ∷ ys) zero d lt h = (y, rw h refl)
-find-some p (y ∷ ys) (suc k) d lt h =
-    let f = find-some p ys k d (omega arith) h in
-    elim (p y) as (λ b. (x : _) × (cond b (Some y) (find p ys) ≡ Some x)) [ true ↦ (y, refl) | false ↦ f ]
+use Rattle.rv_model.proofs.FoundLemmas.{find-found, find-some, get_or-list_of, length-list_of}
 
 -- ---- one edge is one entry
 pub is_next-some : (o : Option ℕ) (q : ℕ) → o ≡ Some q → is_next o q ≡ true
 is_next-some o q e = rw e (grind arith)
 
+-- an entry that the test finds to be a row is this row
 pub is_next-true : (o : Option ℕ) (q : ℕ) → is_next o q ≡ true → o ≡ Some q
 is_next-true None q e = cc
 is_next-true (Some n) q e = let s : n ≡ q = grind arith in ap Some s
 
+-- the edge leaves this state by this event
 abbrev is_edge : ℕ → ℕ → Edge → Bool
 is_edge q event e = e.from == q && e.event == event
 
+-- where two tests pass together, each of them passes
 and_parts : (a b : Bool) → (a && b) ≡ true → (a ≡ true) × (b ≡ true)
 and_parts true b e = (refl, e)
 and_parts false b e = cc
 
+-- what a map gives, it gives of some value
 map-some : {X Y : Type 0} (f : X → Y) (o : Option X) (y : Y) → option_map f o ≡ Some y → (x : X) × (o ≡ Some x) × (f x ≡ y)
 map-some f None y e = absurd (let no : None ≡ Some y = e in cc)
 map-some f (Some x) y e = (x, refl, cc)
@@ -115,6 +72,7 @@ module _ (a : Machine) (k : IsAutomaton a) where
       let got : slice_get row event ≡ Some (next_row a q event) = slice_get-get_or row event None l ∙ ap Some (get_or-list_of (next_row a q) (length a.events) event None le) in
       row-state q event lq ∙ ap (option_and_then (λ next. next)) got
 
+  -- an event by which a state's row has an entry is one of the automaton's
   entry-event : (q event next : ℕ) → q < length a.states → entry (table_of a) (q + 1) (Event event) ≡ Some next → event < length a.events
   entry-event q event next lq e = go (within event (length a.events))
     where
@@ -128,6 +86,7 @@ module _ (a : Machine) (k : IsAutomaton a) where
           let none : entry (table_of a) (q + 1) (Event event) ≡ None = row-state q event lq ∙ ap (option_and_then (λ next. next)) (slice_get_past (list_of (next_row a q) (length a.events)) event past) in
           let no : None ≡ Some next = sym none ∙ e in absurd cc
 
+  -- where an edge leads from a state to another, the row of the one follows the row of the other
   edge-follows : (q : ℕ) (x : Letter) (s : ℕ) → HasEdge a q x s → Follows (table_of a) (q + 1) x (s + 1)
   edge-follows q (Atoms set) s h = absurd h
   edge-follows q (Event event) s (place, below, is) =
@@ -146,12 +105,14 @@ module _ (a : Machine) (k : IsAutomaton a) where
       let to : some.0.to ≡ s = ap (λ (x : Edge). x.to) (sym at ∙ ap (λ n. get_or a.edges n e) (sym same) ∙ is) in
       is_next-some (entry (table_of a) (q + 1) (Event event)) (s + 1) (entry-state q event lq le ∙ ap (option_map (λ edge. edge.to + 1)) some.1 ∙ ap (λ n. Some (n + 1)) to)
 
+  -- the row is that of a state to which an edge leads by the letter
   pub record Edged (q : ℕ) (x : Letter) (row : ℕ) : Type 0 where
     pub to : ℕ
     pub row_is : row ≡ to + 1
     pub edge : HasEdge a q x to
     pub below : to < length a.states
 
+  -- a row that follows the row of a state does so by such an edge
   follows-edge : (q : ℕ) (x : Letter) (row : ℕ) → q < length a.states → Follows (table_of a) (q + 1) x row → Edged q x row
   follows-edge q (Atoms set) row lq f = cc
   follows-edge q (Event event) row lq g =
@@ -176,6 +137,7 @@ module _ (a : Machine) (k : IsAutomaton a) where
   rows-of-states q (to ∷ path) [] p = absurd p
   rows-of-states q (to ∷ path) (x ∷ word) p = let r = rows-of-states to path word p.1 in ((to + 1) ∷ r.0, (edge-follows q x to p.0, r.1))
 
+  -- a path of rows from the row of a state gives a path of states
   states-of-rows : (q : ℕ) (rows : List ℕ) (word : List Letter) → q < length a.states → IsPath (Follows (table_of a)) (q + 1) rows word → (path : List ℕ) × IsPath (HasEdge a) q path word
   states-of-rows q [] [] lq p = ([], tt)
   states-of-rows q [] (x ∷ word) lq p = absurd p
@@ -189,9 +151,11 @@ module _ (a : Machine) (k : IsAutomaton a) where
   pub reach-good : (word : List Letter) (row : ℕ) → Reaches (table_of a) word row → Accepts a word
   reach-good word row (rows, p, e) = states-of-rows 0 rows word k.some_state p
 
+  -- letters that the automaton accepts reach some row
   pub good-reach : (word : List Letter) → Accepts a word → (row : ℕ) × Reaches (table_of a) word row
   good-reach word (path, p) = let r = rows-of-states 0 path word p in (end_of 1 r.0, (r.0, r.1, refl))
 
+  -- so the table of an automaton means it
   pub table_means : Means (table_of a) (Da a)
   table_means word some = (λ r. reach-good word r.0 r.1, good-reach word)
 

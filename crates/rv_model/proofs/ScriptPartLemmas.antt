@@ -118,6 +118,7 @@ module _ (s : Setup) (panics : ℕ → Bool) (ds : List Delivery) (turn : Turn) 
         rw (until, from) (ap (λ (z : List Record). z ++ script_records ds rest qs) now);
   }
 
+  -- of turns that were not played there is no record
   nothing-left : (rest : List Turn) → script_records ds rest [] ≡ []
   nothing-left [] = refl
   nothing-left (t ∷ rest) = refl

@@ -19,20 +19,24 @@ pub looks_of-append : (seat : ℕ) (a b : List Entry) → looks_of seat (a ++ b)
 looks_of-append seat [] b = omega arith
 looks_of-append seat (e ∷ a) b = let r = looks_of-append seat a b in omega arith
 
+-- a seat has as many looks in a history that is read backwards
 pub looks_of-reverse : (seat : ℕ) (h : List Entry) → looks_of seat (reverse h) ≡ looks_of seat h
 looks_of-reverse seat [] = refl
 looks_of-reverse seat (e ∷ h) =
     let r = looks_of-reverse seat h in
     ap (looks_of seat) (reverse-append (e ∷ []) h) ∙ looks_of-append seat (reverse h) (e ∷ []) ∙ omega arith
 
+-- a seat without an entry has no look
 pub looks_of-none : (seat : ℕ) (h : List Entry) → NoneOf seat h → looks_of seat h ≡ 0
 looks_of-none seat [] n = refl
 looks_of-none seat (e ∷ h) n = rw n.0 (let z = looks_of-none seat h n.1 in omega arith)
 
+-- entries of other seats add no look
 pub looks_on-none : (seat : ℕ) (a b : List Entry) → NoneOf seat b → looks_of seat (a ++ b) ≡ looks_of seat a
 looks_on-none seat a b n = let z = looks_of-none seat b n in looks_of-append seat a b ∙ omega arith
 
 module _ (s : Setup) (js : List Judge) where
+  -- a seat has as many looks in what it has played as in the past
   pub played-looks : (seat : ℕ) (past : List Entry) → looks_in (played s js seat past) ≡ looks_of seat past
   played-looks seat [] = refl
   played-looks seat (e ∷ past) = go (played-looks seat past) (e.seat == seat) refl
@@ -41,6 +45,7 @@ module _ (s : Setup) (js : List Judge) where
       go r true y = rw y (looks_in-append (played s js seat past) ((e, answer_at s js past e e.act) ∷ []) ∙ omega arith)
       go r false n = rw n (omega arith)
 
+  -- as the past grows, what a seat has played stays in front
   pub played-later : (seat : ℕ) (later past : List Entry) → (rest : List Played) × (played s js seat (later ++ past) ≡ played s js seat past ++ rest)
   played-later seat [] past = ([], sym (append-nil (played s js seat past)))
   played-later seat (e ∷ later) past = go (e.seat == seat) refl (played-later seat later past)
@@ -59,6 +64,7 @@ module _ (s : Setup) (js : List Judge) where
       let own : played s js seat (e ∷ reverse before) ≡ played s js seat (reverse before) ++ (e, a) ∷ [] = rw y refl in
       (l.0, ap (played s js seat) (reverse-cut before e after) ∙ l.1 ∙ ap (λ (ps : List Played). ps ++ l.0) own ∙ append_assoc (played s js seat (reverse before)) ((e, a) ∷ []) l.0)
 
+  -- entries of other seats add nothing to what a seat has played
   pub played-none : (seat : ℕ) (b a : List Entry) → NoneOf seat b → played s js seat (reverse (a ++ b)) ≡ played s js seat (reverse a)
   played-none seat [] a n = ap (λ (z : List Entry). played s js seat (reverse z)) (append-nil a)
   played-none seat (e ∷ b) a n =
@@ -75,6 +81,7 @@ pub record Next (seat : ℕ) (u : List Entry) : Type 0 where
   pub none : NoneOf seat front
   pub at : entry.seat ≡ seat
 
+-- a seat has no entry in a list, or a next one
 pub next-in : (seat : ℕ) (u : List Entry) → NoneOf seat u ⊎ Next seat u
 next-in seat [] = inl tt
 next-in seat (e ∷ u) = go (e.seat == seat) refl (next-in seat u)
@@ -93,6 +100,7 @@ pub record LastLook (seat : ℕ) (h : List Entry) : Type 0 where
   pub at : entry.seat ≡ seat
   pub all : looks_of seat front + look_count entry.act ≡ looks_of seat h
 
+-- a seat that has made a look has an entry with which its looks were all made
 pub last-look : (seat : ℕ) (h : List Entry) → 1 ≤ looks_of seat h → LastLook seat h
 last-look seat [] some = absurd (omega arith)
 last-look seat (e ∷ h) some = go (last-look seat h) (looks_of seat h) refl
@@ -112,6 +120,7 @@ pub record IsWorkOf (works : List Work) (seat : ℕ) (w : Work) : Type 0 where
   pub has : Contains works w
   pub seat_is : 2 + w.cpu ≡ seat
 
+-- the work that is found for a seat is one of the works and the seat's, where there is such a work
 pub find-work : (works : List Work) (seat : ℕ) → Any (λ w. seat ≡ 2 + w.cpu) works → IsWorkOf works seat (work_of works seat)
 find-work [] seat (k, x, lt, at, is) = absurd (omega arith)
 find-work (w ∷ works) seat any = go (find-work works seat) (2 + w.cpu == seat) refl any
@@ -123,6 +132,7 @@ find-work (w ∷ works) seat any = go (find-work works seat) (2 + w.cpu == seat)
         let r = find (k, x, omega arith, at, is) in
         rw n (record { has = (suc (r.has.0), (let l = r.has.1 in omega arith), r.has.2); seat_is = r.seat_is })
 
+-- the line at a place is that of the turn there
 pub line-index : (turns : List Turn) (i : ℕ) (d : Turn) → i < length turns → slice_index (map (λ t. t.line) turns) i ≡ (get_or turns i d).line
 line-index [] i d lt = absurd (omega arith)
 line-index (t ∷ turns) zero d lt = refl

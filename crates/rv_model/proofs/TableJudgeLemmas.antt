@@ -27,9 +27,11 @@ in_set set row fits has = elim (dec row) [ inl below ↦ below | inr above ↦ a
     dec : (n : ℕ) → (n < 32) ⊎ (32 ≤ n)
     dec n = grind arith
 
+-- a letter leads to a set that has no bit from 32 on
 step_fits : (t : Table) (set : ℕ) (x : Letter) → step_set t set x < 2 ^ 32
 step_fits t set x = number_of-lt (some_follows t set x 32) 32
 
+-- a row of the set after letters ends a path from a row of the set before them
 there : (t : Table) (word : List Letter) (set end : ℕ) → set < 2 ^ 32 → has_bit (rows_after t set word) end ≡ true → From t set word end
 there t [] set end fits h = record { row = end; has = h; path = []; is_path = tt; ends = refl }
 there t (x ∷ word) set end fits h =
@@ -38,6 +40,7 @@ there t (x ∷ word) set end fits h =
     let s = some_follows-elim t set x 32 f.row (sym (has_bit-number_of (some_follows t set x 32) 32 f.row below) ∙ f.has) in
     record { row = s.row; has = s.has; path = f.row ∷ f.path; is_path = (s.entry_is, f.is_path); ends = f.ends }
 
+-- a path from a row of the set ends in a row of the set after its letters
 back : (t : Table) → IsTable t → (row : ℕ) (path : List ℕ) (word : List Letter) (set : ℕ) → row < 32 → has_bit set row ≡ true → IsPath (Follows t) row path word → has_bit (rows_after t set word) (end_of row path) ≡ true
 back t it row [] [] set below has p = has
 back t it row [] (x ∷ word) set below has p = absurd p
@@ -46,10 +49,12 @@ back t it row (to ∷ path) (x ∷ word) set below has p =
     let range = it.in_range row x to p.0 in
     back t it to path word (step_set t set x) range.1 (has_bit-number_of (some_follows t set x 32) 32 to range.1 ∙ some_follows-intro t set x 32 row to below has p.0) p.1
 
+-- letters lead to a set that has no bit from 32 on, from such a set
 rows_fit : (t : Table) (word : List Letter) (set : ℕ) → set < 2 ^ 32 → rows_after t set word < 2 ^ 32
 rows_fit t [] set fits = fits
 rows_fit t (x ∷ word) set fits = rows_fit t word (step_set t set x) (step_fits t set x)
 
+-- the start set has no other row than the start row
 only_first : (t : Table) → IsTable t → (row : ℕ) → has_bit (start_set t) row ≡ true → row ≡ first_row t
 only_first t it row h = go (first_row t) it.first row h
   where
@@ -61,6 +66,7 @@ only_first t it row h = go (first_row t) it.first row h
     go (suc zero) le (suc (suc n)) h = absurd (true_not_false (sym h ∙ rw (bit_at_above 2 2 (suc (suc n)) (lit< tt) (omega arith)) refl))
     go (suc (suc n)) le row h = absurd (omega arith)
 
+-- the start set has no bit from 32 on
 start-fits : (t : Table) → start_set t < 2 ^ 32
 start-fits t = go (first_row t == 1)
   where
@@ -68,6 +74,7 @@ start-fits t = go (first_row t == 1)
     go true = lit< tt
     go false = lit< tt
 
+-- the start set has the start row
 start-has : (t : Table) → IsTable t → has_bit (start_set t) (first_row t) ≡ true
 start-has t it = go (first_row t) it.first
   where
@@ -76,13 +83,16 @@ start-has t it = go (first_row t) it.first
     go (suc zero) le = refl
     go (suc (suc n)) le = absurd (omega arith)
 
+-- a number of 32 bits that is not 0 has some bit
 some_bit : (n : ℕ) → n < 2 ^ 32 → not (n == 0) ≡ true → (b : ℕ) × (has_bit n b ≡ true)
 some_bit n fits h = let pos : 0 < n = grind arith in let b = bit_at-trailing_zeros w32 n pos fits in (trailing_zeros w32 n, rw b.1 refl)
 
+-- a number that has a bit is not 0
 not_zero : (n b : ℕ) → has_bit n b ≡ true → not (n == 0) ≡ true
 not_zero zero b h = absurd (true_not_false (sym h ∙ rw (bit_at-zero b) refl))
 not_zero (suc n) b h = grind arith
 
+-- so every table has a judge by its paths, which steps through it
 pub every_table_is_judged : EveryTableIsJudged
 every_table_is_judged t it =
     let start : ℕ = start_set t in

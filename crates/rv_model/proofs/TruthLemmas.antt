@@ -11,24 +11,30 @@ use Rattle.rv_model.specs.Meaning.{Meaning, is_weak, on_letter, true_m, not_m, a
 abbrev pub Tells : Meaning → Says → Type 0
 Tells p P = (v : View) (w : List ℕ) → Decides (p v w) (P v w)
 
+-- the test that always passes decides what always holds
 decides_true : Decides true (Unit {0})
 decides_true = (λ _. tt, λ _. refl)
 
+-- the test that never passes decides what never holds
 decides_false : Decides false ⊥
 decides_false = (λ e. absurd (false≢true e), λ e. absurd e)
 
+-- a test by the first letter says what is said by the first letter, also where there is none
 on_letter_tells : (p : View → ℕ → List ℕ → Bool) (P : View → ℕ → List ℕ → Type 0) → ((v : View) (x : ℕ) (t : List ℕ) → Decides (p v x t) (P v x t)) → Tells (on_letter p) (OnLetter P)
 on_letter_tells p P h Weak [] = decides_true
 on_letter_tells p P h Strong [] = decides_false
 on_letter_tells p P h Weak (x ∷ t) = h Weak x t
 on_letter_tells p P h Strong (x ∷ t) = h Strong x t
 
+-- the test of a negation says what a negation says
 not_tells : (p : Meaning) (P : Says) → Tells p P → Tells (not_m p) (NotSays P)
 not_tells p P h = on_letter_tells _ _ (λ v x t. Decides-not _ (h (other v) (x ∷ t)))
 
+-- the test of a conjunction says what a conjunction says
 and_tells : (p q : Meaning) (P Q : Says) → Tells p P → Tells q Q → Tells (and_m p q) (AndSays P Q)
 and_tells p q P Q h k = on_letter_tells _ _ (λ v x t. Decides-and _ _ (h v (x ∷ t)) (k v (x ∷ t)))
 
+-- the test of a disjunction says what a disjunction says
 or_tells : (p q : Meaning) (P Q : Says) → Tells p P → Tells q Q → Tells (or_m p q) (OrSays P Q)
 or_tells p q P Q h k = on_letter_tells _ _ (λ v x t. Decides-or _ _ (h v (x ∷ t)) (k v (x ∷ t)))
 
@@ -36,6 +42,7 @@ or_tells p q P Q h k = on_letter_tells _ _ (λ v x t. Decides-or _ _ (h v (x ∷
 abbrev Somewhere : Says → Says → View → List ℕ → Type 0
 Somewhere P Q v w = (k : ℕ) × (k ≤ length w) × Q v (drop k w) × ((j : ℕ) → j < k → P v (drop j w))
 
+-- it is so where the whole has Q, or has P and it is so behind the first letter
 somewhere_to : (P Q : Says) (v : View) (x : ℕ) (t : List ℕ) → Q v (x ∷ t) ⊎ (P v (x ∷ t) × Somewhere P Q v t) → Somewhere P Q v (x ∷ t)
 somewhere_to P Q v x t (inl q) = (zero, omega arith, q, λ j h. absurd (omega arith))
 somewhere_to P Q v x t (inr (p, (k, l, q, e))) = (suc k, omega arith, q, before)
@@ -44,10 +51,12 @@ somewhere_to P Q v x t (inr (p, (k, l, q, e))) = (suc k, omega arith, q, before)
     before zero h = p
     before (suc j) h = e j (omega arith)
 
+-- and only there
 somewhere_from : (P Q : Says) (v : View) (x : ℕ) (t : List ℕ) → Somewhere P Q v (x ∷ t) → Q v (x ∷ t) ⊎ (P v (x ∷ t) × Somewhere P Q v t)
 somewhere_from P Q v x t (zero, l, q, e) = inl q
 somewhere_from P Q v x t (suc k, l, q, e) = inr (e zero (omega arith), (k, omega arith, q, λ j h. e (suc j) (omega arith)))
 
+-- the test of an until passes exactly where some suffix has Q, and all earlier ones P
 somewhere_tells : (p q : Meaning) (P Q : Says) → Tells p P → Tells q Q → ((v : View) → q v [] ≡ is_weak v) → (v : View) (w : List ℕ) → Decides (until_m p q v w) (Somewhere P Q v w)
 somewhere_tells p q P Q h k proper v [] = (λ e. (zero, omega arith, (k v []).0 (proper v ∙ e), λ j l. absurd (omega arith)), λ s. sym (proper v) ∙ (k v []).1 (none s))
   where
@@ -58,6 +67,7 @@ somewhere_tells p q P Q h k proper v (x ∷ t) =
     Decides-like _ (somewhere_to P Q v x t) (somewhere_from P Q v x t)
     (Decides-or _ _ (k v (x ∷ t)) (Decides-and _ _ (h v (x ∷ t)) (somewhere_tells p q P Q h k proper v t)))
 
+-- the test of an until says what an until says
 until_tells : (p q : Meaning) (P Q : Says) → Tells p P → Tells q Q → ((v : View) → q v [] ≡ is_weak v) → Tells (until_m p q) (UntilSays P Q)
 until_tells p q P Q h k proper Weak [] = decides_true
 until_tells p q P Q h k proper Strong [] = decides_false
@@ -85,9 +95,11 @@ proper (WeakUntil f g) v = refl
 proper (Eventually f) v = refl
 proper (Always f) v = refl
 
+-- the test of the constant true says what it says
 true_tells : Tells true_m TrueSays
 true_tells = on_letter_tells _ _ (λ v x t. decides_true)
 
+-- the test of a formula says what the formula says
 pub tells : (f : Ltl) → Tells (meaning f) (says f)
 tells True = true_tells
 tells False = on_letter_tells _ _ (λ v x t. decides_false)

@@ -1,63 +1,24 @@
 -- The history of one thread: it has no Stop, and the input determines it.
-use Rattle.std.proofs.Common.{◌≡◌, ◌≢◌, ℕ, ◌+◌, ◌-◌, ◌<◌, ◌≤◌, Bool, true, false, ◌==◌, List, [], ◌∷◌, ◌++◌, ◌⊎◌, inl, inr, length, get_or, reverse, arith, refl, sym, ap, ◌∙◌, subst, append_assoc, append-nil}
-use Rattle.std.specs.Prelude.{Contains, filter, slice_range, IsTrue}
-use Rattle.rv_model.specs.declared.hit.Letter.{Letter}
-use Rattle.rv_model.specs.declared.formula.Spec.{Spec}
-use Rattle.rv_model.specs.Table.{Table}
+use Rattle.std.proofs.Common.{◌≡◌, ◌≢◌, ℕ, ◌+◌, ◌-◌, ◌<◌, ◌≤◌, true, false, ◌==◌, List, [], ◌∷◌, ◌++◌, inl, inr, length, get_or, reverse, arith, refl, sym, ap, ◌∙◌, subst, append_assoc, append-nil}
+use Rattle.std.specs.Prelude.{Contains, filter, slice_range}
 use Rattle.std.proofs.lemmas.List.Elements.{All-contains, Contains-get_or}
 use Rattle.std.proofs.lemmas.List.{length-map}
 use Rattle.rv_model.specs.declared.entry.Act.{Act}
-use Rattle.rv_model.specs.declared.entry.Act.TheVariants.{Deliver, Stop, Look, Raise, Lower, Clear, End}
+use Rattle.rv_model.specs.declared.entry.Act.TheVariants.{Stop}
 use Rattle.rv_model.specs.declared.entry.Answer.{Answer}
 use Rattle.rv_model.specs.declared.entry.Entry.{Entry}
 use Rattle.rv_model.specs.declared.work.Turn.{Turn}
 use Rattle.rv_model.specs.Cuts.{AtEach}
-use Rattle.rv_model.specs.Judging.{Judge, Judges, IsGood}
+use Rattle.rv_model.specs.Judging.{Judge}
 use Rattle.rv_model.specs.Setups.{Setup}
 use Rattle.rv_model.specs.SharedWords.{answer_at, word_on}
 use Rattle.rv_model.specs.Scripts.{Played, played, Plays, PlaysTurns, turns_of}
 use Rattle.rv_model.specs.Works.{Work}
-use Rattle.rv_model.specs.Histories.{Input, IsOneHistory, FitsWords, LostThrice, IsEarnedBy, changed, look_count, looks_of, NoneOf, work_of, line_in, line_at, acts_of, LinesApart, IsNoStop, OneHasNoStop, OneIsUnique, AreJudges}
+use Rattle.rv_model.specs.Histories.{Input, IsOneHistory, FitsWords, LostThrice, IsEarnedBy, changed, look_count, looks_of, NoneOf, work_of, line_in, line_at, acts_of, LinesApart, IsNoStop, OneHasNoStop, OneIsUnique}
 use Rattle.rv_model.proofs.AgreeLemmas.{Agree, plays-agree, plays-looks, plays-begun, looks_in, looks_in-append}
 use Rattle.rv_model.proofs.SeatLemmas.{looks_of-reverse, looks_on-none, played-looks, played-cut, played-none, next-in, last-look, IsWorkOf, find-work, line-index}
-
-acts_of-own : (seat : ℕ) (before : List Entry) (e : Entry) (after : List Entry) → e.seat ≡ seat → acts_of seat (before ++ e ∷ after) ≡ [] → ⊥
-acts_of-own seat [] e after at none = let y : (e.seat == seat) ≡ true = grind arith in let no = rw y at none in cc
-acts_of-own seat (x ∷ before) e after at none = go (acts_of-own seat before e after at) (x.seat == seat) refl
-  where
-    go : (acts_of seat (before ++ e ∷ after) ≡ [] → ⊥) → (b : Bool) → (x.seat == seat) ≡ b → ⊥
-    go rest true y = let absent = rw y at none in cc
-    go rest false n = rest (rw n at none)
-
--- the stop of a seat, by its act
-stop-or : (act : Act) → IsNoStop act ⊎ ((slot : ℕ) × (act ≡ Stop slot))
-stop-or (Deliver _ _) = inl tt
-stop-or (Stop slot) = inr (slot, refl)
-stop-or Look = inl tt
-stop-or (Raise _) = inl tt
-stop-or (Lower _) = inl tt
-stop-or (Clear _) = inl tt
-stop-or (End _) = inl tt
-
--- a word after an entry depends on its act alone
-word_by : Setup → List Judge → List Entry → Act → Act → ℕ
-word_by s js past on act = word_on s js (record { seat = 0; act = act; before = 0; after = 0 } ∷ past) on
-
-word-act : (s : Setup) (js : List Judge) (past : List Entry) (e : Entry) (on : Act) → word_on s js (e ∷ past) on ≡ word_by s js past on e.act
-unfolding word_by
-word-act s js past e (Deliver _ _) = refl
-word-act s js past e (Stop _) = refl
-word-act s js past e Look = refl
-word-act s js past e (Raise _) = refl
-word-act s js past e (Lower _) = refl
-word-act s js past e (Clear _) = refl
-word-act s js past e (End _) = refl
-
-word-same : (s : Setup) (js : List Judge) (past : List Entry) (e f : Entry) → e.act ≡ f.act → (on : Act) → word_on s js (e ∷ past) on ≡ word_on s js (f ∷ past) on
-word-same s js past e f same on = word-act s js past e on ∙ ap (word_by s js past on) same ∙ sym (word-act s js past f on)
-
-same_or_not : (a b : ℕ) → (a ≡ b) ⊎ (a ≢ b)
-same_or_not a b = grind arith
+use Rattle.rv_model.proofs.ActLemmas.{acts_of-own, first-of, same_or_not, stop-or, word-same}
+use Rattle.rv_model.proofs.OneJudgeLemmas.{lists-same}
 
 module _ (input : Input) (js : List Judge) (apart : LinesApart input.works) where
   abbrev s : Setup
@@ -125,10 +86,6 @@ module _ (input : Input) (js : List Judge) (apart : LinesApart input.works) wher
       let b = plays-begun s input.panics (turns_of (work_of works e.seat)) so_far (e, a) cut.0 (subst (PlaysTurns s input.panics (turns_of (work_of works e.seat))) whole t.plays) in
       let count : looks_in so_far ≡ looks_of e.seat before = played-looks s js e.seat (reverse before) ∙ looks_of-reverse e.seat before in
       omega arith
-
-  first-of : (slot : ℕ) (since : List Entry) → 3 ≤ length (filter (changed slot) since) → (y : Entry) × (rest : List Entry) × (since ≡ y ∷ rest)
-  first-of slot [] three = absurd (omega arith)
-  first-of slot (y ∷ rest) three = (y, rest, refl)
 
   not_earned : (h before : List Entry) (e : Entry) (after : List Entry) → IsOneHistory input js h → h ≡ before ++ e ∷ after → (slot : ℕ) → e.act ≡ Stop slot → LostThrice slot e.seat before → ⊥
   not_earned h before e after one eq slot stop lost =
@@ -236,30 +193,6 @@ module _ (input : Input) (js : List Judge) (apart : LinesApart input.works) wher
 
 pub one_has_no_stop : OneHasNoStop
 one_has_no_stop input js h apart one = no-stop input js apart h one
-
--- ---- there is one judge of each specification
-same_test : (a b : Bool) → (IsTrue a → IsTrue b) → (IsTrue b → IsTrue a) → a ≡ b
-same_test true true f g = refl
-same_test false false f g = refl
-same_test true false f g = absurd (let no : false ≡ true = f refl in cc)
-same_test false true f g = absurd (let no : false ≡ true = g refl in cc)
-
-pub judges-same : (Holds : List Letter → Type 0) (t : Table) (j k : Judge) → Judges Holds t j → Judges Holds t k → j ≡ k
-judges-same Holds t j k by_j by_k =
-    let holds : (word : List Letter) → j.holds word ≡ k.holds word = λ word. same_test _ _ (λ h. (by_k.holds word).1 ((by_j.holds word).0 h)) (λ h. (by_j.holds word).1 ((by_k.holds word).0 h)) in
-    let reaches : (word : List Letter) (row : ℕ) → j.reaches word row ≡ k.reaches word row = λ word row. same_test _ _ (λ h. (by_k.reaches word row).1 ((by_j.reaches word row).0 h)) (λ h. (by_j.reaches word row).1 ((by_k.reaches word row).0 h)) in
-    λ i. record { holds = λ word. holds word i; reaches = λ word row. reaches word row i }
-
-pub lists-same : (specs : List Spec) (tables : List Table) (js ks : List Judge) → AreJudges specs tables js → AreJudges specs tables ks → js ≡ ks
-lists-same [] [] [] [] h g = refl
-lists-same [] [] [] (k ∷ ks) h g = absurd g
-lists-same [] [] (j ∷ js) ks h g = absurd h
-lists-same [] (t ∷ tables) js ks h g = absurd h
-lists-same (a ∷ specs) [] js ks h g = absurd h
-lists-same (a ∷ specs) (t ∷ tables) [] ks h g = absurd h
-lists-same (a ∷ specs) (t ∷ tables) (j ∷ js) [] h g = absurd g
-lists-same (a ∷ specs) (t ∷ tables) (j ∷ js) (k ∷ ks) h g =
-    ap (λ (z : List Judge). j ∷ z) (lists-same specs tables js ks h.1 g.1) ∙ ap (λ (x : Judge). x ∷ ks) (judges-same (IsGood a) t j k h.0 g.0)
 
 pub one_is_unique : OneIsUnique
 one_is_unique input js ks h k apart by_js by_ks one one' =

@@ -85,6 +85,7 @@ read_symbols-spelled (Until f g) rest fs = read_symbols-spelled f (spelled g ((1
 read_symbols-spelled (Release f g) rest fs = read_symbols-spelled f (spelled g ((12, 0) ∷ rest)) fs ∙ read_symbols-spelled g ((12, 0) ∷ rest) (f ∷ fs)
 read_symbols-spelled (WeakUntil f g) rest fs = read_symbols-spelled f (spelled g ((13, 0) ∷ rest)) fs ∙ read_symbols-spelled g ((13, 0) ∷ rest) (f ∷ fs)
 
+-- the symbols of a formula give it back
 pub read_again : (f : Ltl) → top (read_symbols (spelled f []) []) ≡ f
 read_again f = ap top (read_symbols-spelled f [] [])
 

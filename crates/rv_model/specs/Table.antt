@@ -99,6 +99,7 @@ abbrev whole : (ℕ × List (List (Option ℕ))) ⊎ List Node → Table
 whole (inl p) = of_events p.0 p.1
 whole (inr nodes) = of_labels nodes
 
+-- the parts of a table make it again
 pub whole-parts : (t : Table) → whole (parts t) ≡ t
 whole-parts (of_events n rows) = refl
 whole-parts (of_labels nodes) = refl

@@ -74,6 +74,7 @@ all_there ts s (u ∷ us) h = (s.there u (h u (first u us)), all_there ts s us (
         go true = refl
         go false = e
 
+-- parts, and the number of one of them
 pair : List Piece → ℕ → List Piece × ℕ
 pair ps n = (ps, n)
 

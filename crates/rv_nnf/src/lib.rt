@@ -7,8 +7,6 @@ mod labels;
 mod laws;
 mod numbers;
 mod parts;
-#[cfg(test)]
-mod tests;
 
 pub use laws::{
     last_part_is_the_formula, normal_form_keeps_truth, part_is_what_its_operands_make,

@@ -10,7 +10,8 @@ use Rattle.rv_model.specs.Machine.{Machine}
 use Rattle.rv_model.specs.Numbers.{list_of}
 use Rattle.rv_model.specs.Table.{next_row, table_of, entry}
 use Rattle.rv_model.specs.WellFormed.{IsAutomaton}
-use Rattle.rv_model.proofs.MeansLemmas.{length-list_of, get_or-list_of, find-found, is_next-true}
+use Rattle.rv_model.proofs.MeansLemmas.{is_next-true}
+use Rattle.rv_model.proofs.FoundLemmas.{length-list_of, get_or-list_of, find-found}
 use Rattle.rv_plain.specs.Monitors.{BelowCount}
 
 -- the first element that passes, where none before it does
@@ -19,11 +20,13 @@ find-here p [] n d lt none here = absurd (omega arith)
 find-here p (x ∷ xs) zero d lt none here = rw here refl
 find-here p (x ∷ xs) (suc n) d lt none here = rw (none 0 (omega arith)) (find-here p xs n d (omega arith) (λ k l. none (suc k) (omega arith)) here)
 
+-- where no element passes, none is found
 pub find-none : {X : Type 0} (p : X → Bool) (xs : List X) (d : X) → ((k : ℕ) → k < length xs → p (get_or xs k d) ≡ false) → find p xs ≡ None
 find-none p [] d none = refl
 find-none p (x ∷ xs) d none = rw (none 0 (omega arith)) (find-none p xs d (λ k l. none (suc k) (omega arith)))
 
 module _ (a : Machine) where
+  -- the rows of the states, without row 0
   abbrev rows : List (List (Option ℕ))
   rows = list_of (λ state. list_of (next_row a state) (length a.events)) (length a.states)
 
@@ -43,6 +46,7 @@ module _ (a : Machine) where
       let past : length rows ≤ q = rw (length-list_of (λ state. list_of (next_row a state) (length a.events)) (length a.states)) (omega arith) in
       ap (λ row. option_and_then (λ next. next) (slice_get row event)) (get_or_past rows q [] past) ∙ ap (option_and_then (λ next. next)) (slice_get_past [] event (omega arith))
 
+  -- the row of a state has the number after the state's
   row-is : (q : ℕ) → q < length a.states → slice_index_or ([] ∷ rows) (suc q) [] ≡ list_of (next_row a q) (length a.events)
   row-is q lt = get_or-list_of (λ state. list_of (next_row a state) (length a.events)) (length a.states) q [] lt
 
@@ -61,10 +65,12 @@ module _ (a : Machine) where
       let got : slice_get row event ≡ Some (next_row a q event) = slice_get-get_or row event None l ∙ ap Some (get_or-list_of (next_row a q) (length a.events) event None below) in
       rw sub-one (ap (λ row. option_and_then (λ next. next) (slice_get row event)) (row-is q (omega arith)) ∙ ap (option_and_then (λ next. next)) got)
 
+-- a mapped value that is there comes from a value that is there
 map-some : {X Y : Type 0} (f : X → Y) (o : Option X) (y : Y) → option_map f o ≡ Some y → (x : X) × (o ≡ Some x) × (f x ≡ y)
 map-some f None y e = absurd (let no : None ≡ Some y = e in cc)
 map-some f (Some x) y e = (x, refl, cc)
 
+-- a number is below another or not
 less_or : (i n : ℕ) → (i < n) ⊎ (n ≤ i)
 less_or i n = grind arith
 
@@ -78,6 +84,7 @@ module _ (a : Machine) (k : IsAutomaton a) where
       let to : mapped.0.to < length a.states = rw (ap (λ (x : Edge). x.to) found.is) at range in
       let is : mapped.0.to + 1 ≡ next = mapped.2 in omega arith
 
+  -- the entry of a state's row by an event is the number of a row
   event-below : (row event next : ℕ) → 1 ≤ row → row ≤ length a.states → entry (table_of a) row (Event event) ≡ Some next → next < length a.states + 1
   event-below row event next le lt e =
       elim (less_or event (length a.events)) [
@@ -85,6 +92,7 @@ module _ (a : Machine) (k : IsAutomaton a) where
         | inr past ↦ let no : None ≡ Some next = sym (entry-no_event a row event le lt past) ∙ e in absurd cc
       ]
 
+  -- each entry of the table is the number of a row
   entry-below : (row : ℕ) (x : Letter) (next : ℕ) → entry (table_of a) row x ≡ Some next → next < length a.states + 1
   entry-below row (Atoms set) next e = let no : None ≡ Some next = e in absurd cc
   entry-below zero (Event event) next e = let no : None ≡ Some next = sym (entry-zero a (Event event)) ∙ e in absurd cc

@@ -13,9 +13,11 @@ pub number-step : (has : ℕ → Bool) (n set : ℕ) (on : Bool) (new : ℕ) →
 unfolding number_of
 number-step has n set on new is bit step = rw (add-one n, ← bit, ← is) step
 
+-- without bits the number is 0
 pub number-none : (has : ℕ → Bool) → 0 ≡ number_of has 0
 unfolding number_of
 number-none has = refl
 
+-- a number of n bits is below 2 ^ n
 pub number-below : (has : ℕ → Bool) (n set : ℕ) → set ≡ number_of has n → set < 2 ^ n
 number-below has n set is = rw is (number_of-lt has n)

@@ -13,6 +13,7 @@ use Rattle.rv_plain.specs.Edges.{is_edge_by}
 abbrev pub AcceptsFrom : Machine → ℕ → List Letter → Type 0
 AcceptsFrom a state letters = (path : List ℕ) × IsPath (HasEdge a) state path letters
 
+-- an edge that is none
 abbrev pub no_edge : Edge
 no_edge = record { from = 0; event = 0; to = 0 }
 
@@ -24,13 +25,16 @@ edge_at a k = get_or a.edges k no_edge
 abbrev pub NoneBefore : Machine → ℕ → Letter → List Letter → ℕ → Type 0
 NoneBefore a state x rest n = (k : ℕ) → k < n → is_edge_by state x (edge_at a k) ≡ true → AcceptsFrom a (edge_at a k).to rest → ⊥
 
+-- two tests that hold together hold each
 and_parts : (a b : Bool) → (a && b) ≡ true → (a ≡ true) × (b ≡ true)
 and_parts true b e = (refl, e)
 and_parts false b e = cc
 
+-- numbers that the test tells to be equal are equal
 same_number : (a b : ℕ) → (a == b) ≡ true → a ≡ b
 same_number a b e = grind arith
 
+-- the test tells a number to be equal to itself
 pub itself : (a : ℕ) → (a == a) ≡ true
 itself a = grind arith
 

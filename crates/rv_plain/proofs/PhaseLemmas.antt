@@ -25,13 +25,16 @@ tests-same true false p q = sym (q.1 (p.0 refl))
 tests-same false true p q = p.1 (q.0 refl)
 tests-same false false p q = refl
 
+-- at first no row is in the set
 pub rows-begin : (m : Monitor) (letters : List Letter) → RowsBelow m letters 0 0
 rows-begin m letters = (omega arith, λ j judges. number-none (j.reaches letters))
 
+-- with one more bit the set is below the next power
 step-below : (on : Bool) (n set new : ℕ) → set < 2 ^ n → new ≡ (if on then 1 else 0) * 2 ^ n + set → new < 2 ^ (n + 1)
 step-below true n set new lt step = rw add-one (grind arith)
 step-below false n set new lt step = rw add-one (grind arith)
 
+-- one more row is in the set where the letters reach it
 pub rows-step : (m : Monitor) (letters : List Letter) (n set : ℕ) (on : Bool) (new : ℕ) → RowsBelow m letters n set → IsTrue on ↔ Reaches (table_by m) letters n → new ≡ (if on then 1 else 0) * 2 ^ n + set → RowsBelow m letters (n + 1) new
 rows-step m letters n set on new before is step =
     (step-below on n set new before.0 step, λ j judges. number-step (j.reaches letters) n set on new (before.1 j judges) (tests-same on (j.reaches letters n) is (judges.reaches letters n)) step)

@@ -25,10 +25,12 @@ abbrev accepted : Machine → List Letter → ℕ → Bool
 accepted a [] state = true
 accepted a (x ∷ rest) state = list_any (λ e. is_edge_by state x e && accepted a rest e.to) a.edges
 
+-- two tests that hold together hold each
 and_both : (a b : Bool) → (a && b) ≡ true → (a ≡ true) × (b ≡ true)
 and_both true b e = (refl, e)
 and_both false b e = cc
 
+-- letters that pass the test have a path
 accepted-path : (a : Machine) (letters : List Letter) (state : ℕ) → accepted a letters state ≡ true → AcceptsFrom a state letters
 accepted-path a [] state e = path-empty a state
 accepted-path a (x ∷ rest) state e =
@@ -38,6 +40,7 @@ accepted-path a (x ∷ rest) state e =
     let at : edge_at a any.0 ≡ edge = get_or_default a.edges any.0 no_edge edge any.2 ∙ any.3 in
     path-here a state x rest any.0 any.2 (rw at both.0) (rw at (accepted-path a rest edge.to both.1))
 
+-- letters that have a path pass the test
 path-accepted : (a : Machine) (letters : List Letter) (state : ℕ) → AcceptsFrom a state letters → accepted a letters state ≡ true
 path-accepted a [] state p = refl
 path-accepted a (x ∷ rest) state ([], p) = absurd p
@@ -53,10 +56,12 @@ abbrev good : Spec → List Letter → Bool
 good (Da a) letters = accepted a letters 0
 good (Ltl rule) letters = meaning rule.formula Weak (map atoms_in letters)
 
+-- the test is true exactly of the letters that are good by the specification
 good-is : (spec : Spec) (letters : List Letter) → IsTrue (good spec letters) ↔ IsGood spec letters
 good-is (Da a) letters = (accepted-path a letters 0, path-accepted a letters 0)
 good-is (Ltl rule) letters = tells rule.formula Weak (map atoms_in letters)
 
+-- every specification has a judge, with every table
 pub every_spec_is_judged : EverySpecIsJudged
 every_spec_is_judged spec t well =
     let j : Judge = record { holds = good spec; reaches = (table_judge t).reaches } in

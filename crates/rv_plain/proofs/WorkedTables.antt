@@ -33,6 +33,7 @@ page_fault_may_fail = refl
 pub next_false_holds : meaning (Next False) Weak (0 ∷ []) ≡ true
 next_false_holds = refl
 
+-- the second letter is not allowed
 pub next_false_fails : meaning (Next False) Weak (0 ∷ 0 ∷ []) ≡ false
 next_false_fails = refl
 
@@ -44,5 +45,6 @@ until_fails = refl
 pub eventually_holds : meaning (Eventually (Atom 0)) Weak (0 ∷ 0 ∷ []) ≡ true
 eventually_holds = refl
 
+-- what may still come does not speak for it strongly
 pub eventually_not_yet : meaning (Eventually (Atom 0)) Strong (0 ∷ 0 ∷ []) ≡ false
 eventually_not_yet = refl

@@ -17,6 +17,7 @@ abbrev pub table_from : Spec → List Node → model.Table
 table_from (Da automaton) nodes = model.table_of automaton
 table_from (Ltl rule) nodes = model.of_labels (map node_of nodes)
 
+-- the table of a monitor's specification, with the monitor's rows
 abbrev pub table_by : Monitor → model.Table
 table_by m = table_from m.spec m.nodes.items
 

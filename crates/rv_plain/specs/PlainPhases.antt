@@ -22,12 +22,15 @@ phase_in Stopped = model.stopped
 abbrev pub ByJudge : Monitor → (Judge → Type 0) → Type 0
 ByJudge m P = (j : Judge) → JudgesBySpec m.spec (table_by m) j → P j
 
+-- the set is that of the rows that the letters reach
 abbrev pub IsRowsOf : Monitor → List Letter → ℕ → Type 0
 IsRowsOf m letters rows = ByJudge m (λ j. rows ≡ model.rows_of j letters)
 
+-- the answer and the phase after it are those that a hit of this mode with this letter gives
 abbrev pub IsTurn : Monitor → Phase → Mode → Letter → Answer → Phase → Type 0
 IsTurn m phase mode letter answer after = ByJudge m (λ j. (answer ≡ (model.turn j (phase_in phase) mode letter).0) × (phase_in after ≡ (model.turn j (phase_in phase) mode letter).1))
 
+-- the phase after the entry is the one that its act makes of the phase before it
 abbrev pub IsPhaseAfter : Monitor → List Entry → Entry → ℕ → Phase → Phase → Type 0
 IsPhaseAfter m before entry slot phase after = ByJudge m (λ j. phase_in after ≡ model.phase_after j (model.level m.start (entry ∷ reverse before) slot) slot entry.act (phase_in phase))
 

@@ -11,12 +11,15 @@ use Rattle.rv_plain.specs.declared.monitor.Monitor.{Monitor}
 use Rattle.rv_plain.specs.declared.plan.Plan.{Plan}
 use Rattle.rv_plain.specs.Monitors.{table_by}
 
+-- how many slots a monitor has
 abbrev pub slots_in : Monitor → ℕ
 slots_in m = m.slots
 
+-- what a monitor judges by
 abbrev pub spec_in : Monitor → Spec
 spec_in m = m.spec
 
+-- the levels of a monitor's slots that are on at first
 abbrev pub start_in : Monitor → ℕ
 start_in m = m.start
 
@@ -32,6 +35,7 @@ ByJudges p P = (js : List Judge) → AreJudges (map spec_in p.monitors.items) (m
 abbrev pub HasSlot : Plan → ℕ → Type 0
 HasSlot p slot = monitor_of (map slots_in p.monitors.items) slot < length p.monitors.items
 
+-- where the act is on a slot, this slot is one of a monitor
 abbrev pub HasSlotOf : Plan → Act → Type 0
 HasSlotOf p (Deliver slot hit) = HasSlot p slot
 HasSlotOf p (Stop slot) = HasSlot p slot

@@ -6,6 +6,7 @@ use Rattle.rv_model.specs.Machine.{Machine}
 use Rattle.rv_model.specs.Ltl.{Ltl, Atom, Not, Always, Imply}
 use Rattle.rv_model.specs.Numbers.{list_of}
 
+-- the edge that leads from a state to another by an event
 abbrev pub edge : ℕ → ℕ → ℕ → Edge
 edge from event to = record { from = from; event = event; to = to }
 
@@ -31,6 +32,7 @@ wwnr = record {
 abbrev pub letter_name : ℕ → List ℕ
 letter_name k = (65 + k) ∷ []
 
+-- so many of these names, from A on
 abbrev pub letter_names : ℕ → List (List ℕ)
 letter_names n = list_of letter_name n
 

@@ -3,8 +3,6 @@
 
 mod pieces;
 mod react;
-#[cfg(test)]
-mod tests;
 
 pub use react::{Fault, reaction};
 pub use rv_model::Reactor;

@@ -4,6 +4,7 @@ use Rattle.std.specs.Prelude.{count_by, if◌then◌else◌}
 use Rattle.std.proofs.lemmas.List.Sums.{sum_by-append}
 use Rattle.rv_model.specs.Numbers.{list_of}
 
+-- the list of the first numbers has one more at its end
 list-more : (n : ℕ) → list_of (λ k. k) (suc n) ≡ list_of (λ k. k) n ++ n ∷ []
 unfolding list_of
 list-more n = refl

@@ -1,9 +1,9 @@
 -- What the status of records says of them.
-use Rattle.std.proofs.Common.{◌≡◌, ℕ, Bool, true, false, List, ◌≤◌, length, take, refl, sym, ap, ◌∙◌, arith}
+use Rattle.std.proofs.Common.{◌≡◌, ℕ, Bool, true, false, List, ◌++◌, ◌≤◌, length, take, refl, sym, ap, ◌∙◌, arith}
 use Rattle.std.proofs.lemmas.List.{take_all}
 use Rattle.std.specs.Prelude.{Any, ◌↔◌, if◌then◌else◌}
 use Rattle.std.specs.List.{list_any}
-use Rattle.std.proofs.lemmas.List.Folds.{Any-from_list_any, list_any-from_Any}
+use Rattle.std.proofs.lemmas.List.Folds.{Any-from_list_any, list_any-from_Any, list_any-append}
 use Rattle.rv_model.specs.declared.entry.Answer.TheVariants.{Passed, Started, Kept, Failed, Stopped, Cleared, Ended, Looked, Switched}
 use Rattle.rv_model.specs.declared.record.Delivered.{Delivered}
 use Rattle.rv_model.specs.declared.record.Delivered.TheVariants.{Done, Racing}
@@ -91,3 +91,10 @@ status-failure rs = failure (Any HasFailed rs) (Any WasStopped rs) (list_any is_
 -- no failure and a stop
 pub status-stopped : (rs : List Record) → (status_of rs ≡ 6) ↔ ((¬ Any HasFailed rs) × Any WasStopped rs)
 status-stopped rs = stop (Any HasFailed rs) (Any WasStopped rs) (list_any is_failure rs) (list_any is_stopped rs) (some-failed rs) (some-stopped rs)
+
+-- a failure stays one, whatever follows
+pub status-stays : (rs us : List Record) → status_of rs ≡ 1 → status_of (rs ++ us) ≡ 1
+status-stays rs us is =
+    let failed : list_any is_failure rs ≡ true = (some-failed rs).1 ((status-failure rs).0 is) in
+    let some : list_any is_failure (rs ++ us) ≡ true = list_any-append is_failure rs us ∙ rw failed refl in
+    rw some refl

@@ -46,13 +46,27 @@ fn worse(first: u8, second: u8) -> u8
     }
 }
 
+/// What the records of a lane come to.
+fn lane_status(lane: &Lane) -> u8
+    ensures { result ≡ status_of lane.now.records }
+{
+    let mut worst = CLEAN;
+    for place in 0..lane.count() {
+        if worst == FAILURE {
+            return FAILURE;
+        }
+        worst = worse(worst, status(&[lane.record(place)]));
+    }
+    worst
+}
+
 /// What the records of all lanes come to.
 pub fn lanes_status(lanes: &[Lane]) -> u8
     ensures { result ≡ status_of (lane_records lanes.now) }
 {
     let mut worst = CLEAN;
     for lane in lanes {
-        worst = worse(worst, status(lane.records.as_slice()));
+        worst = worse(worst, lane_status(lane));
     }
     worst
 }

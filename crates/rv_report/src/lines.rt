@@ -60,7 +60,7 @@ pub fn report_lanes(
 {
     let mut found = Found::new(alloc, bindings, tasks)?;
     for lane in lanes {
-        found.add_all(bindings, lane.records.as_slice())?;
+        found.add_lane(bindings, lane)?;
     }
     found.sort()?;
     text_of(alloc, bindings, tasks, &found)

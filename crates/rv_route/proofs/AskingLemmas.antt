@@ -19,6 +19,7 @@ test-found fields found [] (t ∷ tests) i test are inside is = cc
 test-found fields found (place ∷ places) (t ∷ tests) zero test are inside is = let first : found_at found place ≡ field_of fields (name_of t) = cc in first ∙ ap (λ (u : Test). field_of fields (name_of u)) (sym is)
 test-found fields found (place ∷ places) (t ∷ tests) (suc i) test are inside is = let rest : map (found_at found) places ≡ map (field_of fields) (names_of tests) = cc in test-found fields found places tests i test rest (omega arith) is
 
+-- a test passes of what its own field has just where it holds
 passes-holds : (fields : List ℕ) (test : Test) → passes test (option_map (text_at fields) (field_of fields (name_of test))) ≡ holds fields test
 passes-holds fields (Is field wanted) = refl
 passes-holds fields (IsNot field wanted) = refl
@@ -34,6 +35,7 @@ module _ {X : Type 0} (p : X → Bool) where
   pub all-more : (xs : List X) (i : ℕ) (x : X) → i < length xs → x ≡ get_or xs i x → list_all p (take i xs) ≡ true → p x ≡ true → list_all p (take (i + 1) xs) ≡ true
   all-more xs i x inside is so_far here = list_all_more p xs i x inside ∙ ap₂ (λ (a b : Bool). a && b) so_far (ap p (sym is) ∙ here)
 
+  -- two do not both hold where the second does not
   and_false : (b : Bool) → (b && false) ≡ false
   and_false true = refl
   and_false false = refl

@@ -18,11 +18,13 @@ use Rattle.rv_route.specs.Events.{Extends, HasFields, IsAsked, name_of, names_of
 pub same_bytes : (a b : List ℕ) → bytes_eq a b ≡ true → a ≡ b
 same_bytes a b is = (bytes_eq-Decides a b).0 is
 
+-- bytes are found equal to themselves
 pub itself : (a : List ℕ) → bytes_eq a a ≡ true
 itself a = (bytes_eq-Decides a a).1 refl
 
 -- ---- names that come in
 
+-- what stands in a list stands there still when more is appended
 get-append : {X : Type 0} (xs ys : List X) (i : ℕ) (x : X) → slice_get xs i ≡ Some x → slice_get (xs ++ ys) i ≡ Some x
 get-append [] ys i x is = cc
 get-append (y ∷ xs) ys zero x is = is
@@ -41,10 +43,12 @@ pub stands : (keys : List (Bor (List ℕ))) (place : ℕ) (key : Bor (List ℕ))
 stands keys place key name there same =
     slice_get-map (λ (k : Bor (List ℕ)). k.now) keys place ∙ ap (option_map (λ (k : Bor (List ℕ)). k.now)) there ∙ ap Some (sym (same_bytes name key.now same))
 
+-- names that keep their places in two steps keep them in both together
 pub extends-then : (a b c : List (List ℕ)) → Extends a b → Extends b c → Extends a c
 extends-then a b c first next place name is = next place name (first place name is)
 
 module _ (old new : List (List ℕ)) (grown : Extends old new) where
+  -- places that hold these names hold them still when more names have come in
   pub places-grown : (places : List ℕ) (names : List (List ℕ)) → map (slice_get old) places ≡ map Some names → map (slice_get new) places ≡ map Some names
   places-grown [] [] is = refl
   places-grown [] (name ∷ names) is = cc
@@ -54,6 +58,7 @@ module _ (old new : List (List ℕ)) (grown : Extends old new) where
       let rest : map (slice_get old) places ≡ map Some names = cc in
       ap₂ (λ (o : Option (List ℕ)) (os : List (Option (List ℕ))). o ∷ os) (grown place name first) (places-grown places names rest)
 
+  -- and so does the place of a rule's own field, if it has one
   pub by-grown : (by : Option ℕ) (name : Option (List ℕ)) → option_map (slice_get old) by ≡ option_map Some name → option_map (slice_get new) by ≡ option_map Some name
   by-grown None None is = refl
   by-grown None (Some name) is = cc
@@ -67,6 +72,7 @@ module _ (old new : List (List ℕ)) (grown : Extends old new) where
     fields = record { tests = places-grown asked.tests.items (names_of rule.tests) is.fields.tests; by = by-grown asked.by rule.by is.fields.by };
   }
 
+  -- all rules of an event keep their places
   pub all-grown : (all : List OnValue) (list : List Asked) (rules : List OnValue) → AllZip (IsAsked all old) list rules → AllZip (IsAsked all new) list rules
   all-grown all [] [] are = tt
   all-grown all [] (rule ∷ rules) are = are
@@ -85,6 +91,7 @@ module _ (old new : List (List ℕ)) (grown : Extends old new) where
 
 -- ---- rules that are asked
 
+-- two lists that fit pair by pair still do with one more pair that fits
 zip-push : {A B : Type 0} (R : A → B → Type 0) (xs : List A) (ys : List B) (x : A) (y : B) → AllZip R xs ys → R x y → AllZip R (xs ++ x ∷ []) (ys ++ y ∷ [])
 zip-push R [] [] x y all one = (one, tt)
 zip-push R [] (b ∷ ys) x y all one = absurd all
@@ -102,6 +109,7 @@ pub record At (all : List OnValue) (names : List (List ℕ)) (rules : List OnVal
   pub is : rule ≡ get_or rules place rule
   pub asks : IsAsked all names asked rule
 
+-- each rule that is asked stands among the rules at the same place
 pub asked_at : (all : List OnValue) (names : List (List ℕ)) (list : List Asked) (rules : List OnValue) (place : ℕ) (asked : Asked) → AllZip (IsAsked all names) list rules → place < length list → asked ≡ get_or list place asked → At all names rules place asked
 asked_at all names [] rules place asked are inside is = absurd (omega arith)
 asked_at all names (a ∷ list) [] place asked are inside is = absurd are
@@ -119,9 +127,11 @@ asked-many all names (asked ∷ list) (rule ∷ rules) are = let rest = asked-ma
 -- ---- fields that were looked up
 
 module _ (fields : List ℕ) (names : List (List ℕ)) where
+  -- what was found at the place of a name is the field of that name
   found-name : (place : ℕ) (name : List ℕ) → slice_get names place ≡ Some name → found_at (map (field_of fields) names) place ≡ field_of fields name
   found-name place name there = get_or_from_slice_get (map (field_of fields) names) place (field_of fields name) None (slice_get-map (field_of fields) names place ∙ ap (option_map (field_of fields)) there)
 
+  -- what was found at the places of several names are the fields of these names
   found-tests : (places : List ℕ) (wanted : List (List ℕ)) → map (slice_get names) places ≡ map Some wanted → map (found_at (map (field_of fields) names)) places ≡ map (field_of fields) wanted
   found-tests [] [] is = refl
   found-tests [] (name ∷ wanted) is = cc
@@ -131,6 +141,7 @@ module _ (fields : List ℕ) (names : List (List ℕ)) where
       let rest : map (slice_get names) places ≡ map Some wanted = cc in
       ap₂ (λ (o : Option Span) (os : List (Option Span)). o ∷ os) (found-name place name first) (found-tests places wanted rest)
 
+  -- what was found at the place of a rule's own field, if it has one, is that field
   found-by : (by : Option ℕ) (name : Option (List ℕ)) → option_map (slice_get names) by ≡ option_map Some name → option_map (found_at (map (field_of fields) names)) by ≡ option_map (field_of fields) name
   found-by None None is = refl
   found-by None (Some name) is = cc

@@ -26,10 +26,12 @@ module _ (text : List ℕ) (line : TraceLine) (monitors : List Monitor) where
   unfolding ask_of
   ask-on rule on = rw on refl
 
+  -- a rule on another event asks for nothing
   ask-off : (rule : OnValue) → is_on (text_at text line.name) rule ≡ false → ask_of text line monitors rule ≡ asks.Quiet
   unfolding ask_of
   ask-off rule off = rw off refl
 
+  -- two that do the same on all routes do the same after any first result
   then-same : (first : Result Routes Refusal) (f g : Routes → Result Routes Refusal) → ((routes : Routes) → f routes ≡ g routes) → and_then first f ≡ and_then first g
   then-same (Ok routes) f g same = same routes
   then-same (Err refusal) f g same = refl
@@ -54,6 +56,7 @@ module _ (name : List ℕ) where
   unfolding AreEventsOf
   found-event rules index event of is = subst (λ (found : Option Event). IfSome found (IsEventOf rules name)) is (of.events name)
 
+  -- where each rule has its event, no rule is on a name without one
   none-on : (index : Index) (rules : List OnValue) → event_at index name ≡ None → All (λ (rule : OnValue). HasEvent index rule.event) rules → filter (is_on name) rules ≡ []
   unfolding HasEvent
   none-on index [] none has = refl

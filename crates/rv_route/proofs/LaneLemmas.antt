@@ -6,6 +6,7 @@ use Rattle.std.proofs.lemmas.List.Elements.{All-set, All-weaker}
 use Rattle.rv_model.specs.declared.work.Turn.{Turn}
 use Rattle.rv_route.specs.Lanes.{LaneValue, ends_with, longer, with_turn}
 
+-- one more turn in front puts the last place one further
 one_less : (t u : Turn) (turns : List Turn) → length (t ∷ u ∷ turns) - 1 ≡ suc (length (u ∷ turns) - 1)
 one_less t u turns = omega arith
 
@@ -15,6 +16,7 @@ ends_with-last [] line turn some is = absurd (omega arith)
 ends_with-last (t ∷ []) line turn some is = ap (λ (u : Turn). u.line == line) (sym is)
 ends_with-last (t ∷ u ∷ turns) line turn some is = ends_with-last (u ∷ turns) line turn (omega arith) (is ∙ ap (λ n. get_or (t ∷ u ∷ turns) n turn) (one_less t u turns))
 
+-- to let the last turn go on is to set it at the last place
 longer-last : (turns : List Turn) (to : ℕ) (turn : Turn) → 0 < length turns → turn ≡ get_or turns (length turns - 1) turn → longer turns to ≡ set turns (length turns - 1) (record turn { to = to })
 longer-last [] to turn some is = absurd (omega arith)
 longer-last (t ∷ []) to turn some is = ap (λ (u : Turn). record u { to = to } ∷ []) (sym is)
@@ -39,10 +41,12 @@ turn_goes_on turns line place count turn many some is same =
 pub turn_begins : (turns after : List Turn) (line place : ℕ) → ends_with turns line ≡ false → after ≡ turns ++ record { line = line; from = place; to = place + 1 } ∷ [] → after ≡ with_turn turns line place
 turn_begins turns after line place other is = is ∙ rw other refl
 
+-- where there is no turn, no last turn is of the line
 pub no_turns : (turns : List Turn) (line : ℕ) → length turns ≤ 0 → ends_with turns line ≡ false
 no_turns [] line none = refl
 no_turns (t ∷ turns) line none = absurd (omega arith)
 
+-- where the last turn is of another line, the turns do not end with this one
 pub other_turn : (turns : List Turn) (line count : ℕ) (turn : Turn) → count ≡ length turns → 0 < count → turn ≡ get_or turns (count - 1) turn → (turn.line ≡ line → ⊥) → ends_with turns line ≡ false
 other_turn turns line count turn many some is apart =
     ends_with-last turns line turn (omega arith) (is ∙ ap (λ n. get_or turns (n - 1) turn) many) ∙ (grind arith)

@@ -1,3 +1,4 @@
+pub mod AskLemmas
 pub mod AskingLemmas
 pub mod EventLemmas
 pub mod FittingLemmas

@@ -30,6 +30,7 @@ NamesEach-more : (place : ℕ) (turns : List Turn) (count line : ℕ) → NamesE
 NamesEach-more place [] count line names = (sym names, omega arith, refl)
 NamesEach-more place (turn ∷ turns) count line names = (names.0, names.1, NamesEach-more turn.to turns count line names.2)
 
+-- with one more delivery, a lane's turns still name its deliveries in order, each once
 lane_grows : (lane : LaneValue) (line : ℕ) (delivery : Delivery) → IsLane lane → IsLane (with_delivery lane line delivery)
 lane_grows lane line delivery names = rw length-append (go (ends_with lane.turns line) refl)
   where
@@ -40,6 +41,7 @@ lane_grows lane line delivery names = rw length-append (go (ends_with lane.turns
 -- what holds of an empty lane and of a grown one holds of all lanes that are routed
 module _ (P : Routes → Type 0) (grows : (routes : Routes) (line : TraceLine) (rule : OnValue) (instance : ℕ) → P routes → P (delivered routes line rule instance))
     (tasks : (routes : Routes) (pid cpu : ℕ) → P routes → P (record routes { tasks = with_task routes.tasks (task_of pid cpu) })) where
+  -- it holds after a delivery that is not one too many
   deliver_keeps : (routes after : Routes) (line : TraceLine) (rule : OnValue) (instance : ℕ) → P routes → deliver routes line rule instance ≡ Ok after → P after
   deliver_keeps routes after line rule instance p is = go (nat_lt routes.count MAX_DELIVERIES) is
     where
@@ -47,6 +49,7 @@ module _ (P : Routes → Type 0) (grows : (routes : Routes) (line : TraceLine) (
       go true is = let same : delivered routes line rule instance ≡ after = cc in subst P same (grows routes line rule instance p)
       go false is = cc
 
+  -- it holds after what one rule asks for
   answer_keeps : (routes after : Routes) (line : TraceLine) (rule : OnValue) (ask : Ask) → P routes → answer routes line rule ask ≡ Ok after → P after
   answer_keeps routes after line rule asks.Quiet p is = let same : routes ≡ after = cc in subst P same p
   answer_keeps routes after line rule (asks.Instance instance) p is = deliver_keeps routes after line rule instance p is
@@ -59,6 +62,7 @@ module _ (P : Routes → Type 0) (grows : (routes : Routes) (line : TraceLine) (
       go true is = cc
       go false is = deliver_keeps (record routes { tasks = with_task routes.tasks (task_of pid line.cpu) }) after line rule (number_of routes.tasks (task_of pid line.cpu)) (tasks routes pid line.cpu p) is
 
+  -- it holds after all rules have done what they ask for on a line
   pub line_keeps : (text : List ℕ) (line : TraceLine) (monitors : List Monitor) (rules : List OnValue) (routes after : Routes) → P routes → line_routes text line monitors rules routes ≡ Ok after → P after
   unfolding line_routes
   line_keeps text line monitors [] routes after p is = let same : routes ≡ after = cc in subst P same p

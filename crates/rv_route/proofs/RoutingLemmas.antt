@@ -89,8 +89,10 @@ pub works_more : (all works more : List Work) (cpu : ℕ) (lane : LaneValue) (la
 works_more all works more cpu lane lanes rest split so_far is =
     so_far ∙ ap (λ (ls : List LaneValue). works ++ works_from cpu ls) split ∙ sym (append_assoc works (work_in cpu lane) (works_from (cpu + 1) rest)) ∙ ap (λ (ws : List Work). ws ++ works_from (cpu + 1) rest) (sym is)
 
+-- behind one lane, the next CPU's number and the lanes that are left still make 64
 pub lanes_counted : (cpu : ℕ) (lane : LaneValue) (lanes rest : List LaneValue) → lanes ≡ lane ∷ rest → cpu + length lanes ≡ 64 → cpu + 1 + length rest ≡ 64
 lanes_counted cpu lane lanes rest split many = let l : length lanes ≡ length (lane ∷ rest) = ap length split in omega arith
 
+-- the lanes behind one still have turns that name their deliveries
 pub lanes_left : (lane : LaneValue) (lanes rest : List LaneValue) → lanes ≡ lane ∷ rest → All IsLane lanes → All IsLane rest
 lanes_left lane lanes rest split all = All-rest IsLane lane rest lanes split all

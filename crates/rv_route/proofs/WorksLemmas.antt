@@ -21,9 +21,11 @@ use Rattle.rv_route.proofs.FittingLemmas.{routes-wider, line_fits}
 
 -- ---- one more line
 
+-- a turn of a line of the CPU is one still when one more line comes
 of_more : (lines : List TraceLine) (line : TraceLine) (cpu : ℕ) (turn : Turn) → IsOf lines cpu turn → IsOf (lines ++ line ∷ []) cpu turn
 of_more lines line cpu turn is = record { line = is.line; there = Contains-append_left lines (line ∷ []) is.line is.there; number = is.number; cpu_is = is.cpu_is }
 
+-- lanes that fit the lines fit them still when one more line comes
 lines_more : (lines : List TraceLine) (line : TraceLine) (kinds : List Kind) (n : ℕ) (routes : Routes) → RoutesFit lines kinds n routes → RoutesFit (lines ++ line ∷ []) kinds n routes
 lines_more lines line kinds n routes f = record {
   many = f.many;
@@ -53,19 +55,24 @@ module _ (all : List TraceLine) (kinds : List Kind) (tasks n : ℕ) where
     high : w.cpu < cpu + count
     fits : LaneFits all kinds tasks n w.cpu (record { turns = w.turns; deliveries = w.deliveries })
 
+  -- a work of a CPU from the next one on is a work of a CPU from this one on
   of_wider : (cpu count : ℕ) (w : Work) → OfLane (cpu + 1) count w → OfLane cpu (suc count) w
   of_wider cpu count w o = record { low = let l = o.low in omega arith; high = let h = o.high in omega arith; fits = o.fits }
 
+  -- the works of lanes are of these lanes' CPUs, fit, and ascend by CPU
   record OfLanes (cpu : ℕ) (lanes : List LaneValue) : Type 0 where
     works : All (OfLane cpu (length lanes)) (works_from cpu lanes)
     apart : AllPairs (λ (w v : Work). w.cpu < v.cpu) (works_from cpu lanes)
 
+  -- where there is no work, the works ascend by CPU
   none_apart : AllPairs (λ (w v : Work). w.cpu < v.cpu) []
   none_apart = λ i j d lt within. absurd (omega arith)
 
+  -- works of CPUs behind this one have higher CPUs
   first_apart : (cpu : ℕ) (ws : List Work) (count : ℕ) → All (OfLane (cpu + 1) count) ws → All (λ (v : Work). cpu < v.cpu) ws
   first_apart cpu ws count all = All-weaker (OfLane (cpu + 1) count) (λ (v : Work). cpu < v.cpu) (λ v o. let l = o.low in omega arith) ws all
 
+  -- one lane more in front adds its work, unless it has no delivery
   more_lanes : (cpu : ℕ) (lane : LaneValue) (lanes : List LaneValue) (b : Bool) → (length lane.deliveries == 0) ≡ b → LaneFits all kinds tasks n cpu lane → OfLanes (cpu + 1) lanes → OfLanes cpu (lane ∷ lanes)
   more_lanes cpu lane lanes true is first rest = record {
     works = rw is (All-weaker (OfLane (cpu + 1) (length lanes)) (OfLane cpu (suc (length lanes))) (of_wider cpu (length lanes)) (works_from (cpu + 1) lanes) rest.works);
@@ -79,6 +86,7 @@ module _ (all : List TraceLine) (kinds : List Kind) (tasks n : ℕ) where
         apart = rw is (AllPairs-cons (λ (w v : Work). w.cpu < v.cpu) w (works_from (cpu + 1) lanes) (first_apart cpu (works_from (cpu + 1) lanes) (length lanes) rest.works) rest.apart);
       }
 
+  -- where lanes fit, so do their works, which are of their CPUs and ascend by CPU
   of_lanes : (cpu : ℕ) (lanes : List LaneValue) → ((i : ℕ) → i < length lanes → LaneFits all kinds tasks n (cpu + i) (get_or lanes i no_lane)) → OfLanes cpu lanes
   of_lanes cpu [] fits = record { works = All-nil (OfLane cpu 0); apart = none_apart }
   of_lanes cpu (lane ∷ lanes) fits =
@@ -87,6 +95,7 @@ module _ (all : List TraceLine) (kinds : List Kind) (tasks n : ℕ) where
 
 -- ---- the whole
 
+-- what holds of all elements holds of each that the list contains
 from_contains : {X : Type 0} (P : X → Type 0) (xs : List X) (x : X) → All P xs → Contains xs x → P x
 from_contains P xs x all (place, below, is) = subst P is (all place x below)
 
@@ -116,6 +125,7 @@ one_line lines ascend l m (p, p_below, p_is) (q, q_below, q_is) same = go (three
         let b : (get_or lines p m).number ≡ l.number = ap (λ (k : TraceLine). k.number) at_p in
         absurd (omega arith)
 
+-- no line has turns in the works of two CPUs
 works_apart : (all : List TraceLine) (kinds : List Kind) (tasks n : ℕ) (works : List Work) (count : ℕ) → NumbersAscend all → All (OfLane all kinds tasks n 0 count) works → LinesApart works
 works_apart all kinds tasks n works count ascend of w v t u in_w in_v in_t in_u same =
     let of_w = from_contains (OfLane all kinds tasks n 0 count) works w of in_w in
@@ -124,6 +134,7 @@ works_apart all kinds tasks n works count ascend of w v t u in_w in_v in_t in_u 
     let is_u = from_contains (IsOf all v.cpu) v.turns u of_v.fits.of in_u in
     sym is_t.cpu_is ∙ one_line all ascend is_t.line is_u.line is_t.there is_u.there (is_t.number ∙ same ∙ sym is_u.number) ∙ is_u.cpu_is
 
+-- where nothing is routed yet, all lanes fit
 nothing_fits : (all : List TraceLine) (kinds : List Kind) → RoutesFit all kinds 0 nothing
 unfolding nothing
 nothing_fits all kinds = record { many = refl; lanes = λ cpu. subst (λ (l : LaneValue). LaneFits all kinds 0 0 cpu l) (sym (empty 64 cpu)) (record { ascends = tt; of = All-nil (IsOf all cpu); fit = All-nil (FitsKindOf kinds 0 cpu) }) }

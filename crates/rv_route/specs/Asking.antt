@@ -23,10 +23,12 @@ text_at text span = between text span.from span.to
 abbrev pub value_of : List ℕ → List ℕ → Option (List ℕ)
 value_of fields name = option_map (text_at fields) (field_of fields name)
 
+-- there is a value, and it is the wanted one
 abbrev pub is_same : List ℕ → Option (List ℕ) → Bool
 is_same wanted None = false
 is_same wanted (Some found) = bytes_eq found wanted
 
+-- there is a value, and it is another than this one
 abbrev pub differs : List ℕ → Option (List ℕ) → Bool
 differs wanted None = false
 differs wanted (Some found) = not (bytes_eq found wanted)
@@ -66,6 +68,7 @@ by_scope fields line by scopes.Global = asks.Instance 0
 by_scope fields line by scopes.Cpu = asks.Instance line.cpu
 by_scope fields line by scopes.Task = pid_of fields line by
 
+-- what is asked of the monitor at the rule's place, by its scope; nothing where there is none
 abbrev pub asked_of : List ℕ → TraceLine → Option (List ℕ) → Option Monitor → Ask
 asked_of fields line by None = asks.Quiet
 asked_of fields line by (Some monitor) = by_scope fields line by monitor.scope

@@ -32,6 +32,7 @@ pub record FitsKindOf (kinds : List Kind) (tasks cpu : ℕ) (d : Delivery) : Typ
 abbrev pub NumbersAscend : List TraceLine → Type 0
 NumbersAscend lines = AllPairs (λ l m. l.number < m.number) lines
 
+-- the works ascend by CPU, the lines of each ascend, no line is in two, and few enough deliveries fit
 pub record WorksFit (kinds : List Kind) (tasks : ℕ) (works : List Work) : Type 0 where
   pub cpus_below : All (λ w. w.cpu < 64) works
   pub cpus : AllPairs (λ w v. w.cpu < v.cpu) works

@@ -4,6 +4,7 @@ use Rattle.rv_model.specs.declared.work.Delivery.{Delivery}
 use Rattle.rv_model.specs.declared.work.Turn.{Turn}
 use Rattle.rv_model.specs.Works.{NamesEach}
 
+-- the turns of a CPU, and the deliveries that they name
 pub record LaneValue : Type 0 where
   pub turns : List Turn
   pub deliveries : List Delivery
@@ -24,6 +25,7 @@ longer (turn ∷ next ∷ turns) to = turn ∷ longer (next ∷ turns) to
 abbrev pub with_turn : List Turn → ℕ → ℕ → List Turn
 with_turn turns line place = if ends_with turns line then longer turns (place + 1) else turns ++ record { line = line; from = place; to = place + 1 } ∷ []
 
+-- the delivery comes last, and the turn of its line names it
 abbrev pub with_delivery : LaneValue → ℕ → Delivery → LaneValue
 with_delivery lane line delivery = record { turns = with_turn lane.turns line (length lane.deliveries); deliveries = lane.deliveries ++ delivery ∷ [] }
 

@@ -2,5 +2,6 @@
 use Rattle.rv_route.specs.declared.routed.Routed.{Routed}
 use Rattle.rv_route.specs.Routing.{RoutedValue}
 
+-- the tasks, and the works without the memory that they take
 abbrev pub routed_value : Routed → RoutedValue
 routed_value routed = record { tasks = routed.tasks; works = routed.works.items }

@@ -23,6 +23,7 @@ pub record Routes : Type 0 where
   pub lanes : List LaneValue
   pub count : ℕ
 
+-- no turn and no delivery
 abbrev pub no_lane : LaneValue
 no_lane = record { turns = []; deliveries = [] }
 
@@ -75,9 +76,11 @@ abbrev pub works_from : ℕ → List LaneValue → List Work
 works_from cpu [] = []
 works_from cpu (lane ∷ lanes) = work_in cpu lane ++ works_from (cpu + 1) lanes
 
+-- the works of all CPUs that have a delivery, ascending by CPU
 abbrev pub works_of : List LaneValue → List Work
 works_of lanes = works_from 0 lanes
 
+-- the tasks by first use, and the works by CPU
 pub record RoutedValue : Type 0 where
   pub tasks : List Task
   pub works : List Work

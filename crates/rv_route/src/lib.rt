@@ -10,8 +10,6 @@ mod lanes;
 mod laws;
 mod routed;
 mod router;
-#[cfg(test)]
-mod tests;
 mod tracing;
 
 pub use deliveries::MAX_DELIVERIES;

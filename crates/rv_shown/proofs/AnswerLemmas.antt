@@ -42,9 +42,11 @@ set-packed j levels stopped lt = omega arith
 abbrev by_sets : Mode → ℕ → ℕ → Bool
 by_sets m before after = (after == 1) && (not (before == 0) && (not (before == 1) || is_start_run m))
 
+-- a number other than 1 does not pass the test for 1
 not-one : (n : ℕ) → n ≢ 1 → (n == 1) ≡ false
 not-one n other = grind arith
 
+-- a number other than 0 does not pass the test for 0
 not-none : (n : ℕ) → n ≢ 0 → (n == 0) ≡ false
 not-none n other = grind arith
 
@@ -117,13 +119,16 @@ acts-on s i Look f e = tt
 acts-on s i (Raise _) f e = tt
 acts-on s i (Lower _) f e = tt
 
+-- two numbers are the same or differ
 same_or_not : (a b : ℕ) → (a ≡ b) ⊎ (a ≢ b)
 same_or_not a b = grind arith
 
+-- a slot is found to be itself
 same_slot : (slot : ℕ) → (slot == slot) ≡ true
 same_slot slot = grind arith
 
 module _ (s : Setup) (k : IsSetup s) where
+  -- the judge of a slot's table judges by its paths
   judges-it : (i : ℕ) → i < sum s.shape → JudgesByTable (table_at s i) (table_judge (table_at s i))
   judges-it i lt = every_table_is_judged (table_at s i) (table_at-is s k i lt)
 

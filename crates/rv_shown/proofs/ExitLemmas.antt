@@ -45,6 +45,7 @@ module _ (s : Setup) (panics : ℕ → Bool) where
   abbrev PlayedFits : Played → Type 0
   PlayedFits p = FitsEntry s p.0.act
 
+  -- an entry of a delivery whose entries fit is one that fits
   makes-fit : (d : Delivery) (p : Played) → DeliversFit d → Makes s d p → PlayedFits p
   makes-fit d p fits (inl is) =
       let slot : ℕ = slot_of s.shape d.monitor d.instance in
@@ -52,6 +53,7 @@ module _ (s : Setup) (panics : ℕ → Bool) where
       subst (FitsEntry s) (sym (is ∙ delivered)) fits
   makes-fit d p fits (inr is) = subst (FitsEntry s) (sym is.1) tt
 
+  -- an entry that fits, with a raise of the halted bit behind it
   one-fits : (p stop : Played) (ps : List Played) → PlayedFits p → ps ≡ stop ∷ [] → stop.0.act ≡ Raise (2 ^ 34) → All PlayedFits (p ∷ ps)
   one-fits p stop ps here only is = subst (λ (z : List Played). All PlayedFits (p ∷ z)) (sym only) (All-cons PlayedFits p (stop ∷ []) here (All-cons PlayedFits stop [] (subst (FitsEntry s) (sym is) tt) (All-nil PlayedFits)))
 
@@ -65,6 +67,7 @@ module _ (s : Setup) (panics : ℕ → Bool) where
       (λ stop. one-fits p stop.0 ps here stop.1 stop.2)
       (λ rest. All-cons PlayedFits p ps here (delivers-fit look ds after later (All-tail DeliversFit d ds fits) ps rest))
 
+  -- a look, with entries that fit behind it
   look-fits : (p : Played) (ps : List Played) → p.0.act ≡ Look → All PlayedFits ps → All PlayedFits (p ∷ ps)
   look-fits p ps is rest = All-cons PlayedFits p ps (subst (FitsEntry s) (sym is) tt) rest
 
@@ -97,6 +100,7 @@ slot_of-lt (count ∷ shape) (suc monitor) instance low within =
     let front = sum-cons count (take monitor shape) in
     omega arith
 
+-- a number of at most 32 bits is one of 32 bits
 wider : (levels n : ℕ) → levels ≤ 32 → n < 2 ^ levels → n < 2 ^ 32
 wider levels n le lt = let more : 2 ^ levels ≤ 2 ^ 32 = pow_mono le in omega arith
 
@@ -125,6 +129,7 @@ any-reverse p (e ∷ h) =
     ∙ or_comm (list_any p (reverse h)) (p e || false) ∙ ap (λ (z : Bool). z || list_any p (reverse h)) (or_comm (p e) false) ∙ ap (λ (z : Bool). p e || z) (any-reverse p h)
 
 module _ (s : Setup) (works : List Work) (h : List Entry) (run : IsWholeRun s works h) where
+  -- the input of what is recorded, by no specification
   abbrev input : Input
   input = recorded_input s [] works
 

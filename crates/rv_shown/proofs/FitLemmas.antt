@@ -35,7 +35,7 @@ use Rattle.rv_journal.specs.Running.{FitsCountedWork}
 use Rattle.rv_shown.specs.Fitting.{IsOpened, ShownFit, ShownAscend}
 use Rattle.rv_shown.specs.Numbered.{atom_count, IsNumbered}
 use Rattle.rv_shown.specs.Shown.{IsShownWork}
-use Rattle.rv_shown.proofs.ShownLemmas.{filter-few}
+use Rattle.rv_shown.proofs.RangeLemmas.{filter-few}
 
 -- ---- one monitor
 
@@ -46,6 +46,7 @@ record At (monitors : List Monitor) (tables : List Table) (tasks place : ℕ) (k
   table : HasTable kind (slice_index_or tables place no_table)
   narrow : row_count (slice_index_or tables place no_table) + atom_count kind.spec ≤ 32
 
+-- at a monitor's place stand how many instances it has, and its narrow table
 at-place : (monitors : List Monitor) (tables : List Table) (tasks place : ℕ) (kind : Kind) → slice_get (kinds_of monitors) place ≡ Some kind → HaveTables (kinds_of monitors) tables → IsNumbered monitors tables → At monitors tables tasks place kind
 at-place [] tables tasks place kind there have numbered = cc
 at-place (m ∷ monitors) [] tasks place kind there have numbered = absurd have
@@ -63,6 +64,7 @@ at-place (m ∷ monitors) (t ∷ tables) tasks (suc place) kind there have numbe
 
 -- ---- one delivery
 
+-- a mode that is no end, and no start without its event, runs its event
 runs : (mode : Mode) → is_end mode ≡ false → mode ≢ modes.Start → IsRun mode
 runs modes.Event goes h = tt
 runs modes.Start goes h = absurd (h refl)
@@ -100,6 +102,7 @@ spec-fits spec hit goes fits = go (is_end hit.mode) goes fits
     go true e f = absurd (let n : true ≡ false = e in cc)
     go false e f = f
 
+-- a number of few bits is one of more bits
 wider : (count levels n : ℕ) → count ≤ levels → n < 2 ^ count → n < 2 ^ levels
 wider count levels n le lt = let more : 2 ^ count ≤ 2 ^ levels = pow_mono le in omega arith
 
@@ -109,6 +112,7 @@ atoms-below count levels (whats.Da event) le fits = absurd fits
 atoms-below count levels whats.Nothing le fits = absurd fits
 atoms-below count levels (whats.Ltl on off pulse) le fits = (wider count levels on le fits.0, wider count levels off le fits.1, wider count levels pulse le fits.2)
 
+-- what fits a narrow specification is below the levels that its rows leave room for
 what-below : (spec : Spec) (mode : Mode) (what : What) (rows : ℕ) → rows + atom_count spec ≤ 32 → FitsSpec spec (record { mode = mode; what = what }) → IsBelow (32 - rows) what
 what-below (specs.Ltl rule) mode what rows narrow fits = atoms-below (length rule.atoms) (32 - rows) what (omega arith) fits.1
 what-below (specs.Da a) mode (whats.Da event) rows narrow fits = tt

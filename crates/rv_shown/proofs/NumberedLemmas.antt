@@ -11,6 +11,7 @@ module _ {A B : Type 0} (R : A → B → Type 0) where
   zip-at (a ∷ xs) (b ∷ ys) zero x y at_x at_y lt zip = subst (λ (z : A). R z y) (sym at_x) (subst (λ (z : B). R a z) (sym at_y) zip.0)
   zip-at (a ∷ xs) (b ∷ ys) (suc n) x y at_x at_y lt zip = zip-at xs ys n x y at_x at_y (omega arith) zip.1
 
+  -- what holds of the elements before a place and of those at it holds one place further
   zip-suc : (xs : List A) (ys : List B) (n : ℕ) (x : A) (y : B) → x ≡ get_or xs n x → y ≡ get_or ys n y → n < length xs → n < length ys → AllZip R (take n xs) (take n ys) → R x y → AllZip R (take (suc n) xs) (take (suc n) ys)
   zip-suc [] ys n x y at_x at_y lt lt' zip r = absurd (omega arith)
   zip-suc (a ∷ xs) [] n x y at_x at_y lt lt' zip r = absurd (omega arith)

@@ -1,8 +1,8 @@
 -- A work of which the hidden deliveries are taken out, turn by turn.
-use Rattle.std.proofs.Common.{◌≡◌, ℕ, zero, suc, ◌+◌, ◌-◌, ◌<◌, ◌≤◌, ◌^◌, Bool, true, false, List, [], ◌∷◌, ◌++◌, length, map, take, drop, get_or, refl, sym, ap, ◌∙◌, subst, arith, length-append, append_assoc, append-nil, add-one}
+use Rattle.std.proofs.Common.{◌≡◌, ℕ, suc, ◌+◌, ◌-◌, ◌<◌, ◌≤◌, ◌^◌, Bool, List, [], ◌∷◌, ◌++◌, length, map, take, drop, get_or, refl, sym, ap, ◌∙◌, subst, arith, length-append, append_assoc, append-nil, add-one}
 use Rattle.std.specs.Prelude.{filter, flat_map, slice_range}
-use Rattle.std.proofs.Math.Seq.{drop-append_seam, take-suc}
-use Rattle.std.proofs.lemmas.List.{map-append, take_all, take-append-le, take-append-drop, drop-append-le, length-drop}
+use Rattle.std.proofs.Math.Seq.{take-suc}
+use Rattle.std.proofs.lemmas.List.{map-append, take_all, take-append-drop}
 use Rattle.std.proofs.lemmas.List.Elements.{filter-append}
 use Rattle.std.proofs.lemmas.Grind.{flat_map-append}
 use Rattle.rv_model.specs.declared.work.Delivery.{Delivery}
@@ -10,74 +10,7 @@ use Rattle.rv_model.specs.declared.work.Turn.{Turn}
 use Rattle.rv_model.specs.Scripts.{is_shown}
 use Rattle.rv_model.specs.Works.{Work, NamesEach, IsWork}
 use Rattle.rv_shown.specs.Shown.{IsShownWork}
-
--- ---- ranges
-
-module _ {X : Type 0} where
-  -- a range of a list that grows
-  range-front : (xs ys : List X) (from to : ℕ) → from ≤ to → to ≤ length xs → slice_range (xs ++ ys) from to ≡ slice_range xs from to
-  range-front xs ys from to le within =
-      let room : to - from ≤ length (drop from xs) = let l = length-drop from xs in omega arith in
-      ap (take (to - from)) (drop-append-le from xs ys (omega arith)) ∙ take-append-le (to - from) (drop from xs) ys room
-
-  -- the range of what was added
-  range-back : (xs ys : List X) → slice_range (xs ++ ys) (length xs) (length (xs ++ ys)) ≡ ys
-  range-back xs ys =
-      let many : length ys ≤ length (xs ++ ys) - length xs = let l = length-append xs ys in omega arith in
-      ap (take (length (xs ++ ys) - length xs)) (drop-append_seam xs ys) ∙ take_all (length (xs ++ ys) - length xs) ys many
-
-  -- no range
-  range-none : (xs : List X) (n : ℕ) → slice_range xs n n ≡ []
-  range-none xs n = let none : n - n ≡ 0 = omega arith in ap (λ (k : ℕ). take k (drop n xs)) none
-
-  abbrev none : List X
-  none = []
-
-  take-none : (m : ℕ) → take m none ≡ none
-  take-none zero = refl
-  take-none (suc m) = refl
-
-  take-parts : (n m : ℕ) (xs : List X) → take (n + m) xs ≡ take n xs ++ take m (drop n xs)
-  take-parts zero m xs = let e : 0 + m ≡ m = omega arith in ap (λ (k : ℕ). take k xs) e
-  take-parts (suc n) m [] = let e : suc n + m ≡ suc (n + m) = omega arith in ap (λ (k : ℕ). take k none) e ∙ sym (take-none m)
-  take-parts (suc n) m (x ∷ xs) = let e : suc n + m ≡ suc (n + m) = omega arith in ap (λ (k : ℕ). take k (x ∷ xs)) e ∙ ap (λ (z : List X). x ∷ z) (take-parts n m xs)
-
-  drop-parts : (n m : ℕ) (xs : List X) → drop n (drop m xs) ≡ drop (m + n) xs
-  drop-parts n zero xs = let e : 0 + n ≡ n = omega arith in ap (λ (k : ℕ). drop k xs) (sym e)
-  drop-parts zero (suc m) [] = let e : suc m + 0 ≡ suc m = omega arith in ap (λ (k : ℕ). drop k []) (sym e)
-  drop-parts (suc n) (suc m) [] = let e : suc m + suc n ≡ suc (m + suc n) = omega arith in ap (λ (k : ℕ). drop k []) (sym e)
-  drop-parts n (suc m) (x ∷ xs) = let e : suc m + n ≡ suc (m + n) = omega arith in drop-parts n m xs ∙ ap (λ (k : ℕ). drop k (x ∷ xs)) (sym e)
-
-  -- a range in two parts
-  range-parts : (xs : List X) (from mid to : ℕ) → from ≤ mid → mid ≤ to → slice_range xs from to ≡ slice_range xs from mid ++ slice_range xs mid to
-  range-parts xs from mid to le le' =
-      let long : to - from ≡ (mid - from) + (to - mid) = omega arith in
-      let at : from + (mid - from) ≡ mid = omega arith in
-      ap (λ (k : ℕ). take k (drop from xs)) long ∙ take-parts (mid - from) (to - mid) (drop from xs)
-      ∙ ap (λ (z : List X). take (mid - from) (drop from xs) ++ take (to - mid) z) (drop-parts (mid - from) from xs ∙ ap (λ (k : ℕ). drop k xs) at)
-
-  -- what passes is no more
-  pub filter-few : (keep : X → Bool) (xs : List X) → length (filter keep xs) ≤ length xs
-  filter-few keep [] = omega arith
-  filter-few keep (x ∷ xs) = go (keep x) refl (filter-few keep xs)
-    where
-      go : (b : Bool) → keep x ≡ b → length (filter keep xs) ≤ length xs → length (filter keep (x ∷ xs)) ≤ length (x ∷ xs)
-      go true y rest = rw y (omega arith)
-      go false n rest = rw n (omega arith)
-
-  take-few : (n : ℕ) (xs : List X) → length (take n xs) ≤ length xs
-  take-few zero xs = omega arith
-  take-few (suc n) [] = omega arith
-  take-few (suc n) (x ∷ xs) = let rest = take-few n xs in omega arith
-
-  -- a range has no more than its places
-  range-few : (xs : List X) (from to : ℕ) → length (slice_range xs from to) ≤ to - from
-  range-few xs from to = few (to - from) (drop from xs)
-    where
-      few : (n : ℕ) (ys : List X) → length (take n ys) ≤ n
-      few zero ys = omega arith
-      few (suc n) [] = omega arith
-      few (suc n) (y ∷ ys) = let rest = few n ys in omega arith
+use Rattle.rv_shown.proofs.RangeLemmas.{filter-few, range-back, range-few, range-front, range-none, range-parts, take-few}
 
 -- ---- turns that name deliveries in order
 
@@ -92,6 +25,7 @@ record Split (place : ℕ) (front back : List Turn) (count : ℕ) : Type 0 where
   first : NamesEach place front mid
   later : NamesEach mid back count
 
+-- turns that name deliveries in order are split so anywhere
 names-split : (place : ℕ) (front back : List Turn) (count : ℕ) → NamesEach place (front ++ back) count → Split place front back count
 names-split place [] back count names = record { mid = place; first = refl; later = names }
 names-split place (t ∷ front) back count names =
@@ -183,6 +117,7 @@ pub record MayShow (ds : List Delivery) (kept : List Delivery) (t : Turn) : Type
   pub named : (t.from ≤ t.to) × (t.to ≤ length ds)
   pub few : length kept ≤ t.from
 
+-- the next turn of a work has what it wants
 pub may-show : (look : ℕ) (w : Work) (items : List Turn) (n : ℕ) (d : Turn) (turns : List Turn) (kept : List Delivery) → IsWork w → items ≡ w.turns → n < length items → IsShownSoFar look w.deliveries (take n items) turns kept → MayShow w.deliveries kept (get_or items n d)
 may-show look w items n d turns kept is same lt so_far =
     let t : Turn = get_or items n d in

@@ -8,7 +8,7 @@ use Rattle.rv_model.specs.declared.formula.Spec.TheVariants as specs
 use Rattle.rv_model.specs.Numbers.{list_of}
 use Rattle.rv_model.specs.Setups.{Setup}
 use Rattle.rv_model.specs.Table.{Table, Node, of_labels, first_row, next_row, table_of}
-use Rattle.rv_model.proofs.MeansLemmas.{length-list_of}
+use Rattle.rv_model.proofs.FoundLemmas.{length-list_of}
 use Rattle.rv_table.specs.Rows.{IsRows, row_count}
 use Rattle.rv_core.specs.Setup.{no_table}
 use Rattle.rv_bind.specs.declared.bindings.Monitor.{Monitor}
@@ -19,6 +19,7 @@ use Rattle.rv_journal.specs.declared.words.Width.{Width}
 use Rattle.rv_journal.specs.CountedSeats.{IsWidth, AreWidths, no_width}
 use Rattle.rv_shown.specs.Numbered.{atom_count, HasState, IsNarrowMonitor}
 
+-- the start row of a formula's table is one of its rows
 labels-begin : (nodes : List Node) → IsRows (of_labels nodes) → first_row (of_labels nodes) < row_count (of_labels nodes)
 labels-begin nodes rows = let some = rows.some in omega arith
 
@@ -69,19 +70,23 @@ pub record WidthsTo (n : ℕ) (tables : List Table) (starts : List ℕ) (widths 
   pub many : length widths ≡ n
   pub each : (k : ℕ) → k < n → IsWidth (slice_index_or tables k no_table) (slice_index starts k) (slice_index_or widths k no_width)
 
+-- there are no widths before the first monitor
 pub widths-none : (tables : List Table) (starts : List ℕ) (widths : List Width) → widths ≡ [] → WidthsTo 0 tables starts widths
 widths-none tables starts widths none = record { many = ap length none; each = λ k lt. absurd (omega arith) }
 
+-- the starting value at a place is that of the monitor there
 start-at : (monitors : List Monitor) (n : ℕ) (m : Monitor) → m ≡ get_or monitors n m → n < length monitors → slice_index (map (λ (m : Monitor). m.starting) monitors) n ≡ m.starting
 start-at [] n m at lt = absurd (omega arith)
 start-at (a ∷ monitors) zero m at lt = ap (λ (z : Monitor). z.starting) (sym at)
 start-at (a ∷ monitors) (suc n) m at lt = start-at monitors n m at (omega arith)
 
+-- the table at a place is the one there, whatever stands for a missing one
 table-at : (tables : List Table) (n : ℕ) (t d : Table) → t ≡ get_or tables n t → n < length tables → slice_index_or tables n d ≡ t
 table-at [] n t d at lt = absurd (omega arith)
 table-at (a ∷ tables) zero t d at lt = sym at
 table-at (a ∷ tables) (suc n) t d at lt = table-at tables n t d at (omega arith)
 
+-- what is below the next number is below this one, or is this one
 below-or-last : (k n : ℕ) → k < n + 1 → (k < n) ⊎ (k ≡ n)
 below-or-last k n lt = grind arith
 

@@ -6,8 +6,6 @@ mod exit;
 mod laws;
 mod numbered;
 mod shown;
-#[cfg(test)]
-mod tests;
 mod widths;
 
 pub use exit::exit_status;

@@ -4,8 +4,6 @@
 mod shape;
 mod task;
 mod tasks;
-#[cfg(test)]
-mod tests;
 
 pub use rv_model::Task;
 pub use shape::{CPUS, MAX_MONITORS, MAX_SLOTS, Place, Shape};

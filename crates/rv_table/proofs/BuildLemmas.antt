@@ -8,7 +8,7 @@ use Rattle.rv_model.specs.Machine.{Machine}
 use Rattle.rv_model.specs.WellFormed.{IsAutomaton}
 use Rattle.rv_model.specs.Numbers.{list_of}
 use Rattle.rv_model.specs.Table.{next_row}
-use Rattle.rv_model.proofs.MeansLemmas.{length-list_of, get_or-list_of, find-found}
+use Rattle.rv_model.proofs.FoundLemmas.{length-list_of, get_or-list_of, find-found}
 use Rattle.rv_table.specs.Rows.{IsEntryBelow, IsEventRows, event_rows}
 
 -- no row

@@ -89,9 +89,11 @@ and_none true all = refl
 and_none false all = refl
 
 module _ (nodes : List Node) (set : ℕ) (x : Letter) (q : ℕ) where
+  -- there is such a row
   abbrev is_row : Bool
   is_row = nat_lt q (length nodes)
 
+  -- the letter makes the labels of the row true
   abbrev allows : Bool
   allows = list_all (true_on (atoms_in x)) (node_at nodes q).labels
 
@@ -103,6 +105,7 @@ module _ (nodes : List Node) (set : ℕ) (x : Letter) (q : ℕ) where
       ∙ ap (λ b. b || (has_bit set n && (is_row && (has_bit (node_at nodes n).next q && allows)))) (follows-next n)
       ∙ both-ways is_row (some_next nodes set n q) allows (has_bit set n) (has_bit (node_at nodes n).next q)
 
+  -- a row that follows the set is there, is a next row of a row of the set, and has true labels
   pub follows-rows : length nodes ≤ 32 → some_follows (of_labels nodes) set x 32 q ≡ (is_row && (some_next nodes set (length nodes) q && allows))
   follows-rows few = go (32 - length nodes) (omega arith)
     where

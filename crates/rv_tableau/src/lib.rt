@@ -10,8 +10,6 @@ mod listing;
 mod nodes;
 mod pairs;
 mod rows;
-#[cfg(test)]
-mod tests;
 
 pub use laws::{complete_is_right, cover_is_right, table_means_rule};
 pub use rows::tableau;

@@ -30,6 +30,7 @@ line_here-stands text number from inside =
       within = omega arith;
     }
 
+-- the lines that start at places of the text stand in it
 lines_at-stand : (text : List ℕ) (number : ℕ) (places : List ℕ) → All (λ place. place < length text) places → All (StandsIn text) (lines_at text number places)
 unfolding lines_at
 lines_at-stand text number [] below = All-nil (StandsIn text)

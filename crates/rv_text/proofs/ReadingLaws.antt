@@ -49,5 +49,6 @@ chosen false x y z is = inr (refl, is)
 pub chosen-true : {A : Type 0} (b : Bool) (x y : A) → b ≡ true → cond b x y ≡ x
 chosen-true b x y passed = ap (λ v. cond v x y) passed
 
+-- a test that failed chooses the second
 pub chosen-false : {A : Type 0} (b : Bool) (x y : A) → b ≡ false → cond b x y ≡ y
 chosen-false b x y failed = ap (λ v. cond v x y) failed

@@ -29,6 +29,7 @@ pub line_end-low : (text : List ℕ) (from : ℕ) → from ≤ line_end text fro
 unfolding line_end
 line_end-low text from = least-low (λ k. eqb (get_or text k 0) 10) from (length text - from)
 
+-- it does not lie past the end of the text
 pub line_end-high : (text : List ℕ) (from : ℕ) → from ≤ length text → line_end text from ≤ length text
 unfolding line_end
 line_end-high text from inside = omega (arith, least-high (λ k. eqb (get_or text k 0) 10) from (length text - from))
@@ -38,6 +39,7 @@ pub line_end-other : (text : List ℕ) (from k : ℕ) → from ≤ k → k < lin
 unfolding line_end
 line_end-other text from k low high = eqb-false _ _ (least-before (λ n. eqb (get_or text n 0) 10) from (length text - from) k low high)
 
+-- where it is not the end of the text, a line end stands there
 pub line_end-byte : (text : List ℕ) (from : ℕ) → from ≤ length text → line_end text from < length text → get_or text (line_end text from) 0 ≡ 10
 unfolding line_end
 line_end-byte text from low ended = eqb-true _ _ (least-at (λ n. eqb (get_or text n 0) 10) from (length text - from) (omega arith))

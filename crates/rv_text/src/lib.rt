@@ -23,6 +23,3 @@ pub use numbers::{
 pub use refusals::{Refusal, Refused};
 pub use runs::{Kind, run_end};
 pub use words::Words;
-
-#[cfg(test)]
-mod tests;

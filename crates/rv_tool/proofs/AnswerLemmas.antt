@@ -18,6 +18,7 @@ module _ (old new : Option (List ℕ)) (before now status : ℕ) (h : List Entry
   pub no_telling : (Goes : List Entry → List ℕ → ℕ → Type 0) → GivesUp old new status h → TellsOf Goes old new before now status h
   no_telling Goes up = inr up
 
+  -- want of memory ends a run that is reported
   pub no_report : (Is : Histories) (i : InputValue) → GivesUp old new status h → Reports Is i old new before now status h
   no_report Is i = no_telling (IsReported Is i)
 

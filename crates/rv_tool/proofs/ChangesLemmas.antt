@@ -39,10 +39,12 @@ module _ (opening : Tree) (commands : List Numbered) where
   abbrev pub Next : Tree → ℕ → Numbered → Result (Tree × Change) Refusal → Result (List Change) Refusal
   Next tree place n done = and_then done (λ done. change_before done.1 (changes_of done.0 (drop (place + 1) commands)))
 
+  -- the changes of commands are the first one's, and then those of the later ones
   asked_before : (tree : Tree) (n : Numbered) (later : List Numbered) → changes_of tree (n ∷ later) ≡ and_then (asked_in tree n) (λ done. change_before done.1 (changes_of done.0 later))
   unfolding changes_of
   asked_before tree n later = refl
 
+  -- the commands from a place on begin with the command there
   asked_next : (tree : Tree) (place : ℕ) (n : Numbered) → place < length commands → n ≡ slice_index_or commands place n → changes_of tree (drop place commands) ≡ Next tree place n (asked_in tree n)
   asked_next tree place n within is =
       ap (changes_of tree) (drop_more commands place n within ∙ ap (λ (m : Numbered). m ∷ drop (place + 1) commands) (sym is)) ∙ asked_before tree n (drop (place + 1) commands)

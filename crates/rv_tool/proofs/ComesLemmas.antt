@@ -12,6 +12,7 @@ use Rattle.rv_tool.specs.Faults.{Tells}
 use Rattle.rv_tool.specs.Inputs.{routed_text, routed_in}
 
 module _ (told : Option Files) (trace text : List ℕ) (bound : BoundValue) (read : (files : Files) → told ≡ Some files → of_name files trace accepted ≡ accepted text) where
+  -- the trace's file comes to what the text that was read comes to
   whole_text : (files : Files) → told ≡ Some files → routed_in files trace bound ≡ routed_text trace bound text
   whole_text files known = of_name-reading files trace (routed_text trace bound) ∙ ap (λ o. reading o (routed_text trace bound)) (read files known)
 

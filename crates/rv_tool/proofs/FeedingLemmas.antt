@@ -22,7 +22,7 @@ use Rattle.rv_route.specs.Routing.{route_of}
 use Rattle.rv_tool.specs.Faults.{IsFaultIn, FaultComes, FaultNames}
 use Rattle.rv_tool.specs.Feeding.{FedOf, IsFed, IsAll, PieceIn, IsPieceOf}
 use Rattle.rv_tool.specs.Inputs.{routed_text, routed_in}
-use Rattle.rv_tool.proofs.PiecesLemmas.{front_refused}
+use Rattle.rv_tool.proofs.FrontLemmas.{front_refused}
 
 -- the bytes of a piece stand at the front
 piece_front : (bytes : List ℕ) (from : ℕ) (old new : List ℕ) (count : ℕ) → IsPiece bytes from old new count → take count new ≡ take count (drop from bytes)

@@ -5,9 +5,12 @@ pub mod CheckLemmas
 pub mod ComesLemmas
 pub mod CpuLemmas
 pub mod FeedingLemmas
+pub mod FrontLemmas
 pub mod GrowingTexts
+pub mod JudgedLemmas
 pub mod NamedLemmas
 pub mod NumberedLemmas
+pub mod OneLemmas
 pub mod PiecesLemmas
 pub mod ReadyLemmas
 pub mod RecordingLemmas
@@ -15,5 +18,6 @@ pub mod ReportedLemmas
 pub mod SaysLemmas
 pub mod SessionLemmas
 pub mod TableLemmas
+pub mod UntoldLemmas
 pub mod VerdictLemmas
 pub mod WatchLemmas

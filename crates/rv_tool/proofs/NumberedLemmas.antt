@@ -27,6 +27,7 @@ use Rattle.rv_tool.specs.Ready.{ready_value, IsReady}
 
 -- ---- which runs are recorded
 
+-- where two tests pass together, each of them passes
 both : (a b : Bool) → (a && b) ≡ true → (a ≡ true) × (b ≡ true)
 both true true e = (refl, refl)
 both true false e = absurd (cc)
@@ -38,14 +39,17 @@ other_reactor reactors.Nop e p = cc
 other_reactor reactors.Printk e p = cc
 other_reactor reactors.Panic e p = absurd (cc)
 
+-- a reactor other than panic passes the test for another
 no_panic : (r : Reactor) → r ≢ reactors.Panic → not (is_panic_reactor (Some r)) ≡ true
 no_panic reactors.Nop other = refl
 no_panic reactors.Printk other = refl
 no_panic reactors.Panic other = absurd (other refl)
 
+-- a number is at most another, where the test finds it so
 at_most : (n most : ℕ) → nat_le n most ≡ true → n ≤ most
 at_most n most e = grind (arith, nat_tests)
 
+-- the test finds it so, where it is
 is_at_most : (n most : ℕ) → n ≤ most → nat_le n most ≡ true
 is_at_most n most le = grind (arith, nat_tests)
 
@@ -55,6 +59,7 @@ narrow_by m t e =
     let parts = both (nat_le (row_count t + atom_count m.spec) 32) (not (is_panic_reactor (Some m.reactor))) e in
     record { narrow = at_most (row_count t + atom_count m.spec) 32 parts.0; calm = other_reactor m.reactor parts.1 }
 
+-- a monitor that is narrow passes the test
 narrow_is : (m : Monitor) (t : Table) → IsNarrowMonitor m t → is_narrow m t ≡ true
 narrow_is m t is = rw (is_at_most (row_count t + atom_count m.spec) 32 is.narrow) (no_panic m.reactor is.calm)
 
@@ -67,6 +72,7 @@ numbered_by (m ∷ monitors) (t ∷ tables) e =
     let parts = both (is_narrow m t) (are_narrow monitors tables) e in
     (narrow_by m t parts.0, numbered_by monitors tables parts.1)
 
+-- monitors that are all narrow pass the test
 numbered_is : (monitors : List Monitor) (tables : List Table) → IsNumbered monitors tables → are_narrow monitors tables ≡ true
 numbered_is [] [] all = refl
 numbered_is [] (t ∷ tables) all = absurd all
@@ -101,9 +107,11 @@ module _ (ready : Ready) (given : List Monitor) (had : List Table) (told : Bool)
       let narrow : are_narrow ready.bindings.monitors.items ready.setup.tables ≡ told = (λ i. are_narrow (sym given_are i) (sym had_are i)) ∙ numbered_so given had told so in
       λ i. narrow i && not (ended i)
 
+  -- what is ready where the test passes, and else the refusal of what cannot be recorded
   abbrev by_test : Bool → Result InputValue Refusal
   by_test b = if b then Ok (ready_value ready) else refused_with NOT_NUMBERED
 
+  -- whether what is ready can be recorded goes by what is answered
   number_is : (b : Bool) → (told && not ends) ≡ b → numbered (ready_value ready) ≡ by_test b
   number_is b e = ap by_test (test_is ∙ e)
 
@@ -116,6 +124,7 @@ module _ (ready : Ready) (given : List Monitor) (had : List Table) (told : Bool)
     no_ends = ended ∙ goes;
   }
 
+  -- where it is yes and no rule ends an instance, what is ready is accepted
   pub ready_told : (bindings : List ℕ) → told ≡ true → ends ≡ false → Tells ready_value (Ok ready) (of_file bindings (numbered (ready_value ready)))
   ready_told bindings on goes = ap (of_file bindings) (number_is true (rw (on, goes) refl))
 

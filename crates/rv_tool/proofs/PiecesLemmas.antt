@@ -1,6 +1,6 @@
 -- A line more of a text that is routed as it is read.
 use Rattle.std.proofs.Common.{◌≡◌, ℕ, ◌+◌, ◌-◌, ◌<◌, ◌≤◌, List, [], ◌∷◌, ◌++◌, length, take, drop, get_or, refl, sym, ap, ◌∙◌, subst, arith, append_assoc, take-append-drop, length-append}
-use Rattle.std.specs.Prelude.{All, Option, Some, None, IfSome, Result, Ok, Err, Bool, false}
+use Rattle.std.specs.Prelude.{All, Option, Some, None, IfSome, Result, Ok, Err}
 use Rattle.std.proofs.lemmas.List.{get_or-append_right}
 use Rattle.std.proofs.Math.ListN.{get_or-append}
 use Rattle.rv_text.specs.declared.refusals.Refusal.{Refusal}
@@ -20,7 +20,6 @@ use Rattle.rv_trace.specs.Traces.{trace_of, all_read}
 use Rattle.rv_trace.proofs.TakenLemmas.{adds-nothing, takes-read, refused-read}
 use Rattle.rv_trace.proofs.TraceLemmas.{trace_of-lies}
 use Rattle.rv_bind.specs.declared.bindings.Bindings.{Bindings}
-use Rattle.rv_bind.specs.Outcomes.{reading, of_file}
 use Rattle.rv_route.specs.Fitting.{NumbersAscend}
 use Rattle.rv_route.specs.Lines.{IsRoutable}
 use Rattle.rv_route.specs.Routers.{RouterValue, IsFor, Takes, refusal_of}
@@ -29,21 +28,17 @@ use Rattle.rv_route.proofs.MoveLemmas.{routes_of-more, line_routes-moved}
 use Rattle.rv_route.proofs.RoutingLemmas.{line-last}
 use Rattle.rv_tool.specs.Pieces.{passed, RoutedAs, IsRouted}
 use Rattle.rv_trace.proofs.AscendLemmas.{trace_ascends}
-use Rattle.rv_trace.proofs.FrontLemmas.{read-refused}
-
--- a refusal of what was fed of a text is the text's
-pub front_refused : (text fed : List ℕ) (ended : Bool) (end : ℕ) (refusal : Refusal) → fed ≡ take end text → ended ≡ false → trace_of (part_read ended fed) ≡ Err refusal → trace_of text ≡ Err refusal
-front_refused text fed ended end refusal is open_is e =
-    sym (ap trace_of (ap (λ (t : List ℕ). t ++ drop end text) is ∙ take-append-drop end text)) ∙ read-refused fed (drop end text) refusal (subst (λ (b : Bool). trace_of (part_read b fed) ≡ Err refusal) open_is e)
 
 module _ (bindings : Bindings) where
   -- the front of a text routes the same
   prefix : (fed : List ℕ) (i : ℕ) (lines : List TraceLine) → All (LiesIn (take i fed)) lines → routes_of fed bindings.monitors.items bindings.rules.items lines nothing ≡ routes_of (take i fed) bindings.monitors.items bindings.rules.items lines nothing
   prefix fed i lines lie = ap (λ (t : List ℕ). routes_of t bindings.monitors.items bindings.rules.items lines nothing) (sym (take-append-drop i fed)) ∙ routes_of-more (take i fed) (drop i fed) bindings.monitors.items bindings.rules.items lines nothing lie
 
+  -- what holds of all lines holds of the first of them
   front_of : (P : TraceLine → Type 0) (xs ys : List TraceLine) → All P (xs ++ ys) → All P xs
   front_of P xs ys all i d within = let many : length (xs ++ ys) ≡ length xs + length ys = length-append xs ys in subst P (get_or-append xs ys d i within) (all i d (omega arith))
 
+  -- what holds of all elements holds of the last one
   last_of : {X : Type 0} (P : X → Type 0) (xs ys : List X) (x : X) → All P (xs ++ (ys ++ x ∷ [])) → P x
   last_of P xs ys x all =
       let at : ℕ = length xs + length ys in
@@ -202,8 +197,3 @@ module _ (bindings : Bindings) where
       refuses-routed : (f : Refused) (q : Result Routes Refusal) → Refuses f q → Refuses f (routed_of q)
       refuses-routed refuseds.Memory q e = tt
       refuses-routed (refuseds.Because refusal) q e = ap routed_of e
-
--- in a file's words
-pub of_file-and_then : {X Y : Type 0} (file : List ℕ) (read : Result X Refusal) (next : X → Result Y Refusal) → of_file file (and_then read next) ≡ reading (of_file file read) (λ x. of_file file (next x))
-of_file-and_then file (Ok x) next = refl
-of_file-and_then file (Err refusal) next = refl

@@ -1,7 +1,7 @@
 -- What is read makes a run ready: the setup has the bindings' tables, and the lanes fit it.
 use Rattle.std.proofs.Common.{◌≡◌, ◌≢◌, ℕ, zero, suc, ◌<◌, ◌≤◌, List, [], ◌∷◌, ◌++◌, ◌^◌, map, length, get_or, refl, sym, ap, ◌∙◌, subst, arith}
 use Rattle.std.specs.Prelude.{All, AllPairs, Some, slice_get, slice_index, slice_index_or}
-use Rattle.std.proofs.lemmas.List.{append_assoc, map-append}
+use Rattle.std.proofs.lemmas.List.{append_assoc, length-map, map-append}
 use Rattle.std.proofs.lemmas.List.Elements.{All-push, All-nil, All-cons, All-head, All-tail, All-weaker}
 use Rattle.rv_model.specs.declared.work.Scope.{Scope}
 use Rattle.rv_model.specs.declared.work.Delivery.{Delivery}
@@ -24,24 +24,22 @@ use Rattle.rv_tool.specs.Inputs.{opened, HasCpus}
 
 -- ---- tables
 
+-- there are as many tables as monitors
 pub tables_counted : (monitors : List Monitor) (tables : List Table) → HaveTables (kinds_of monitors) tables → length tables ≡ length monitors
 tables_counted [] [] h = refl
 tables_counted [] (t ∷ tables) h = absurd h
 tables_counted (m ∷ monitors) [] h = absurd h
 tables_counted (m ∷ monitors) (t ∷ tables) h = ap (λ n. suc n) (tables_counted monitors tables h.1)
 
-mapped_count : {X Y : Type 0} (f : X → Y) (xs : List X) → length (map f xs) ≡ length xs
-mapped_count f [] = refl
-mapped_count f (x ∷ xs) = ap (λ n. suc n) (mapped_count f xs)
-
 -- a setup has one table and one starting value for each monitor
 pub shape_fits : (monitors : List Monitor) (tables : List Table) (tasks : ℕ) (scopes : List Scope) (shape starts : List ℕ) (switches : ℕ) → HaveTables (kinds_of monitors) tables → scopes ≡ map (λ (m : Monitor). m.scope) monitors
     → shape ≡ map (count_of tasks) scopes → starts ≡ map (λ (m : Monitor). m.starting) monitors → switches < 2 ^ 35 → FitsShape (record { shape = shape; tables = tables; starts = starts; switches = switches })
 shape_fits monitors tables tasks scopes shape starts switches have scopes_are shape_is starts_are known =
-    let many : length shape ≡ length monitors = ap (λ (ns : List ℕ). length ns) shape_is ∙ mapped_count (count_of tasks) scopes ∙ ap (λ (ss : List Scope). length ss) scopes_are ∙ mapped_count (λ (m : Monitor). m.scope) monitors in
-    let started : length starts ≡ length monitors = ap (λ (ns : List ℕ). length ns) starts_are ∙ mapped_count (λ (m : Monitor). m.starting) monitors in
+    let many : length shape ≡ length monitors = ap (λ (ns : List ℕ). length ns) shape_is ∙ length-map scopes (count_of tasks) ∙ ap (λ (ss : List Scope). length ss) scopes_are ∙ length-map monitors (λ (m : Monitor). m.scope) in
+    let started : length starts ≡ length monitors = ap (λ (ns : List ℕ). length ns) starts_are ∙ length-map monitors (λ (m : Monitor). m.starting) in
     record { many = tables_counted monitors tables have ∙ sym many; many_starts = started ∙ sym many; known_switches = known }
 
+-- each monitor's table means its specification
 pub tables_mean : (monitors : List Monitor) (tables : List Table) → HaveTables (kinds_of monitors) tables → AllMean (map (λ (m : Monitor). m.spec) monitors) tables
 tables_mean [] [] h = tt
 tables_mean [] (t ∷ tables) h = absurd h
@@ -54,6 +52,7 @@ record At (monitors : List Monitor) (tables : List Table) (tasks place : ℕ) (k
   count : slice_index (map (count_of tasks) (map (λ (m : Monitor). m.scope) monitors)) place ≡ count_of tasks kind.scope
   table : HasTable kind (slice_index_or tables place no_table)
 
+-- at a monitor's place stand how many instances it has, and its table
 at_place : (monitors : List Monitor) (tables : List Table) (tasks place : ℕ) (kind : Kind) → slice_get (kinds_of monitors) place ≡ Some kind → HaveTables (kinds_of monitors) tables → At monitors tables tasks place kind
 at_place [] tables tasks place kind there h = cc
 at_place (m ∷ monitors) [] tasks place kind there h = absurd h
@@ -78,6 +77,7 @@ works_counted [] = refl
 works_counted (lane ∷ lanes) = ap (λ n. suc n) (works_counted lanes)
 
 module _ (monitors : List Monitor) (tables : List Table) (tasks : ℕ) (have : HaveTables (kinds_of monitors) tables) where
+  -- a delivery that fits its monitor fits the setup that the monitors open with
   delivery_fits : (cpu : ℕ) (d : Delivery) → FitsKindOf (kinds_of monitors) tasks cpu d → FitsDelivery (opened monitors tables tasks) d
   delivery_fits cpu d f =
       let at = at_place monitors tables tasks d.monitor f.kind f.there have in
@@ -93,19 +93,23 @@ module _ (monitors : List Monitor) (tables : List Table) (tasks : ℕ) (have : H
 
   -- ---- lanes
 
+  -- what holds of all works holds of the work of each lane
   all_works : (P : Work → Type 0) (lanes : List LaneValue) → All P (works_of lanes) → All (λ (l : LaneValue). P l.work) lanes
   all_works P [] all = All-nil (λ (l : LaneValue). P l.work)
   all_works P (lane ∷ lanes) all = All-cons (λ (l : LaneValue). P l.work) lane lanes (All-head P lane.work (works_of lanes) all) (all_works P lanes (All-tail P lane.work (works_of lanes) all))
 
+  -- the lanes ascend by CPU, where their works do
   pair_works : (lanes : List LaneValue) → AllPairs (λ (w v : Work). w.cpu < v.cpu) (works_of lanes) → AllPairs (λ (l m : LaneValue). l.work.cpu < m.work.cpu) lanes
   pair_works lanes pairs i j d lt within =
       let many = works_counted lanes in
       let below = pairs i j d.work lt (omega arith) in
       subst (λ (w : Work). w.cpu < (get_or lanes j d).work.cpu) (get_or-works lanes i d) (subst (λ (v : Work). (get_or (works_of lanes) i d.work).cpu < v.cpu) (get_or-works lanes j d) below)
 
+  -- lanes that ascend by CPU are of different CPUs
   lanes_apart : (lanes : List LaneValue) → AllPairs (λ (l m : LaneValue). l.work.cpu < m.work.cpu) lanes → AllPairs (λ (l m : LaneValue). l.work.cpu ≢ m.work.cpu) lanes
   lanes_apart lanes pairs i j d lt within e = let below = pairs i j d lt within in absurd (omega arith)
 
+  -- each new lane fits the setup, where the works fit the monitors
   each_fits : (lanes : List LaneValue) → WorksFit (kinds_of monitors) tasks (works_of lanes) → All (λ (l : LaneValue). IsNewLane l.work l) lanes → All (FitsLane (opened monitors tables tasks)) lanes
   each_fits lanes f new i d within = record {
     new_lane = new i d within;
@@ -125,11 +129,13 @@ module _ (monitors : List Monitor) (tables : List Table) (tasks : ℕ) (have : H
 
 -- ---- lanes as they are made
 
+-- with one lane more, the lanes' works and those that are left are still all works
 pub lane_added : (lanes more : List LaneValue) (lane : LaneValue) (items rest all : List Work) (work : Work) → items ≡ work ∷ rest → works_of lanes ++ items ≡ all → lane.work ≡ work → more ≡ lanes ++ lane ∷ [] → works_of more ++ rest ≡ all
 lane_added lanes more lane items rest all work split so_far is added =
     ap (λ (ls : List LaneValue). works_of ls ++ rest) added ∙ ap (λ (ws : List Work). ws ++ rest) (map-append (λ (l : LaneValue). l.work) lanes (lane ∷ []))
     ∙ append_assoc (works_of lanes) (lane.work ∷ []) rest ∙ ap (λ (w : Work). works_of lanes ++ w ∷ rest) is ∙ ap (λ (ws : List Work). works_of lanes ++ ws) (sym split) ∙ so_far
 
+-- the lanes are still new with one new lane more
 pub lanes_new : (lanes more : List LaneValue) (lane : LaneValue) (work : Work) → All (λ (l : LaneValue). IsNewLane l.work l) lanes → IsNewLane work lane → more ≡ lanes ++ lane ∷ [] → All (λ (l : LaneValue). IsNewLane l.work l) more
 lanes_new lanes more lane work all is added =
     subst (λ (ls : List LaneValue). All (λ (l : LaneValue). IsNewLane l.work l) ls) (sym added)
@@ -158,6 +164,7 @@ works_own monitors tasks works fit place has =
 
 -- ---- all of it
 
+-- the setup is the monitors' and has their tables, the lanes fit and ascend by CPU, and their works fit
 pub record Made (monitors : List Monitor) (setup : Setup) (tasks : ℕ) (lanes : List LaneValue) : Type 0 where
   pub again : setup ≡ opened monitors setup.tables tasks
   pub mean : AllMean (map (λ (m : Monitor). m.spec) monitors) setup.tables
@@ -167,6 +174,7 @@ pub record Made (monitors : List Monitor) (setup : Setup) (tasks : ℕ) (lanes :
   pub tables : HaveTables (kinds_of monitors) setup.tables
   pub routed : WorksFit (kinds_of monitors) tasks (works_of lanes)
 
+-- it is so of new lanes of works that fit, with the setup that the monitors open with
 pub ready_made : (monitors given : List Monitor) (tables : List Table) (setup : Setup) (n tasks : ℕ) (works : List Work) (lanes : List LaneValue) → HaveTables (kinds_of monitors) tables → WorksFit (kinds_of monitors) tasks works
     → setup ≡ opened given tables n → given ≡ monitors → n ≡ tasks → works_of lanes ≡ works → All (λ (l : LaneValue). IsNewLane l.work l) lanes → Made monitors setup tasks lanes
 ready_made monitors given tables setup n tasks works lanes have fit setup_is same many works_are new =

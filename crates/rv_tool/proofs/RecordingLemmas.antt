@@ -60,6 +60,7 @@ no-ends rules works none from =
     (λ w. All-weaker (λ (d : Delivery). Any (IsDeliveryOf d) rules) (λ d. is_end d.hit.mode ≡ false) (λ d. no-end rules d none) w.deliveries) works from
 
 module _ (ready : Ready) (is : IsToRecord ready) (shown : List Work) (are : AllZip (IsShownWork ready.setup.switches) (works_of ready.lanes.items) shown) where
+  -- the setup is the one that the monitors open with
   opened_so : IsOpened ready.bindings.monitors.items (length ready.tasks) ready.setup
   opened_so = record { shape = ap (λ (s : Setup). s.shape) is.ready.setup; tables = is.ready.tables; starts = ap (λ (s : Setup). s.starts) is.ready.setup }
 
@@ -69,12 +70,15 @@ module _ (ready : Ready) (is : IsToRecord ready) (shown : List Work) (are : AllZ
       shown_fit ready.bindings.monitors.items (length ready.tasks) ready.setup (works_of ready.lanes.items) shown opened_so is.numbered is.ready.routed
       (no-ends ready.bindings.rules.items (works_of ready.lanes.items) is.no_ends is.ready.rules) are
 
+  -- what is shown ascends by CPU
   pub shown_ascends : AllPairs (λ (v w : Work). v.cpu < w.cpu) shown
   shown_ascends = shown_ascend ready.setup.switches (works_of ready.lanes.items) shown is.ready.routed.cpus are
 
+  -- the run does not begin halted
   pub runs_on : has_bit ready.setup.switches 34 ≡ false
   runs_on = ap (λ (s : Setup). has_bit s.switches 34) is.ready.setup ∙ not_halted ready.bindings.monitors.items
 
+  -- nothing changes beside the CPUs, and no reactor is panic
   steady : IsSteady (run_of (ready_value ready))
   steady = record { no_changes = is.unchanged; no_panics = calm ready.bindings.monitors.items (numbered-calm ready.bindings.monitors.items ready.setup.tables is.numbered) }
 

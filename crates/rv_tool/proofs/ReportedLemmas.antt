@@ -24,9 +24,11 @@ written-back count new old many = ap (λ (n : ℕ). take n (new ++ drop (length 
 
 module _ (Is : Histories) (i : InputValue) (setup : Setup) (reactors : List Reactor) (lanes : List LaneValue) (changes : List Change) (setup_is : setup ≡ setup_of i.bound (length i.routed.tasks))
     (reactors_are : reactors ≡ map (λ (m : Monitor). m.reactor) i.bound.monitors) (works_are : works_of lanes ≡ i.routed.works) (changes_are : changes ≡ i.changes) where
+  -- the specifications of the monitors
   abbrev pub specs : List Spec
   specs = map (λ (m : Monitor). m.spec) i.bound.monitors
 
+  -- what is run is the run of the input
   input_is : input_with setup specs (panics_of reactors) lanes changes ≡ run_of i
   input_is = λ j. record { setup = setup_is j; specs = specs; panics = panics_of (reactors_are j); works = works_are j; changes = changes_are j }
 

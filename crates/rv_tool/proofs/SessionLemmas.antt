@@ -21,11 +21,13 @@ module _ (script : List ℕ) (opening : Tree) (commands : List Numbered) where
   unfolding session_of
   session_before tree n later = refl
 
+  -- the commands from a place on begin with the command there
   session_after : (tree : Tree) (place : ℕ) (n : Numbered) → place < length commands → n ≡ slice_index_or commands place n → session_of script tree (drop place commands)
       ≡ before (done_of script tree n) (session_of script (done_of script tree n).tree (drop (place + 1) commands))
   session_after tree place n within is =
       ap (session_of script tree) (drop_more commands place n within ∙ ap (λ (m : Numbered). m ∷ drop (place + 1) commands) (sym is)) ∙ session_before tree n (drop (place + 1) commands)
 
+  -- a command that is refused now counts as one that was refused before
   refused_or : (is_refused so_far now : Bool) (later : ℕ) → status_with so_far (status_with now later) ≡ status_with (if now then true else so_far) later
   refused_or is_refused true true later = refl
   refused_or is_refused true false later = refl

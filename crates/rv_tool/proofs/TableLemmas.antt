@@ -31,6 +31,7 @@ module _ (told : Option Files) (kind : Kind) (file text : List ℕ) (read : (fil
   read_whole : (files : Files) → told ≡ Some files → table_in files kind file ≡ of_file file (table_text kind text)
   read_whole files known = of_name-reading files file (λ bytes. of_file file (table_text kind bytes)) ∙ ap (λ o. reading o (λ bytes. of_file file (table_text kind bytes))) (read files known)
 
+  -- what is told of the text is what the file comes to
   pub table_comes : {X : Type 0} (view : X → List ℕ) (before now : ℕ) (result : Result X BindFault) → Tells view result (of_file file (table_text kind text)) → Comes view told before now result (λ files. table_in files kind file)
   table_comes view before now (Ok x) tells = λ files known. read_whole files known ∙ tells
   table_comes view before now (Err faults.Memory) tells = tt

@@ -13,7 +13,7 @@ use Rattle.rv_model.specs.Judging.{Judge}
 use Rattle.rv_model.specs.Records.{records_of, status_of}
 use Rattle.rv_model.specs.Reports.{report_text}
 use Rattle.rv_model.specs.Setups.{slot_of}
-use Rattle.rv_model.proofs.UniqueLemmas.{lists-same}
+use Rattle.rv_model.proofs.OneJudgeLemmas.{lists-same}
 use Rattle.rv_bind.specs.declared.bindings.Monitor.{Monitor}
 use Rattle.rv_bind.specs.declared.fault.BindFault.{BindFault}
 use Rattle.rv_feed.specs.Lane.{panics_of, is_panic_reactor}

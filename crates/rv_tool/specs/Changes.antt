@@ -26,6 +26,7 @@ abbrev pub in_line : {X : Type 0} → ℕ → Result X Refusal → Result X Refu
 in_line line (Ok x) = Ok x
 in_line line (Err refusal) = refused_at refusal.number line
 
+-- what a command of the script asks, with its line where it is refused
 abbrev pub asked_in : Tree → Numbered → Result (Tree × Change) Refusal
 asked_in tree n = in_line n.line (asked tree n.command)
 
@@ -42,6 +43,7 @@ changes_of tree (n ∷ ns) = and_then (asked_in tree n) (λ done. change_before 
 abbrev pub changes_text : List ℕ → Tree → List ℕ → Outcome (List Change)
 changes_text script tree text = reading (of_file script (script_of text)) (λ commands. of_file script (changes_of tree commands))
 
+-- what the script's file comes to, which may be missing
 abbrev pub changes_in : Files → List ℕ → Tree → Outcome (List Change)
 changes_in files script tree = of_name files script (changes_text script tree)
 

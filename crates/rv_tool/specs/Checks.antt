@@ -41,10 +41,12 @@ pub record IsJudged (c : CheckedValue) (verdict : Verdict) : Type 0 where
   pub is_run : input_of (run_of c.input).setup (run_of c.input).specs (has_bit (panic_bits c.input)) (run_of c.input).works ≡ run_of c.input
   pub holds : Holds (judged c.input c.journal) (run_of c.input).specs verdict
 
+-- `yes`, or `no` with the line that decides it
 abbrev pub verdict_text : Verdict → List ℕ
 verdict_text Yes = codes "yes\n"
 verdict_text (No line) = codes "no: line " ++ decimal line ++ codes "\n"
 
+-- 0 for yes, and 1 for no
 abbrev pub verdict_status : Verdict → ℕ
 verdict_status Yes = 0
 verdict_status (No line) = 1
@@ -59,6 +61,7 @@ pub record IsCheckReport (c : CheckedValue) (h : List Entry) (text : List ℕ) (
   pub status_is : status ≡ verdict_status verdict
   pub no_history : h ≡ []
 
+-- an accepted journal is judged by its run
 abbrev pub Checks : CheckedValue → Ending
 Checks c = TellsOf (IsCheckReport c)
 

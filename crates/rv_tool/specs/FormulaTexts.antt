@@ -19,6 +19,7 @@ is_single _ = false
 abbrev pub open_text : Ltl → List ℕ
 open_text f = if is_single f then [] else codes "("
 
+-- and the parenthesis is closed behind it
 abbrev pub close_text : Ltl → List ℕ
 close_text f = if is_single f then [] else codes ")"
 

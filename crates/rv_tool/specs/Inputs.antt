@@ -26,6 +26,7 @@ pub record InputValue : Type 0 where
 abbrev pub routed_text : List ℕ → BoundValue → List ℕ → Outcome RoutedValue
 routed_text trace bound text = reading (of_file trace (trace_of text)) (λ lines. of_file trace (route_of bound.monitors bound.rules text lines))
 
+-- what the trace's file comes to under the bindings; it may be missing
 abbrev pub routed_in : Files → List ℕ → BoundValue → Outcome RoutedValue
 routed_in files trace bound = of_name files trace (routed_text trace bound)
 
@@ -50,9 +51,11 @@ opened monitors tables tasks = record {
   switches = opening_switches monitors;
 }
 
+-- the setup that the bindings open with for so many tasks
 abbrev pub setup_of : BoundValue → ℕ → Setup
 setup_of bound tasks = opened bound.monitors bound.tables tasks
 
+-- the run of an input: its setup, specifications, panics, works and changes
 abbrev pub run_of : InputValue → Input
 run_of i = record {
   setup = setup_of i.bound (length i.routed.tasks);

@@ -17,6 +17,7 @@ pub mod Runs
 pub mod SessionValues
 pub mod Sessions
 pub mod Tables
+pub mod Untold
 pub mod Verdicts
 pub mod WatchReports
 pub mod Watched

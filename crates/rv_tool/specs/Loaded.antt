@@ -15,6 +15,7 @@ named_files bindings wip wwnr trace name =
     else if bytes_eq name (codes "gen.txt") then Some trace
     else None
 
+-- the generated bindings and automata, with a trace of so many blocks
 abbrev pub generated_files : ℕ → Files
 generated_files blocks = named_files bindings_text (dot_text wip) (dot_text wwnr) (trace_text blocks)
 

@@ -13,9 +13,11 @@ file_text (Some file) = codes " in " ++ file
 abbrev pub line_text : ℕ → List ℕ
 line_text line = if line == 0 then [] else codes " line " ++ decimal line
 
+-- the number of a refusal, with its file and line where it has them
 abbrev pub refusal_text : Option (List ℕ) → Refusal → List ℕ
 refusal_text file refusal = codes "rv: refused " ++ decimal refusal.number ++ file_text file ++ line_text refusal.line ++ codes "\n"
 
+-- which file cannot be read
 abbrev pub missing_text : List ℕ → List ℕ
 missing_text file = codes "rv: cannot read " ++ file ++ codes "\n"
 

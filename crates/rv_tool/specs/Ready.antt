@@ -9,6 +9,7 @@ use Rattle.rv_verdicts.specs.Lone.{IsByCpu}
 use Rattle.rv_tool.specs.declared.input.Ready.{Ready}
 use Rattle.rv_tool.specs.Inputs.{InputValue, setup_of, HasCpus}
 
+-- the bindings, what each CPU has to do and the changes, as the files gave them
 abbrev pub ready_value : Ready → InputValue
 ready_value r = record {
   bound = record { containers = r.bindings.containers; monitors = r.bindings.monitors.items; rules = r.bindings.rules.items; items = r.bindings.items.items; tables = r.setup.tables };

@@ -56,6 +56,7 @@ Runs Is = EndsRead ready_value (Reports Is)
 abbrev pub Prints : List ℕ → Ending
 Prints text = Says text 0
 
+-- the text that the files give is printed
 abbrev pub PrintsRead : Result (Vec ℕ Global) BindFault → Ending
 PrintsRead = EndsRead (λ text. text.items) Prints
 
@@ -75,6 +76,7 @@ SaysVerdict = EndsRead (λ v. v) (λ v. Says (verdict_text v) (verdict_status v)
 abbrev pub PrintsSession : Printed → Ending
 PrintsSession p = Says p.text p.status
 
+-- what a script came to is printed
 abbrev pub SaysSession : Result Session BindFault → Ending
 SaysSession = EndsRead session_value PrintsSession
 

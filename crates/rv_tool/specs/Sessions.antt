@@ -32,6 +32,7 @@ abbrev pub done_by : List ℕ → ℕ → Tree → Result (Tree × List ℕ) Ref
 done_by script line tree (Ok (after, text)) = record { tree = after; text = text; is_refused = false }
 done_by script line tree (Err refusal) = record { tree = tree; text = refusal_text (Some script) (record { number = refusal.number; line = line }); is_refused = true }
 
+-- what one command of the script comes to on these files
 abbrev pub done_of : List ℕ → Tree → Numbered → Done
 done_of script tree n = done_by script n.line tree (replied tree n.command)
 
@@ -67,6 +68,7 @@ tree_of b = record {
 abbrev pub session_text : List ℕ → BoundValue → List ℕ → Outcome Printed
 session_text script bound text = reading (of_file script (script_of text)) (λ commands. accepted (session_of script (tree_of bound) commands))
 
+-- what the script's file comes to, which may be missing
 abbrev pub session_in : Files → List ℕ → BoundValue → Outcome Printed
 session_in files script bound = of_name files script (session_text script bound)
 

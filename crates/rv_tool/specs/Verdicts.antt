@@ -1,4 +1,4 @@
--- What a run at once tells of slots that only one CPU has deliveries for: what one thread tells of them.
+-- What is told of a history: on one thread that the input determines it, and of a run at once what one thread tells of slots that only one CPU has deliveries for.
 use Rattle.std.specs.Prelude.{◌≡◌, ◌≢◌, ◌⊎◌, ◌<◌, ℕ, List, Option, Some, All}
 use Rattle.rv_io.specs.Files.{Files}
 use Rattle.rv_model.specs.declared.entry.Act.TheVariants.{Stop}
@@ -6,19 +6,19 @@ use Rattle.rv_model.specs.declared.entry.Entry.{Entry}
 use Rattle.rv_model.specs.declared.reactor.Reactor.TheVariants.{Panic}
 use Rattle.rv_model.specs.declared.work.Scope.TheVariants.{Cpu}
 use Rattle.rv_model.specs.Cuts.{AtEach}
-use Rattle.rv_model.specs.Histories.{IsLegal, IsOneHistory, AreJudges}
+use Rattle.rv_model.specs.Histories.{IsLegal, IsNoStop, IsOneHistory, AreJudges}
 use Rattle.rv_model.specs.Judging.{Judge}
 use Rattle.rv_model.specs.Records.{records_of}
 use Rattle.rv_model.specs.Setups.{slot_of}
 use Rattle.rv_slots.specs.declared.shape.TheConstants.{CPUS}
 use Rattle.rv_verdicts.specs.Lone.{IsLone, IsByCpu}
 use Rattle.rv_verdicts.specs.Verdicts.{AgreeOnLone, records_on}
-use Rattle.rv_tool.specs.Headline.{Ending, GivesUp, IsReported, Ends}
+use Rattle.rv_tool.specs.Headline.{Ending, GivesUp, IsReported, TellsOf, Ends}
 use Rattle.rv_tool.specs.Inputs.{InputValue, run_input, run_of, HasCpus}
 use Rattle.rv_tool.specs.Loaded.{load_input}
 use Rattle.rv_tool.specs.Output.{Told}
 use Rattle.rv_tool.specs.Runs.{AnswersBy}
-use Rattle.rv_tool.specs.Words.{CommandValue, feed, load}
+use Rattle.rv_tool.specs.Words.{CommandValue, replay, feed, load}
 
 -- only one CPU has deliveries for the slot
 abbrev pub IsLoneIn : InputValue → ℕ → Type 0
@@ -43,6 +43,18 @@ pub record HasCpuVerdicts (i : InputValue) (h : List Entry) (text : List ℕ) (s
       → (monitor cpu : ℕ) → HasCpus i.bound.monitors monitor → cpu < CPUS → records_on monitor cpu (records_of (run_of i) judges h) ≡ records_on monitor cpu (records_of (run_of i) judges k)
   pub all : HasNoPanic i → AllHaveCpus i → (k : List Entry) (other : List ℕ) (said : ℕ) → IsReported IsOneHistory i k other said → (text ≡ other) × (status ≡ said)
 
+-- ---- one thread
+
+-- nothing is stopped, so the status is not 6; and no other history of one thread, text or status is one of the input
+pub record HasOneVerdict (i : InputValue) (h : List Entry) (text : List ℕ) (status : ℕ) : Type 0 where
+  pub no_stop : AtEach (λ before e. IsNoStop e.act) h
+  pub not_six : status ≢ 6
+  pub only : (k : List Entry) (other : List ℕ) (said : ℕ) → IsReported IsOneHistory i k other said → (h ≡ k) × (text ≡ other) × (status ≡ said)
+
+-- a run on one thread is reported, and has this verdict
+abbrev pub ReportsOne : InputValue → Ending
+ReportsOne i = TellsOf (λ h text status. IsReported IsOneHistory i h text status × HasOneVerdict i h text status)
+
 -- ---- all of them
 
 -- nothing stops a lone slot; without panic its records are those of one thread; and where all slots are lone the text and the status are too, which is never 6
@@ -57,8 +69,9 @@ pub record HasVerdicts (i : InputValue) (h : List Entry) (text : List ℕ) (stat
 abbrev pub ReportsVerdicts : InputValue → Ending
 ReportsVerdicts i old new before now status h = ((text : List ℕ) × (said : ℕ) × IsReported IsLegal i h text said × HasVerdicts i h text said × Told old new before now text said status) ⊎ GivesUp old new status h
 
--- what the commands that run at once answer
+-- what the commands that report a run answer
 abbrev pub Verdicts : Option CommandValue → Files → ℕ → ℕ → Ending
+Verdicts (Some (replay bindings trace)) files first last old new before now status h = AnswersBy ReportsOne (λ files. run_input files bindings trace) files first last old new before now status h
 Verdicts (Some (feed bindings trace)) files first last old new before now status h = AnswersBy ReportsVerdicts (λ files. run_input files bindings trace) files first last old new before now status h
 Verdicts (Some (load blocks)) files first last old new before now status h = Ends ReportsVerdicts (load_input blocks) old new before now status h
 Verdicts _ files first last old new before now status h = Unit {0}

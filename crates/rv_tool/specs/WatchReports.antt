@@ -3,14 +3,16 @@ use Rattle.std.specs.Prelude.{◌≡◌, ◌<◌, ℕ, List, [], ◌∷◌, ◌+
 use Rattle.rv_model.specs.declared.entry.Entry.{Entry}
 use Rattle.rv_watch.specs.Runs.{IsWatched}
 use Rattle.rv_watch.specs.Texts.{words_text}
+use Rattle.rv_watch.specs.Words.{AreKept}
 use Rattle.rv_tool.specs.declared.watching.ToWatch.{ToWatch}
 use Rattle.rv_tool.specs.Headline.{Ending, IsReported, TellsOf}
 use Rattle.rv_tool.specs.Ready.{IsReady, ready_value}
 use Rattle.rv_tool.specs.Watched.{WatchValue}
 
--- a report of a legal history of the input, and behind it the slot's words at places of this history that never fall, the last of which is its end
+-- a report of a legal history of the input, and behind it the slot's words at places of this history that never fall, the last of which is its end; before it stand at most 1,024, none of which is the one before it
 pub record IsWatchReport (w : WatchValue) (h : List Entry) (text : List ℕ) (status : ℕ) : Type 0 where
   pub words : List ℕ
+  pub kept : AreKept words
   pub last : ℕ
   pub report : List ℕ
   pub reported : IsReported (IsWatched w.slot words last) w.input h report status
@@ -22,6 +24,7 @@ Watches w = TellsOf (IsWatchReport w)
 
 -- ---- what is read
 
+-- the input of the run, and the slot that is watched
 abbrev pub watch_value : ToWatch → WatchValue
 watch_value w = record { input = ready_value w.ready; slot = w.slot }
 

@@ -15,6 +15,7 @@ use Rattle.rv_tool.specs.declared.words.Verb.TheVariants as verbs
 abbrev pub texts_of : List (String Global) → List (List ℕ)
 texts_of words = map string_bytes words
 
+-- a command, with the texts that it is given
 pub data CommandValue : Type 0 where
   -- the bindings and the trace, for one thread or several
   replay : List ℕ → List ℕ → CommandValue
@@ -36,6 +37,7 @@ pub data CommandValue : Type 0 where
   -- the name of the C tables, and the automaton's file
   header : List ℕ → List ℕ → CommandValue
 
+-- the command, with the bytes of its words as texts
 abbrev pub command_value : Command → CommandValue
 command_value (commands.Replay bindings trace) = replay bindings.now trace.now
 command_value (commands.Feed bindings trace) = feed bindings.now trace.now

@@ -76,11 +76,7 @@ pub(crate) fn works(alloc: Global, lanes: Vec<Lane>) -> Result<Vec<CpuWork>, All
 {
     let mut works = Vec::new(alloc);
     for lane in lanes {
-        let Lane {
-            work,
-            records: _records,
-        } = lane;
-        works.push(work)?;
+        works.push(lane.into_work())?;
     }
     Ok(works)
 }

@@ -9,6 +9,7 @@ ghost use Rattle.rv_tool.specs.Headline.{Says, Reports, Ends};
 ghost use Rattle.rv_tool.specs.Journals.{IsToRecord};
 ghost use Rattle.rv_tool.specs.Runs.{Ended, Fails, Runs, RecordsRead, WatchesRead, PrintsRead, SaysVerdict, SaysSession, Answers};
 ghost use Rattle.rv_tool.specs.WatchReports.{IsToWatch};
+ghost use Rattle.rv_tool.specs.Untold.{AnswersUntold};
 ghost use Rattle.rv_tool.specs.Verdicts.{ReportsVerdicts, Verdicts};
 ghost use Rattle.rv_tool.specs.Words.{command_of, texts_of};
 ghost use Rattle.rv_tool.specs.Ready.{ready_value, IsReady};
@@ -67,6 +68,7 @@ pub fn rv<R: Threads + Sync, S: Store, K: Sink, G: Gate + Send>(
     ensures kept { S.files store.new ≡ S.files store.old }
     ensures answers { (files : Files) → S.files store.old ≡ Some files → Answers (command_of (texts_of words.now)) files (S.faults store.old) (S.faults store.new) (K.taken out.old) (K.taken out.new) (K.faults out.old) (K.faults out.new) result.status result.closed }
     ensures verdicts { (files : Files) → S.files store.old ≡ Some files → Verdicts (command_of (texts_of words.now)) files (S.faults store.old) (S.faults store.new) (K.taken out.old) (K.taken out.new) (K.faults out.old) (K.faults out.new) result.status result.closed }
+    ensures untold { S.files store.old ≡ None → AnswersUntold (command_of (texts_of words.now)) (S.faults store.old) (S.faults store.new) (K.taken out.old) (K.taken out.new) (K.faults out.old) (K.faults out.new) result.status result.closed }
 {
     match read_words(words) {
         Some(Command::Replay { bindings, trace }) => run(

@@ -25,6 +25,7 @@ said_number text from number parts line e = go (pid_of text parts.head) (cpu_of 
     go (Some pid) None e = cc
     go (Some pid) (Some cpu) e = let same : line_with text from number parts.name pid cpu ≡ line = cc in sym (ap (λ (l : TraceLine). l.number) same)
 
+-- a line that is neither skipped nor refused has its number
 line_number : (text : List ℕ) (from number : ℕ) (line : TraceLine) → line_of text from number ≡ Ok (Some line) → line.number ≡ number
 unfolding line_of
 line_number text from number line e = go (is_skipped text) (is_lost text) (parts_of text) e
@@ -45,22 +46,27 @@ record Up (n : ℕ) (lines : List TraceLine) : Type 0 where
   low : All (λ (l : TraceLine). n ≤ l.number) lines
   ascend : AllPairs (λ (l m : TraceLine). l.number < m.number) lines
 
+-- an empty list of lines is numbered upwards, from any number on
 up_nil : (n : ℕ) → Up n []
 up_nil n = record { low = All-nil (λ (l : TraceLine). n ≤ l.number); ascend = λ i j d lt within. absurd (omega arith) }
 
+-- lines numbered upwards from the next number on are so from this one on
 up_lower : (n : ℕ) (lines : List TraceLine) → Up (n + 1) lines → Up n lines
 up_lower n lines up = record { low = All-weaker (λ (l : TraceLine). n + 1 ≤ l.number) (λ (l : TraceLine). n ≤ l.number) (λ l le. omega arith) lines up.low; ascend = up.ascend }
 
+-- with a line of this number in front, they are so from this number on
 up_cons : (n : ℕ) (line : TraceLine) (lines : List TraceLine) → line.number ≡ n → Up (n + 1) lines → Up n (line ∷ lines)
 up_cons n line lines is up = record {
   low = All-cons (λ (l : TraceLine). n ≤ l.number) line lines (omega arith) (up_lower n lines up).low;
   ascend = AllPairs-cons (λ (l m : TraceLine). l.number < m.number) line lines (All-weaker (λ (l : TraceLine). n + 1 ≤ l.number) (λ (l : TraceLine). line.number < l.number) (λ l le. omega arith) lines up.low) up.ascend;
 }
 
+-- behind a number that a line may have, the next one is one more
 next_is : (n : ℕ) → n ≤ MAX_LINES → next_number n ≡ n + 1
 next_is n le = let few : nat_lt n 4294967295 ≡ true = grind arith in rw few refl
 
 module _ (text : List ℕ) where
+  -- the lines that are read at some places are numbered upwards from the first one's number on
   read_up : (n : ℕ) (places : List ℕ) (lines : List TraceLine) → all_read (lines_at text n places) ≡ Ok lines → Up n lines
   unfolding all_read lines_at reading_of
   read_up n [] lines e = let none : [] ≡ lines = cc in subst (Up n) none (up_nil n)

@@ -36,6 +36,7 @@ record Pieces (done text : List ℕ) : Type 0 where
   stands : StandsAt (done ++ front) number
   none : NoEnd rest
 
+-- behind what was passed, bytes without a line end and any text after them have such pieces
 pieces-from : (tail done bytes : List ℕ) (number : ℕ) → StandsAt done number → NoEnd bytes → Pieces done (bytes ++ tail)
 pieces-from [] done bytes number stands none =
     subst (λ (text : List ℕ). Pieces done text) (sym (append-nil bytes)) (record {
@@ -91,9 +92,11 @@ late-refused line later past =
     (chosen-true (is_too_long line) (refused_at TOO_LONG line.number) (line_of line.bytes line.from line.number) (or_right (ltb MAX_LINES line.number) (ltb MAX_BYTES line.end) (lt-ltb _ _ past)))
 
 module _ (front rest more : List ℕ) (number : ℕ) (stands : StandsAt front number) (none : NoEnd rest) (some : 0 < length rest) where
+  -- the front, the rest, and what follows them
   abbrev pub text : List ℕ
   text = front ++ (rest ++ more)
 
+  -- it is as long as the three together
   size : length text ≡ length front + (length rest + length more)
   size = length-append front (rest ++ more) ∙ ap (λ n. length front + n) (length-append rest more)
 

@@ -34,9 +34,11 @@ run_is p v n long few =
 module _ (q : ℕ → Bool) (text : List ℕ) (from n run : ℕ) (z : List ℕ) (room : from + n ≤ length text) (few : n ≤ 64)
     (fits : (k : ℕ) → Fits w8 (get_or text k 0)) (found : run ≡ first_set (mask_l (map (top 7) z) % 2 ^ 64) n)
     (f : ℕ → ℕ) (lanes : z ≡ map f (chunk from n text)) (all : agree_below (λ x. top 7 (f x)) (λ x. not (q x)) 256 ≡ true) where
+  -- the highest bit of a byte's lane is set
   abbrev pub stops : ℕ → Bool
   stops x = top 7 (f x)
 
+  -- there is a byte for each lane
   long : length (chunk from n text) ≡ n
   long = length-chunk from n text room
 
@@ -47,6 +49,7 @@ module _ (q : ℕ → Bool) (text : List ℕ) (from n run : ℕ) (z : List ℕ) 
       let mask = ap (λ l. mask_l l % 2 ^ 64) (ap (map (top 7)) lanes ∙ map-map (top 7) f v) ∙ mask_l-mod (map stops v) 64 (omega (arith, length-map v stops, long)) in
       found ∙ ap (λ m. first_set m n) mask ∙ run_is stops v n long few
 
+  -- no lane of the run stops
   goes_on : (k : ℕ) → from ≤ k → k < from + run → stops (get_or text k 0) ≡ false
   goes_on k low high =
       let back : from + (k - from) ≡ k = omega arith in
@@ -54,6 +57,7 @@ module _ (q : ℕ → Bool) (text : List ℕ) (from n run : ℕ) (z : List ℕ) 
       let at = get_or-chunk from n text (k - from) 0 (omega (arith, counted, long)) ∙ ap (λ j. get_or text j 0) back in
       subst (λ x. stops x ≡ false) at (not-true _ (prefix_len_passes (λ x. not (stops x)) (chunk from n text) (k - from) 0 (omega (arith, counted))))
 
+  -- so the bytes of the run pass the test, and the next one does not
   pub run_in : IsRunIn q text from n run
   run_in = record {
     most = omega (arith, counted, long, prefix_len-le-length (λ x. not (stops x)) (chunk from n text));
@@ -68,6 +72,7 @@ module _ (q : ℕ → Bool) (text : List ℕ) (from n run : ℕ) (z : List ℕ) 
 module _ (q : ℕ → Bool) (text : List ℕ) (from n : ℕ) (z : List ℕ) (room : from + n ≤ length text) (few : n ≤ 64)
     (fits : (k : ℕ) → Fits w8 (get_or text k 0))
     (f : ℕ → ℕ) (lanes : z ≡ map f (chunk from n text)) (all : agree_below (λ x. top 7 (f x)) q 256 ≡ true) where
+  -- a bit of the mask is set just where the lane of its byte is
   bit : (k : ℕ) → bit_at (mask_l (map (top 7) z) % 2 ^ 64) k ≡ cond (get_or (map (λ x. top 7 (f x)) (chunk from n text)) k false) 1 0
   bit k =
       let v = chunk from n text in
@@ -75,6 +80,7 @@ module _ (q : ℕ → Bool) (text : List ℕ) (from n : ℕ) (z : List ℕ) (roo
       (ap (λ l. mask_l l % 2 ^ 64) (ap (map (top 7)) lanes ∙ map-map (top 7) f v) ∙ mask_l-mod (map (λ x. top 7 (f x)) v) 64 (omega (arith, length-map v (λ x. top 7 (f x)), length-chunk from n text room)))
       ∙ bit_mask_l (map (λ x. top 7 (f x)) v) k
 
+  -- so a bit of the mask is set just where its byte passes the test
   pub mask_in : IsMask q text from n (mask_l (map (top 7) z) % 2 ^ 64)
   mask_in = record {
     bits = λ k low.

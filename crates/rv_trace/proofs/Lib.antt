@@ -1,8 +1,10 @@
+pub mod AddLemmas
 pub mod AscendLemmas
 pub mod BitLemmas
 pub mod FieldLemmas
 pub mod FrontLemmas
 pub mod HeadLemmas
+pub mod HeldLemmas
 pub mod LaneLemmas
 pub mod LiesLemmas
 pub mod LineLemmas

@@ -24,6 +24,7 @@ use Rattle.rv_trace.proofs.PlaceLemmas.{first_or_none}
 one_thing : {X : Type 0} (x y : X) → Some x ≡ Some y → x ≡ y
 one_thing x y is = cc
 
+-- what is nothing is not something
 not_none : {X : Type 0} (x : X) → None ≡ Some x → ⊥
 not_none x is = cc
 
@@ -36,9 +37,11 @@ picked false x y is = absurd (cc)
 ok_one : {X : Type 0} (x y : X) → ◌≡◌ {A = Result X Refusal} (Ok x) (Ok y) → x ≡ y
 ok_one x y is = cc
 
+-- what is skipped is no line
 skipped_none : (line : TraceLine) → ◌≡◌ {A = Result (Option TraceLine) Refusal} (Ok None) (Ok (Some line)) → ⊥
 skipped_none line is = cc
 
+-- what is refused is no line
 pub refused_none : (refusal : Refusal) (line : TraceLine) → ◌≡◌ {A = Result (Option TraceLine) Refusal} (Err refusal) (Ok (Some line)) → ⊥
 refused_none refusal line is = cc
 
@@ -61,6 +64,7 @@ record Within (text : List ℕ) (place : ℕ) (word : Part) : Type 0 where
   order : word.from ≤ word.to
   high : word.to ≤ length text
 
+-- the first word from a place on lies behind the place and in the text
 word_at-within : (text : List ℕ) (place : ℕ) → place ≤ length text → Within text place (word_at text place)
 unfolding word_at
 word_at-within text place inside =

@@ -38,6 +38,7 @@ module _ (text : List ℕ) (from number : ℕ) (parts : Parts) where
   abbrev pub read : Result (Option TraceLine) Refusal
   read = and_then (said text from number parts) (λ line. Ok (Some line))
 
+  -- with the numbers of its head, what is read is what the line says
   read-with : (pid cpu : Option ℕ) → pid ≡ pid_of text parts.head → cpu ≡ cpu_of text parts.head → read_with text from number parts pid cpu ≡ read
   unfolding said
   read-with pid cpu is has = ap₂ (read_with text from number parts) is has

@@ -85,9 +85,11 @@ number-longer text from end to more =
 
 -- the bits of the last load, from a place on
 module _ (text : List ℕ) (place blanks : ℕ) (low : place ≤ length text) (high : length text < place + 16) (room : 16 ≤ length text) (mask : IsMask is_blank text (length text - 16) 16 blanks) where
+  -- the bits of the load without those before the place
   abbrev pub rest_bits : ℕ
   rest_bits = blanks / 2 ^ (place - (length text - 16))
 
+  -- each of them is set just where a blank stands
   rest-bit : (k : ℕ) → place + k < length text → bit_at rest_bits k ≡ cond (is_blank (get_or text (place + k) 0)) 1 0
   rest-bit k inside =
       let here : length text - 16 + (place - (length text - 16) + k) ≡ place + k = omega arith in

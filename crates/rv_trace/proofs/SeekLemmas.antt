@@ -1,86 +1,27 @@
 -- From the places in the bytes that are held to the lines of the stream.
 use Rattle.std.proofs.Common.{◌≡◌, ◌≢◌, ℕ, suc, ◌+◌, ◌-◌, ◌<◌, ◌≤◌, inl, inr, Bool, true, false, ◌||◌, cond, ltb, min, List, [], ◌∷◌, ◌++◌, length, get_or, take, drop, Option, Some, None, Result, Ok, Err, refl, sym, ◌∙◌, ap, ap₂, subst, arith, append_assoc, append-nil, length-append, length-drop, drop-cons}
-use Rattle.std.proofs.lemmas.Bool.{cases_lt, false≢true, or_cases, or_right, or_left, ltb-true, lt-ltb}
-use Rattle.std.proofs.lemmas.List.{length-take-le, drop-drop, take_at, take_all, take-append-drop, get_or-take, get_or-drop, get_or_append_left, drop-append-le, take-append-le}
+use Rattle.std.proofs.lemmas.Bool.{cases_lt, false≢true, or_cases, or_left, ltb-true}
+use Rattle.std.proofs.lemmas.List.{length-take-le, drop-drop, take_at, take_all, take-append-drop, get_or-take, get_or-drop}
 use Rattle.std.proofs.lemmas.List.Edits.{split_between, length-between}
-use Rattle.std.proofs.lemmas.List.Elements.{All-nil, All-cons, All-append}
 use Rattle.std.proofs.Math.ListN.{drop_of_length-le}
 use Rattle.rv_text.specs.Places.{between}
-use Rattle.rv_text.specs.TextLines.{LineText, line_end, lines_of, next_number}
-use Rattle.rv_text.proofs.TextLineLemmas.{line_end-other}
-use Rattle.rv_text.specs.Readings.{refused_at}
-use Rattle.rv_text.proofs.ReadingLaws.{chosen}
-use Rattle.rv_text.specs.declared.numbers.TheConstants.{TOO_LONG}
+use Rattle.rv_text.specs.TextLines.{LineText, lines_of, next_number}
 use Rattle.rv_text.specs.declared.refusals.Refusal.{Refusal}
 use Rattle.rv_trace.specs.declared.line.TraceLine.{TraceLine}
 use Rattle.rv_trace.specs.declared.trace.TheConstants.{MAX_BYTES}
-use Rattle.rv_trace.specs.Lines.{line_of, moved, moved_line}
-use Rattle.rv_trace.specs.Traces.{is_too_long, reading_of}
-use Rattle.rv_trace.specs.Held.{IsPieceOf, LooksAt, EndsAt, IsOpen, IsHeld}
-use Rattle.rv_trace.specs.Streams.{ended_front, is_whole, part_read, IsSkipped, Adds, TakesLine, Answers, StandsAt, IsPassed}
-use Rattle.rv_trace.proofs.MoveLemmas.{moved-cond, line_of-moved}
+use Rattle.rv_trace.specs.Lines.{moved, moved_line}
+use Rattle.rv_trace.specs.Traces.{reading_of}
+use Rattle.rv_trace.specs.Held.{IsPieceOf, EndsAt, IsOpen}
+use Rattle.rv_trace.specs.Streams.{ended_front, is_whole, part_read, Adds, TakesLine, Answers, StandsAt, IsPassed}
 use Rattle.rv_trace.proofs.StreamLemmas.{NoEnd, ended_front-none, line_before, behind_line, Steps, steps-ended, steps-last, stands-next}
-
--- a line that stands at a place of the stream says what it says at the first place, moved
-pub reading-moved : (number from end : ℕ) (bytes : List ℕ) → reading_of (record { number = number; from = from; bytes = bytes; end = end }) ≡ moved from (reading_of (record { number = number; from = 0; bytes = bytes; end = end }))
-unfolding reading_of
-reading-moved number from end bytes =
-    let line : LineText = record { number = number; from = 0; bytes = bytes; end = end } in
-    sym (moved-cond from (is_too_long line) (refused_at TOO_LONG number) (line_of bytes 0 number)
-    ∙ ap (cond (is_too_long line) (refused_at TOO_LONG number)) (sym (line_of-moved bytes from number)))
-
--- a refusal is no reading
-ok_not : {X : Type 0} (refusal : Refusal) (x : X) → ◌≡◌ {A = Result X Refusal} (Err refusal) (Ok x) → ⊥
-ok_not refusal x is = cc
-
--- what was read is not too long
-pub reading-fits : (line : LineText) (found : Option TraceLine) → reading_of line ≡ Ok found → line.end ≤ MAX_BYTES
-unfolding reading_of
-reading-fits line found is =
-    elim (chosen (is_too_long line) _ _ _ is) [
-      | inl long ↦ absurd (ok_not _ found long.1)
-      | inr short ↦ elim (cases_lt MAX_BYTES line.end) [
-        | inl past ↦ absurd (false≢true (sym short.0 ∙ or_right _ _ (lt-ltb _ _ past)))
-        | inr within ↦ within
-      ]
-    ]
-
--- no lines come
-pub adds-none : (text : List ℕ) → Adds text text []
-adds-none text = record {
-  skipped = [];
-  each = All-nil IsSkipped;
-  are = sym (append-nil (lines_of text));
-}
-
--- a line comes behind lines that are skipped
-pub adds-line : (before middle after : List ℕ) (line : LineText) → Adds before middle [] → lines_of after ≡ lines_of middle ++ line ∷ [] → Adds before after (line ∷ [])
-adds-line before middle after line adds only = record {
-  skipped = adds.skipped;
-  each = adds.each;
-  are = only ∙ ap (λ front. front ++ line ∷ []) (adds.are ∙ ap (λ lines. lines_of before ++ lines) (append-nil adds.skipped)) ∙ append_assoc (lines_of before) adds.skipped (line ∷ []);
-}
-
--- it is skipped too
-pub adds-skip : (before middle after : List ℕ) (line : LineText) → Adds before middle [] → lines_of after ≡ lines_of middle ++ line ∷ [] → IsSkipped line → Adds before after []
-unfolding adds-line
-adds-skip before middle after line adds only skip = record {
-  skipped = adds.skipped ++ line ∷ [];
-  each = All-append IsSkipped adds.skipped (line ∷ []) adds.each (All-cons IsSkipped line [] skip (All-nil IsSkipped));
-  are = (adds-line before middle after line adds only).are ∙ ap (λ lines. lines_of before ++ lines) (sym (append-nil (adds.skipped ++ line ∷ [])));
-}
-
--- what a line that ends here is in the stream
-pub record Moves (fed : List ℕ) (closed : Bool) (done after bytes : List ℕ) (place end number next : ℕ) : Type 0 where
-  pub line : LineText
-  pub is : line ≡ record { number = number; from = place; bytes = bytes; end = end }
-  pub steps : Steps closed fed done after line
-  pub passes : end ≤ MAX_BYTES → IsPassed fed closed next (next_number number)
+use Rattle.rv_trace.proofs.AddLemmas.{Moves, adds-line, adds-skip, reading-fits, reading-moved}
 
 module _ (fed held : List ℕ) (passed from number : ℕ) (closed : Bool) (piece : IsPieceOf fed held passed) (within : from ≤ length held) where
+  -- the bytes that were fed before the next line
   abbrev pub done : List ℕ
   done = take (passed + from) fed
 
+  -- the bytes that are held and those in front of them are all that were fed
   size : length held + passed ≡ length fed
   size = let low : passed ≤ length fed = piece.low in omega (arith, ap {B = ℕ} length piece.is, length-drop passed fed)
 
@@ -257,51 +198,3 @@ module _ (fed held : List ℕ) (passed from number : ℕ) (closed : Bool) (piece
         pub behind-refused : (refusal : Refusal) (text : List ℕ) → read ≡ Err refusal → Answers before done (part_read closed fed) text read
         behind-refused refusal text is =
             subst (λ (r : Result (Option TraceLine) Refusal). Answers before done (part_read closed fed) text r) (sym is) (refuse-line refusal (here ∙ is))
-
--- no line end stands up to where the search found the first one
-pub none-to : (held : List ℕ) (from searched to : ℕ) → LooksAt held from searched → to ≡ line_end held searched → (k : ℕ) → from ≤ k → k < to → get_or held k 0 ≢ 10
-none-to held from searched to looks is k low high =
-    elim (cases_lt k searched) [
-      | inl before ↦ looks.none k low before
-      | inr on ↦ line_end-other held searched k on (omega arith)
-    ]
-
--- nothing was looked at yet
-pub looks-first : (held : List ℕ) (from : ℕ) → from ≤ length held → LooksAt held from from
-looks-first held from within = record {
-  order = omega arith;
-  within = within;
-  none = λ k low high. absurd (omega arith);
-}
-
--- the stream grows by a piece, and what was passed of it is let go
-pub held-fed : (fed held piece : List ℕ) (passed from searched number first last : ℕ) → IsHeld fed held passed from searched number first last false →
-    IsHeld (fed ++ piece) (drop from (held ++ piece)) (passed + from) 0 (searched - from) number 0 0 false
-held-fed fed held piece passed from searched number first last is =
-    let low : passed ≤ length fed = is.piece.low in
-    let order : from ≤ searched = is.looks.order in
-    let within : searched ≤ length held = is.looks.within in
-    let size : length held + passed ≡ length fed = omega (arith, ap {B = ℕ} length is.piece.is, length-drop passed fed) in
-    let longer : length (held ++ piece) ≡ length held + length piece = length-append held piece in
-    let whole : length (fed ++ piece) ≡ length fed + length piece = length-append fed piece in
-    let rest : length (drop from (held ++ piece)) ≡ length (held ++ piece) - from = length-drop from (held ++ piece) in
-    let place : passed + from + 0 ≡ passed + from = omega arith in
-    record {
-      piece = record {
-        is = ap (λ text. drop from (text ++ piece)) is.piece.is ∙ ap (drop from) (sym (drop-append-le passed fed piece low)) ∙ drop-drop from passed (fed ++ piece);
-        low = omega arith;
-      };
-      looks = record {
-        order = omega arith;
-        within = omega arith;
-        none = λ k l h e. is.looks.none (from + k) (omega arith) (omega arith)
-            (sym (get_or_append_left held piece 0 (from + k) (omega arith)) ∙ sym (get_or-drop from (held ++ piece) k 0) ∙ e);
-      };
-      fits = omega (arith, is.fits);
-      order = omega arith;
-      within = omega arith;
-      stands = elim is.stands [
-        | inl stands ↦ inl (subst (λ (text : List ℕ). StandsAt text number) (sym (ap (λ n. take n (fed ++ piece)) place ∙ take-append-le (passed + from) fed piece (omega arith))) stands)
-        | inr over ↦ absurd (false≢true over.0)
-      ];
-    }

@@ -107,6 +107,7 @@ stamp-word text word colon is k low high =
     ]
 
 module _ (text : List ℕ) (from end : ℕ) (within : end ≤ length text) where
+  -- what begins at this place is a timestamp just where it ends at this end
   abbrev pub stands : Type 0
   stands = (to : ℕ) → is_stamp text (record { from = from; to = to }) ≡ (end == to)
 
@@ -125,6 +126,7 @@ module _ (text : List ℕ) (from end : ℕ) (within : end ≤ length text) where
         | inr blank ↦ ap not blank
       ])
 
+  -- so the word that begins there is a timestamp with this end
   pub stamp-is : stands → (end == length text || is_blank (get_or text end 0)) ≡ true → Some end ≡ cond (is_stamp text (word_from text from)) (Some (run_end kinds.Word text from)) None
   stamp-is is behind =
       let whole = stamp-whole is behind in
@@ -147,9 +149,11 @@ module _ (text : List ℕ) (from end : ℕ) (within : end ≤ length text) where
       sym (ap (λ b. cond b (Some (run_end kinds.Word text from)) None) (is (run_end kinds.Word text from) ∙ ne_eqb _ _ (goes_on inside_text behind)))
 
 module _ (text : List ℕ) (place : ℕ) where
+  -- where the first word from the place on begins
   abbrev pub first : ℕ
   first = run_end kinds.Blank text place
 
+  -- where the second one begins
   abbrev pub second : ℕ
   second = run_end kinds.Blank text (run_end kinds.Word text first)
 

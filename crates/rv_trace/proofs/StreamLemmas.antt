@@ -16,10 +16,12 @@ NoEnd bytes = (k : ℕ) → k < length bytes → get_or bytes k 0 ≢ 10
 abbrev pub BeginsEnded : List ℕ → Type 0
 BeginsEnded tail = 0 < length tail → get_or tail 0 0 ≡ 10
 
+-- where no byte is a line end, none is found
 has_line_end-none : (bytes : List ℕ) → NoEnd bytes → has_line_end bytes ≡ false
 has_line_end-none [] none = refl
 has_line_end-none (byte ∷ bytes) none = neither (eqb byte 10) (has_line_end bytes) (ne_eqb byte 10 (none 0 (omega arith))) (has_line_end-none bytes (λ k h. none (suc k) (omega arith)))
 
+-- where one byte is a line end, one is found
 has_line_end-some : (front more : List ℕ) → has_line_end (front ++ 10 ∷ more) ≡ true
 has_line_end-some [] more = refl
 has_line_end-some (byte ∷ front) more = second (eqb byte 10) (has_line_end (front ++ 10 ∷ more)) (has_line_end-some front more)
@@ -51,6 +53,7 @@ abbrev pub line_before : List ℕ → List ℕ → List ℕ → ℕ → LineText
 line_before done bytes tail number = record { number = number; from = length done; bytes = bytes; end = length done + min (length bytes + 1) (length bytes + length tail) }
 
 module _ (done bytes tail : List ℕ) (number : ℕ) (none : NoEnd bytes) (begins : BeginsEnded tail) where
+  -- what was passed, the bytes of a line, and what follows them
   abbrev pub whole : List ℕ
   whole = done ++ (bytes ++ tail)
 
@@ -60,6 +63,7 @@ module _ (done bytes tail : List ℕ) (number : ℕ) (none : NoEnd bytes) (begin
   reads : (k : ℕ) → get_or whole (length done + k) 0 ≡ get_or (bytes ++ tail) k 0
   reads k = get_or-append-add done (bytes ++ tail) k 0
 
+  -- the line ends behind its bytes
   end-is : line_end whole (length done) ≡ length done + length bytes
   end-is =
       line_end-is whole (length done) (length done + length bytes) (omega arith) (omega (arith, size))
@@ -70,11 +74,13 @@ module _ (done bytes tail : List ℕ) (number : ℕ) (none : NoEnd bytes) (begin
       let here : length bytes ≡ length bytes + 0 = omega arith in
       reads (length bytes) ∙ ap (λ n. get_or (bytes ++ tail) n 0) here ∙ get_or-append-add bytes tail 0 0 ∙ begins (omega (arith, size)))
 
+  -- what stands from the line's place up to its end is its bytes
   piece : between whole (length done) (length done + length bytes) ≡ bytes
   piece =
       let count : length done + length bytes - length done ≡ length bytes = omega arith in
       ap₂ (λ n rest. take n rest) count (drop_at done (bytes ++ tail) (length done) refl) ∙ take_at bytes tail (length bytes) refl
 
+  -- so the line at that place is the one of these bytes
   here-is : line_here whole number (length done) ≡ line_before done bytes tail number
   here-is =
       let end : min (length done + length bytes + 1) (length whole) ≡ length done + min (length bytes + 1) (length bytes + length tail) = omega (arith, size) in
@@ -108,6 +114,7 @@ pub begins-end : (more : List ℕ) → BeginsEnded (10 ∷ more)
 begins-end more some = refl
 
 module _ (done bytes : List ℕ) (number : ℕ) (stands : StandsAt done number) (none : NoEnd bytes) where
+  -- what was passed, the bytes of a line, and its line end
   abbrev pub ended : List ℕ
   ended = done ++ (bytes ++ 10 ∷ [])
 

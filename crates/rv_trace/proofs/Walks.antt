@@ -13,16 +13,19 @@ use Rattle.rv_trace.specs.declared.fed.Fed.TheInside.{Inside}
 use Rattle.rv_trace.specs.contracts.fed.Fed as Fed
 use Rattle.rv_trace.specs.contracts.fed.Fed.TheInside as Within
 
+-- a value without a part
 abbrev pub none : Val
 none = vstruct vnil
 
 module _ {M : Type 1} {𝓤 : Ura M} {𝓛 : Logic 𝓤} {K : Type 0} {Γ : List (Item 𝓤)} {G : Goal 𝓤 𝓛.H} where
+  -- the inside of a list of bytes is made of nothing
   none_made : K → (inside : Inside) → Step K 𝓛 (‵ ((Struct (shape Within.the_type)).own_val (to Within.the_type inside) (none ∷ [])) ∷ Γ) G Γ G
   none_made t inside = step (λ s.
       nothing t $ feq_i t (List Val) (none ∷ []) (none ∷ []) refl $ fjoin t $
       fpack t (Valss []) (within (shape Within.the_type) tt (none ∷ [])) tt $ s)
 
 module _ {M : Type 1} {𝓤 : Ura M} {𝓛 : Logic 𝓤} {K : Type 0} {Γ : List (Item 𝓤)} {G : Goal 𝓤 𝓛.H} where
+  -- and so is the list of bytes that were fed
   pub fed_made : K → (bytes : List ℕ) → Step K 𝓛 (‵ (Fed.the_row.own_val bytes (none ∷ [])) ∷ Γ) G Γ G
   fed_made t bytes = step (λ s.
       let inside : Inside = record { bytes = bytes } in

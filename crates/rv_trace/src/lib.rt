@@ -20,6 +20,3 @@ pub use laws::{
 pub use line::{LAST_CPU, LAST_PID, Span, TraceLine, read_line};
 pub use lines::Lines;
 pub use trace::{MAX_BYTES, MAX_LINES, read_trace};
-
-#[cfg(test)]
-mod tests;

@@ -4,7 +4,10 @@ use Rattle.std.specs.Prelude.{if◌then◌else◌}
 use Rattle.rv_model.specs.declared.entry.Act.{Act}
 use Rattle.rv_model.specs.declared.entry.Act.TheVariants.{Deliver, Stop, Look, Raise, Lower, Clear, End}
 use Rattle.rv_model.specs.declared.entry.Entry.{Entry}
-use Rattle.rv_model.specs.Histories.{IsNoStop}
+use Rattle.rv_model.specs.Cuts.{AtEach}
+use Rattle.rv_model.specs.Histories.{Input, IsLegal, IsNoStop}
+use Rattle.rv_model.specs.Judging.{Judge}
+use Rattle.rv_model.specs.Records.{records_of, status_of}
 use Rattle.rv_verdicts.specs.Exits.{has_failed, is_stop, has_stop}
 use Rattle.rv_verdicts.specs.Lone.{AllLoneGiveNoSix}
 use Rattle.rv_verdicts.proofs.ExitLemmas.{status_is_seen, stop-reverse}
@@ -36,9 +39,13 @@ status-other true b e six = omega arith
 status-other false true e six = let wrong : true ≡ false = e in cc
 status-other false false e six = omega arith
 
--- where all slots are lone, the status is not that of a stop
-pub all_lone_give_no_six : AllLoneGiveNoSix
-all_lone_give_no_six input js h legal still lone six =
-    let free = each-of IsFree h (all_lone_have_no_stop input js h legal still lone) in
+-- where no entry is a Stop, the status is not that of a stop
+pub free_gives_no_six : (input : Input) (js : List Judge) (h : List Entry) → IsLegal input js h → AtEach (λ before e. IsNoStop e.act) h → status_of (records_of input js h) ≢ 6
+free_gives_no_six input js h legal still six =
+    let free = each-of IsFree h still in
     let none = sym (stop-reverse h) ∙ none-stopped (reverse h) free in
     status-other (has_failed input.setup js (reverse h)) (has_stop h) none (sym (status_is_seen input js h legal) ∙ six)
+
+-- where all slots are lone, the status is not that of a stop
+pub all_lone_give_no_six : AllLoneGiveNoSix
+all_lone_give_no_six input js h legal still lone = free_gives_no_six input js h legal (all_lone_have_no_stop input js h legal still lone)

@@ -10,7 +10,7 @@ use Rattle.rv_model.specs.Records.{script_records, sort_records, records_of}
 use Rattle.rv_model.specs.Scripts.{played}
 use Rattle.rv_model.specs.Setups.{slot_of}
 use Rattle.rv_model.specs.Works.{Work}
-use Rattle.rv_model.proofs.UniqueLemmas.{lists-same}
+use Rattle.rv_model.proofs.OneJudgeLemmas.{lists-same}
 use Rattle.rv_verdicts.specs.Lone.{IsLone}
 use Rattle.rv_verdicts.specs.Verdicts.{IsSteady, AreHistories, AgreeOnLone, is_of, LoneRecordsAgree, AllRecordsAgree, LoneRecordsAreOne, AllRecordsAreOne}
 use Rattle.rv_verdicts.proofs.FilterLemmas.{filter-sort, like-filter, like-all, zip-works}

@@ -1,13 +1,9 @@
 //! A reader of one slot's words, beside the scripts of the CPUs.
 #![tactic(auto)]
 
-#[cfg(test)]
-mod instance_tests;
 mod instances;
 mod printing;
 mod running;
-#[cfg(test)]
-mod tests;
 mod watcher;
 
 pub use instances::watched_slot;

@@ -5,7 +5,7 @@ use Rattle.rv_model.specs.Works.{Work}
 use Rattle.rv_board.specs.Seats.{BoardId}
 use Rattle.rv_feed.specs.Feeding.{FeedsTurn, CanFeed}
 use Rattle.rv_feed.specs.Lane.{panics_of}
-use Rattle.rv_feed.proofs.FeedLemmas.{fed-none, fed-more, fed-last, fed-all}
+use Rattle.rv_feed.proofs.FedLemmas.{fed-none, fed-more, fed-last, fed-all}
 use Rattle.rv_feed.proofs.LaneLemmas.{names-in}
 use Rattle.rv_feed.proofs.feeder.play.Goals as goal
 

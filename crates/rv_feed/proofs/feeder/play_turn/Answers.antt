@@ -32,7 +32,7 @@ pub deliver-requires-clause-board : goal.deliver-requires-clause-board
 deliver-requires-clause-board g c = c.loop-place.invariant.adds.grows.board ∙ c.requires.board
 
 pub deliver-requires-clause-fits : goal.deliver-requires-clause-fits
-deliver-requires-clause-fits g c =
+deliver-requires-clause-fits g c = λ any.
     let inv = c.loop-place.invariant in
     let lane = c.args.lane.now in
     let place = c.loop-place.place in
@@ -40,7 +40,7 @@ deliver-requires-clause-fits g c =
     let d_is : d ≡ get_or lane.work.deliveries place d = c.delivery_at-delivery.ensures d ∙ ap (λ (w : Work). get_or w.deliveries place d) inv.kept.work_is in
     let lt : place < length lane.work.deliveries = let a = c.loop-place-test.true in let b = c.requires.in_list in omega arith in
     let s : Setup = c.args.board.now.setup in
-    subst (FitsDelivery s) (sym d_is) (All-get_or (FitsDelivery s) lane.work.deliveries place d lt c.requires.fit)
+    subst (FitsDelivery s) (c.delivery_at-delivery.ensures any) (subst (FitsDelivery s) (sym d_is) (All-get_or (FitsDelivery s) lane.work.deliveries place d lt c.requires.fit))
 
 pub deliver-requires-clause-room : goal.deliver-requires-clause-room
 deliver-requires-clause-room g c =
@@ -69,7 +69,8 @@ returns-then-deliver g c =
     let panics = panics_of c.args.reactors.now in
     let on : has_bit word 34 ≡ false = sym c.has_switch.ensures ∙ c.if-has_switch.false in
     let shown : is_shown word d ≡ true = sym c.is_shown.ensures ∙ c.if-is_shown.true in
-    let v = subst (λ (b : Bool). FeedsDelivery c.loop-place.seat c.deliver.new.seat panics word turn.line d c.loop-place.lane c.deliver.new.lane b) c.if-deliver.true c.deliver.ensures in
+    let one = subst (λ (x : Delivery). FeedsDelivery c.loop-place.seat c.deliver.new.seat panics word turn.line x c.loop-place.lane c.deliver.new.lane c.deliver.result) (sym (c.delivery_at-delivery.ensures d)) (c.deliver.ensures d) in
+    let v = subst (λ (b : Bool). FeedsDelivery c.loop-place.seat c.deliver.new.seat panics word turn.line d c.loop-place.lane c.deliver.new.lane b) c.if-deliver.true one in
     part-ends panics word turn lane c.args.seat.now c.loop-place.seat c.loop-place.lane place inv d d_is c.loop-place.auto.place lt c.deliver.new.seat c.deliver.new.lane on c.loop-place-test.true shown v
 
 pub loop-place-preserved : goal.loop-place-preserved
@@ -86,7 +87,8 @@ loop-place-preserved g c =
     elim c.if-is_shown.branch [
       | then-is_shown+else-deliver w ↦
           let shown : is_shown word d ≡ true = sym c.is_shown.ensures ∙ w.if-is_shown.true in
-          let v = subst (λ (b : Bool). FeedsDelivery c.loop-place.seat w.deliver.new.seat panics word turn.line d c.loop-place.lane w.deliver.new.lane b) w.if-deliver.false w.deliver.ensures in
+          let one = subst (λ (x : Delivery). FeedsDelivery c.loop-place.seat w.deliver.new.seat panics word turn.line x c.loop-place.lane w.deliver.new.lane w.deliver.result) (sym (c.delivery_at-delivery.ensures d)) (w.deliver.ensures d) in
+          let v = subst (λ (b : Bool). FeedsDelivery c.loop-place.seat w.deliver.new.seat panics word turn.line d c.loop-place.lane w.deliver.new.lane b) w.if-deliver.false one in
           rw (w.seat-is, w.lane-is) (part-shown panics word turn lane c.args.seat.now c.loop-place.seat c.loop-place.lane place inv d d_is c.loop-place.auto.place lt w.deliver.new.seat w.deliver.new.lane shown v)
       | else-is_shown w ↦
           let hidden : is_shown word d ≡ false = sym c.is_shown.ensures ∙ w.if-is_shown.false in

@@ -1,8 +1,7 @@
 -- The board's delivery or end, to the slot of the instance.
-use Rattle.std.proofs.Common.{List, ℕ, ◌≡◌, ◌<◌, true, false, ap, sym, ◌∙◌, sum, subst}
-use Rattle.rv_model.specs.Scripts.{is_end}
+use Rattle.std.proofs.Common.{List, ℕ, ◌≡◌, ap, sym, ◌∙◌, subst}
 use Rattle.rv_model.specs.Setups.{Setup, slot_of}
-use Rattle.rv_core.specs.Advance.{FitsHit, FitsTable}
+use Rattle.rv_core.specs.Advance.{FitsHit}
 use Rattle.rv_core.specs.Setup.{table_at}
 use Rattle.rv_board.specs.Seats.{BoardId}
 use Rattle.rv_feed.proofs.ActLemmas.{fits-delivered}

@@ -30,7 +30,7 @@ delivery_at-delivery-requires c =
     omega arith
 
 pub deliver-requires-clause-fits : goal.deliver-requires-clause-fits
-deliver-requires-clause-fits c =
+deliver-requires-clause-fits c = λ any.
     let inv = c.loop-place.invariant in
     let lane = c.args.lane.now in
     let place = c.loop-place.place in
@@ -39,7 +39,7 @@ deliver-requires-clause-fits c =
     let lt : place < length lane.work.deliveries = let a = c.loop-place-test.true in let b = c.requires.in_list in omega arith in
     let back : c.loop-place.core.setup ≡ c.args.core.now.setup = ap (λ (v : CoreValue). v.setup) inv.did.grows ∙ ap (λ (v : CoreValue). v.setup) c.look-word.ensures.did.grows in
     let fit : FitsDelivery c.args.core.now.setup d = subst (FitsDelivery c.args.core.now.setup) (sym d_is) (All-get_or (FitsDelivery c.args.core.now.setup) lane.work.deliveries place d lt c.requires.fit) in
-    subst (λ (s : Setup). FitsDelivery s d) (sym back) fit
+    subst (FitsDelivery c.loop-place.core.setup) (c.delivery_at-delivery.ensures any) (subst (λ (s : Setup). FitsDelivery s d) (sym back) fit)
 
 pub deliver-requires-clause-room : goal.deliver-requires-clause-room
 deliver-requires-clause-room c =
@@ -71,7 +71,8 @@ returns-then-deliver c =
     let on : has_bit c.look-word.result 34 ≡ false = sym c.has_switch.ensures ∙ c.if-has_switch.false in
     let from : c.args.turn.now.from ≤ place = c.loop-place.auto.place in
     let shown : is_shown c.look-word.result d ≡ true = sym c.is_shown.ensures ∙ c.if-is_shown.true in
-    let v = subst (λ (b : Bool). Delivers c.loop-place.core c.deliver.new.core panics c.seat_of-seat.result c.look-word.result c.args.turn.now.line d c.loop-place.lane c.deliver.new.lane b) c.if-deliver.true c.deliver.ensures in
+    let one = subst (λ (x : Delivery). Delivers c.loop-place.core c.deliver.new.core panics c.seat_of-seat.result c.look-word.result c.args.turn.now.line x c.loop-place.lane c.deliver.new.lane c.deliver.result) (sym (c.delivery_at-delivery.ensures d)) (c.deliver.ensures d) in
+    let v = subst (λ (b : Bool). Delivers c.loop-place.core c.deliver.new.core panics c.seat_of-seat.result c.look-word.result c.args.turn.now.line d c.loop-place.lane c.deliver.new.lane b) c.if-deliver.true one in
     done-ends panics c.seat_of-seat.result c.look-word.result c.args.turn.now lane c.look-word.new.core c.loop-place.core c.loop-place.lane place inv d d_is from lt c.args.core.now c.deliver.new.core c.deliver.new.lane c.look-word.ensures on c.seat_of-seat.ensures c.loop-place-test.true shown v
 
 pub loop-place-preserved : goal.loop-place-preserved
@@ -87,7 +88,8 @@ loop-place-preserved c =
     elim c.if-is_shown.branch [
       | then-is_shown+else-deliver w ↦
           let shown : is_shown c.look-word.result d ≡ true = sym c.is_shown.ensures ∙ w.if-is_shown.true in
-          let v = subst (λ (b : Bool). Delivers c.loop-place.core w.deliver.new.core panics c.seat_of-seat.result c.look-word.result c.args.turn.now.line d c.loop-place.lane w.deliver.new.lane b) w.if-deliver.false w.deliver.ensures in
+          let one = subst (λ (x : Delivery). Delivers c.loop-place.core w.deliver.new.core panics c.seat_of-seat.result c.look-word.result c.args.turn.now.line x c.loop-place.lane w.deliver.new.lane w.deliver.result) (sym (c.delivery_at-delivery.ensures d)) (w.deliver.ensures d) in
+          let v = subst (λ (b : Bool). Delivers c.loop-place.core w.deliver.new.core panics c.seat_of-seat.result c.look-word.result c.args.turn.now.line d c.loop-place.lane w.deliver.new.lane b) w.if-deliver.false one in
           rw (w.core-is, w.lane-is) (done-shown panics c.seat_of-seat.result c.look-word.result c.args.turn.now lane c.look-word.new.core c.loop-place.core c.loop-place.lane place inv d d_is from lt w.deliver.new.core w.deliver.new.lane shown v)
       | else-is_shown w ↦
           let hidden : is_shown c.look-word.result d ≡ false = sym c.is_shown.ensures ∙ w.if-is_shown.false in

@@ -1,5 +1,5 @@
 -- One lane more, and the records of all lanes in their order.
-use Rattle.std.proofs.Common.{◌≡◌, List, ◌++◌, ◌∙◌, ap, sym, subst, take}
+use Rattle.std.proofs.Common.{◌≡◌, List, ◌∙◌, sym, subst, take}
 use Rattle.std.proofs.lemmas.List.{length-map, take_all}
 use Rattle.std.proofs.lemmas.Result.{IfOk-weaker}
 use Rattle.rv_model.specs.declared.record.Record.{Record}
@@ -18,10 +18,8 @@ loop-lane-preserved c =
     let lanes : List LaneValue = c.args.lanes.now in
     let i = c.loop-lane.lane-index in
     let lane : LaneValue = c.lane-item.result in
-    let row : c.as_slice.result.now ≡ lane.records = c.as_slice.ensures.value ∙ ap (λ (l : LaneValue). l.records) c.lane.view_is in
-    let more = c.in_ok-add_all.ensures c.args.tasks.now (lane_records (take i lanes)) c.loop-lane.invariant in
-    subst (λ (rs : List Record). IsFound (reported_of b) c.args.tasks.now rs c.add_all.new.self)
-    (ap (λ (rs : List Record). lane_records (take i lanes) ++ rs) row ∙ sym (lanes-more lanes i lane c.loop-lane-test.true c.lane-item.is)) more
+    let more = c.in_ok-add_lane.ensures c.args.tasks.now (lane_records (take i lanes)) c.loop-lane.invariant in
+    subst (λ (rs : List Record). IsFound (reported_of b) c.args.tasks.now rs c.add_lane.new.self) (sym (lanes-more lanes i lane c.loop-lane-test.true c.lane-item.is)) more
 
 pub text_of-requires : goal.text_of-requires
 text_of-requires c =

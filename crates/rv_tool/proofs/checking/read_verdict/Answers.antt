@@ -10,7 +10,8 @@ use Rattle.rv_tool.specs.Faults.{FaultNames}
 use Rattle.rv_tool.specs.Inputs.{InputValue}
 use Rattle.rv_tool.specs.Ready.{ready_value}
 use Rattle.rv_tool.specs.JournalPieces.{IsSameRun}
-use Rattle.rv_tool.proofs.CheckLemmas.{shifted_comes, checked_comes, checked_named, verdict_judged}
+use Rattle.rv_tool.proofs.CheckLemmas.{shifted_comes, checked_comes, checked_named}
+use Rattle.rv_tool.proofs.JudgedLemmas.{verdict_judged}
 use Rattle.rv_tool.proofs.checking.read_verdict.Goals as goal
 
 pub returns-in_err-take_journal-clause-value : goal.returns-in_err-take_journal-clause-value

@@ -1,6 +1,6 @@
 use Rattle.std.proofs.Common.{sym, subst}
 use Rattle.rv_check.specs.Beginnings.{FitWorks}
-use Rattle.rv_tool.proofs.CheckLemmas.{works_fit}
+use Rattle.rv_tool.proofs.JudgedLemmas.{works_fit}
 use Rattle.rv_tool.proofs.checking.reader.Goals as goal
 
 pub new-requires : goal.new-requires

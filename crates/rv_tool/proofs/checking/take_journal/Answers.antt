@@ -5,7 +5,8 @@ use Rattle.rv_io.specs.Files.{Files}
 use Rattle.rv_bind.specs.Outcomes.{of_text, accepted}
 use Rattle.rv_check.specs.Readings.{ReaderValue}
 use Rattle.rv_tool.specs.Feeding.{FedOf, IsPieceOf}
-use Rattle.rv_tool.proofs.CheckLemmas.{shifted_comes, whole_comes, fed_all, fed_enough, same_longer}
+use Rattle.rv_tool.proofs.CheckLemmas.{shifted_comes, whole_comes, fed_all, fed_enough}
+use Rattle.rv_tool.proofs.JudgedLemmas.{same_longer}
 use Rattle.rv_tool.proofs.FeedingLemmas.{fed-more}
 use Rattle.rv_tool.proofs.checking.take_journal.Goals as goal
 

@@ -1,7 +1,7 @@
 use Rattle.std.proofs.Common.{sym, ap, ◌∙◌}
 use Rattle.std.specs.Prelude.{Some}
 use Rattle.rv_model.specs.Histories.{IsOneHistory, IsLegal}
-use Rattle.rv_tool.specs.Headline.{Reports}
+use Rattle.rv_tool.specs.Headline.{IsReported, Reports}
 use Rattle.rv_tool.specs.Changes.{input_beside}
 use Rattle.rv_tool.specs.Inputs.{run_input}
 use Rattle.rv_tool.specs.Journals.{numbered_input, IsJournalReport, Journals}
@@ -11,13 +11,15 @@ use Rattle.rv_tool.specs.Sessions.{control_in}
 use Rattle.rv_tool.specs.SessionValues.{session_value}
 use Rattle.rv_tool.specs.HeaderFiles.{header_in}
 use Rattle.rv_tool.specs.Tables.{table_in}
-use Rattle.rv_tool.specs.Verdicts.{ReportsVerdicts}
+use Rattle.rv_tool.specs.Verdicts.{HasOneVerdict, ReportsOne, ReportsVerdicts}
 use Rattle.rv_tool.specs.Checks.{checked_input}
 use Rattle.rv_tool.specs.Watched.{watched_input}
 use Rattle.rv_tool.specs.WatchReports.{IsWatchReport, Watches, watch_value}
 use Rattle.rv_tool.specs.Words.{command_value}
 use Rattle.rv_tool.proofs.AnswerLemmas.{no_telling, no_report, no_text, read_answers, words_answer}
 use Rattle.rv_tool.proofs.CheckLemmas.{check_answers}
+use Rattle.rv_tool.proofs.OneLemmas.{runs_one}
+use Rattle.rv_tool.proofs.UntoldLemmas.{judged_somehow, read_somehow, words_untold}
 use Rattle.rv_tool.proofs.VerdictLemmas.{runs_verdicts, no_verdicts, words_verdict}
 use Rattle.rv_tool.proofs.top.rv.Goals as goal
 
@@ -80,7 +82,9 @@ returns-in-Some-Header-clause-answers g c =
 
 pub returns-in-Some-Replay-clause-verdicts : goal.returns-in-Some-Replay-clause-verdicts
 returns-in-Some-Replay-clause-verdicts g c =
-    words_verdict _ _ _ _ _ _ _ _ (g.S.Store.files c.args.store.now) _ _ (sym (ap (λ v. Some (command_value v)) c.in-Some-Replay.field-0-is) ∙ c.in-Some-Replay.ensures.value) (λ files known. tt)
+    words_verdict _ _ _ _ _ _ _ _ (g.S.Store.files c.args.store.now) _ _ (sym (ap (λ v. Some (command_value v)) c.in-Some-Replay.field-0-is) ∙ c.in-Some-Replay.ensures.value)
+    (read_answers _ _ _ _ _ _ ready_value ReportsOne (λ files. run_input files _ _) (λ i. no_telling _ _ _ _ _ _ (λ k text said. IsReported IsOneHistory i k text said × HasOneVerdict i k text said)) (g.S.Store.files c.args.store.now) _ _
+    c.read_input.result c.read_input.ensures.value c.read_input.ensures.named (runs_one _ _ _ _ _ _ c.read_input.result c.read_input.ensures.ready c.run.ensures))
 
 pub returns-in-Some-Feed-clause-verdicts : goal.returns-in-Some-Feed-clause-verdicts
 returns-in-Some-Feed-clause-verdicts g c =
@@ -120,3 +124,53 @@ returns-in-Some-Table-clause-verdicts g c =
 pub returns-in-Some-Header-clause-verdicts : goal.returns-in-Some-Header-clause-verdicts
 returns-in-Some-Header-clause-verdicts g c =
     words_verdict _ _ _ _ _ _ _ _ (g.S.Store.files c.args.store.now) _ _ (sym (ap (λ v. Some (command_value v)) c.in-Some-Header.field-0-is) ∙ c.in-Some-Header.ensures.value) (λ files known. tt)
+
+pub returns-in-Some-Replay-clause-untold : goal.returns-in-Some-Replay-clause-untold
+returns-in-Some-Replay-clause-untold g c =
+    words_untold _ _ _ _ _ _ _ _ (g.S.Store.files c.args.store.now) _ _ (sym (ap (λ v. Some (command_value v)) c.in-Some-Replay.field-0-is) ∙ c.in-Some-Replay.ensures.value)
+    (read_somehow _ _ _ _ _ _ ready_value (Reports IsOneHistory) (λ files. run_input files _ _) (g.S.Store.files c.args.store.now) _ _ c.read_input.result c.read_input.ensures.value c.run.ensures)
+
+pub returns-in-Some-Feed-clause-untold : goal.returns-in-Some-Feed-clause-untold
+returns-in-Some-Feed-clause-untold g c =
+    words_untold _ _ _ _ _ _ _ _ (g.S.Store.files c.args.store.now) _ _ (sym (ap (λ v. Some (command_value v)) c.in-Some-Feed.field-0-is) ∙ c.in-Some-Feed.ensures.value)
+    (read_somehow _ _ _ _ _ _ ready_value (Reports IsLegal) (λ files. run_input files _ _) (g.S.Store.files c.args.store.now) _ _ c.read_input-in-Some-Feed.result c.read_input-in-Some-Feed.ensures.value c.run_at_once.ensures)
+
+pub returns-in-Some-FeedBeside-clause-untold : goal.returns-in-Some-FeedBeside-clause-untold
+returns-in-Some-FeedBeside-clause-untold g c =
+    words_untold _ _ _ _ _ _ _ _ (g.S.Store.files c.args.store.now) _ _ (sym (ap (λ v. Some (command_value v)) c.in-Some-FeedBeside.field-0-is) ∙ c.in-Some-FeedBeside.ensures.value)
+    (read_somehow _ _ _ _ _ _ ready_value (Reports IsLegal) (λ files. input_beside files _ _ _) (g.S.Store.files c.args.store.now) _ _ c.read_beside.result c.read_beside.ensures.value c.run_at_once-in-Some-FeedBeside.ensures)
+
+pub returns-in-Some-Journal-clause-untold : goal.returns-in-Some-Journal-clause-untold
+returns-in-Some-Journal-clause-untold g c =
+    words_untold _ _ _ _ _ _ _ _ (g.S.Store.files c.args.store.now) _ _ (sym (ap (λ v. Some (command_value v)) c.in-Some-Journal.field-0-is) ∙ c.in-Some-Journal.ensures.value)
+    (read_somehow _ _ _ _ _ _ ready_value Journals (λ files. numbered_input files _ _) (g.S.Store.files c.args.store.now) _ _ c.read_numbered.result c.read_numbered.ensures.value c.run_recorded.ensures)
+
+pub returns-in-Some-Check-clause-untold : goal.returns-in-Some-Check-clause-untold
+returns-in-Some-Check-clause-untold g c =
+    words_untold _ _ _ _ _ _ _ _ (g.S.Store.files c.args.store.now) _ _ (sym (ap (λ v. Some (command_value v)) c.in-Some-Check.field-0-is) ∙ c.in-Some-Check.ensures.value)
+    (judged_somehow _ _ _ _ _ _ (λ files. checked_input files _ _ _) (g.S.Store.files c.args.store.now) _ _ c.read_verdict.result c.read_verdict.ensures.value c.tell_verdict.ensures)
+
+pub returns-in-Some-Watch-clause-untold : goal.returns-in-Some-Watch-clause-untold
+returns-in-Some-Watch-clause-untold g c =
+    words_untold _ _ _ _ _ _ _ _ (g.S.Store.files c.args.store.now) _ _ (sym (ap (λ v. Some (command_value v)) c.in-Some-Watch.field-0-is) ∙ c.in-Some-Watch.ensures.value)
+    (read_somehow _ _ _ _ _ _ watch_value Watches (λ files. watched_input files _ _ _ _) (g.S.Store.files c.args.store.now) _ _ c.read_watched.result c.read_watched.ensures.value c.run_watched.ensures)
+
+pub returns-in-Some-Control-clause-untold : goal.returns-in-Some-Control-clause-untold
+returns-in-Some-Control-clause-untold g c =
+    words_untold _ _ _ _ _ _ _ _ (g.S.Store.files c.args.store.now) _ _ (sym (ap (λ v. Some (command_value v)) c.in-Some-Control.field-0-is) ∙ c.in-Some-Control.ensures.value)
+    (read_somehow _ _ _ _ _ _ session_value PrintsSession (λ files. control_in files _ _) (g.S.Store.files c.args.store.now) _ _ c.read_control.result c.read_control.ensures.value c.tell_session.ensures)
+
+pub returns-in-Some-Load-clause-untold : goal.returns-in-Some-Load-clause-untold
+returns-in-Some-Load-clause-untold g c =
+    words_untold _ _ _ _ _ _ _ _ (g.S.Store.files c.args.store.now) _ _ (sym (ap (λ v. Some (command_value v)) c.in-Some-Load.field-0-is) ∙ c.in-Some-Load.ensures.value)
+    (λ none. c.load.ensures.answers)
+
+pub returns-in-Some-Table-clause-untold : goal.returns-in-Some-Table-clause-untold
+returns-in-Some-Table-clause-untold g c =
+    words_untold _ _ _ _ _ _ _ _ (g.S.Store.files c.args.store.now) _ _ (sym (ap (λ v. Some (command_value v)) c.in-Some-Table.field-0-is) ∙ c.in-Some-Table.ensures.value)
+    (read_somehow _ _ _ _ _ _ (λ text. text.items) Prints (λ files. table_in files _ _) (g.S.Store.files c.args.store.now) _ _ c.read_table.result c.read_table.ensures.value c.print.ensures)
+
+pub returns-in-Some-Header-clause-untold : goal.returns-in-Some-Header-clause-untold
+returns-in-Some-Header-clause-untold g c =
+    words_untold _ _ _ _ _ _ _ _ (g.S.Store.files c.args.store.now) _ _ (sym (ap (λ v. Some (command_value v)) c.in-Some-Header.field-0-is) ∙ c.in-Some-Header.ensures.value)
+    (read_somehow _ _ _ _ _ _ (λ text. text.items) Prints (λ files. header_in files _ _) (g.S.Store.files c.args.store.now) _ _ c.read_header.result c.read_header.ensures.value c.print-in-Some-Header.ensures)

@@ -8,7 +8,7 @@ use Rattle.rv_tool.specs.Faults.{Tells}
 use Rattle.rv_tool.specs.Inputs.{routed_in}
 use Rattle.rv_tool.proofs.ComesLemmas.{routed_comes}
 use Rattle.rv_tool.proofs.NamedLemmas.{tells_named}
-use Rattle.rv_tool.proofs.PiecesLemmas.{of_file-and_then}
+use Rattle.rv_tool.proofs.FrontLemmas.{of_file-and_then}
 use Rattle.rv_tool.proofs.trace_text.read_routed.Goals as goal
 
 pub returns-clause-value : goal.returns-clause-value

@@ -2,7 +2,7 @@ use Rattle.std.proofs.Common.{◌≡◌, get_or, sym, ◌∙◌, ap, arith}
 use Rattle.std.proofs.lemmas.Bool.{false≢true}
 use Rattle.rv_text.specs.TextLines.{line_end}
 use Rattle.rv_text.proofs.TextLineLemmas.{line_end-byte}
-use Rattle.rv_trace.proofs.SeekLemmas.{none-to}
+use Rattle.rv_trace.proofs.HeldLemmas.{none-to}
 use Rattle.rv_trace.proofs.seek.line_to.Goals.{else-whole-via-then-whole+else-at-to, else-whole-via-else-whole}
 use Rattle.rv_trace.proofs.seek.line_to.Goals as goal
 

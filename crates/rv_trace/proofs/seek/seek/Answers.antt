@@ -8,7 +8,9 @@ use Rattle.rv_trace.specs.declared.trace.TheConstants.{MAX_BYTES}
 use Rattle.rv_trace.specs.Held.{EndsAt, IsOpen}
 use Rattle.rv_trace.specs.Lines.{LiesIn}
 use Rattle.rv_trace.specs.Streams.{Answers, part_read}
-use Rattle.rv_trace.proofs.SeekLemmas.{adds-none, open-is, reading-fits, looks-first, behind-passed, behind-skipped, behind-taken, behind-refused}
+use Rattle.rv_trace.proofs.SeekLemmas.{open-is, behind-passed, behind-skipped, behind-taken, behind-refused}
+use Rattle.rv_trace.proofs.HeldLemmas.{looks-first}
+use Rattle.rv_trace.proofs.AddLemmas.{adds-none, reading-fits}
 use Rattle.rv_trace.proofs.TraceLemmas.{reading-lies}
 use Rattle.rv_trace.proofs.seek.seek.Goals as goal
 

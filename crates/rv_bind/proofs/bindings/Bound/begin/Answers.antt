@@ -4,7 +4,7 @@ use Rattle.std.proofs.lemmas.Option.{slice_get-get_or}
 use Rattle.rv_bind.specs.Bound.{is_called, monitor_named}
 use Rattle.rv_bind.specs.BoundViews.{bound_value}
 use Rattle.rv_bind.proofs.BoundLemmas.{begin_added}
-use Rattle.rv_bind.proofs.WellFormedLemmas.{begin_formed}
+use Rattle.rv_bind.proofs.ChangedLemmas.{begin_formed}
 use Rattle.rv_bind.proofs.bindings.Bound.begin.Goals as goal
 
 pub returns-clause-starting : goal.returns-clause-starting

@@ -1,9 +1,10 @@
 use Rattle.std.proofs.Common.{◌≡◌, Some, sym, refl, ap, ◌∙◌, rules}
 use Rattle.std.specs.Prelude.{position}
-use Rattle.rv_bind.specs.Bound.{is_called, monitor_named, disabled}
+use Rattle.rv_bind.specs.Bound.{is_called, monitor_named}
+use Rattle.rv_bind.specs.MonitorLines.{disabled}
 use Rattle.rv_bind.specs.BoundViews.{bound_value}
 use Rattle.rv_bind.proofs.BoundLemmas.{change_added}
-use Rattle.rv_bind.proofs.WellFormedLemmas.{change_formed}
+use Rattle.rv_bind.proofs.ChangedLemmas.{change_formed}
 use Rattle.rv_bind.proofs.bindings.Bound.disable.Goals as goal
 
 pub returns-clause-disabled : goal.returns-clause-disabled

@@ -1,6 +1,6 @@
 use Rattle.std.proofs.Common.{◌≡◌, false, ◌∙◌, ap}
 use Rattle.rv_trace.specs.Streams.{Stream}
-use Rattle.rv_trace.proofs.SeekLemmas.{held-fed}
+use Rattle.rv_trace.proofs.HeldLemmas.{held-fed}
 use Rattle.rv_trace.proofs.lines.Lines.feed.Goals as goal
 
 pub invariant_of-self-2 : goal.invariant_of-self-2

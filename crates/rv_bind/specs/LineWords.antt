@@ -1,0 +1,93 @@
+-- The words of a bindings line, one at a time (this project's choice: docs/FORMATS.md, "Bindings").
+use Rattle.std.specs.Prelude.{ℕ, Bool, true, false, not, ◌&&◌, ◌||◌, ◌==◌, nat_le, nat_lt, List, [], ◌∷◌, length, take, drop, codes, bytes_eq, position, Option, Some, None, Result, Ok, Err, if◌then◌else◌}
+use Rattle.std.specs.List.{list_all}
+use Rattle.rv_text.specs.declared.numbers.TheConstants.{BIND_SYNTAX}
+use Rattle.rv_model.specs.declared.work.Scope.{Scope}
+use Rattle.rv_model.specs.declared.work.Scope.TheVariants as scopes
+use Rattle.rv_model.specs.declared.hit.Mode.{Mode}
+use Rattle.rv_model.specs.declared.hit.Mode.TheVariants as modes
+use Rattle.rv_model.specs.declared.reactor.Reactor.{Reactor}
+use Rattle.rv_model.specs.declared.reactor.Reactor.TheVariants as reactors
+use Rattle.rv_bind.specs.declared.bindings.Test.{Test}
+use Rattle.rv_bind.specs.declared.bindings.Test.TheVariants.{Is, IsNot}
+use Rattle.rv_bind.specs.declared.forms.SpecKind.{SpecKind}
+use Rattle.rv_bind.specs.declared.forms.SpecKind.TheVariants as kinds
+
+-- the words of a line that are left
+abbrev pub Words : Type 0
+Words = List (List ℕ)
+
+-- a value and the words that are left, or the number of a refusal
+abbrev pub Read : Type 0 → Type 0
+Read Y = Result (Y × Words) ℕ
+
+-- what is left out, or not allowed, is not of the form
+abbrev pub or_syntax : {Y : Type 0} → Option Y → Result Y ℕ
+or_syntax (Some y) = Ok y
+or_syntax None = Err BIND_SYNTAX
+
+-- what is read where the test passes
+abbrev pub when : {Y : Type 0} → Bool → Y → Result Y ℕ
+when true y = Ok y
+when false y = Err BIND_SYNTAX
+
+-- the first word, and the words behind it
+abbrev pub word_at : Words → Read (List ℕ)
+word_at [] = Err BIND_SYNTAX
+word_at (word ∷ words) = Ok (word, words)
+
+-- no word is left
+abbrev pub ended : Words → Result Unit ℕ
+ended [] = Ok tt
+ended (word ∷ words) = Err BIND_SYNTAX
+
+-- ---- single words
+
+-- a lower-case letter, a digit or `_`
+abbrev pub is_name_byte : ℕ → Bool
+is_name_byte byte = nat_le 97 byte && nat_le byte 122 || (nat_le 48 byte && nat_le byte 57 || byte == 95)
+
+-- a letter of either case, a digit or `_`
+abbrev pub is_field_byte : ℕ → Bool
+is_field_byte byte = is_name_byte byte || nat_le 65 byte && nat_le byte 90
+
+-- at most 32 lower-case letters, digits and `_`
+abbrev pub is_name : List ℕ → Bool
+is_name word = nat_le (length word) 32 && list_all is_name_byte word
+
+-- letters, digits and `_`
+abbrev pub is_field : List ℕ → Bool
+is_field word = list_all is_field_byte word
+
+-- the scope that the word names
+abbrev pub scope_named : List ℕ → Option Scope
+scope_named word = if bytes_eq word (codes "global") then Some scopes.Global else if bytes_eq word (codes "cpu") then Some scopes.Cpu else if bytes_eq word (codes "task") then Some scopes.Task else None
+
+-- the kind of specification that the word names
+abbrev pub kind_named : List ℕ → Option SpecKind
+kind_named word = if bytes_eq word (codes "da") then Some kinds.Da else if bytes_eq word (codes "ltl") then Some kinds.Ltl else None
+
+-- the mode that the word names
+abbrev pub mode_named : List ℕ → Option Mode
+mode_named word = if bytes_eq word (codes "event") then Some modes.Event else if bytes_eq word (codes "start") then Some modes.Start else if bytes_eq word (codes "start_run") then Some modes.StartRun else if bytes_eq word (codes "end") then Some modes.End else None
+
+-- the reactor that the word names
+abbrev pub reactor_named : List ℕ → Option Reactor
+reactor_named word = if bytes_eq word (codes "nop") then Some reactors.Nop else if bytes_eq word (codes "printk") then Some reactors.Printk else if bytes_eq word (codes "panic") then Some reactors.Panic else None
+
+-- `=` and a value, or `!=` and a value, behind a field's name
+abbrev pub test_behind : List ℕ → List ℕ → Option Test
+test_behind field [] = None
+test_behind field (sign ∷ []) = None
+test_behind field (sign ∷ next ∷ rest) =
+    if sign == 61 then Some (Is field (next ∷ rest))
+    else if sign == 33 && (next == 61 && nat_lt 0 (length rest)) then Some (IsNot field rest) else None
+
+-- the test of a word whose field's name ends at this place
+abbrev pub test_split : List ℕ → Option ℕ → Option Test
+test_split word None = None
+test_split word (Some end) = if end == 0 then None else test_behind (take end word) (drop end word)
+
+-- `F=W` or `F!=W`, with one byte or more on each side
+abbrev pub test_of : List ℕ → Option Test
+test_of word = test_split word (position (λ byte. not (is_field_byte byte)) word)

@@ -1,0 +1,100 @@
+//! What a lane keeps of a record. The rest of the record is its delivery's.
+ghost use Rattle.std.specs.Prelude.{◌≡◌, ◌<◌, length};
+ghost use Rattle.rv_model.specs.declared.record.Delivered.TheVariants as delivered;
+ghost use Rattle.rv_feed.specs.Kept.{meant, record_kept};
+
+use rv_model::{Answer, Delivered, Delivery, Record};
+
+/// How a delivery ended, in half the room that `Delivered` takes.
+#[derive(Clone, Copy, Drop)]
+pub(crate) enum Outcome {
+    Passed,
+    Started,
+    Kept,
+    Failed(u32),
+    Stopped,
+    Cleared,
+    Ended,
+    /// The two halves of the switches.
+    Looked { high: u32, low: u32 },
+    Switched,
+    Racing,
+}
+
+/// A delivery by its place among the lane's, and what came of it. It takes 24 bytes.
+#[derive(Clone, Copy, Drop)]
+pub(crate) struct Kept {
+    pub(crate) place: u32,
+    pub(crate) line: u32,
+    pub(crate) outcome: Outcome,
+    pub(crate) reacting: bool,
+}
+
+/// The outcome of an answer.
+fn answered(answer: Answer) -> Outcome
+    ensures { meant result ≡ delivered.Done answer }
+{
+    match answer {
+        Answer::Passed => Outcome::Passed,
+        Answer::Started => Outcome::Started,
+        Answer::Kept => Outcome::Kept,
+        Answer::Failed(rows) => Outcome::Failed(rows),
+        Answer::Stopped => Outcome::Stopped,
+        Answer::Cleared => Outcome::Cleared,
+        Answer::Ended => Outcome::Ended,
+        Answer::Looked(word) => Outcome::Looked {
+            high: (word >> 32) as u32,
+            low: (word & 0xffff_ffff) as u32,
+        },
+        Answer::Switched => Outcome::Switched,
+    }
+}
+
+impl Outcome {
+    /// The same outcome.
+    pub(crate) fn of(delivered: Delivered) -> Outcome
+        ensures { meant result ≡ delivered }
+    {
+        match delivered {
+            Delivered::Done(answer) => answered(answer),
+            Delivered::Racing => Outcome::Racing,
+        }
+    }
+
+    /// The outcome that is meant.
+    fn meant(self) -> Delivered
+        ensures { result ≡ meant self }
+    {
+        Delivered::Done(match self {
+            Outcome::Passed => Answer::Passed,
+            Outcome::Started => Answer::Started,
+            Outcome::Kept => Answer::Kept,
+            Outcome::Failed(rows) => Answer::Failed(rows),
+            Outcome::Stopped => Answer::Stopped,
+            Outcome::Cleared => Answer::Cleared,
+            Outcome::Ended => Answer::Ended,
+            Outcome::Looked { high, low } => Answer::Looked(((high as u64) << 32) + low as u64),
+            Outcome::Switched => Answer::Switched,
+            Outcome::Racing => return Delivered::Racing,
+        })
+    }
+}
+
+impl Kept {
+    /// Its record, among these deliveries.
+    pub(crate) fn record(&self, deliveries: &[Delivery]) -> Record
+        requires { self.now.place < length deliveries.now }
+        ensures { result ≡ record_kept deliveries.now self.now }
+    {
+        let delivery = &deliveries[self.place as usize];
+        Record {
+            order: delivery.order,
+            line: self.line,
+            instance: delivery.instance,
+            monitor: delivery.monitor,
+            reacting: self.reacting,
+            hit: delivery.hit,
+            outcome: self.outcome.meant(),
+        }
+    }
+}

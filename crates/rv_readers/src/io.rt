@@ -1,0 +1,131 @@
+//! What no clause says: that the calls succeed with memory to spare, and that the real files and
+//! standard output are reached.
+use rv_io::{Disk, MemSink, MemStore, ReadError, Sink, Stdout, Store, put_all};
+use std::fs;
+use std::test::Fail;
+
+#[test]
+fn listed_reads_fail_and_others_give_the_newest_file(rt: HostRuntime) -> Result<(), Fail> {
+    let mut store = MemStore::new(rt.alloc());
+    store.add("a", b"old")?;
+    store.add("b", b"other")?;
+    store.add("a", b"new")?;
+    store.fail_at(2)?;
+    let cases = [
+        ("a", Ok("new")),
+        ("a", Err(ReadError::Failed)),
+        ("c", Err(ReadError::NoFile)),
+        ("b", Ok("other")),
+    ];
+    for (name, wanted) in cases {
+        match (store.read(rt.alloc(), name), wanted) {
+            (Ok(bytes), Ok(text)) => assert_eq!(rt; bytes.as_slice(), text.as_bytes(), "at {name}"),
+            (Err(fault), Err(wanted)) => assert_eq!(rt; fault, wanted, "at {name}"),
+            _ => assert!(rt; false, "at {name}"),
+        }
+    }
+    Ok(())
+}
+
+#[test]
+fn listed_puts_fail_and_others_take_what_fits(rt: HostRuntime) -> Result<(), Fail> {
+    let cases = [
+        (4, 10, 9, "abcdefgh", true, "abcdefgh"),
+        (4, 10, 2, "abcdefgh", false, "abcd"),
+        (4, 6, 9, "abcdefgh", false, "abcdef"),
+        (16, 8, 1, "abcdefgh", false, ""),
+        (1, 0, 9, "", true, ""),
+    ];
+    for (most, room, listed, text, is_whole, taken) in cases {
+        let mut sink = MemSink::new(rt.alloc(), most, room)?;
+        sink.fail_at(listed)?;
+        assert_eq!(rt;
+            put_all(&mut sink, text.as_bytes()).is_ok(),
+            is_whole,
+            "at {text}"
+        );
+        assert_eq!(rt; sink.taken(), taken.as_bytes(), "at {text}");
+    }
+    Ok(())
+}
+
+#[test]
+fn a_file_is_read_whole_and_a_missing_one_is_told(rt: HostRuntime) -> Result<(), Fail> {
+    let name = "rv_io_disk_test.txt";
+    let long = [b'x'; 5000];
+    fs::write(&rt, name, long.as_slice())?;
+    let mut disk = Disk::new(&rt);
+    let read = disk.read(rt.alloc(), name);
+    fs::remove_file(&rt, name)?;
+    assert_eq!(rt; read?.as_slice(), long.as_slice());
+    assert_eq!(rt; disk.read(rt.alloc(), name).err(), Some(ReadError::NoFile));
+    assert_eq!(rt; disk.read(rt.alloc(), ".").err(), Some(ReadError::Failed));
+    Ok(())
+}
+
+#[test]
+fn pieces_are_cut_and_listed_ones_fail(rt: HostRuntime) -> Result<(), Fail> {
+    let mut store = MemStore::new(rt.alloc());
+    store.add("a", b"abcdefgh")?;
+    store.cut(3);
+    store.fail_at(4)?;
+    let cases = [
+        ("a", 0, 5, Ok("abc")),
+        ("a", 6, 5, Ok("gh")),
+        ("a", 3, 2, Ok("de")),
+        ("a", 3, 2, Err(ReadError::Failed)),
+        ("a", 8, 5, Ok("")),
+        ("a", 99, 5, Ok("")),
+        ("a", 0, 0, Ok("")),
+        ("b", 0, 5, Err(ReadError::NoFile)),
+    ];
+    for (name, from, room, wanted) in cases {
+        let mut into = [b'-'; 5];
+        let piece = store.piece(rt.alloc(), name, from, &mut into[..room]);
+        match (piece, wanted) {
+            (Ok(count), Ok(text)) => {
+                assert_eq!(rt; &into[..count], text.as_bytes(), "at {name} {from}");
+                assert!(rt;
+                    into[count..].iter().all(|byte| *byte == b'-'),
+                    "behind {name} {from}"
+                );
+            }
+            (Err(fault), Err(wanted)) => assert_eq!(rt; fault, wanted, "at {name} {from}"),
+            _ => assert!(rt; false, "at {name} {from}"),
+        }
+    }
+    Ok(())
+}
+
+#[test]
+fn a_file_is_read_forward_and_opened_anew_for_what_was_passed(rt: HostRuntime) -> Result<(), Fail> {
+    let name = "rv_io_piece_test.txt";
+    fs::write(&rt, name, "0123456789")?;
+    let mut disk = Disk::new(&rt);
+    let mut into = [b'-'; 4];
+    for (from, wanted) in [
+        (0, "0123"),
+        (4, "4567"),
+        (9, "9"),
+        (10, ""),
+        (2, "2345"),
+        (20, ""),
+    ] {
+        let count = disk.piece(rt.alloc(), name, from, &mut into)?;
+        assert_eq!(rt; &into[..count], wanted.as_bytes(), "at {from}");
+    }
+    fs::remove_file(&rt, name)?;
+    assert_eq!(rt;
+        disk.piece(rt.alloc(), name, 0, &mut into).err(),
+        Some(ReadError::NoFile)
+    );
+    Ok(())
+}
+
+#[test]
+fn standard_output_takes_a_piece(rt: HostRuntime) -> Result<(), Fail> {
+    let mut out = Stdout::new(&rt);
+    assert_eq!(rt; put_all(&mut out, b"rv_io: a piece\n"), Ok(()));
+    assert_eq!(rt; out.put(b""), Ok(0));
+    Ok(())
+}

@@ -1,0 +1,26 @@
+//! Refusals by their numbers, and the tests of what reads and writes text: what no clause says, with memory to spare.
+#![tactic(auto)]
+
+#[cfg(test)]
+mod dot;
+#[cfg(test)]
+mod generating;
+#[cfg(test)]
+mod header;
+#[cfg(test)]
+mod io;
+#[cfg(test)]
+mod labels;
+#[cfg(test)]
+mod ltl;
+#[cfg(test)]
+mod nnf;
+mod numbers;
+#[cfg(test)]
+mod react;
+#[cfg(test)]
+mod text;
+#[cfg(test)]
+mod trace;
+
+pub use numbers::{NO_MEMORY, number_of};

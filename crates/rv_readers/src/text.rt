@@ -1,0 +1,69 @@
+//! Each call once, with ample memory.
+use rv_text::{Cursor, Line, Words, decimal};
+use std::test::Fail;
+
+#[test]
+fn a_text_grows_by_bytes_and_digits(rt: HostRuntime) -> Result<(), Fail> {
+    let mut line = Line::new(rt.alloc());
+    line.text(b"states ")?;
+    line.number(0)?;
+    line.text(b", ")?;
+    line.number(u64::MAX)?;
+    assert!(rt; line.bytes() == b"states 0, 18446744073709551615".as_slice());
+    let bytes = line.into_bytes();
+    assert_eq!(rt; bytes.len(), 30);
+    Ok(())
+}
+
+#[test]
+fn a_number_is_digits_that_fit(rt: HostRuntime) {
+    let cases = [
+        ("0", Some(0)),
+        ("007", Some(7)),
+        ("18446744073709551615", Some(u64::MAX)),
+        ("18446744073709551616", None),
+        ("99999999999999999999", None),
+        ("", None),
+        ("-1", None),
+        ("+1", None),
+        ("1 ", None),
+        ("0x1", None),
+    ];
+    for (text, value) in cases {
+        assert_eq!(rt; decimal(text.as_bytes()), value, "at {text}");
+    }
+}
+
+#[test]
+fn a_text_is_its_lines_one_after_the_other(rt: HostRuntime) {
+    let wanted: [(u32, usize, &[u8], usize); 4] = [
+        (1, 0, b"a b", 4),
+        (2, 4, b"", 5),
+        (3, 5, b"c\r", 8),
+        (4, 8, b"d", 9),
+    ];
+    let mut cursor = Cursor::new(b"a b\n\nc\r\nd");
+    for (number, from, bytes, end) in wanted {
+        let line = cursor.next_line().expect(&rt, "a line");
+        assert_eq!(rt; line.number, number);
+        assert_eq!(rt; line.from, from);
+        assert!(rt; line.bytes == bytes);
+        assert_eq!(rt; line.end, end);
+    }
+    assert!(rt; cursor.next_line().is_none());
+    let mut cursor = Cursor::new(b"\n");
+    assert!(rt; cursor.next_line().is_some());
+    assert!(rt; cursor.next_line().is_none());
+    assert!(rt; Cursor::new(b"").next_line().is_none());
+}
+
+#[test]
+fn a_line_is_its_words_one_after_the_other(rt: HostRuntime) {
+    let wanted: [&[u8]; 3] = [b"on", b"a:", b"\r"];
+    let mut words = Words::new(b" \ton \t a: \r");
+    for bytes in wanted {
+        assert!(rt; words.next_word() == Some(bytes));
+    }
+    assert!(rt; words.next_word().is_none());
+    assert!(rt; Words::new(b" \t").next_word().is_none());
+}

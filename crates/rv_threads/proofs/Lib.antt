@@ -1,0 +1,4 @@
+pub mod StartLemmas
+pub mod SteppingLemmas
+pub mod WakingLemmas
+pub mod WakingWidthLemmas

@@ -1,0 +1,40 @@
+-- From how the parts of a run end to what the top call answers on a store that tells no files.
+use Rattle.std.proofs.Common.{◌≡◌, ℕ, List, [], inl, inr, subst}
+use Rattle.std.specs.Prelude.{Option, Some, None, Result, Ok, Err}
+use Rattle.rv_model.specs.declared.entry.Entry.{Entry}
+use Rattle.rv_io.specs.Files.{Files}
+use Rattle.rv_bind.specs.declared.fault.BindFault.{BindFault}
+use Rattle.rv_bind.specs.declared.fault.BindFault.TheVariants as faults
+use Rattle.rv_bind.specs.Outcomes.{Outcome, Comes}
+use Rattle.rv_check.specs.declared.reading.Verdict.{Verdict}
+use Rattle.rv_tool.specs.Checks.{CheckedValue, JudgesRead}
+use Rattle.rv_tool.specs.Headline.{Ending}
+use Rattle.rv_tool.specs.Runs.{Fails, EndsRead, SaysVerdict}
+use Rattle.rv_tool.specs.Untold.{EndsSomehow, SaysSome, AnswersUntold}
+use Rattle.rv_tool.specs.Words.{CommandValue}
+
+module _ (old new : Option (List ℕ)) (before now status : ℕ) (h : List Entry) where
+  -- a fault of reading a store that tells no files
+  fault_ends : {X Y Z : Type 0} (view : X → Y) (Accepted : Z → Ending) (outcome : Files → Outcome Y) (told : Option Files) (first last : ℕ) → told ≡ None → (fault : BindFault)
+      → Comes view told first last (Err fault) outcome → Fails fault old new before now status h → EndsSomehow Accepted first last old new before now status h
+  fault_ends view Accepted outcome told first last none faults.Memory comes up = inr (inl ([], record { number = 0; line = 0 }, inr up))
+  fault_ends view Accepted outcome told first last none (faults.Refused file refusal) comes says = inr (inl (file, refusal, says))
+  fault_ends view Accepted outcome told first last none (faults.Unread file) (inl lacks) says = absurd (let both : Some lacks.0 ≡ None = rw (← lacks.1) none in cc)
+  fault_ends view Accepted outcome told first last none (faults.Unread file) (inr rose) says = inr (inr (rose, file, says))
+
+  -- what was read ends somehow
+  pub read_somehow : {X Y : Type 0} (view : X → Y) (Accepted : Y → Ending) (outcome : Files → Outcome Y) (told : Option Files) (first last : ℕ) (read : Result X BindFault)
+      → Comes view told first last read outcome → EndsRead view Accepted read old new before now status h → told ≡ None → EndsSomehow Accepted first last old new before now status h
+  read_somehow view Accepted outcome told first last (Ok x) comes ends none = inl (view x, ends)
+  read_somehow view Accepted outcome told first last (Err fault) comes fails none = fault_ends view Accepted outcome told first last none fault comes fails
+
+  -- so does a journal that was judged
+  pub judged_somehow : (outcome : Files → Outcome CheckedValue) (told : Option Files) (first last : ℕ) (read : Result Verdict BindFault)
+      → JudgesRead told first last read outcome → SaysVerdict read old new before now status h → told ≡ None → EndsSomehow SaysSome first last old new before now status h
+  judged_somehow outcome told first last (Ok verdict) comes says none = inl (verdict, says)
+  judged_somehow outcome told first last (Err fault) comes fails none = fault_ends (λ (c : CheckedValue). c) SaysSome outcome told first last none fault comes fails
+
+  -- the words ask for the command that was read
+  pub words_untold : (asked said : Option CommandValue) (told : Option Files) (first last : ℕ) → said ≡ asked
+      → (told ≡ None → AnswersUntold said first last old new before now status h) → told ≡ None → AnswersUntold asked first last old new before now status h
+  words_untold asked said told first last same answers none = subst (λ (o : Option CommandValue). AnswersUntold o first last old new before now status h) same (answers none)
