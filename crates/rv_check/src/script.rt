@@ -12,34 +12,12 @@ use crate::entries::changes;
 use crate::next::{Due, Next};
 use crate::work::{delivery_at, turn_at, turn_count};
 use rv_core::{Setup, Step};
-use rv_model::{Act, Answer, CpuWork, Delivery, Entry, Turn};
-
-/// The switches with the halted bit alone.
-const HALTED: u64 = 17_179_869_184;
+use rv_model::{
+    Act, Answer, CpuWork, Delivery, Entry, HALTED, REACTING, Turn, fails, has_switch, is_shown,
+};
 
 /// Three lost tries stop an instance.
 const TRIES: u8 = 3;
-
-/// Whether the word has this bit.
-fn has_switch(word: u64, bit: u8) -> bool
-    ensures { result ≡ has_bit word bit }
-{
-    bit < 64 && (word >> bit) & 1 == 1
-}
-
-/// Whether a look shows the delivery on.
-fn is_shown(word: u64, delivery: &Delivery) -> bool
-    ensures { result ≡ is_shown word delivery.now }
-{
-    has_switch(word, 32) && has_switch(word, delivery.monitor)
-}
-
-/// Whether the letter was not allowed.
-fn fails(answer: Answer) -> bool
-    ensures { result ≡ fails answer }
-{
-    matches!(answer, Answer::Failed(_))
-}
 
 /// Whether the act raises the halted bit alone.
 fn is_halt(act: &Act) -> bool
@@ -47,7 +25,7 @@ fn is_halt(act: &Act) -> bool
     ensures no { result ≡ false → ¬ IsHalt act.now }
 {
     match *act {
-        Act::Raise { bits } => bits == HALTED,
+        Act::Raise { bits } => bits == 1 << HALTED,
         _ => false,
     }
 }
@@ -112,7 +90,7 @@ fn after_look(setup: &Setup, work: &CpuWork, turn: usize, word: u64) -> Next
     requires turn { turn < length work.now.turns }
     ensures { (panics : ℕ → Bool) (a : Answer) → Moves setup.now panics work.now (Look turn) word a result }
 {
-    if has_switch(word, 34) {
+    if has_switch(word, HALTED) {
         return Next::Over;
     }
     let Turn { from, to, .. } = turn_at(work, turn);
@@ -126,7 +104,7 @@ fn after_delivery(setup: &Setup, panics: u32, work: &CpuWork, due: &Due, answer:
     ensures { (word : ℕ) → Moves setup.now (has_bit panics) work.now (Deliver due.now) word answer result }
 {
     let monitor = delivery_at(work, due.place).monitor;
-    if fails(answer) && (has_switch(panics as u64, monitor) && has_switch(due.look, 33)) {
+    if fails(answer) && (has_switch(panics as u64, monitor) && has_switch(due.look, REACTING)) {
         return Next::Raise;
     }
     settle(setup, work, due.look, due.place + 1, due.to, due.turn)

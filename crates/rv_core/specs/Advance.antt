@@ -18,7 +18,7 @@ use Rattle.rv_model.specs.Stepping.{step_set, start_set}
 use Rattle.rv_word.specs.Words.{packed, set_in, atoms_in}
 use Rattle.rv_core.specs.Levels.{new_levels}
 
--- only an automaton has a start whose event is not run
+-- only an automaton has a start whose event is not run, and an end runs none
 abbrev pub IsRun : Mode → Type 0
 IsRun mode.Event = Unit {0}
 IsRun mode.Start = ⊥

@@ -27,7 +27,7 @@ no_table = of_events 0 []
 abbrev pub table_at : Setup → ℕ → Table
 table_at s slot = slice_index_or s.tables (monitor_of s.shape slot) no_table
 
--- its tables are the judges
+-- its tables are the judges, by steps; the law `EveryTableIsJudged` of rv_model says that they judge by paths
 abbrev pub judges_of : Setup → List Judge
 judges_of s = map table_judge s.tables
 

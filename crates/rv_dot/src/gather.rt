@@ -135,7 +135,7 @@ pub fn arcs_in<'s, 'a: 's>(
     Ok(found)
 }
 
-/// A declared name is a marker's or a state's; an edge has no label exactly where it leaves a marker.
+/// A declared name is a marker's or a state's; an edge from a marker has no label or an empty one, and any other edge has a label.
 pub fn fits(saying: &Saying<'_>) -> bool
     ensures { result ≡ fits (said saying.now) }
 {

@@ -5,10 +5,9 @@ ghost use Rattle.rv_model.specs.Scripts.{bits_act, clears, change_acts, control_
 ghost use Rattle.rv_feed.specs.Changes.{DoesAll, CanChange, IsBelowHalt};
 ghost use Rattle.rv_feed.specs.Feeders.{FitsChanger, RunsChanger};
 
-use crate::turn::has_switch;
 use rv_board::{Board, Seat};
 use rv_io::Gate;
-use rv_model::Change;
+use rv_model::{Change, has_switch};
 
 /// The number of the control actor at its gate.
 pub(crate) const CONTROL: u32 = 64;

@@ -8,10 +8,12 @@ ghost use Rattle.rv_feed.specs.Feeders.{FitsFeeder, RunsFeeder};
 ghost use Rattle.rv_feed.specs.Feeding.{Serves, FeedsDelivery, FeedsTurn, CanFeed, Feeds};
 
 use crate::lane::{Lane, cpu_of, delivery_at, keep, known, turn_at, turn_count};
-use crate::turn::{halts, has_switch, is_shown};
+use crate::turn::halts;
 use rv_board::{Board, Seat};
 use rv_io::Gate;
-use rv_model::{Answer, Delivered, Delivery, Reactor, Turn};
+use rv_model::{
+    Answer, Delivered, Delivery, HALTED, REACTING, Reactor, Turn, has_switch, is_shown,
+};
 
 /// A CPU's seat, its lane, and the gate that it passes.
 #[derive(Drop)]
@@ -70,7 +72,7 @@ fn deliver<G: Gate>(
 {
     let delivery = delivery_at(lane, place);
     let outcome = serve(board, seat, cpu_of(lane), &delivery, gate);
-    keep(lane, place, line, outcome, has_switch(word, 33));
+    keep(lane, place, line, outcome, has_switch(word, REACTING));
     let ends = ends(reactors, word, delivery.monitor, outcome);
     if ends {
         board.halt(seat);
@@ -96,7 +98,7 @@ fn play_turn<G: Gate>(
     ensures { FeedsTurn seat.old seat.new (panics_of reactors.now) turn.now lane.old lane.new result }
 {
     let word = board.look(seat);
-    if has_switch(word, 34) {
+    if has_switch(word, HALTED) {
         return true;
     }
     for place in turn.from..turn.to {

@@ -40,6 +40,13 @@ impl Lane {
         Ok(Lane { work, kept })
     }
 
+    /// What the CPU has to do.
+    pub fn work(&self) -> &CpuWork
+        ensures { result.now ≡ self.now.work }
+    {
+        &self.work
+    }
+
     /// How many records there are.
     pub fn count(&self) -> usize
         ensures { result ≡ length self.now.records }

@@ -2,40 +2,21 @@
 ghost use Rattle.std.specs.Prelude.{◌≡◌, ◌+◌, ◌<◌, ◌≤◌, ◌&&◌, ◌++◌, ◌∷◌, [], length, slice_index_or, All};
 ghost use Rattle.rv_model.specs.declared.work.Delivery.{Delivery};
 ghost use Rattle.rv_model.specs.Numbers.{has_bit};
-ghost use Rattle.rv_model.specs.Scripts.{is_shown, fails, hit_act};
+ghost use Rattle.rv_model.specs.Scripts.{fails, hit_act};
 ghost use Rattle.rv_feed.specs.Lane.{panics_of, FitsDelivery};
 ghost use Rattle.rv_feed.specs.Turns.{LooksAt, Delivers, PlaysTurn};
 
 use crate::lane::{Lane, delivery_at, is_panic, keep, seat_of};
 use rv_core::Core;
-use rv_model::{Act, Answer, Delivered, Delivery, Hit, Reactor, Turn};
-
-/// Whether the word has this bit.
-pub(crate) fn has_switch(word: u64, bit: u8) -> bool
-    ensures { result ≡ has_bit word bit }
-{
-    bit < 64 && (word >> bit) & 1 == 1
-}
-
-/// Whether a look shows the delivery on.
-pub(crate) fn is_shown(word: u64, delivery: &Delivery) -> bool
-    ensures { result ≡ is_shown word delivery.now }
-{
-    has_switch(word, 32) && has_switch(word, delivery.monitor)
-}
-
-/// Whether the letter was not allowed.
-fn fails(answer: Answer) -> bool
-    ensures { result ≡ fails answer }
-{
-    matches!(answer, Answer::Failed(_))
-}
+use rv_model::{
+    Act, Answer, Delivered, HALTED, Hit, REACTING, Reactor, Turn, fails, has_switch, is_shown,
+};
 
 /// Whether a delivery with this answer ends its script.
 pub(crate) fn halts(reactors: &[Reactor], word: u64, monitor: u8, answer: Answer) -> bool
     ensures { result ≡ (fails answer && (panics_of reactors.now monitor && has_bit word 33)) }
 {
-    fails(answer) && (is_panic(reactors, monitor) && has_switch(word, 33))
+    fails(answer) && (is_panic(reactors, monitor) && has_switch(word, REACTING))
 }
 
 /// What the hit is to do to its slot.
@@ -82,11 +63,11 @@ fn deliver(
         place,
         line,
         Delivered::Done(answer),
-        has_switch(word, 33),
+        has_switch(word, REACTING),
     );
     let ends = halts(reactors, word, delivery.monitor, answer);
     if ends {
-        let _answer = core.step(seat, &Act::Raise { bits: 1 << 34 });
+        let _answer = core.step(seat, &Act::Raise { bits: 1 << HALTED });
     }
     ends
 }
@@ -102,7 +83,7 @@ pub(crate) fn play_turn(core: &mut Core, reactors: &[Reactor], lane: &mut Lane, 
 {
     let seat = seat_of(lane);
     let word = look(core, seat);
-    if has_switch(word, 34) {
+    if has_switch(word, HALTED) {
         return true;
     }
     for place in turn.from..turn.to {

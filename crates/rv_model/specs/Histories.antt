@@ -23,7 +23,7 @@ pub record FitsWords (s : Setup) (js : List Judge) (before : List Entry) (e : En
 abbrev pub Replays : Setup → List Judge → List Entry → Type 0
 Replays s js = AtEach (FitsWords s js)
 
--- the entry is on the slot, and changed its word
+-- the act is on the slot; those on the switches are on none
 abbrev pub is_on : ℕ → Act → Bool
 is_on i (Deliver slot _) = slot == i
 is_on i (Stop slot) = slot == i

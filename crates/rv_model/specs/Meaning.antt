@@ -43,7 +43,7 @@ abbrev pub until_m : Meaning → Meaning → Meaning
 until_m p q v [] = is_weak v
 until_m p q v (x ∷ t) = q v (x ∷ t) || (p v (x ∷ t) && until_m p q v t)
 
--- the second passes up to and with where the first does
+-- the second passes up to and with where the first does, or everywhere
 abbrev pub release_m : Meaning → Meaning → Meaning
 release_m p q = not_m (until_m (not_m p) (not_m q))
 

@@ -10,6 +10,6 @@ use Rattle.rv_model.specs.Judging.{Judge, Means, JudgesByTable, JudgesBySpec}
 abbrev pub TablesMean : Type 0
 TablesMean = (a : Machine) → IsAutomaton a → Means (table_of a) (Da a)
 
--- no letter is good by every specification and reaches the start row, so one meaning is enough
+-- a law: the list of no letters is good by every specification and reaches the start row, so what a table means decides all
 abbrev pub TablesJudge : Type 0
 TablesJudge = (spec : Spec) (t : Table) (j : Judge) → Means t spec → JudgesByTable t j → JudgesBySpec spec t j

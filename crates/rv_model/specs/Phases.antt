@@ -54,7 +54,7 @@ letter_at on (Ltl _ _ pulse) = Atoms (number_of (λ atom. on atom || has_bit pul
 
 -- the set of the rows that letters reach
 abbrev pub rows_of : Judge → List Letter → ℕ
-rows_of j word = number_of (j.reaches word) 32
+rows_of j letters = number_of (j.reaches letters) 32
 
 -- the answer to a letter, and the phase after it
 abbrev pub turn : Judge → Phase → Mode → Letter → Answer × Phase
@@ -63,7 +63,7 @@ turn j waiting mode.Event x = (Passed, waiting)
 turn j waiting mode.End x = (Passed, waiting)
 turn j waiting mode.Start x = (Started, running [])
 turn j waiting mode.StartRun x = if j.holds (x ∷ []) then (Started, running (x ∷ [])) else (Failed (rows_of j []), waiting)
-turn j (running word) _ x = if j.holds (word ++ x ∷ []) then (Kept, running (word ++ x ∷ [])) else (Failed (rows_of j word), waiting)
+turn j (running letters) _ x = if j.holds (letters ++ x ∷ []) then (Kept, running (letters ++ x ∷ [])) else (Failed (rows_of j letters), waiting)
 
 -- the phase after an act, from the one before it; the levels are those with the act
 abbrev pub phase_after : Judge → (ℕ → Bool) → ℕ → Act → Phase → Phase

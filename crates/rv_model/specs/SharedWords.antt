@@ -27,7 +27,7 @@ switches_of opening past = number_of (switch opening past) 64
 -- the rows in the high half, the levels in the low half
 abbrev pub packed : Judge → ℕ → Phase → ℕ
 packed j on waiting = 2 ^ 32 + on
-packed j on (running word) = rows_of j word * 2 ^ 32 + on
+packed j on (running letters) = rows_of j letters * 2 ^ 32 + on
 packed j on stopped = 0
 
 -- the word of a slot, by its judge and its starting levels

@@ -27,11 +27,11 @@ start_set t = if first_row t == 1 then 2 else 1
 -- the rows after letters, from a set of rows
 abbrev pub rows_after : Table → ℕ → List Letter → ℕ
 rows_after t set [] = set
-rows_after t set (x ∷ word) = rows_after t (step_set t set x) word
+rows_after t set (x ∷ letters) = rows_after t (step_set t set x) letters
 
 -- steps from the start row alone
 abbrev pub table_judge : Table → Judge
-table_judge t = record { holds = λ word. not (rows_after t (start_set t) word == 0); reaches = λ word row. has_bit (rows_after t (start_set t) word) row }
+table_judge t = record { holds = λ letters. not (rows_after t (start_set t) letters == 0); reaches = λ letters row. has_bit (rows_after t (start_set t) letters) row }
 
 -- a law: every table has a judge by its paths
 abbrev pub EveryTableIsJudged : Type 0

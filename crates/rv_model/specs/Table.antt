@@ -81,7 +81,7 @@ end_of from (to ∷ path) = end_of to path
 
 -- some path of rows leads from the start row to this one by the letters
 abbrev pub Reaches : Table → List Letter → ℕ → Type 0
-Reaches t word row = (path : List ℕ) × IsPath (Follows t) (first_row t) path word × (end_of (first_row t) path ≡ row)
+Reaches t letters row = (path : List ℕ) × IsPath (Follows t) (first_row t) path letters × (end_of (first_row t) path ≡ row)
 
 -- ---- what a model of a struct stores
 

@@ -4,7 +4,7 @@ use Rattle.std.specs.Prelude.{ℕ, ◌<◌, ◌≤◌, List, [], ◌∷◌, leng
 use Rattle.rv_model.specs.Numbers.{has_bit}
 use Rattle.rv_model.specs.Ltl.{Ltl, True, False, Atom, Not, Next, Always, Eventually, And, Or, Imply, Equivalent, Until, Release, WeakUntil}
 
--- how a word that may go on is judged
+-- how letters that may go on are judged
 pub data View : Type 0 where
   Weak Strong : View
 
@@ -13,11 +13,11 @@ abbrev pub other : View → View
 other Weak = Strong
 other Strong = Weak
 
--- what is said of a word, in each view
+-- what is said of letters, in each view
 abbrev pub Says : Type 1
 Says = View → List ℕ → Type 0
 
--- On the empty word all is so weakly, and nothing strongly. On any other word it is what P says.
+-- Of no letters all is so weakly, and nothing strongly. Of others it is what P says.
 abbrev pub OnLetter : (View → ℕ → List ℕ → Type 0) → Says
 OnLetter P Weak [] = Unit {0}
 OnLetter P Strong [] = ⊥

@@ -33,7 +33,7 @@ pub struct Entry {
 /// What an act tells its seat.
 #[derive(Clone, Copy, Debug, Drop, PartialEq, Eq)]
 pub enum Answer {
-    /// The instance waits or is stopped, and the event is no start: nothing changed.
+    /// The instance is stopped, or it waits and the event is no start. Where it waits, levels may have changed.
     Passed,
     /// A run begins.
     Started,

@@ -10,6 +10,7 @@ mod laws;
 mod name;
 mod reactor;
 mod record;
+mod switches;
 mod work;
 
 pub use automaton::{Automaton, Edge};
@@ -24,4 +25,5 @@ pub use laws::{
 pub use name::{Name, Names};
 pub use reactor::Reactor;
 pub use record::{Delivered, Record, Task};
+pub use switches::{HALTED, MONITORING, REACTING, fails, has_switch, is_shown};
 pub use work::{Change, CpuWork, Delivery, Scope, Turn};

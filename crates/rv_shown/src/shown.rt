@@ -1,29 +1,11 @@
 //! Works without the deliveries that the opening switches do not show on.
 ghost use Rattle.std.specs.Prelude.{◌≡◌, ◌≤◌, ◌++◌, IfOk, OnOk, filter, length, slice_range};
 ghost use Rattle.std.specs.List.{AllZip};
-ghost use Rattle.rv_model.specs.Numbers.{has_bit};
 ghost use Rattle.rv_model.specs.Scripts.{is_shown};
 ghost use Rattle.rv_shown.specs.Shown.{IsShownWork};
 
-use rv_model::{CpuWork, Delivery, Turn};
+use rv_model::{CpuWork, Delivery, Turn, is_shown};
 use std::alloc::{AllocError, Global};
-
-/// The switch that monitoring is.
-const MONITORING: u8 = 32;
-
-/// Whether a switch is on.
-fn has_switch(switches: u64, bit: u8) -> bool
-    ensures { result ≡ has_bit switches bit }
-{
-    bit < 64 && (switches >> bit) & 1 == 1
-}
-
-/// Whether the switches show the delivery on.
-fn is_shown(switches: u64, delivery: Delivery) -> bool
-    ensures { result ≡ is_shown switches delivery }
-{
-    has_switch(switches, MONITORING) && has_switch(switches, delivery.monitor)
-}
 
 /// Keeps those of the deliveries from one place to another that the switches show on, and says how many are kept now.
 fn keep_shown(
@@ -39,7 +21,7 @@ fn keep_shown(
     ensures end { IfOk result (λ end. end ≡ length kept.new.items) }
 {
     for delivery in &deliveries[from as usize..to as usize] {
-        if is_shown(switches, *delivery) {
+        if is_shown(switches, delivery) {
             kept.push(*delivery)?;
         }
     }

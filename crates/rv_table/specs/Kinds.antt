@@ -7,5 +7,4 @@ use Rattle.rv_table.specs.declared.table.Kind.TheVariants.{Events, Labels}
 abbrev pub table_in : Kind → Table
 -- what a table is, by its kind
 table_in (Events count rows) = of_events count rows.items
--- what a table is, by its kind
 table_in (Labels nodes) = of_labels nodes

@@ -67,7 +67,7 @@ pub record IsLabelRows (nodes : List Node) : Type 0 where
 abbrev pub node_rows : ℕ → List Node → List Node
 node_rows first nodes = record { labels = []; next = first } ∷ nodes
 
--- at most 31 nodes, whose sets name them from 1 on
+-- at most 31 nodes, whose sets name them from 1 on and whose labels have no temporal operator and atoms below 32
 pub record FitNodes (first : ℕ) (nodes : List Node) : Type 0 where
   pub few : length nodes ≤ 31
   pub from_first : IsRowSet (length nodes + 1) first

@@ -84,7 +84,7 @@ pub const TOO_MANY_CPUS: u8 = 26;
 /// A trace line's number is over 1,000,000, or it ends past byte 134,217,728, its line end included.
 pub const TOO_LONG: u8 = 27;
 
-/// The task would be the 4,097th.
+/// The task would be the 65,537th.
 pub const TOO_MANY_TASKS: u8 = 28;
 
 /// A rule's `by` field has no value, or one that is no decimal of at most 4,294,967,295.
@@ -99,7 +99,7 @@ pub const CONTROL_SYNTAX: u8 = 31;
 /// The control tree has no file of this path.
 pub const NO_SUCH_FILE: u8 = 32;
 
-/// The file does not take this text.
+/// The file does not take this text; or, of a script beside a run, the command is a read, or a write to a `reactors` file.
 pub const INVALID: u8 = 33;
 
 /// A run can't be recorded: the rows and the atoms of a monitor are more than 32 together, its reactor is panic, or a rule ends its instances.
@@ -112,5 +112,5 @@ pub const NO_HEADER: u8 = 35;
 /// The text is not that of the C tables of any automaton.
 pub const HEADER_SYNTAX: u8 = 36;
 
-/// The monitor is no shown name, or the run does not have this instance of it.
+/// The monitor is no shown name; or the instance is not 0 of a global monitor, no CPU up to 63 of a cpu monitor, or no pid of a task that has deliveries.
 pub const NO_INSTANCE: u8 = 37;

@@ -2,7 +2,7 @@
 use Rattle.std.proofs.Common.{◌≡◌, false, refl, arith}
 use Rattle.std.proofs.lemmas.Nat.Bits.{bit_at_above}
 use Rattle.rv_model.specs.Numbers.{has_bit}
-use Rattle.rv_feed.proofs.turn.has_switch.Goals as goal
+use Rattle.rv_model.proofs.switches.has_switch.Goals as goal
 
 pub returns-else-bit-lt64 : goal.returns-else-bit-lt64
 returns-else-bit-lt64 c =
