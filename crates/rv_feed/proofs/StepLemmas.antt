@@ -29,6 +29,7 @@ module _ (panics : ℕ → Bool) (old : CoreValue) (more : List Entry) (new : Co
     (least : All (λ l. IsPending places l → (line ≤ next_line places l) × (next_line places l < 2 ^ 32)) lanes)
     (pending : IsPending places (get_or lanes k d)) (line_is : next_line places (get_or lanes k d) ≡ line)
     (next : PlaysNext panics (record old { history = old.history ++ more }) new (get_or lanes k d) lane' (place_of places (get_or lanes k d)) place') where
+  -- the setup, the lane, its work, its seat, its place, the turn, what it plays and its entries, and all works
   abbrev s : Setup
   s = old.setup
 
@@ -56,30 +57,39 @@ module _ (panics : ℕ → Bool) (old : CoreValue) (more : List Entry) (new : Co
   abbrev works : List Work
   works = works_of first
 
+  -- what the lane has played so far
   me : LaneSoFar s panics old.history more places from l
   me = subst (λ (m : List Entry). LaneSoFar s panics old.history m places from l) more_is (All-get_or (LaneSoFar s panics old.history run.more places from) lanes k d lt run.lanes_are)
 
+  -- its script goes on, since a turn is left
   going : Going s panics more l p me.script
   going = elim me.state [ inl g ↦ g | inr e ↦ absurd (let a = e.all in omega arith) ]
 
+  -- the works of the lanes are those of the first ones
   same_works : works_of lanes ≡ works
   same_works = run.same_works
 
+  -- the lane's work is one of the works
   has : Contains works w
   has = subst (λ (ws : List Work). Contains ws w) same_works (work-at lanes k d lt)
 
+  -- the seat's work is the lane's
   is_mine : work_of works seat ≡ w
   is_mine = work-is first ok.cpus w has
 
+  -- the turn is the next one of the work
   t_is : (u : Turn) → t ≡ get_or w.turns p u
   t_is = next.turn_is
 
+  -- its line is the least of the next lines
   t_line : t.line ≡ line
   t_line = ap (λ (x : Turn). x.line) (t_is t) ∙ sym (line-index w.turns p t pending) ∙ line_is
 
+  -- each entry of the turn is by the lane's seat
   at : (b : List Entry) (e : Entry) (a : List Entry) → es ≡ b ++ e ∷ a → IsIn seat e
   at = by-at seat tp.ps tp.did.by
 
+  -- the line of each entry of the turn is this line
   line-here : (b : List Entry) (e : Entry) (a : List Entry) → es ≡ b ++ e ∷ a → line_at works (more ++ b) e ≡ line
   line-here b e a eq =
       let mine : e.seat ≡ seat = (at b e a eq).0 in
@@ -92,37 +102,48 @@ module _ (panics : ℕ → Bool) (old : CoreValue) (more : List Entry) (new : Co
       ∙ ap (line_in w.turns) looks
       ∙ ap (slice_index (map (λ (x : Turn). x.line) w.turns)) back ∙ line_is
 
+  -- no entry before the turn has a later line
   before-line : AtEach (λ b e. line_at works b e ≤ line) more
   before-line =
       let later = me.later pending in
       at_each-weaker (λ b e. line_at works b e < from) (λ b e. line_at works b e ≤ line) (λ b e x. omega arith) more (subst (AtEach (λ b e. line_at works b e < from)) more_is run.below)
 
   -- ---- the lane itself
+
+  -- the lane after the turn
   abbrev after : LaneValue
   after = record { work = w; records = l.records ++ tp.rs; room = lane'.room }
 
+  -- the lane has its work, and the records of the turn behind its own
   after_is : lane' ≡ after
   after_is = λ i. record { work = tp.kept.work_is i; records = tp.kept.records_are i; room = lane'.room }
 
+  -- the places after the turn
   abbrev places' : List ℕ
   places' = set places w.cpu place'
 
+  -- the place of the lane is the new one
   my_place : place_of places' after ≡ place'
   my_place = let in_places : w.cpu < length places = let c = run.count in let f = me.cpu in omega arith in rw get_or-set_same refl
 
+  -- the turns up to and with this one
   up_to : take (p + 1) w.turns ≡ take p w.turns ++ t ∷ []
   up_to = take_more w.turns p t pending ∙ ap (λ (x : Turn). take p w.turns ++ x ∷ []) (sym (t_is t))
 
+  -- the seat has played the turn behind what it had played
   my_played : played s (judges_of s) seat (reverse (old.history ++ (more ++ es))) ≡ played s (judges_of s) seat (reverse old.history) ++ (me.script ++ tp.ps)
   my_played = ap (λ (h : List Entry). played s (judges_of s) seat (reverse h)) (sym (append_assoc old.history more es)) ∙ tp.did.played_is
       ∙ ap (λ (ps : List Played). ps ++ tp.ps) me.played_is ∙ append_assoc (played s (judges_of s) seat (reverse old.history)) me.script tp.ps
 
+  -- there is room for a record of each delivery
   my_room : length w.deliveries ≤ after.room
   my_room = let a = me.room in let b = tp.kept.room in omega arith
 
+  -- the seat has looked once more
   my_looks : looks_of seat (more ++ es) ≡ p + 1
   my_looks = let a = looks_of-append seat more es in let b = one-looks seat tp.ps tp.did.by tp.one in let g = going.looks in omega arith
 
+  -- what the lane has played with the turn, whether or not its script ends there
   mine-on : (ends : Bool) → next.ends ≡ ends → LaneSoFar s panics old.history (more ++ es) places' (line + 1) after
   mine-on true e =
       let all : place' ≡ length w.turns = next.place_is ∙ rw e refl in
@@ -182,11 +203,13 @@ module _ (panics : ℕ → Bool) (old : CoreValue) (more : List Entry) (new : Co
       }
 
   -- ---- another lane
+  -- another lane is of another CPU
   other-cpu : (j : ℕ) (c : LaneValue) → j < length lanes → j ≢ k → w.cpu ≡ (get_or lanes j c).work.cpu → ⊥
   other-cpu j c lj n e =
       let apart = pairs-from lanes (subst (AllPairs (λ v u. v.cpu ≢ u.cpu)) (sym same_works) (pairs-to first ok.cpus)) in
       n (same-lane lanes apart j k d lj lt (ap (λ (x : LaneValue). x.work.cpu) (sym (get_or_default lanes j c d lj)) ∙ sym e))
 
+  -- what another lane has played stays
   other : (j : ℕ) (c : LaneValue) → j < length lanes → j ≢ k → LaneSoFar s panics old.history (more ++ es) places' (line + 1) (get_or lanes j c)
   other j c lj n =
       let m : LaneValue = get_or lanes j c in
@@ -201,6 +224,7 @@ module _ (panics : ℕ → Bool) (old : CoreValue) (more : List Entry) (new : Co
       let le0 = le.0 in
       grind arith)
 
+  -- what each lane has played, with the turn
   lanes-on : All (LaneSoFar s panics old.history (more ++ es) places' (line + 1)) (set lanes k lane')
   lanes-on j c lj = elim (same_or_not j k) [
     | inl same ↦ let there : get_or (set lanes k lane') j c ≡ lane' = ap (λ (n : ℕ). get_or (set lanes k lane') n c) same ∙ rw get_or-set_same refl in subst (LaneSoFar s panics old.history (more ++ es) places' (line + 1)) (sym (there ∙ after_is)) (mine-on next.ends refl)
