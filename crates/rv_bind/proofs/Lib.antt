@@ -2,6 +2,7 @@ pub mod BoundLemmas
 pub mod ChangeLemmas
 pub mod ChangedLemmas
 pub mod FormLemmas
+pub mod NumberLemmas
 pub mod OutcomeLemmas
 pub mod ReachedLemmas
 pub mod TableLemmas

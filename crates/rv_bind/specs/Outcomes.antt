@@ -1,5 +1,6 @@
 -- What reading files comes to, in the stated order of the reading: a value, a refusal with its file, or a missing file.
-use Rattle.std.specs.Prelude.{◌≡◌, ◌⊎◌, ℕ, List, bytes_eq, Option, Some, None, Result, Ok, Err, IsErrAnd, option_map, if◌then◌else◌}
+use Rattle.std.specs.Prelude.{◌≡◌, ◌≤◌, ◌⊎◌, ℕ, List, bytes_eq, Option, Some, None, Result, Ok, Err, IsErrAnd, option_map, if◌then◌else◌}
+use Rattle.rv_text.specs.declared.numbers.TheConstants.{USAGE, NO_INSTANCE}
 use Rattle.rv_text.specs.declared.refusals.Refusal.{Refusal}
 use Rattle.rv_io.specs.Files.{Files, Rose, front_read}
 use Rattle.rv_bind.specs.declared.fault.LineFault.{LineFault}
@@ -40,11 +41,19 @@ of_text file (Some text) read = read text
 abbrev pub of_name : {X : Type 0} → Files → List ℕ → (List ℕ → Outcome X) → Outcome X
 of_name files file read = of_text file (option_map front_read (files file)) read
 
--- what a reader answered is the outcome on what the store tells. Where its count of faults rose it may say that a file is unread
+-- the number is one of the refusals', of which `USAGE` is the first and `NO_INSTANCE` the last
+abbrev pub IsNumber : ℕ → Type 0
+IsNumber number = (USAGE ≤ number) × (number ≤ NO_INSTANCE)
+
+-- the refusal has one of these numbers
+abbrev pub IsRefusal : Refusal → Type 0
+IsRefusal refusal = IsNumber refusal.number
+
+-- what a reader answered is the outcome on what the store tells, and a refusal has one of the numbers on any store. Where its count of faults rose it may say that a file is unread
 abbrev pub Comes : {X Y : Type 0} → (X → Y) → Option Files → ℕ → ℕ → Result X BindFault → (Files → Outcome Y) → Type 0
 Comes view told before now (Ok x) outcome = (files : Files) → told ≡ Some files → outcome files ≡ accepted (view x)
 Comes view told before now (Err faults.Memory) outcome = Unit {0}
-Comes view told before now (Err (faults.Refused file refusal)) outcome = (files : Files) → told ≡ Some files → outcome files ≡ refused file refusal
+Comes view told before now (Err (faults.Refused file refusal)) outcome = IsRefusal refusal × ((files : Files) → told ≡ Some files → outcome files ≡ refused file refusal)
 Comes view told before now (Err (faults.Unread file)) outcome = ((files : Files) × (told ≡ Some files) × (outcome files ≡ missing file)) ⊎ Rose before now
 
 -- ---- which file is named

@@ -47,7 +47,7 @@ fn form_in<'a>(alloc: Global, line: &TextLine<'a>) -> Result<Form<'a>, LineFault
 }
 
 /// Adds what the line says.
-#[tactic(auto, using(crate::proofs::OutcomeLemmas::line_fault, crate::proofs::OutcomeLemmas::line_goes_on, crate::proofs::ReachedLemmas::line_named, crate::proofs::ReachedLemmas::goes_on_named))]
+#[tactic(auto, using(crate::proofs::OutcomeLemmas::line_goes_on, crate::proofs::ReachedLemmas::line_named, crate::proofs::ReachedLemmas::goes_on_named))]
 fn bind_line<S: Store>(
     alloc: Global,
     store: &mut S,
@@ -69,7 +69,7 @@ fn bind_line<S: Store>(
 }
 
 /// Adds what a form says.
-#[tactic(auto, using(crate::proofs::OutcomeLemmas::line_comes, crate::proofs::OutcomeLemmas::line_done, crate::proofs::ReachedLemmas::line_named))]
+#[tactic(auto, using(crate::proofs::NumberLemmas::container_numbered, crate::proofs::NumberLemmas::rule_numbered, crate::proofs::NumberLemmas::change_numbered, crate::proofs::NumberLemmas::begin_numbered, crate::proofs::OutcomeLemmas::line_comes, crate::proofs::OutcomeLemmas::line_done, crate::proofs::ReachedLemmas::line_named))]
 fn bind_form<S: Store>(
     alloc: Global,
     store: &mut S,
@@ -102,7 +102,7 @@ fn bind_form<S: Store>(
 }
 
 /// Adds a monitor, whose specification is read where there is room for it.
-#[tactic(auto, using(crate::proofs::OutcomeLemmas::line_fault, crate::proofs::ReachedLemmas::line_named, crate::proofs::ReachedLemmas::monitor_named))]
+#[tactic(auto, using(crate::proofs::NumberLemmas::place_numbered, crate::proofs::OutcomeLemmas::line_fault, crate::proofs::ReachedLemmas::line_named, crate::proofs::ReachedLemmas::monitor_named))]
 fn bind_monitor<S: Store>(
     alloc: Global,
     store: &mut S,

@@ -1,0 +1,186 @@
+-- Every refusal of a specification and of a line of bindings has one of the refusals' numbers.
+use Rattle.std.proofs.Common.{◌≡◌, ℕ, zero, suc, List, [], ◌∷◌, subst, ap, ◌∙◌, arith}
+use Rattle.std.specs.Prelude.{Bool, true, false, not, bytes_eq, codes, Option, Some, None, Result, Ok, Err, IfErr, if◌then◌else◌}
+use Rattle.rv_text.specs.declared.refusals.Refusal.{Refusal}
+use Rattle.rv_text.specs.Readings.{and_then}
+use Rattle.rv_text.specs.TextLines.{LineText}
+use Rattle.rv_io.specs.Files.{Files}
+use Rattle.rv_model.specs.Ltl.{Ltl}
+use Rattle.rv_model.specs.declared.hit.Mode.{Mode}
+use Rattle.rv_dot.specs.Statements.{Claim}
+use Rattle.rv_dot.specs.Gathered.{targets_in}
+use Rattle.rv_dot.specs.Text.{said_by}
+use Rattle.rv_dot.specs.Dot.{dot_of, machine_said, machine_of, initial_of, with_initial}
+use Rattle.rv_ltl.specs.File.{Def}
+use Rattle.rv_ltl.specs.RuleFile.{ltl_of, rule_in, formula_of}
+use Rattle.rv_nnf.specs.Parts.{Piece}
+use Rattle.rv_nnf.specs.NormalForm.{normal_of}
+use Rattle.rv_tableau.specs.declared.pairs.Pair.{Pair}
+use Rattle.rv_tableau.specs.Nodes.{whole, nodes_of, nodes_from}
+use Rattle.rv_tableau.specs.Rows.{tableau_of}
+use Rattle.rv_bind.specs.declared.bindings.Monitor.{Monitor}
+use Rattle.rv_bind.specs.declared.bindings.Test.{Test}
+use Rattle.rv_bind.specs.declared.compile.Compiled.{Compiled}
+use Rattle.rv_bind.specs.declared.fault.BindFault.{BindFault}
+use Rattle.rv_bind.specs.declared.fault.BindFault.TheVariants as faults
+use Rattle.rv_bind.specs.declared.forms.SpecKind.{SpecKind}
+use Rattle.rv_bind.specs.declared.forms.SpecKind.TheVariants as kinds
+use Rattle.rv_bind.specs.Values.{BoundValue}
+use Rattle.rv_bind.specs.LineWords.{Words, when}
+use Rattle.rv_bind.specs.Forms.{FormValue, on, container_form, monitor_form, react_form, off_form, begin_form, by_at, tests_at, hit_form, on_form, form_of}
+use Rattle.rv_bind.specs.MonitorLines.{rule_bound, change_bound, begin_bound}
+use Rattle.rv_bind.specs.Compiling.{compiled_of}
+use Rattle.rv_bind.specs.Bound.{compiled_in, form_in, place_for, container_bound}
+use Rattle.rv_bind.specs.LineReads.{after}
+use Rattle.rv_bind.specs.Outcomes.{IsNumber, IsRefusal, IsFaultOf, Comes, accepted, reading, of_file, of_name}
+use Rattle.rv_bind.proofs.OutcomeLemmas.{of_name-reading}
+
+-- ---- specifications
+
+-- what is read, and what is read on from it
+pub then_numbered : {X Y : Type 0} (read : Result X Refusal) (next : X → Result Y Refusal) → IfErr read IsRefusal → ((x : X) → IfErr (next x) IsRefusal) → IfErr (and_then read next) IsRefusal
+then_numbered (Ok x) next first second = second x
+then_numbered (Err refusal) next first second = first
+
+-- the target of the edges that leave markers
+initial_numbered : (targets : List (List ℕ)) → IfErr (initial_of targets) IsRefusal
+initial_numbered targets = grind arith
+
+-- the automaton with an initial state
+with_initial_numbered : (claims : List Claim) (initial : List ℕ) → IfErr (with_initial claims initial) IsRefusal
+unfolding with_initial
+with_initial_numbered claims initial = grind arith
+
+-- the automaton of the statements
+machine_numbered : (claims : List Claim) → IfErr (machine_of claims) IsRefusal
+unfolding machine_of
+machine_numbered claims = grind (arith, then_numbered (initial_of (targets_in claims)) (with_initial claims) (initial_numbered (targets_in claims)) (with_initial_numbered claims))
+
+-- the automaton of a text
+pub dot_numbered : (bytes : List ℕ) → IfErr (dot_of bytes) IsRefusal
+unfolding dot_of
+dot_numbered bytes = grind (arith, said (said_by bytes))
+  where
+    said : (claims : Option (List Claim)) → IfErr (machine_said claims) IsRefusal
+    said None = grind arith
+    said (Some claims) = machine_numbered claims
+
+-- the formula that a name stands for
+formula_numbered : (ds : List Def) (root : ℕ) → IfErr (formula_of ds root) IsRefusal
+formula_numbered ds root = grind arith
+
+-- the rule of the definitions
+definitions_numbered : (names : List (List ℕ)) (ds : List Def) → IfErr (rule_in names ds) IsRefusal
+definitions_numbered names ds = grind (arith, formula_numbered)
+
+-- the rule of a text
+pub ltl_numbered : (bytes : List ℕ) → IfErr (ltl_of bytes) IsRefusal
+unfolding ltl_of
+ltl_numbered bytes = grind (arith, definitions_numbered)
+
+-- the parts of a formula
+pub normal_numbered : (f : Ltl) → IfErr (normal_of f) IsRefusal
+normal_numbered f = grind arith
+
+-- the nodes from a place on
+nodes_numbered : (ps : List Piece) (n i : ℕ) (sets : List ℕ) (nodes : List Pair) → IfErr (nodes_from ps n i sets nodes) IsRefusal
+unfolding nodes_from
+nodes_numbered ps zero i sets nodes = tt
+nodes_numbered ps (suc n) i sets nodes = grind (arith, nodes_numbered ps n)
+
+-- all the nodes
+all_nodes_numbered : (ps : List Piece) → IfErr (nodes_of ps) IsRefusal
+unfolding nodes_of
+all_nodes_numbered ps = nodes_numbered ps 33 0 (whole ps ∷ []) []
+
+-- the table of the parts
+pub tableau_numbered : (ps : List Piece) → IfErr (tableau_of ps) IsRefusal
+tableau_numbered ps = grind (arith, all_nodes_numbered ps)
+
+-- the specification of a text
+pub compiled_numbered : (kind : SpecKind) (text : List ℕ) → IfErr (compiled_of kind text) IsRefusal
+compiled_numbered kinds.Da text = then_numbered (dot_of text) _ (dot_numbered text) (λ automaton. tt)
+compiled_numbered kinds.Ltl text = then_numbered (ltl_of text) _ (ltl_numbered text) (λ rule. then_numbered (and_then (normal_of rule.formula) tableau_of) _ (then_numbered (normal_of rule.formula) tableau_of (normal_numbered rule.formula) tableau_numbered) (λ table. tt))
+
+-- what came of a file's specification that is refused
+pub spec_comes : (told : Option Files) (before now : ℕ) (kind : SpecKind) (file text : List ℕ) (refusal : Refusal) (fault : BindFault) → IsFaultOf fault file refusal → compiled_of kind text ≡ Err refusal
+    → ((files : Files) → told ≡ Some files → of_name files file accepted ≡ accepted text) → Comes (λ (compiled : Compiled). compiled) told before now (Err fault) (λ files. compiled_in files kind file)
+spec_comes told before now kind file text refusal faults.Memory is refused read = tt
+spec_comes told before now kind file text refusal (faults.Unread named) is refused read = absurd is
+spec_comes told before now kind file text refusal (faults.Refused named given) is refused read = (
+  rw is.1 (subst (λ (r : Result Compiled Refusal). IfErr r IsRefusal) refused (compiled_numbered kind text)),
+  λ files known. rw (is.0, is.1) (of_name-reading files file (λ text. of_file file (compiled_of kind text)) ∙ ap (λ o. reading o (λ text. of_file file (compiled_of kind text))) (read files known) ∙ ap (of_file file) refused),
+)
+
+-- ---- lines
+
+-- what is read, and what is read on from it
+after_numbered : {X Y : Type 0} (read : Result X ℕ) (next : X → Result Y ℕ) → IfErr read IsNumber → ((x : X) → IfErr (next x) IsNumber) → IfErr (after read next) IsNumber
+after_numbered (Ok x) next first second = second x
+after_numbered (Err number) next first second = first
+
+-- one of two readings, by a test
+either_numbered : {X : Type 0} (test : Bool) (x y : Result X ℕ) → IfErr x IsNumber → IfErr y IsNumber → IfErr (if test then x else y) IsNumber
+either_numbered true x y first second = first
+either_numbered false x y first second = second
+
+-- the form of a monitor's line
+monitor_numbered : (words : Words) → IfErr (monitor_form words) IsNumber
+monitor_numbered words = grind arith
+
+-- the field that has the pid
+by_numbered : (words : Words) → IfErr (by_at words) IsNumber
+by_numbered words = grind arith
+
+-- the tests
+tests_numbered : (words : Words) → IfErr (tests_at words) IsNumber
+tests_numbered [] = tt
+tests_numbered (word ∷ []) = grind arith
+tests_numbered (word ∷ test ∷ words) = grind (arith, tests_numbered words)
+
+-- what a hit is
+hit_numbered : (made : Mode → Words → FormValue) (words : Words) → IfErr (hit_form made words) IsNumber
+hit_numbered made words = grind arith
+
+-- what stands behind the event of a rule's line
+behind_numbered : (name called : List ℕ) (words : Words) → IfErr (after (by_at words) (λ by. after (tests_at by.1) (λ tests. hit_form (on name called by.0 tests.0) tests.1))) IsNumber
+behind_numbered name called words = after_numbered (by_at words) _ (by_numbered words) (λ by. after_numbered (tests_at by.1) _ (tests_numbered by.1) (λ tests. hit_numbered (on name called by.0 tests.0) tests.1))
+
+-- the form of a rule's line
+on_numbered : (words : Words) → IfErr (on_form words) IsNumber
+on_numbered [] = grind arith
+on_numbered (name ∷ []) = grind arith
+on_numbered (name ∷ event ∷ words) = after_numbered (when (not (bytes_eq event (codes ":"))) event) _ (grind arith) (λ called. behind_numbered name called words)
+
+-- the forms of the shorter lines
+short_numbered : (words : Words) → IfErr (container_form words) IsNumber × IfErr (react_form words) IsNumber × IfErr (off_form words) IsNumber × IfErr (begin_form words) IsNumber
+short_numbered words = (grind arith, grind arith, grind arith, grind arith)
+
+-- the form of a line
+form_numbered : (words : Words) → IfErr (form_of words) IsNumber
+form_numbered [] = tt
+form_numbered (word ∷ words) = search (arith, either_numbered, short_numbered words, monitor_numbered words, on_numbered words)
+
+-- the form of a line that ends in time
+pub form_in_numbered : (line : LineText) → IfErr (form_in line) IsNumber
+form_in_numbered line = grind (arith, form_numbered)
+
+-- a monitor's place
+pub place_numbered : (bound : BoundValue) (name : List ℕ) (holder : Option (List ℕ)) → IfErr (place_for bound name holder) IsNumber
+place_numbered bound name holder = grind arith
+
+-- a container
+pub container_numbered : (bound : BoundValue) (name : List ℕ) → IfErr (container_bound bound name) IsNumber
+container_numbered bound name = grind arith
+
+-- a rule
+pub rule_numbered : (bound : BoundValue) (place : Option ℕ) (event : List ℕ) (by : Option (List ℕ)) (tests : List Test) (mode : Mode) (words : Words) → IfErr (rule_bound bound place event by tests mode words) IsNumber
+rule_numbered bound place event by tests mode words = grind arith
+
+-- a change of a monitor
+pub change_numbered : (bound : BoundValue) (place : Option ℕ) (change : Monitor → Monitor) → IfErr (change_bound bound place change) IsNumber
+change_numbered bound place change = grind arith
+
+-- an atom that starts true
+pub begin_numbered : (bound : BoundValue) (place : Option ℕ) (atom : List ℕ) → IfErr (begin_bound bound place atom) IsNumber
+begin_numbered bound place atom = grind arith
