@@ -52,9 +52,11 @@ fed-one old new d told counts delivers left =
       told = (
         record {
           earlier = old.seat.part.seen ++ counts.earlier;
+          unseen = counts.earlier;
           since = counts.since;
           later = [];
           list_is = counts.list;
+          least = refl;
           own_are = none-more (known_of old.seat.part) old.seat.part.seen counts.earlier (none_before (known_of old.seat.part) counts.earlier counts.since counts.others);
           others = none_after (known_of old.seat.part) counts.earlier counts.since counts.others;
           first = counts.first;
@@ -70,12 +72,30 @@ fed-one old new d told counts delivers left =
 
 module _ (s : Setup) (known : ℕ → Bool) where
   -- what was told is so in every list that goes on from the list
-  told-longer : (list more own : List Entry) (d : Delivery) (told : Counted) → IsTold s known list own d told → IsTold s known (list ++ more) own d told
-  told-longer list more own d told i = record {
+  told-longer : (seen list more own : List Entry) (d : Delivery) (told : Counted) → IsTold s known seen list own d told → IsTold s known seen (list ++ more) own d told
+  told-longer seen list more own d told i = record {
     earlier = i.earlier;
+    unseen = i.unseen;
     since = i.since;
     later = i.later ++ more;
     list_is = ap (λ z. z ++ more) i.list_is ∙ append_assoc (i.earlier ++ i.since) (told.entry ∷ i.later) more;
+    least = i.least;
+    own_are = i.own_are;
+    others = i.others;
+    first = i.first;
+    count = i.count;
+    ends = i.ends;
+  }
+
+  -- and behind every front of what was seen
+  told-since : (seen more list own : List Entry) (d : Delivery) (told : Counted) → IsTold s known (seen ++ more) list own d told → IsTold s known seen list own d told
+  told-since seen more list own d told i = record {
+    earlier = i.earlier;
+    unseen = more ++ i.unseen;
+    since = i.since;
+    later = i.later;
+    list_is = i.list_is;
+    least = i.least ∙ append_assoc seen more i.unseen;
     own_are = i.own_are;
     others = i.others;
     first = i.first;
@@ -84,19 +104,19 @@ module _ (s : Setup) (known : ℕ → Bool) where
   }
 
   -- of each
-  all-longer : (list more own : List Entry) (ds : List Delivery) (cs : List Counted) → AllToldAfter s known list own ds cs → AllToldAfter s known (list ++ more) own ds cs
-  all-longer list more own [] [] all = tt
-  all-longer list more own [] (c ∷ cs) all = absurd all
-  all-longer list more own (d ∷ ds) [] all = absurd all
-  all-longer list more own (d ∷ ds) (c ∷ cs) all = (told-longer list more own d c all.0, all-longer list more (own ++ c.entry ∷ []) ds cs all.1)
+  all-longer : (seen list more own : List Entry) (ds : List Delivery) (cs : List Counted) → AllToldAfter s known seen list own ds cs → AllToldAfter s known seen (list ++ more) own ds cs
+  all-longer seen list more own [] [] all = tt
+  all-longer seen list more own [] (c ∷ cs) all = absurd all
+  all-longer seen list more own (d ∷ ds) [] all = absurd all
+  all-longer seen list more own (d ∷ ds) (c ∷ cs) all = (told-longer seen list more own d c all.0, all-longer seen list more (own ++ c.entry ∷ []) ds cs all.1)
 
   -- one more, behind the entries of all before it
-  told-push : (list own : List Entry) (ds : List Delivery) (cs : List Counted) (d : Delivery) (c : Counted) → AllToldAfter s known list own ds cs → IsTold s known list (own ++ entries_told cs) d c → AllToldAfter s known list own (ds ++ d ∷ []) (cs ++ c ∷ [])
-  told-push list own [] [] d c all one = (subst (λ (z : List Entry). IsTold s known list z d c) (append-nil own) one, tt)
-  told-push list own [] (y ∷ cs) d c all one = absurd all
-  told-push list own (x ∷ ds) [] d c all one = absurd all
-  told-push list own (x ∷ ds) (y ∷ cs) d c all one =
-      (all.0, told-push list (own ++ y.entry ∷ []) ds cs d c all.1 (subst (λ (z : List Entry). IsTold s known list z d c) (sym (append_assoc own (y.entry ∷ []) (entries_told cs))) one))
+  told-push : (seen list own : List Entry) (ds : List Delivery) (cs : List Counted) (d : Delivery) (c : Counted) → AllToldAfter s known seen list own ds cs → IsTold s known seen list (own ++ entries_told cs) d c → AllToldAfter s known seen list own (ds ++ d ∷ []) (cs ++ c ∷ [])
+  told-push seen list own [] [] d c all one = (subst (λ (z : List Entry). IsTold s known seen list z d c) (append-nil own) one, tt)
+  told-push seen list own [] (y ∷ cs) d c all one = absurd all
+  told-push seen list own (x ∷ ds) [] d c all one = absurd all
+  told-push seen list own (x ∷ ds) (y ∷ cs) d c all one =
+      (all.0, told-push seen list (own ++ y.entry ∷ []) ds cs d c all.1 (subst (λ (z : List Entry). IsTold s known seen list z d c) (sym (append_assoc own (y.entry ∷ []) (entries_told cs))) one))
 
 -- no delivery adds nothing
 pub fed-none : (old : CountedValue) → IsSound old.seat.board.setup (judges_of old.seat.board.setup) old.seat.part.seen → FeedsCounted old old [] []
@@ -113,15 +133,16 @@ fed-more a b c ds cs d told one two =
     let before : List Entry = entries_of knows a.seat.part.seen in
     let so_far : entries_of (known_of b.seat.part) b.seat.part.seen ≡ before ++ entries_told cs =
     (λ i. entries_of (known i) (one.grows.grows.list i)) ∙ (filter-append (λ (e : Entry). knows e.seat) a.seat.part.seen one.grows.grows.rest ∙ ap (λ (z : List Entry). before ++ z) one.grows.grows.known) in
-    let last : IsTold s knows c.seat.part.seen (before ++ entries_told cs) d told =
-    subst (λ (z : Setup × ((ℕ → Bool) × List Entry)). IsTold z.0 z.1.0 c.seat.part.seen z.1.1 d told) (λ i. (setup i, (known i, so_far i))) two.told.0 in
-    let first_ones : AllToldAfter s knows c.seat.part.seen before ds cs =
-    subst (λ (l : List Entry). AllToldAfter s knows l before ds cs) (sym two.grows.grows.list) (all-longer s knows b.seat.part.seen two.grows.grows.rest before ds cs one.told) in
+    let own_then : IsTold s knows (a.seat.part.seen ++ one.grows.grows.rest) c.seat.part.seen (before ++ entries_told cs) d told =
+    subst (λ (z : (Setup × (ℕ → Bool)) × (List Entry × List Entry)). IsTold z.0.0 z.0.1 z.1.0 c.seat.part.seen z.1.1 d told) (λ i. ((setup i, known i), (one.grows.grows.list i, so_far i))) two.told.0 in
+    let last : IsTold s knows a.seat.part.seen c.seat.part.seen (before ++ entries_told cs) d told = told-since s knows a.seat.part.seen one.grows.grows.rest c.seat.part.seen (before ++ entries_told cs) d told own_then in
+    let first_ones : AllToldAfter s knows a.seat.part.seen c.seat.part.seen before ds cs =
+    subst (λ (l : List Entry). AllToldAfter s knows a.seat.part.seen l before ds cs) (sym two.grows.grows.list) (all-longer s knows a.seat.part.seen b.seat.part.seen two.grows.grows.rest before ds cs one.told) in
     let count = length-append ds (d ∷ []) in
     let first = one.left in
     let second = two.left in record {
       grows = subst (SeatGrows a.seat c.seat) (sym own) (grows_then a.seat b.seat c.seat (entries_told cs) [] told.entry one.grows two.grows);
-      told = told-push s knows c.seat.part.seen before ds cs d told first_ones last;
+      told = told-push s knows a.seat.part.seen c.seat.part.seen before ds cs d told first_ones last;
       left = omega arith;
     }
 

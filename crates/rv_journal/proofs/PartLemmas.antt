@@ -44,28 +44,28 @@ serves-told s d before since entry Racing ends = inr ends.0
 
 -- ---- all deliveries
 
-module _ (s : Setup) (known : ℕ → Bool) (list : List Entry) where
+module _ (s : Setup) (known : ℕ → Bool) (seen list : List Entry) where
   -- each of them is served
-  pub all-served : (own : List Entry) (ds : List Delivery) (cs : List Counted) → AllToldAfter s known list own ds cs → AllServed s ds cs
+  pub all-served : (own : List Entry) (ds : List Delivery) (cs : List Counted) → AllToldAfter s known seen list own ds cs → AllServed s ds cs
   all-served own [] [] all = tt
   all-served own [] (c ∷ cs) all = absurd all
   all-served own (d ∷ ds) [] all = absurd all
   all-served own (d ∷ ds) (c ∷ cs) all = (serves-told s d (all.0.earlier ++ all.0.since) all.0.since c.entry c.outcome all.0.ends, all-served (own ++ c.entry ∷ []) ds cs all.1)
 
   -- what one of them told is so in the list, behind the entries of those before it
-  pub told-at : (own : List Entry) (ds : List Delivery) (cs : List Counted) → AllToldAfter s known list own ds cs → (front : List Counted) (c : Counted) (back : List Counted) → cs ≡ front ++ c ∷ back → (d : Delivery) × IsTold s known list (own ++ entries_told front) d c
+  pub told-at : (own : List Entry) (ds : List Delivery) (cs : List Counted) → AllToldAfter s known seen list own ds cs → (front : List Counted) (c : Counted) (back : List Counted) → cs ≡ front ++ c ∷ back → (d : Delivery) × IsTold s known seen list (own ++ entries_told front) d c
   told-at own [] [] all [] c back eq = absurd (cc (eq))
   told-at own [] [] all (x ∷ front) c back eq = absurd (cc (eq))
   told-at own [] (y ∷ cs) all front c back eq = absurd all
   told-at own (d ∷ ds) [] all front c back eq = absurd all
   told-at own (d ∷ ds) (y ∷ cs) all [] c back eq =
       let same : y ≡ c = cc (eq) in
-      (d, subst (λ (z : List Entry × Counted). IsTold s known list z.0 d z.1) (λ i. (sym (append-nil own) i, same i)) all.0)
+      (d, subst (λ (z : List Entry × Counted). IsTold s known seen list z.0 d z.1) (λ i. (sym (append-nil own) i, same i)) all.0)
   told-at own (d ∷ ds) (y ∷ cs) all (x ∷ front) c back eq =
       let same : y ≡ x = cc (eq) in
       let rest : cs ≡ front ++ c ∷ back = cc (eq) in
       let more = told-at (own ++ y.entry ∷ []) ds cs all.1 front c back rest in
-      (more.0, subst (λ (z : List Entry). IsTold s known list z more.0 c) (append_assoc own (y.entry ∷ []) (entries_told front) ∙ (λ i. own ++ (same i).entry ∷ entries_told front)) more.1)
+      (more.0, subst (λ (z : List Entry). IsTold s known seen list z more.0 c) (append_assoc own (y.entry ∷ []) (entries_told front) ∙ (λ i. own ++ (same i).entry ∷ entries_told front)) more.1)
 
 -- ---- the part of a history
 
@@ -116,7 +116,7 @@ module _ (old new : CountedValue) (h : List Entry) (fresh : old.seat.part.seen �
   unfolding seat knows
   counted-in front c back eq =
       let s = old.seat.board.setup in
-      let at = told-at s (known_of old.seat.part) new.seat.part.seen (entries_of (known_of old.seat.part) old.seat.part.seen) ds counted feeds.told front c back eq in
+      let at = told-at s (known_of old.seat.part) old.seat.part.seen new.seat.part.seen (entries_of (known_of old.seat.part) old.seat.part.seen) ds counted feeds.told front c back eq in
       let d = at.0 in
       let t = at.1 in
       let own_is : entries_of (known_of old.seat.part) (t.earlier ++ t.since) ≡ entries_told front =

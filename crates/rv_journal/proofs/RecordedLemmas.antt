@@ -46,8 +46,8 @@ module _ {G : Type 0} (board : BoardId) (h : List Entry) where
           cpu = fit.cpu;
           fit = All-weaker (FitsCounted board.setup) (FitsSetup board.setup) (λ d f. record { monitor = f.monitor; instance_fits = f.instance_fits; hit = f.hit }) new.lane.work.deliveries fit.fit;
           shown = fit.shown;
-          served = all-served board.setup (known_of old.seat.seat.part) new.seat.seat.part.seen (entries_of (known_of old.seat.seat.part) old.seat.seat.part.seen) new.lane.work.deliveries new.lane.counted
-              (subst (λ (s : Setup). AllToldAfter s (known_of old.seat.seat.part) new.seat.seat.part.seen (entries_of (known_of old.seat.seat.part) old.seat.seat.part.seen) new.lane.work.deliveries new.lane.counted) on feeds.told);
+          served = all-served board.setup (known_of old.seat.seat.part) old.seat.seat.part.seen new.seat.seat.part.seen (entries_of (known_of old.seat.seat.part) old.seat.seat.part.seen) new.lane.work.deliveries new.lane.counted
+              (subst (λ (s : Setup). AllToldAfter s (known_of old.seat.seat.part) old.seat.seat.part.seen new.seat.seat.part.seen (entries_of (known_of old.seat.seat.part) old.seat.seat.part.seen) new.lane.work.deliveries new.lane.counted) on feeds.told);
           part = subst (λ (n : ℕ). IsPartOf h n new.lane.counted) number (is-part old.seat new.seat h fresh.seen fresh.has later new.lane.work.deliveries new.lane.counted feeds);
         };
         own = λ before e after cut knows. later-own old.seat.seat new.seat.seat h fresh.seen fresh.has later (entries_told new.lane.counted) runs.feeds.grows before e after cut knows ∙ number;

@@ -45,12 +45,14 @@ abbrev pub EndsAs : Setup → ℕ → Delivery → List Entry → List Entry →
 EndsAs s slot d before since entry (Done answer) = (entry.act ≡ Deliver slot d.hit) × (answer ≡ answer_at s (judges_of s) (reverse before) entry entry.act)
 EndsAs s slot d before since entry Racing = (entry.act ≡ Stop slot) × (3 ≤ length (filter (changed slot) since))
 
--- what the delivery told is so in the list: these entries of known numbers come before its own, all of them before the first load
-pub record IsTold (s : Setup) (known : ℕ → Bool) (list own : List Entry) (d : Delivery) (told : Counted) : Type 0 where
+-- what the delivery told is so in the list: its first load comes no earlier than the end of what was seen, and behind all of these entries, which are those of known numbers before its own
+pub record IsTold (s : Setup) (known : ℕ → Bool) (seen list own : List Entry) (d : Delivery) (told : Counted) : Type 0 where
   pub earlier : List Entry
+  pub unseen : List Entry
   pub since : List Entry
   pub later : List Entry
   pub list_is : list ≡ (earlier ++ since) ++ told.entry ∷ later
+  pub least : earlier ≡ seen ++ unseen
   pub own_are : entries_of known earlier ≡ own
   pub others : entries_of known since ≡ []
   pub first : told.first ≡ count_on (slot_at s d) earlier
@@ -61,17 +63,17 @@ pub record IsTold (s : Setup) (known : ℕ → Bool) (list own : List Entry) (d 
 abbrev pub entries_told : List Counted → List Entry
 entries_told counted = map (λ told. told.entry) counted
 
--- so is what each of these deliveries told, behind these entries of known numbers and those of the deliveries before it
-abbrev pub AllToldAfter : Setup → (ℕ → Bool) → List Entry → List Entry → List Delivery → List Counted → Type 0
-AllToldAfter s known list own [] [] = Unit {0}
-AllToldAfter s known list own [] (told ∷ counted) = ⊥
-AllToldAfter s known list own (d ∷ deliveries) [] = ⊥
-AllToldAfter s known list own (d ∷ deliveries) (told ∷ counted) = IsTold s known list own d told × AllToldAfter s known list (own ++ told.entry ∷ []) deliveries counted
+-- so is what each of these deliveries told, behind what was seen, these entries of known numbers and those of the deliveries before it
+abbrev pub AllToldAfter : Setup → (ℕ → Bool) → List Entry → List Entry → List Entry → List Delivery → List Counted → Type 0
+AllToldAfter s known seen list own [] [] = Unit {0}
+AllToldAfter s known seen list own [] (told ∷ counted) = ⊥
+AllToldAfter s known seen list own (d ∷ deliveries) [] = ⊥
+AllToldAfter s known seen list own (d ∷ deliveries) (told ∷ counted) = IsTold s known seen list own d told × AllToldAfter s known seen list (own ++ told.entry ∷ []) deliveries counted
 
 -- the seat's list grows by one entry for each of these deliveries, in order, and the lane has what each of them told
 pub record FeedsCounted (old new : CountedValue) (deliveries : List Delivery) (counted : List Counted) : Type 0 where
   pub grows : SeatGrows old.seat new.seat (entries_told counted)
-  pub told : AllToldAfter old.seat.board.setup (known_of old.seat.part) new.seat.part.seen (entries_of (known_of old.seat.part) old.seat.part.seen) deliveries counted
+  pub told : AllToldAfter old.seat.board.setup (known_of old.seat.part) old.seat.part.seen new.seat.part.seen (entries_of (known_of old.seat.part) old.seat.part.seen) deliveries counted
   pub left : new.left + length deliveries ≡ old.left
 
 -- what the lane keeps of one delivery more
