@@ -9,8 +9,8 @@ use Rattle.rv_model.specs.Setups.{Setup}
 use Rattle.rv_journal.specs.declared.counted.Counted.{Counted}
 use Rattle.rv_journal.specs.declared.steps.Step.{Step}
 use Rattle.rv_journal.specs.declared.steps.Step.TheVariants.{Opens, Item}
-use Rattle.rv_journal.specs.MergeSteps.{items_of, behind, slot_in, rank, leaves, changes_on, leaves_in, lost_in, leaving, losing}
-use Rattle.rv_journal.specs.MergeStates.{Mark, mark, items_in, entries_in, IsTold, AllTold, Lanes, IsUnderWay, CannotGo}
+use Rattle.rv_journal.specs.MergeSteps.{items_of, behind, slot_in, rank, leaves, changes_on, leaves_in, lost_in, leaving, losing, CannotGo}
+use Rattle.rv_journal.specs.MergeStates.{Mark, mark, items_in, entries_in, IsTold, AllTold, Lanes, IsUnderWay}
 use Rattle.rv_journal.proofs.MarkLemmas.{same, earlier, later, compare, first-left, FirstOpen}
 use Rattle.rv_journal.proofs.LeftLemmas.{one_if, none-left, no-open, in-front, more-changes}
 use Rattle.rv_journal.proofs.FirstOpenLemmas.{told-at, told_is, entries-cut, changes}

@@ -27,29 +27,11 @@ use Rattle.rv_journal.proofs.MarkLemmas.{filter_yes, filter_no, AllPlaced, place
 use Rattle.rv_journal.proofs.PlaceLemmas.{entries-filter, marked-items}
 use Rattle.rv_journal.proofs.PlaysLemmas.{played-is, looks-tell, plays-steps}
 use Rattle.rv_journal.proofs.StartLemmas.{names-at, script-items, served-length}
-use Rattle.rv_journal.proofs.UnderWayLemmas.{item-cut}
+use Rattle.rv_journal.proofs.UnderWayLemmas.{item-cut, mark-cut}
 use Rattle.rv_journal.proofs.ServedLemmas.{all-served}
 use Rattle.rv_journal.proofs.WholeLemmas.{fits-at}
 
 -- ---- lists
-
--- a cut of the items is one of the marks
-record MarkCut (marks : List Mark) (front : List Counted) (c : Counted) : Type 0 where
-  before : List Mark
-  placed : Bool
-  after : List Mark
-  is : marks ≡ before ++ mark placed c ∷ after
-  front_is : items_in before ≡ front
-
-mark-cut : (marks : List Mark) (front : List Counted) (c : Counted) (back : List Counted) → items_in marks ≡ front ++ c ∷ back → MarkCut marks front c
-mark-cut [] [] c back eq = absurd (cc)
-mark-cut [] (x ∷ front) c back eq = absurd (cc)
-mark-cut (m ∷ marks) [] c back eq = let it : m.item ≡ c = cc in record { before = []; placed = m.placed; after = marks; is = ap (λ (z : Counted). mark m.placed z ∷ marks) it; front_is = refl }
-mark-cut (m ∷ marks) (x ∷ front) c back eq =
-    let tail : items_in marks ≡ front ++ c ∷ back = cc in
-    let head : m.item ≡ x = cc in
-    let r = mark-cut marks front c back tail in
-    record { before = m ∷ r.before; placed = r.placed; after = r.after; is = ap (λ (z : List Mark). m ∷ z) r.is; front_is = (let f : items_in r.before ≡ front = r.front_is in cc) }
 
 -- what is placed is placed at each cut
 placed-at : (marks before : List Mark) (placed : Bool) (c : Counted) (after : List Mark) → AllPlaced marks → marks ≡ before ++ mark placed c ∷ after → placed ≡ true

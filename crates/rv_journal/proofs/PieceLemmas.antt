@@ -3,7 +3,7 @@ use Rattle.std.proofs.Common.{◌≡◌, ◌≢◌, ℕ, zero, suc, ◌+◌, ◌
 use Rattle.std.proofs.lemmas.Bool.{ne_eqb, eq-eqb, eqb-true, and_parts, and_from}
 use Rattle.std.proofs.lemmas.List.{take_rest, append-nil}
 use Rattle.rv_journal.specs.EntryTexts.{behind_blanks, one_apart}
-use Rattle.rv_journal.specs.EntryReadings.{begin_with, pieces_of}
+use Rattle.rv_journal.specs.PieceReadings.{begin_with, pieces_of}
 
 -- a first byte that is no blank begins the first piece
 byte-begins : (byte : ℕ) (bytes : List ℕ) → byte ≢ 32 → pieces_of (byte ∷ bytes) ≡ begin_with byte (pieces_of bytes)

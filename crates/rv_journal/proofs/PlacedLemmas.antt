@@ -14,8 +14,8 @@ use Rattle.rv_board.proofs.SoundLemmas.{sound-snoc}
 use Rattle.rv_journal.specs.declared.counted.Counted.{Counted}
 use Rattle.rv_journal.specs.declared.steps.Step.{Step}
 use Rattle.rv_journal.specs.declared.steps.Step.TheVariants.{Opens, Item}
-use Rattle.rv_journal.specs.MergeSteps.{items_of, slot_in, rank, leaves, changes_on, held_by}
-use Rattle.rv_journal.specs.MergeStates.{Mark, mark, items_in, entries_in, is_left, IsMergedAct, IsTold, AllTold, Divides, StandsAs, LastBy, NextIsEarned, Lanes, IsUnderWay, MayPlace}
+use Rattle.rv_journal.specs.MergeSteps.{items_of, slot_in, rank, leaves, changes_on, held_by, MayPlace}
+use Rattle.rv_journal.specs.MergeStates.{Mark, mark, items_in, entries_in, is_left, IsMergedAct, IsTold, AllTold, Divides, StandsAs, LastBy, NextIsEarned, Lanes, IsUnderWay}
 use Rattle.rv_journal.proofs.MarkLemmas.{same, earlier, later, compare, first-left, FirstLeft}
 use Rattle.rv_journal.proofs.SlotActLemmas.{slot_in-is, machine-snoc}
 use Rattle.rv_journal.proofs.PlaceLemmas.{same-entries, fits-there, look_entry, look-fits, earned-there, held-item, merged-item}

@@ -9,8 +9,8 @@ use Rattle.rv_model.specs.Setups.{Setup}
 use Rattle.rv_journal.specs.declared.counted.Counted.{Counted}
 use Rattle.rv_journal.specs.declared.steps.Step.{Step}
 use Rattle.rv_journal.specs.declared.steps.Step.TheVariants.{Opens, Item}
-use Rattle.rv_journal.specs.MergeSteps.{items_of}
-use Rattle.rv_journal.specs.MergeStates.{Mark, mark, items_in, is_left, AllTold, Lanes, IsUnderWay, MayPlace, CannotGo}
+use Rattle.rv_journal.specs.MergeSteps.{items_of, MayPlace, CannotGo}
+use Rattle.rv_journal.specs.MergeStates.{Mark, mark, items_in, is_left, AllTold, Lanes, IsUnderWay}
 use Rattle.rv_journal.proofs.MarkLemmas.{filter_yes, AllPlaced, FirstOpen, all-or_first, placed-none}
 use Rattle.rv_journal.proofs.FirstOpenLemmas.{rank-le, rank-ge}
 use Rattle.rv_journal.proofs.GapLemmas.{leaving-none, losing-none}

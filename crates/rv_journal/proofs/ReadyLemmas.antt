@@ -1,5 +1,5 @@
 -- Which step is ready, and what is read at a lane's place.
-use Rattle.std.proofs.Common.{◌≡◌, ℕ, ◌<◌, ◌≤◌, ◌==◌, Bool, true, false, not, ◌||◌, List, [], ◌∷◌, ◌⊎◌, inl, inr, length, get_or, refl, sym, ap, ◌∙◌, subst, arith, sum}
+use Rattle.std.proofs.Common.{◌≡◌, ℕ, ◌<◌, ◌≤◌, ◌==◌, Bool, true, false, not, ◌||◌, List, ◌∷◌, ◌⊎◌, inl, inr, length, get_or, refl, sym, ◌∙◌, subst, arith, sum}
 use Rattle.std.proofs.lemmas.Bool.{and_parts}
 use Rattle.std.proofs.lemmas.Bool.Decides.{nat_tests}
 use Rattle.std.proofs.lemmas.List.{get_or_default, get_or_past}
@@ -10,8 +10,7 @@ use Rattle.rv_journal.specs.declared.steps.Cursor.{Cursor}
 use Rattle.rv_journal.specs.declared.steps.Step.{Step}
 use Rattle.rv_journal.specs.declared.steps.Step.TheVariants.{Opens, Item}
 use Rattle.rv_journal.specs.CountedLanes.{CountedLaneValue}
-use Rattle.rv_journal.specs.MergeSteps.{rest_of, IsCursor, GoesTo, slot_in, rank, leaves, held_by}
-use Rattle.rv_journal.specs.MergeStates.{MayPlace, CannotGo}
+use Rattle.rv_journal.specs.MergeSteps.{rest_of, IsCursor, GoesTo, slot_in, rank, leaves, held_by, MayPlace, CannotGo}
 use Rattle.rv_journal.specs.MergeWaits.{Waits, waits_at, gap_in, is_ready}
 use Rattle.rv_journal.specs.Merging.{lanes_of, no_lane}
 use Rattle.rv_journal.specs.MergeRuns.{Run, lane_at, cursor_at, first_cursor, rests, IsMerging, InSlots, IsReadyAt}
@@ -80,10 +79,6 @@ module _ (run : Run) (lanes : List CountedLaneValue) (placed : List Entry) (curs
   -- it is the lane's
   pub cursor-is : IsCursor (lane_at lanes place) x
   cursor-is = subst (IsCursor (lane_at lanes place)) (sym cursor-read) (m.cursors_are place low)
-
-  -- a lane at its end cannot go on
-  pub end-cannot : rest_of (lane_at lanes place) x ≡ [] → CannotGo (length lanes) placed (rests lanes cursors) (rests lanes cursors place)
-  end-cannot none = subst (CannotGo (length lanes) placed (rests lanes cursors)) (sym (ap (rest_of (lane_at lanes place)) (sym cursor-read) ∙ none)) tt
 
   module _ (step : Step) (cursor : Cursor) (goes : GoesTo (lane_at lanes place) x step cursor) where
     -- its next step

@@ -10,8 +10,8 @@ use Rattle.rv_journal.specs.declared.steps.Next.{Next}
 use Rattle.rv_journal.specs.declared.steps.Step.{Step}
 use Rattle.rv_journal.specs.declared.steps.Step.TheVariants.{Opens, Item}
 use Rattle.rv_journal.specs.CountedLanes.{CountedLaneValue}
-use Rattle.rv_journal.specs.MergeSteps.{rest_of, IsCursor, GoesTo, step_entry, slot_in, held_by, total}
-use Rattle.rv_journal.specs.MergeStates.{IsUnderWay, MayPlace}
+use Rattle.rv_journal.specs.MergeSteps.{rest_of, IsCursor, GoesTo, step_entry, slot_in, held_by, total, MayPlace}
+use Rattle.rv_journal.specs.MergeStates.{IsUnderWay}
 use Rattle.rv_journal.specs.MergeWaits.{Waits, waits_at, Fallen, step_waits, next_waits, changes_after}
 use Rattle.rv_journal.specs.Merging.{lanes_of, seat_of}
 use Rattle.rv_journal.specs.MergeRuns.{Run, lane_at, cursor_at, first_cursor, rests, steps_left, IsMerging}

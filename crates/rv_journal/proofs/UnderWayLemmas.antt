@@ -16,7 +16,7 @@ use Rattle.rv_journal.specs.declared.counted.Counted.{Counted}
 use Rattle.rv_journal.specs.declared.steps.Step.{Step}
 use Rattle.rv_journal.specs.declared.steps.Step.TheVariants.{Opens, Item}
 use Rattle.rv_journal.specs.MergeSteps.{items_of, step_entry, behind, changes_on, leaves_in, lost_in, leaving, losing, held_by}
-use Rattle.rv_journal.specs.MergeStates.{entries_in, AllTold, NextIsEarned, Lanes, step_entries}
+use Rattle.rv_journal.specs.MergeStates.{entries_in, AllTold, Mark, mark, items_in, NextIsEarned, Lanes, step_entries}
 use Rattle.rv_journal.proofs.MarkLemmas.{filter_yes, filter_no}
 use Rattle.rv_journal.proofs.PlaceLemmas.{last-longer}
 
@@ -41,6 +41,25 @@ item-cut (c ∷ items) (x ∷ before) e after eq =
     let head : c.entry ≡ x = cc in
     let r = item-cut items before e after tail in
     record { front = c ∷ r.front; item = r.item; back = r.back; is = ap (λ (z : List Counted). c ∷ z) r.is; front_is = (let f : entries_in r.front ≡ before = r.front_is in cc); entry_is = r.entry_is }
+
+-- a cut of the items is one of the marks
+pub record MarkCut (marks : List Mark) (front : List Counted) (c : Counted) : Type 0 where
+  pub before : List Mark
+  pub placed : Bool
+  pub after : List Mark
+  pub is : marks ≡ before ++ mark placed c ∷ after
+  pub front_is : items_in before ≡ front
+
+-- so is each
+pub mark-cut : (marks : List Mark) (front : List Counted) (c : Counted) (back : List Counted) → items_in marks ≡ front ++ c ∷ back → MarkCut marks front c
+mark-cut [] [] c back eq = absurd (cc)
+mark-cut [] (x ∷ front) c back eq = absurd (cc)
+mark-cut (m ∷ marks) [] c back eq = let it : m.item ≡ c = cc in record { before = []; placed = m.placed; after = marks; is = ap (λ (z : Counted). mark m.placed z ∷ marks) it; front_is = refl }
+mark-cut (m ∷ marks) (x ∷ front) c back eq =
+    let tail : items_in marks ≡ front ++ c ∷ back = cc in
+    let head : m.item ≡ x = cc in
+    let r = mark-cut marks front c back tail in
+    record { before = m ∷ r.before; placed = r.placed; after = r.after; is = ap (λ (z : List Mark). m ∷ z) r.is; front_is = (let f : items_in r.before ≡ front = r.front_is in cc) }
 
 -- the whole list replays
 pub told-replays : (s : Setup) (items : List Counted) → AllTold s items → Replays s (judges_of s) (entries_in items)

@@ -45,7 +45,7 @@ abbrev pub EndsAs : Setup → ℕ → Delivery → List Entry → List Entry →
 EndsAs s slot d before since entry (Done answer) = (entry.act ≡ Deliver slot d.hit) × (answer ≡ answer_at s (judges_of s) (reverse before) entry entry.act)
 EndsAs s slot d before since entry Racing = (entry.act ≡ Stop slot) × (3 ≤ length (filter (changed slot) since))
 
--- what the delivery told is so in the list: its first load comes no earlier than the end of what was seen, and behind all of these entries, which are those of known numbers before its own
+-- what the delivery told is so in the list: its first load comes behind all that was seen, and behind these entries, which are all of known numbers before its own
 pub record IsTold (s : Setup) (known : ℕ → Bool) (seen list own : List Entry) (d : Delivery) (told : Counted) : Type 0 where
   pub earlier : List Entry
   pub unseen : List Entry

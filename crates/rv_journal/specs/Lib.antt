@@ -12,3 +12,4 @@ pub mod MergeWaits
 pub mod Merging
 pub mod Openings
 pub mod Running
+pub mod PieceReadings

@@ -10,8 +10,8 @@ use Rattle.rv_journal.specs.declared.steps.Gap.{Gap}
 use Rattle.rv_journal.specs.declared.steps.Step.{Step}
 use Rattle.rv_journal.specs.declared.steps.Step.TheVariants.{Opens, Item}
 use Rattle.rv_journal.specs.CountedLanes.{CountedLaneValue}
-use Rattle.rv_journal.specs.MergeSteps.{rest_of, IsCursor, slot_in, changes_on, held_by, total}
-use Rattle.rv_journal.specs.MergeStates.{entries_in, AllTold, IsUnderWay, MayPlace, CannotGo}
+use Rattle.rv_journal.specs.MergeSteps.{rest_of, IsCursor, slot_in, changes_on, held_by, total, MayPlace, CannotGo}
+use Rattle.rv_journal.specs.MergeStates.{entries_in, AllTold, IsUnderWay}
 use Rattle.rv_journal.specs.MergeWaits.{Waits, waits_at, lane_waits}
 use Rattle.rv_journal.specs.Merging.{CanMerge, NumbersFit, no_lane, lanes_of, seat_of}
 
@@ -78,9 +78,18 @@ pub record IsReadyAt (lanes : List CountedLaneValue) (placed : List Entry) (curs
   pub at : rests lanes cursors place ≡ step ∷ steps
   pub may : MayPlace (length lanes) placed (rests lanes cursors) step
 
+-- it may not, or there is none
+abbrev pub CannotGoAt : List CountedLaneValue → List Entry → List Cursor → ℕ → Type 0
+CannotGoAt lanes placed cursors place = CannotGo (length lanes) placed (rests lanes cursors) (rests lanes cursors place)
+
 -- no lane's next step may be placed
 abbrev pub NoneReady : List CountedLaneValue → List Entry → List Cursor → Type 0
-NoneReady lanes placed cursors = (l : ℕ) → l < length lanes → CannotGo (length lanes) placed (rests lanes cursors) (rests lanes cursors l)
+NoneReady lanes placed cursors = (l : ℕ) → l < length lanes → CannotGoAt lanes placed cursors l
+
+-- the next step of the lane at this place may be placed, and that of no lane with a lower CPU
+pub record IsLowestReady (lanes : List CountedLaneValue) (placed : List Entry) (cursors : List Cursor) (place : ℕ) : Type 0 where
+  pub ready : IsReadyAt lanes placed cursors place
+  pub lowest : (l : ℕ) → l < length lanes → (lane_at lanes l).work.cpu < (lane_at lanes place).work.cpu → CannotGoAt lanes placed cursors l
 
 -- the first lanes stand before their first steps, and all that they hold is held
 pub record NewLanes (lanes : List CountedLaneValue) (count : ℕ) (cursors : List Cursor) (waits : Waits) : Type 0 where

@@ -12,7 +12,7 @@ use Rattle.rv_board.specs.Rule.{IsMachine}
 use Rattle.rv_journal.specs.declared.counted.Counted.{Counted}
 use Rattle.rv_journal.specs.declared.steps.Step.{Step}
 use Rattle.rv_journal.specs.declared.steps.Step.TheVariants.{Opens, Item}
-use Rattle.rv_journal.specs.MergeSteps.{items_of, step_entry, slot_in, rank, leaves, changes_on, held_by}
+use Rattle.rv_journal.specs.MergeSteps.{items_of, step_entry, slot_in, rank, changes_on, held_by}
 
 -- ---- the whole list
 
@@ -136,17 +136,3 @@ pub record IsUnderWay (s : Setup) (whole : List Counted) (lanes : Lanes) (histor
   pub fits : AtEach (λ before e. FitsAct s e.act) history
   pub others : AtEach (λ before e. (l : ℕ) × (l < lanes.many) × (e.seat ≡ lanes.seat l)) history
   pub lists : (l : ℕ) → l < lanes.many → entries_of (λ n. n == lanes.seat l) history ++ step_entries (lanes.seat l) s.switches (rest l) ≡ step_entries (lanes.seat l) s.switches (lanes.script l)
-
--- ---- what may be placed
-
--- a look may; an item where as many changes are placed as come before it, and, where it is one more change, no lane holds the gap
-abbrev pub MayPlace : ℕ → List Entry → (ℕ → List Step) → Step → Type 0
-MayPlace many history rest Opens = Unit {0}
-MayPlace many history rest (Item c) =
-    (rank c ≡ changes_on (slot_in c.entry.act) history)
-    × (leaves c.entry ≡ false → (l : ℕ) → l < many → held_by (slot_in c.entry.act) (rank c) (rest l) ≡ 0)
-
--- the first of the steps may not be placed
-abbrev pub CannotGo : ℕ → List Entry → (ℕ → List Step) → List Step → Type 0
-CannotGo many history rest [] = Unit {0}
-CannotGo many history rest (step ∷ steps) = MayPlace many history rest step → ⊥

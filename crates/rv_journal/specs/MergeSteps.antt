@@ -1,5 +1,5 @@
 -- What the lanes put into a merged history, one step after another, and what has to wait for what.
-use Rattle.std.specs.Prelude.{◌≡◌, ℕ, zero, suc, ◌+◌, ◌≤◌, Bool, ◌&&◌, ◌==◌, List, [], ◌∷◌, ◌++◌, map, filter, length, drop, slice_range, if◌then◌else◌}
+use Rattle.std.specs.Prelude.{◌≡◌, ℕ, zero, suc, ◌+◌, ◌<◌, ◌≤◌, Bool, false, ◌&&◌, ◌==◌, List, [], ◌∷◌, ◌++◌, map, filter, length, drop, slice_range, if◌then◌else◌}
 use Rattle.rv_model.specs.declared.entry.Act.{Act}
 use Rattle.rv_model.specs.declared.entry.Act.TheVariants.{Deliver, Stop, Look, Clear, End}
 use Rattle.rv_model.specs.declared.entry.Entry.{Entry}
@@ -106,3 +106,17 @@ held_by slot r steps = leaving slot r (items_of steps) + losing slot r (items_of
 abbrev pub total : (ℕ → ℕ) → ℕ → ℕ
 total f zero = 0
 total f (suc n) = total f n + f n
+
+-- ---- what may be placed
+
+-- a look may; an item where as many changes are placed as come before it, and, where it is one more change, no lane holds the gap
+abbrev pub MayPlace : ℕ → List Entry → (ℕ → List Step) → Step → Type 0
+MayPlace many history rest Opens = Unit {0}
+MayPlace many history rest (Item c) =
+    (rank c ≡ changes_on (slot_in c.entry.act) history)
+    × (leaves c.entry ≡ false → (l : ℕ) → l < many → held_by (slot_in c.entry.act) (rank c) (rest l) ≡ 0)
+
+-- the first of the steps may not be placed
+abbrev pub CannotGo : ℕ → List Entry → (ℕ → List Step) → List Step → Type 0
+CannotGo many history rest [] = Unit {0}
+CannotGo many history rest (step ∷ steps) = MayPlace many history rest step → ⊥

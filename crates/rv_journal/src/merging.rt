@@ -1,15 +1,15 @@
 //! One legal history out of the lists of all CPUs: entries are placed one at a time, always of the lowest CPU whose next
 //! entry is ready. A look is ready. Any other entry is where its slot has the word and the count that it found, and,
 //! where it changes the word, nothing else has to be placed while that word stands.
-ghost use Rattle.std.specs.Prelude.{◌≡◌, ◌+◌, ◌<◌, ◌^◌, ℕ, List, [], length, sum, All, IfOk, OnOk, MatchOption, slice_index};
+ghost use Rattle.std.specs.Prelude.{◌≡◌, ◌+◌, ◌<◌, ◌^◌, ◌↔◌, ⊤, ℕ, true, false, List, [], length, sum, All, IfOk, OnOk, MatchOption, slice_index};
 ghost use Rattle.rv_model.specs.declared.entry.Entry.{Entry};
 ghost use Rattle.rv_model.specs.Works.{IsWork};
 ghost use Rattle.rv_journal.specs.MergeSteps.{rest_of, IsCursor, GoesTo};
-ghost use Rattle.rv_journal.specs.MergeRuns.{run_of, lane_at, IsMerging, InSlots, IsReadyAt, NoneReady, steps_left};
+ghost use Rattle.rv_journal.specs.MergeRuns.{run_of, lane_at, IsMerging, InSlots, IsReadyAt, CannotGoAt, IsLowestReady, NoneReady, steps_left};
 ghost use Rattle.rv_journal.specs.MergeWaits.{is_ready, changes_after};
 ghost use Rattle.rv_journal.specs.Merging.{CanMerge, IsMergeOf, NumbersFit, seat_of};
 
-use crate::lane::CountedLane;
+use crate::lane::{CountedLane, cpu_of};
 use crate::seat::CountedSeat;
 use crate::steps::{Cursor, Next, Step, entry_of, gap_of, leaves, slot_of};
 use crate::told::{items, known, seat_of};
@@ -78,12 +78,32 @@ fn next_from(cursor: &Cursor, lanes: &[CountedLane], place: usize) -> Option<Nex
     cursor.next(&lanes[place])
 }
 
+/// The CPU of the lane at this place.
+fn cpu_at(lanes: &[CountedLane], place: usize) -> u32
+    requires { place < length lanes.now }
+    ensures { result ≡ (lane_at lanes.now place).work.cpu }
+{
+    cpu_of(&lanes[place])
+}
+
 /// The seat of the lane at this place.
 fn seat_at(lanes: &[CountedLane], place: usize) -> u32
     requires { place < length lanes.now }
     ensures { result ≡ seat_of (lane_at lanes.now place) }
 {
     seat_of(&lanes[place])
+}
+
+/// Whether the lane at this place is of a lower CPU than the one that was found, if one was.
+fn is_lower(lanes: &[CountedLane], place: usize, found: Option<usize>) -> bool
+    requires place { place < length lanes.now }
+    requires found { MatchOption found ⊤ (λ l. l < length lanes.now) }
+    ensures { (result ≡ true) ↔ MatchOption found ⊤ (λ l. (lane_at lanes.now place).work.cpu < (lane_at lanes.now l).work.cpu) }
+{
+    match found {
+        None => true,
+        Some(found) => cpu_at(lanes, place) < cpu_at(lanes, found),
+    }
 }
 
 impl Merging {
@@ -125,20 +145,33 @@ impl Merging {
         }
     }
 
-    /// The first lane whose next step is ready.
-    fn ready_lane(&self, _setup: &Setup, lanes: &[CountedLane]) -> Option<usize>
+    /// Whether the next step of the lane at this place may be placed now.
+    fn is_ready_at(&self, _setup: &Setup, lanes: &[CountedLane], place: usize) -> bool
         ghost seen: { List Entry }
-        requires { IsMerging (run_of _setup.now seen) lanes.now self.now.placed.items self.now.cursors.items self.now.changes.items self.now.waits }
-        ensures { MatchOption result (NoneReady lanes.now self.now.placed.items self.now.cursors.items) (λ place. IsReadyAt lanes.now self.now.placed.items self.now.cursors.items place) }
+        requires merging { IsMerging (run_of _setup.now seen) lanes.now self.now.placed.items self.now.cursors.items self.now.changes.items self.now.waits }
+        requires low { place < length lanes.now }
+        ensures ready { result ≡ true → IsReadyAt lanes.now self.now.placed.items self.now.cursors.items place }
+        ensures unready { result ≡ false → CannotGoAt lanes.now self.now.placed.items self.now.cursors.items place }
     {
+        match next_from(&self.cursors[place], lanes, place) {
+            Some(next) => self.is_ready(&next.step),
+            None => false,
+        }
+    }
+
+    /// The lane of the lowest CPU whose next step is ready.
+    fn ready_lane(&self, setup: &Setup, lanes: &[CountedLane]) -> Option<usize>
+        ghost seen: { List Entry }
+        requires { IsMerging (run_of setup.now seen) lanes.now self.now.placed.items self.now.cursors.items self.now.changes.items self.now.waits }
+        ensures { MatchOption result (NoneReady lanes.now self.now.placed.items self.now.cursors.items) (IsLowestReady lanes.now self.now.placed.items self.now.cursors.items) }
+    {
+        let mut lowest = None;
         for place in 0..lanes.len() {
-            if let Some(next) = next_from(&self.cursors[place], lanes, place) {
-                if self.is_ready(&next.step) {
-                    return Some(place);
-                }
+            if is_lower(lanes, place, lowest) && self.is_ready_at(setup, lanes, place) {
+                lowest = Some(place);
             }
         }
-        None
+        lowest
     }
 
     /// The lane's next step is placed.

@@ -1,6 +1,6 @@
 //! The pieces of a line, one at a time: what stands between its blanks.
 ghost use Rattle.std.specs.Prelude.{◌≡◌, ◌≤◌, [], ◌∷◌, ℕ, List, IfSome, IfNone};
-ghost use Rattle.rv_journal.specs.EntryReadings.{pieces_of, number_in, number_from, first_by, mode_in, kind_in, verb_in, Reads};
+ghost use Rattle.rv_journal.specs.PieceReadings.{pieces_of, number_in, number_from, first_by, mode_in, kind_in, verb_in, Reads};
 
 use crate::names::{Kind, Verb, kind_in, mode_in, verb_in};
 use memchr::memchr;
@@ -17,7 +17,7 @@ pub(crate) struct Pieces<'a> {
 
 impl<'a> Model for Pieces<'a> {
     ghost use Rattle.std.specs.Prelude.{ℕ, List, option_copied};
-    ghost use Rattle.rv_journal.specs.EntryReadings.{pieces_left};
+    ghost use Rattle.rv_journal.specs.PieceReadings.{pieces_left};
 
     ghost Value = { List (List ℕ) };
 

@@ -2,7 +2,8 @@
 ghost use Rattle.std.specs.Prelude.{◌≡◌, Some, IfSome};
 ghost use Rattle.rv_model.specs.declared.entry.Entry.{Entry as Told};
 ghost use Rattle.rv_journal.specs.EntryTexts.{entry_text, IsEntry};
-ghost use Rattle.rv_journal.specs.EntryReadings.{most_32, number_from, event_from, sets_from, what_from, deliver_from, act_from, entry_from, Reads};
+ghost use Rattle.rv_journal.specs.PieceReadings.{most_32, number_from, Reads};
+ghost use Rattle.rv_journal.specs.EntryReadings.{event_from, sets_from, what_from, deliver_from, act_from, entry_from};
 
 use crate::names::{Kind, Verb};
 use crate::pieces::Pieces;

@@ -124,6 +124,8 @@ pub fn record_run<R: Threads + Sync, G: Gate + Send>(
     let lanes = join_all(alloc, &board, &mut seat, feeders)?;
     seat.number();
     let entries = merge(alloc, board.setup(), &seat, lanes.as_slice())?;
+    // What is told is the merged history: the board's own has no looks.
+    board.close(seat);
     let closed = closed_of(entries.as_slice());
     Ok(Recorded { entries, closed })
 }

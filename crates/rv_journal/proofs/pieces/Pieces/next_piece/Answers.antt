@@ -1,7 +1,7 @@
 use Rattle.std.proofs.Common.{ap, sym, ◌∙◌, arith}
 use Rattle.std.proofs.lemmas.Bool.{eqb-true, eq-eqb}
 use Rattle.std.specs.Option.{option_copied}
-use Rattle.rv_journal.specs.EntryReadings.{pieces_left}
+use Rattle.rv_journal.specs.PieceReadings.{pieces_left}
 use Rattle.rv_journal.proofs.PieceLemmas.{piece-last, piece-next}
 use Rattle.rv_journal.proofs.pieces.Pieces.next_piece.Goals as goal
 
