@@ -102,6 +102,7 @@ without-looks n switches (Item c ∷ steps) all =
 
 module _ (s : Setup) (seen : List Entry) (lanes : List CountedLaneValue) (can : CanMerge s seen lanes) (k : IsSetup s) (numbers : All (λ l. All NumbersFit l.counted) lanes) (works : All (λ l. IsWork l.work) lanes)
     (items : List Counted) (entries_are : entries_in items ≡ seen) (history : List Entry) (rest : ℕ → List Step) (u : IsUnderWay s items (lanes_of lanes) history rest) (ended : (l : ℕ) → l < length lanes → rest l ≡ []) (placed : AllPlaced u.marks) where
+  -- the lane at a place
   abbrev lane_at : ℕ → CountedLaneValue
   lane_at l = get_or lanes l no_lane
 
@@ -137,6 +138,7 @@ module _ (s : Setup) (seen : List Entry) (lanes : List CountedLaneValue) (can : 
   }
 
   -- ---- it is merged from what was seen
+  -- all entries of the list were seen
   entries-all : entries_in (items_in u.marks) ≡ seen
   entries-all = ap entries_in u.marks_are ∙ entries_are
 
@@ -149,6 +151,7 @@ module _ (s : Setup) (seen : List Entry) (lanes : List CountedLaneValue) (can : 
       let marks : filter (λ m. changed slot (entry_in m)) u.marks ≡ map (mark true) d.done = d.marks_are ∙ (ap (λ (z : List Counted). map (mark true) d.done ++ map (mark false) z) none ∙ append-nil (map (mark true) d.done)) in
       d.history_is ∙ (ap entries_in (sym (marked-items true d.done)) ∙ (ap (λ (z : List Mark). entries_in (items_in z)) (sym marks) ∙ (entries-filter slot u.marks ∙ ap (filter (changed slot)) entries-all)))
 
+  -- each entry that was seen stands between the same changes
   between-all : AtEach (StandsAs history) seen
   between-all before e after eq =
       let cut = item-cut items before e after (entries_are ∙ eq) in

@@ -122,15 +122,19 @@ module _ (s : Setup) (lanes : Lanes) where
       (history : List Entry) (rest rest' : ℕ → List Step) (m : ℕ) (step : Step) (steps : List Step)
       (low : m < many) (at : rest m ≡ step ∷ steps) (here : rest' m ≡ steps) (others : (l : ℕ) → l ≢ m → rest' l ≡ rest l)
       (e : Entry) (own : e.seat ≡ seat m) (entry_is : e ≡ step_entry (seat m) s.switches step) where
+    -- the history with the entry
     abbrev next : List Entry
     next = history ++ e ∷ []
 
+    -- a lane is the one that goes on, or not
     same_or_other : (l : ℕ) → (l ≡ m) ⊎ (l ≢ m)
     same_or_other l = grind arith
 
+    -- another lane is of another seat
     other-seat : (l : ℕ) → l < many → l ≢ m → e.seat ≢ seat l
     other-seat l lt ne = λ is. ne (apart l m lt low (sym is ∙ own))
 
+    -- what is placed of a lane and what is left to it are still its script
     pub lists-next : ((l : ℕ) → l < many → entries_of (λ n. n == seat l) history ++ step_entries (seat l) s.switches (rest l) ≡ step_entries (seat l) s.switches (lanes.script l))
         → (l : ℕ) → l < many → entries_of (λ n. n == seat l) next ++ step_entries (seat l) s.switches (rest' l) ≡ step_entries (seat l) s.switches (lanes.script l)
     lists-next all l lt = elim (same_or_other l) [
@@ -143,6 +147,7 @@ module _ (s : Setup) (lanes : Lanes) where
           lists-snoc history e m (rest l) (rest' l) (lanes.script l) step (seat l) false no (λ yes'. absurd (cc)) (λ _. sym (others l ne)) (all l lt)
     ]
 
+    -- each entry is still a lane's
     pub others-next : AtEach (λ before x. (l : ℕ) × (l < many) × (x.seat ≡ seat l)) history → AtEach (λ before x. (l : ℕ) × (l < many) × (x.seat ≡ seat l)) next
     others-next all = at_each-snoc (λ before x. (l : ℕ) × (l < many) × (x.seat ≡ seat l)) history e all (m, low, own)
 
@@ -174,6 +179,7 @@ module _ (s : Setup) (lanes : Lanes) where
             decide : (a b : ℕ) → (a ≤ b) ⊎ (b < a)
             decide a b = grind arith
 
+    -- so the next step of each lane is earned
     pub earned-next : ((slot r : ℕ) → r < changes_on slot next → (l : ℕ) → l < many → held_by slot r (rest l) ≡ 0) → ((l : ℕ) → l < many → NextIsEarned (seat l) history (rest l)) → (l : ℕ) → l < many → NextIsEarned (seat l) next (rest' l)
     earned-next old all l lt = elim (same_or_other l) [
       | inl is ↦ subst (λ (k : ℕ). NextIsEarned (seat k) next (rest' k)) (sym is) (subst (NextIsEarned (seat m) next) (sym here)
