@@ -1,6 +1,6 @@
 -- From how the parts of a run end to what the top call answers on a store that tells no files.
 use Rattle.std.proofs.Common.{◌≡◌, ℕ, List, [], inl, inr, subst}
-use Rattle.std.specs.Prelude.{Option, Some, None, Result, Ok, Err}
+use Rattle.std.specs.Prelude.{Option, Some, None, Result, Ok, Err, IfOk}
 use Rattle.rv_model.specs.declared.entry.Entry.{Entry}
 use Rattle.rv_io.specs.Files.{Files}
 use Rattle.rv_bind.specs.declared.fault.BindFault.{BindFault}
@@ -10,7 +10,7 @@ use Rattle.rv_check.specs.declared.reading.Verdict.{Verdict}
 use Rattle.rv_tool.specs.Checks.{CheckedValue, JudgesRead}
 use Rattle.rv_tool.specs.Headline.{Ending}
 use Rattle.rv_tool.specs.Runs.{Fails, EndsRead, SaysVerdict}
-use Rattle.rv_tool.specs.Untold.{EndsSomehow, SaysSome, AnswersUntold}
+use Rattle.rv_tool.specs.Untold.{EndsSomehow, Among, SaysSome, AnswersUntold}
 use Rattle.rv_tool.specs.Words.{CommandValue}
 
 module _ (old new : Option (List ℕ)) (before now status : ℕ) (h : List Entry) where
@@ -27,6 +27,11 @@ module _ (old new : Option (List ℕ)) (before now status : ℕ) (h : List Entry
       → Comes view told first last read outcome → EndsRead view Accepted read old new before now status h → told ≡ None → EndsSomehow Accepted first last old new before now status h
   read_somehow view Accepted outcome told first last (Ok x) comes ends none = inl (view x, ends)
   read_somehow view Accepted outcome told first last (Err fault) comes fails none = fault_ends view Accepted outcome told first last none fault comes fails
+
+  -- what was read is one of these
+  pub ends_among : {X Y : Type 0} (view : X → Y) (Is : Y → Type 0) (Accepted : Y → Ending) (read : Result X BindFault) → IfOk read (λ x. Is (view x)) → EndsRead view Accepted read old new before now status h → EndsRead view (Among Is Accepted) read old new before now status h
+  ends_among view Is Accepted (Ok x) is ends = (is, ends)
+  ends_among view Is Accepted (Err fault) is fails = fails
 
   -- so does a journal that was judged
   pub judged_somehow : (outcome : Files → Outcome CheckedValue) (told : Option Files) (first last : ℕ) (read : Result Verdict BindFault)

@@ -8,7 +8,7 @@ ghost use Rattle.rv_control.specs.Opening.{opening_tree};
 ghost use Rattle.rv_control.specs.Scripts.{script_of};
 ghost use Rattle.rv_tool.specs.Output.{refusal_text};
 ghost use Rattle.rv_tool.specs.Faults.{Tells};
-ghost use Rattle.rv_tool.specs.Sessions.{replied, done_of, session_of, session_text, session_in, control_in, tree_of};
+ghost use Rattle.rv_tool.specs.Sessions.{replied, done_of, session_of, session_text, session_in, control_in, tree_of, IsSession};
 ghost use Rattle.rv_tool.specs.SessionValues.{session_value};
 
 use crate::output::refusal_line;
@@ -148,7 +148,7 @@ fn run_text(alloc: Global, script: &str, bound: &Bound, text: &[u8]) -> Result<S
 }
 
 /// Reads the script and does its commands.
-#[tactic(auto, using(crate::proofs::NamedLemmas::script_named, crate::proofs::NamedLemmas::tells_named))]
+#[tactic(auto, using(crate::proofs::NamedLemmas::script_named, crate::proofs::NamedLemmas::tells_named, crate::proofs::SessionLemmas::session_some))]
 fn run_script<S: Store>(
     alloc: Global,
     store: &mut S,
@@ -160,6 +160,7 @@ fn run_script<S: Store>(
     ensures later { S.faults store.old ≤ S.faults store.new }
     ensures value { Comes session_value (S.files store.old) (S.faults store.old) (S.faults store.new) result (λ files. session_in files script.now (bound_value bound.now)) }
     ensures named { Names (S.files store.old) result (λ files. session_in files script.now (bound_value bound.now)) }
+    ensures some { IfOk result (λ session. IsSession script.now (session_value session)) }
 {
     let text = read_text(alloc, store, script)?;
     run_text(alloc, script, bound, text.as_slice())
@@ -177,6 +178,7 @@ pub(crate) fn read_control<S: Store>(
     ensures later { S.faults store.old ≤ S.faults store.new }
     ensures value { Comes session_value (S.files store.old) (S.faults store.old) (S.faults store.new) result (λ files. control_in files bindings.now script.now) }
     ensures named { Names (S.files store.old) result (λ files. control_in files bindings.now script.now) }
+    ensures some { IfOk result (λ session. IsSession script.now (session_value session)) }
 {
     let bound = read_bindings(alloc, store, bindings)?;
     run_script(alloc, store, script, &bound)

@@ -7,10 +7,11 @@ use Rattle.rv_tool.specs.Inputs.{run_input}
 use Rattle.rv_tool.specs.Journals.{numbered_input, IsJournalReport, Journals}
 use Rattle.rv_tool.specs.Ready.{ready_value}
 use Rattle.rv_tool.specs.Runs.{Prints, PrintsSession}
-use Rattle.rv_tool.specs.Sessions.{control_in}
+use Rattle.rv_tool.specs.Sessions.{control_in, IsSession}
 use Rattle.rv_tool.specs.SessionValues.{session_value}
 use Rattle.rv_tool.specs.HeaderFiles.{header_in}
 use Rattle.rv_tool.specs.Tables.{table_in}
+use Rattle.rv_tool.specs.Untold.{Among}
 use Rattle.rv_tool.specs.Verdicts.{HasOneVerdict, ReportsOne, ReportsVerdicts}
 use Rattle.rv_tool.specs.Checks.{checked_input}
 use Rattle.rv_tool.specs.Watched.{watched_input}
@@ -19,7 +20,7 @@ use Rattle.rv_tool.specs.Words.{command_value}
 use Rattle.rv_tool.proofs.AnswerLemmas.{no_telling, no_report, no_text, read_answers, words_answer}
 use Rattle.rv_tool.proofs.CheckLemmas.{check_answers}
 use Rattle.rv_tool.proofs.OneLemmas.{runs_one}
-use Rattle.rv_tool.proofs.UntoldLemmas.{judged_somehow, read_somehow, words_untold}
+use Rattle.rv_tool.proofs.UntoldLemmas.{ends_among, judged_somehow, read_somehow, words_untold}
 use Rattle.rv_tool.proofs.VerdictLemmas.{runs_verdicts, no_verdicts, words_verdict}
 use Rattle.rv_tool.proofs.top.rv.Goals as goal
 
@@ -128,12 +129,15 @@ returns-in-Some-Header-clause-verdicts g c =
 pub returns-in-Some-Replay-clause-untold : goal.returns-in-Some-Replay-clause-untold
 returns-in-Some-Replay-clause-untold g c =
     words_untold _ _ _ _ _ _ _ _ (g.S.Store.files c.args.store.now) _ _ (sym (ap (λ v. Some (command_value v)) c.in-Some-Replay.field-0-is) ∙ c.in-Some-Replay.ensures.value)
-    (read_somehow _ _ _ _ _ _ ready_value (Reports IsOneHistory) (λ files. run_input files _ _) (g.S.Store.files c.args.store.now) _ _ c.read_input.result c.read_input.ensures.value c.run.ensures)
+    (read_somehow _ _ _ _ _ _ ready_value ReportsOne (λ files. run_input files _ _) (g.S.Store.files c.args.store.now) _ _ c.read_input.result c.read_input.ensures.value
+    (runs_one _ _ _ _ _ _ c.read_input.result c.read_input.ensures.ready c.run.ensures))
 
 pub returns-in-Some-Feed-clause-untold : goal.returns-in-Some-Feed-clause-untold
 returns-in-Some-Feed-clause-untold g c =
+    let read = c.read_input-in-Some-Feed in
     words_untold _ _ _ _ _ _ _ _ (g.S.Store.files c.args.store.now) _ _ (sym (ap (λ v. Some (command_value v)) c.in-Some-Feed.field-0-is) ∙ c.in-Some-Feed.ensures.value)
-    (read_somehow _ _ _ _ _ _ ready_value (Reports IsLegal) (λ files. run_input files _ _) (g.S.Store.files c.args.store.now) _ _ c.read_input-in-Some-Feed.result c.read_input-in-Some-Feed.ensures.value c.run_at_once.ensures)
+    (read_somehow _ _ _ _ _ _ ready_value ReportsVerdicts (λ files. run_input files _ _) (g.S.Store.files c.args.store.now) _ _ read.result read.ensures.value
+    (runs_verdicts _ _ _ _ _ _ read.result read.ensures.ready read.ensures.unchanged c.run_at_once.ensures))
 
 pub returns-in-Some-FeedBeside-clause-untold : goal.returns-in-Some-FeedBeside-clause-untold
 returns-in-Some-FeedBeside-clause-untold g c =
@@ -158,12 +162,13 @@ returns-in-Some-Watch-clause-untold g c =
 pub returns-in-Some-Control-clause-untold : goal.returns-in-Some-Control-clause-untold
 returns-in-Some-Control-clause-untold g c =
     words_untold _ _ _ _ _ _ _ _ (g.S.Store.files c.args.store.now) _ _ (sym (ap (λ v. Some (command_value v)) c.in-Some-Control.field-0-is) ∙ c.in-Some-Control.ensures.value)
-    (read_somehow _ _ _ _ _ _ session_value PrintsSession (λ files. control_in files _ _) (g.S.Store.files c.args.store.now) _ _ c.read_control.result c.read_control.ensures.value c.tell_session.ensures)
+    (read_somehow _ _ _ _ _ _ session_value (Among (IsSession _) PrintsSession) (λ files. control_in files _ _) (g.S.Store.files c.args.store.now) _ _ c.read_control.result c.read_control.ensures.value
+    (ends_among _ _ _ _ _ _ session_value (IsSession _) PrintsSession c.read_control.result c.read_control.ensures.some c.tell_session.ensures))
 
 pub returns-in-Some-Load-clause-untold : goal.returns-in-Some-Load-clause-untold
 returns-in-Some-Load-clause-untold g c =
     words_untold _ _ _ _ _ _ _ _ (g.S.Store.files c.args.store.now) _ _ (sym (ap (λ v. Some (command_value v)) c.in-Some-Load.field-0-is) ∙ c.in-Some-Load.ensures.value)
-    (λ none. c.load.ensures.answers)
+    (λ none. c.load.ensures.verdicts)
 
 pub returns-in-Some-Table-clause-untold : goal.returns-in-Some-Table-clause-untold
 returns-in-Some-Table-clause-untold g c =
