@@ -124,15 +124,16 @@ module _ (told : Option Files) (bindings trace journal : List ℕ) (i : InputVal
 -- ---- the verdict
 
 module _ (old new : Option (List ℕ)) (before now status : ℕ) (h : List Entry) where
+  -- a verdict that was said of a journal is its report
+  pub says_checked : (c : CheckedValue) (verdict : Verdict) → IsJudged c verdict → Says (verdict_text verdict) (verdict_status verdict) old new before now status h → Checks c old new before now status h
+  says_checked c verdict is (inl said) = inl (verdict_text verdict, verdict_status verdict, record { verdict = verdict; judged = is; text_is = refl; status_is = refl; no_history = said.1 }, said.0)
+  says_checked c verdict is (inr up) = inr up
+
   -- a verdict that was said is what the files come to
   pub check_answers : (outcome : Files → Outcome CheckedValue) (told : Option Files) (first last : ℕ) (read : Result Verdict BindFault) → JudgesRead told first last read outcome → Names told read outcome
       → EndsRead (λ (v : Verdict). v) (λ (v : Verdict). Says (verdict_text v) (verdict_status v)) read old new before now status h → (files : Files) → told ≡ Some files → AnswersBy Checks outcome files first last old new before now status h
   check_answers outcome told first last (Ok verdict) judges named ends files known =
       let found = judges files known in
-      inl (subst (λ (o : Outcome CheckedValue). Ends Checks o old new before now status h) (sym found.1) (go found.0 found.2 ends))
-    where
-      go : (c : CheckedValue) → IsJudged c verdict → Says (verdict_text verdict) (verdict_status verdict) old new before now status h → Checks c old new before now status h
-      go c is (inl said) = inl (verdict_text verdict, verdict_status verdict, record { verdict = verdict; judged = is; text_is = refl; status_is = refl; no_history = said.1 }, said.0)
-      go c is (inr up) = inr up
+      inl (subst (λ (o : Outcome CheckedValue). Ends Checks o old new before now status h) (sym found.1) (says_checked found.0 verdict found.2 ends))
   check_answers outcome told first last (Err fault) comes named ends files known =
       read_answers old new before now status h {X = CheckedValue} {Y = CheckedValue} (λ (c : CheckedValue). c) Checks outcome (λ c. no_telling old new before now status h (IsCheckReport c)) told first last (Err fault) comes named ends files known

@@ -21,7 +21,7 @@ use Rattle.rv_check.specs.Verdicts.{Journal, Holds}
 use Rattle.rv_bind.specs.declared.bindings.Monitor.{Monitor}
 use Rattle.rv_tool.specs.declared.input.Ready.{Ready}
 use Rattle.rv_tool.specs.Ready.{ready_value, IsReady}
-use Rattle.rv_tool.specs.Checks.{panic_bits, judged, IsJudged}
+use Rattle.rv_tool.specs.Checks.{panic_bits, judged, IsJudged, IsVerdict}
 use Rattle.rv_tool.specs.Inputs.{InputValue, run_of}
 use Rattle.rv_tool.specs.JournalPieces.{IsSameRun, EnoughOf}
 use Rattle.rv_tool.proofs.ReadyLemmas.{get_or-works, works_counted}
@@ -110,6 +110,12 @@ module _ (ready : Ready) (is : IsReady ready) (unchanged : ready.changes.items �
     is_run = run_is (ready_value ready) unchanged is.few_monitors;
     holds = so;
   }
+
+  -- the verdict is that on what was fed
+  pub verdict_some : IsVerdict verdict
+  verdict_some =
+      let specs = (run_of (ready_value ready)).specs in
+      (record { input = ready_value ready; journal = r.journal.text }, judged_so r.journal.text (subst (λ (j : Journal). Holds j specs verdict) run (holds specs)))
 
   -- the verdict holds of all that the file holds
   pub verdict_judged : (held : Option (List ℕ)) → EnoughOf held r → (bytes : List ℕ) × (held ≡ Some bytes) × IsJudged (record { input = ready_value ready; journal = bytes }) verdict

@@ -17,6 +17,7 @@ pub mod RecordingLemmas
 pub mod ReportedLemmas
 pub mod SaysLemmas
 pub mod SessionLemmas
+pub mod SomeTextLemmas
 pub mod TableLemmas
 pub mod UntoldLemmas
 pub mod VerdictLemmas

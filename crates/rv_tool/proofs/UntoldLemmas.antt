@@ -7,11 +7,12 @@ use Rattle.rv_bind.specs.declared.fault.BindFault.{BindFault}
 use Rattle.rv_bind.specs.declared.fault.BindFault.TheVariants as faults
 use Rattle.rv_bind.specs.Outcomes.{Outcome, Comes}
 use Rattle.rv_check.specs.declared.reading.Verdict.{Verdict}
-use Rattle.rv_tool.specs.Checks.{CheckedValue, JudgesRead}
+use Rattle.rv_tool.specs.Checks.{CheckedValue, JudgesRead, IsVerdict, Checks}
 use Rattle.rv_tool.specs.Headline.{Ending}
 use Rattle.rv_tool.specs.Runs.{Fails, EndsRead, SaysVerdict}
-use Rattle.rv_tool.specs.Untold.{EndsSomehow, Among, SaysSome, AnswersUntold}
+use Rattle.rv_tool.specs.Untold.{EndsSomehow, Among, AnswersUntold}
 use Rattle.rv_tool.specs.Words.{CommandValue}
+use Rattle.rv_tool.proofs.CheckLemmas.{says_checked}
 
 module _ (old new : Option (List ℕ)) (before now status : ℕ) (h : List Entry) where
   -- a fault of reading a store that tells no files
@@ -35,9 +36,9 @@ module _ (old new : Option (List ℕ)) (before now status : ℕ) (h : List Entry
 
   -- so does a journal that was judged
   pub judged_somehow : (outcome : Files → Outcome CheckedValue) (told : Option Files) (first last : ℕ) (read : Result Verdict BindFault)
-      → JudgesRead told first last read outcome → SaysVerdict read old new before now status h → told ≡ None → EndsSomehow SaysSome first last old new before now status h
-  judged_somehow outcome told first last (Ok verdict) comes says none = inl (verdict, says)
-  judged_somehow outcome told first last (Err fault) comes fails none = fault_ends (λ (c : CheckedValue). c) SaysSome outcome told first last none fault comes fails
+      → JudgesRead told first last read outcome → IfOk read IsVerdict → SaysVerdict read old new before now status h → told ≡ None → EndsSomehow Checks first last old new before now status h
+  judged_somehow outcome told first last (Ok verdict) comes some says none = inl (some.0, says_checked old new before now status h some.0 verdict some.1 says)
+  judged_somehow outcome told first last (Err fault) comes some fails none = fault_ends (λ (c : CheckedValue). c) Checks outcome told first last none fault comes fails
 
   -- the words ask for the command that was read
   pub words_untold : (asked said : Option CommandValue) (told : Option Files) (first last : ℕ) → said ≡ asked

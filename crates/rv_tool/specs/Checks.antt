@@ -41,6 +41,10 @@ pub record IsJudged (c : CheckedValue) (verdict : Verdict) : Type 0 where
   pub is_run : input_of (run_of c.input).setup (run_of c.input).specs (has_bit (panic_bits c.input)) (run_of c.input).works ≡ run_of c.input
   pub holds : Holds (judged c.input c.journal) (run_of c.input).specs verdict
 
+-- it is the verdict on some journal of some run
+abbrev pub IsVerdict : Verdict → Type 0
+IsVerdict verdict = (c : CheckedValue) × IsJudged c verdict
+
 -- `yes`, or `no` with the line that decides it
 abbrev pub verdict_text : Verdict → List ℕ
 verdict_text Yes = codes "yes\n"

@@ -16,6 +16,7 @@ pub mod Ready
 pub mod Runs
 pub mod SessionValues
 pub mod Sessions
+pub mod SomeTexts
 pub mod Tables
 pub mod Untold
 pub mod Verdicts

@@ -3,15 +3,17 @@ use Rattle.std.specs.Prelude.{◌⊎◌, ℕ, List, Option, Some, None}
 use Rattle.rv_text.specs.declared.numbers.TheConstants.{USAGE}
 use Rattle.rv_text.specs.declared.refusals.Refusal.{Refusal}
 use Rattle.rv_io.specs.Files.{Rose}
-use Rattle.rv_check.specs.declared.reading.Verdict.{Verdict}
 use Rattle.rv_model.specs.Histories.{IsLegal}
-use Rattle.rv_tool.specs.Checks.{verdict_text, verdict_status}
+use Rattle.rv_tool.specs.Checks.{Checks}
+use Rattle.rv_tool.specs.HeaderFiles.{header_text}
 use Rattle.rv_tool.specs.Headline.{Ending, Says, Reports, Ends}
 use Rattle.rv_tool.specs.Journals.{Journals}
 use Rattle.rv_tool.specs.Loaded.{load_input}
 use Rattle.rv_tool.specs.Output.{refusal_text, missing_text}
 use Rattle.rv_tool.specs.Runs.{Prints, PrintsSession}
 use Rattle.rv_tool.specs.Sessions.{IsSession}
+use Rattle.rv_tool.specs.SomeTexts.{IsOfSomeText}
+use Rattle.rv_tool.specs.Tables.{table_text}
 use Rattle.rv_tool.specs.Verdicts.{ReportsOne, ReportsVerdicts}
 use Rattle.rv_tool.specs.WatchReports.{Watches}
 use Rattle.rv_tool.specs.Words.{CommandValue, replay, feed, feed_beside, journal, check, watch, table, header, control, load}
@@ -27,10 +29,6 @@ EndsSomehow {Y} Accepted first last old new before now status h =
 abbrev pub Among : {Y : Type 0} → (Y → Type 0) → (Y → Ending) → Y → Ending
 Among Is Accepted y old new before now status h = Is y × Accepted y old new before now status h
 
--- a verdict is said
-abbrev pub SaysSome : Verdict → Ending
-SaysSome verdict = Says (verdict_text verdict) (verdict_status verdict)
-
 -- by what the words ask for: a report is one of some input, and words that are no command and the generated input are answered as on any store
 abbrev pub AnswersUntold : Option CommandValue → ℕ → ℕ → Ending
 AnswersUntold None first last = Says (refusal_text None (record { number = USAGE; line = 0 })) 2
@@ -39,8 +37,8 @@ AnswersUntold (Some (feed bindings trace)) first last = EndsSomehow ReportsVerdi
 AnswersUntold (Some (feed_beside bindings trace script)) first last = EndsSomehow (Reports IsLegal) first last
 AnswersUntold (Some (watch bindings trace monitor instance)) first last = EndsSomehow Watches first last
 AnswersUntold (Some (journal bindings trace)) first last = EndsSomehow Journals first last
-AnswersUntold (Some (check bindings trace judged)) first last = EndsSomehow SaysSome first last
+AnswersUntold (Some (check bindings trace judged)) first last = EndsSomehow Checks first last
 AnswersUntold (Some (load blocks)) first last = Ends ReportsVerdicts (load_input blocks)
-AnswersUntold (Some (table kind file)) first last = EndsSomehow Prints first last
-AnswersUntold (Some (header name file)) first last = EndsSomehow Prints first last
+AnswersUntold (Some (table kind file)) first last = EndsSomehow (Among (IsOfSomeText (table_text kind)) Prints) first last
+AnswersUntold (Some (header name file)) first last = EndsSomehow (Among (IsOfSomeText (header_text name)) Prints) first last
 AnswersUntold (Some (control bindings script)) first last = EndsSomehow (Among (IsSession script) PrintsSession) first last

@@ -4,7 +4,7 @@ ghost use Rattle.rv_model.specs.Numbers.{number_of};
 ghost use Rattle.rv_core.specs.Judged.{JudgesBySpecs};
 ghost use Rattle.rv_bind.specs.Outcomes.{Names, of_text, accepted};
 ghost use Rattle.rv_feed.specs.Lane.{panics_of, works_of};
-ghost use Rattle.rv_tool.specs.Checks.{judged, verdict_text, verdict_status, JudgesRead, checked_input};
+ghost use Rattle.rv_tool.specs.Checks.{judged, verdict_text, verdict_status, JudgesRead, IsVerdict, checked_input};
 ghost use Rattle.rv_tool.specs.Faults.{FaultComes, FaultNames};
 ghost use Rattle.rv_tool.specs.JournalPieces.{IsSameRun, IsEnough};
 ghost use Rattle.rv_tool.specs.Ready.{ready_value, IsReady};
@@ -143,6 +143,7 @@ pub(crate) fn read_verdict<S: Store>(
     ensures later { S.faults store.old ≤ S.faults store.new }
     ensures value { JudgesRead (S.files store.old) (S.faults store.old) (S.faults store.new) result (λ files. checked_input files bindings.now trace.now journal.now) }
     ensures named { Names (S.files store.old) result (λ files. checked_input files bindings.now trace.now journal.now) }
+    ensures some { IfOk result IsVerdict }
 {
     let ready = read_input(alloc, store, bindings, trace)?;
     let (Ok(mut reader), Ok(mut buffer)) = (reader(alloc, ready), vec![in alloc; 0u8; PIECE]) else {

@@ -1,10 +1,11 @@
 //! From an automaton's file to its C tables.
-ghost use Rattle.std.specs.Prelude.{◌≡◌, ◌≤◌, true};
+ghost use Rattle.std.specs.Prelude.{◌≡◌, ◌≤◌, true, IfOk};
 ghost use Rattle.rv_text.specs.Readings.{Gives};
 ghost use Rattle.rv_bind.specs.Outcomes.{Comes, Names, of_file};
 ghost use Rattle.rv_header.specs.Naming.{is_header_name};
 ghost use Rattle.rv_tool.specs.Faults.{Tells};
 ghost use Rattle.rv_tool.specs.HeaderFiles.{header_text, header_in};
+ghost use Rattle.rv_tool.specs.SomeTexts.{IsOfSomeText};
 
 use crate::trace_text::{read_text, refused};
 use rv_bind::BindFault;
@@ -47,6 +48,7 @@ pub(crate) fn read_header<S: Store>(
     ensures later { S.faults store.old ≤ S.faults store.new }
     ensures value { Comes (λ text. text.items) (S.files store.old) (S.faults store.old) (S.faults store.new) result (λ files. header_in files name.now file.now) }
     ensures named { Names (S.files store.old) result (λ files. header_in files name.now file.now) }
+    ensures some { IfOk result (λ text. IsOfSomeText (header_text name.now) text.items) }
 {
     let bytes = read_text(alloc, store, file)?;
     named_header(alloc, name, file, bytes.as_slice())

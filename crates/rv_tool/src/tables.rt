@@ -1,8 +1,9 @@
 //! From a specification's file to its printed table.
-ghost use Rattle.std.specs.Prelude.{◌≡◌, ◌≤◌};
+ghost use Rattle.std.specs.Prelude.{◌≡◌, ◌≤◌, IfOk};
 ghost use Rattle.rv_text.specs.Readings.{Gives};
 ghost use Rattle.rv_bind.specs.Outcomes.{Comes, Names, of_file};
 ghost use Rattle.rv_tool.specs.Faults.{Tells};
+ghost use Rattle.rv_tool.specs.SomeTexts.{IsOfSomeText};
 ghost use Rattle.rv_tool.specs.Tables.{rule_text, table_text, table_in};
 
 use crate::automaton_text::automaton_text;
@@ -76,6 +77,7 @@ pub(crate) fn read_table<S: Store>(
     ensures later { S.faults store.old ≤ S.faults store.new }
     ensures value { Comes (λ text. text.items) (S.files store.old) (S.faults store.old) (S.faults store.new) result (λ files. table_in files kind name.now) }
     ensures named { Names (S.files store.old) result (λ files. table_in files kind name.now) }
+    ensures some { IfOk result (λ text. IsOfSomeText (table_text kind) text.items) }
 {
     let bytes = read_text(alloc, store, name)?;
     named_text(alloc, kind, name, bytes.as_slice())

@@ -11,7 +11,7 @@ use Rattle.rv_tool.specs.Inputs.{InputValue}
 use Rattle.rv_tool.specs.Ready.{ready_value}
 use Rattle.rv_tool.specs.JournalPieces.{IsSameRun}
 use Rattle.rv_tool.proofs.CheckLemmas.{shifted_comes, checked_comes, checked_named}
-use Rattle.rv_tool.proofs.JudgedLemmas.{verdict_judged}
+use Rattle.rv_tool.proofs.JudgedLemmas.{verdict_judged, verdict_some}
 use Rattle.rv_tool.proofs.checking.read_verdict.Goals as goal
 
 pub returns-in_err-take_journal-clause-value : goal.returns-in_err-take_journal-clause-value
@@ -44,3 +44,10 @@ returns-clause-value g c = λ files known.
       ap (λ o. reading o (λ input. of_text journal (files journal) (λ text. accepted (record { input = input; journal = text })))) (c.in_ok-ready.ensures.value files known) ∙ ap (λ (held : Option (List ℕ)). of_text journal held (λ text. accepted (record { input = i; journal = text }))) found.1,
       found.2,
     )
+
+pub returns-clause-some : goal.returns-clause-some
+returns-clause-some g c =
+    let ready = c.in_ok-ready.ready in
+    let new = c.take_journal.new.reader in
+    let run = subst (λ (j : Journal). IsSameRun j new.journal) (ap (λ (x : ReaderValue). x.journal) c.in-Ok-Ok.ensures.begins) c.in_ok-take_journal.ensures.same in
+    verdict_some ready c.in_ok-ready.ensures.ready c.in_ok-ready.ensures.unchanged c.in-Ok-Ok.ensures.judges new c.verdict.result run c.verdict.ensures.holds c.verdict.ensures.stays

@@ -9,8 +9,9 @@ use Rattle.rv_tool.specs.Ready.{ready_value}
 use Rattle.rv_tool.specs.Runs.{Prints, PrintsSession}
 use Rattle.rv_tool.specs.Sessions.{control_in, IsSession}
 use Rattle.rv_tool.specs.SessionValues.{session_value}
-use Rattle.rv_tool.specs.HeaderFiles.{header_in}
-use Rattle.rv_tool.specs.Tables.{table_in}
+use Rattle.rv_tool.specs.HeaderFiles.{header_text, header_in}
+use Rattle.rv_tool.specs.SomeTexts.{IsOfSomeText}
+use Rattle.rv_tool.specs.Tables.{table_text, table_in}
 use Rattle.rv_tool.specs.Untold.{Among}
 use Rattle.rv_tool.specs.Verdicts.{HasOneVerdict, ReportsOne, ReportsVerdicts}
 use Rattle.rv_tool.specs.Checks.{checked_input}
@@ -152,7 +153,7 @@ returns-in-Some-Journal-clause-untold g c =
 pub returns-in-Some-Check-clause-untold : goal.returns-in-Some-Check-clause-untold
 returns-in-Some-Check-clause-untold g c =
     words_untold _ _ _ _ _ _ _ _ (g.S.Store.files c.args.store.now) _ _ (sym (ap (λ v. Some (command_value v)) c.in-Some-Check.field-0-is) ∙ c.in-Some-Check.ensures.value)
-    (judged_somehow _ _ _ _ _ _ (λ files. checked_input files _ _ _) (g.S.Store.files c.args.store.now) _ _ c.read_verdict.result c.read_verdict.ensures.value c.tell_verdict.ensures)
+    (judged_somehow _ _ _ _ _ _ (λ files. checked_input files _ _ _) (g.S.Store.files c.args.store.now) _ _ c.read_verdict.result c.read_verdict.ensures.value c.read_verdict.ensures.some c.tell_verdict.ensures)
 
 pub returns-in-Some-Watch-clause-untold : goal.returns-in-Some-Watch-clause-untold
 returns-in-Some-Watch-clause-untold g c =
@@ -173,9 +174,11 @@ returns-in-Some-Load-clause-untold g c =
 pub returns-in-Some-Table-clause-untold : goal.returns-in-Some-Table-clause-untold
 returns-in-Some-Table-clause-untold g c =
     words_untold _ _ _ _ _ _ _ _ (g.S.Store.files c.args.store.now) _ _ (sym (ap (λ v. Some (command_value v)) c.in-Some-Table.field-0-is) ∙ c.in-Some-Table.ensures.value)
-    (read_somehow _ _ _ _ _ _ (λ text. text.items) Prints (λ files. table_in files _ _) (g.S.Store.files c.args.store.now) _ _ c.read_table.result c.read_table.ensures.value c.print.ensures)
+    (read_somehow _ _ _ _ _ _ (λ text. text.items) (Among (IsOfSomeText (table_text _)) Prints) (λ files. table_in files _ _) (g.S.Store.files c.args.store.now) _ _ c.read_table.result c.read_table.ensures.value
+    (ends_among _ _ _ _ _ _ (λ text. text.items) (IsOfSomeText (table_text _)) Prints c.read_table.result c.read_table.ensures.some c.print.ensures))
 
 pub returns-in-Some-Header-clause-untold : goal.returns-in-Some-Header-clause-untold
 returns-in-Some-Header-clause-untold g c =
     words_untold _ _ _ _ _ _ _ _ (g.S.Store.files c.args.store.now) _ _ (sym (ap (λ v. Some (command_value v)) c.in-Some-Header.field-0-is) ∙ c.in-Some-Header.ensures.value)
-    (read_somehow _ _ _ _ _ _ (λ text. text.items) Prints (λ files. header_in files _ _) (g.S.Store.files c.args.store.now) _ _ c.read_header.result c.read_header.ensures.value c.print-in-Some-Header.ensures)
+    (read_somehow _ _ _ _ _ _ (λ text. text.items) (Among (IsOfSomeText (header_text _)) Prints) (λ files. header_in files _ _) (g.S.Store.files c.args.store.now) _ _ c.read_header.result c.read_header.ensures.value
+    (ends_among _ _ _ _ _ _ (λ text. text.items) (IsOfSomeText (header_text _)) Prints c.read_header.result c.read_header.ensures.some c.print-in-Some-Header.ensures))
