@@ -10,7 +10,7 @@ use Rattle.rv_bind.specs.declared.fault.BindFault.{BindFault}
 use Rattle.rv_bind.specs.declared.fault.BindFault.TheVariants as faults
 use Rattle.rv_bind.specs.Outcomes.{Outcome, accepted, refused, missing, reading, of_text, of_name, without, Names}
 use Rattle.rv_bind.proofs.ReachedLemmas.{step_named, behind_named}
-use Rattle.rv_tool.specs.Checks.{CheckedValue, checked_input, judged, IsJudged, verdict_text, verdict_status, IsCheckReport, Checks, JudgesRead}
+use Rattle.rv_tool.specs.Checks.{CheckedValue, checked_input, IsJudged, verdict_text, verdict_status, IsCheckReport, Checks, JudgesRead}
 use Rattle.rv_tool.specs.Faults.{FaultComes, FaultNames}
 use Rattle.rv_tool.specs.Feeding.{FedOf, IsFed, PieceIn, IsPieceOf}
 use Rattle.rv_tool.specs.Headline.{Says, Ends}

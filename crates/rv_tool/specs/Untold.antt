@@ -29,7 +29,7 @@ EndsSomehow {Y} Accepted first last old new before now status h =
 abbrev pub Among : {Y : Type 0} → (Y → Type 0) → (Y → Ending) → Y → Ending
 Among Is Accepted y old new before now status h = Is y × Accepted y old new before now status h
 
--- by what the words ask for: a report is one of some input, and words that are no command and the generated input are answered as on any store
+-- by what the words ask for: a report is one of some input, a verdict of some journal, a table of some text, and a session of some bindings and script; words that are no command and the generated input are answered as on any store
 abbrev pub AnswersUntold : Option CommandValue → ℕ → ℕ → Ending
 AnswersUntold None first last = Says (refusal_text None (record { number = USAGE; line = 0 })) 2
 AnswersUntold (Some (replay bindings trace)) first last = EndsSomehow ReportsOne first last
