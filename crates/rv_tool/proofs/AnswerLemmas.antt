@@ -38,7 +38,7 @@ module _ (old new : Option (List ℕ)) (before now status : ℕ) (h : List Entry
         → (files : Files) → told ≡ Some files → AnswersBy Accepted outcome files first last old new before now status h
     read_answers told first last (Ok x) comes named ends files known = inl (subst (λ (o : Outcome Y). Ends Accepted o old new before now status h) (sym (comes files known)) ends)
     read_answers told first last (Err faults.Memory) comes named ends files known = inl (gives_up (outcome files) ends)
-    read_answers told first last (Err (faults.Refused file refusal)) comes named ends files known = inl (subst (λ (o : Outcome Y). Ends Accepted o old new before now status h) (sym (comes files known)) ends)
+    read_answers told first last (Err (faults.Refused file refusal)) comes named ends files known = inl (subst (λ (o : Outcome Y). Ends Accepted o old new before now status h) (sym (comes.1 files known)) ends)
     read_answers told first last (Err (faults.Unread file)) (inl lacks) named ends files known =
         let both : Some lacks.0 ≡ Some files = sym lacks.1 ∙ known in
         let same : lacks.0 ≡ files = cc in

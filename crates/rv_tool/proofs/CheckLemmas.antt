@@ -30,7 +30,7 @@ rose_wider before mid now le (inr end) = inr end
 -- a fault of a later moment
 pub shifted_comes : {Y : Type 0} (outcome : Files → Outcome Y) (told later : Option Files) (before mid now : ℕ) (fault : BindFault) → later ≡ told → before ≤ mid → FaultComes later mid now fault outcome → FaultComes told before now fault outcome
 shifted_comes outcome told later before mid now faults.Memory same le comes = tt
-shifted_comes outcome told later before mid now (faults.Refused file refusal) same le comes = λ files known. comes files (same ∙ known)
+shifted_comes outcome told later before mid now (faults.Refused file refusal) same le comes = (comes.0, λ files known. comes.1 files (same ∙ known))
 shifted_comes outcome told later before mid now (faults.Unread file) same le (inl lacks) = inl (lacks.0, sym same ∙ lacks.1, lacks.2)
 shifted_comes outcome told later before mid now (faults.Unread file) same le (inr rose) = inr (rose_wider before mid now le rose)
 
@@ -64,7 +64,7 @@ module _ (told : Option Files) where
   -- a fault of a file that is read in pieces is that of its whole text
   pub whole_comes : (name : List ℕ) (before now : ℕ) (fault : BindFault) → FaultComes told before now fault (λ files. of_name files name accepted) → FaultComes told before now fault (λ files. of_text name (files name) accepted)
   whole_comes name before now faults.Memory comes = tt
-  whole_comes name before now (faults.Refused file refusal) comes = λ files known. go (files name) (comes files known)
+  whole_comes name before now (faults.Refused file refusal) comes = (comes.0, λ files known. go (files name) (comes.1 files known))
     where
       go : (held : Option (List ℕ)) → of_text name (option_map front_read held) accepted ≡ refused file refusal → of_text name held accepted ≡ refused file refusal
       go None e = e
@@ -110,7 +110,7 @@ module _ (told : Option Files) (bindings trace journal : List ℕ) (i : InputVal
   -- a fault of the journal
   pub checked_comes : (before now : ℕ) (fault : BindFault) → FaultComes told before now fault (λ files. of_text journal (files journal) accepted) → FaultComes told before now fault (λ files. checked_input files bindings trace journal)
   checked_comes before now faults.Memory comes = tt
-  checked_comes before now (faults.Refused file refusal) comes = λ files known. read_on files known ∙ ap (λ o. reading o (with_journal i)) (comes files known)
+  checked_comes before now (faults.Refused file refusal) comes = (comes.0, λ files known. read_on files known ∙ ap (λ o. reading o (with_journal i)) (comes.1 files known))
   checked_comes before now (faults.Unread file) (inl lacks) = inl (lacks.0, lacks.1, read_on lacks.0 lacks.1 ∙ ap (λ o. reading o (with_journal i)) lacks.2)
   checked_comes before now (faults.Unread file) (inr rose) = inr rose
 

@@ -20,5 +20,5 @@ module _ (told : Option Files) (trace text : List ℕ) (bound : BoundValue) (rea
   pub routed_comes : {X : Type 0} (view : X → RoutedValue) (before now : ℕ) (result : Result X BindFault) → Tells view result (routed_text trace bound text) → Comes view told before now result (λ files. routed_in files trace bound)
   routed_comes view before now (Ok x) tells = λ files known. whole_text files known ∙ tells
   routed_comes view before now (Err faults.Memory) tells = tt
-  routed_comes view before now (Err (faults.Refused file refusal)) tells = λ files known. whole_text files known ∙ tells
+  routed_comes view before now (Err (faults.Refused file refusal)) tells = (tells.0, λ files known. whole_text files known ∙ tells.1)
   routed_comes view before now (Err (faults.Unread file)) tells = absurd tells

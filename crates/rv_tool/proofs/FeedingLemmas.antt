@@ -23,6 +23,7 @@ use Rattle.rv_tool.specs.Faults.{IsFaultIn, FaultComes, FaultNames}
 use Rattle.rv_tool.specs.Feeding.{FedOf, IsFed, IsAll, PieceIn, IsPieceOf}
 use Rattle.rv_tool.specs.Inputs.{routed_text, routed_in}
 use Rattle.rv_tool.proofs.FrontLemmas.{front_refused}
+use Rattle.rv_tool.proofs.NumberLemmas.{refusal_numbered, trace_numbered}
 
 -- the bytes of a piece stand at the front
 piece_front : (bytes : List ℕ) (from : ℕ) (old new : List ℕ) (count : ℕ) → IsPiece bytes from old new count → take count new ≡ take count (drop from bytes)
@@ -106,8 +107,10 @@ module _ (told : Option Files) where
       → Refuses fault (trace_of (part_read false (fed ++ take count new))) → IsFaultIn trace fault given → FaultComes told before now given (λ files. routed_in files trace bound)
   refused-comes trace bound place count fed old new before now refuseds.Memory given low is piece refuses said = rw said tt
   refused-comes trace bound place count fed old new before now (refuseds.Because refusal) faults.Memory low is piece refuses said = tt
-  refused-comes trace bound place count fed old new before now (refuseds.Because refusal) (faults.Refused named told_refusal) low is piece refuses said =
-      λ files known. piece_refused trace bound (files trace) place count fed old new refusal low (is files known) (piece files known) refuses ∙ (λ i. refused (sym said.0 i) (sym said.1 i))
+  refused-comes trace bound place count fed old new before now (refuseds.Because refusal) (faults.Refused named told_refusal) low is piece refuses said = (
+    rw said.1 (refusal_numbered (trace_of (part_read false (fed ++ take count new))) refusal (trace_numbered (part_read false (fed ++ take count new))) refuses),
+    λ files known. piece_refused trace bound (files trace) place count fed old new refusal low (is files known) (piece files known) refuses ∙ (λ i. refused (sym said.0 i) (sym said.1 i)),
+  )
   refused-comes trace bound place count fed old new before now (refuseds.Because refusal) (faults.Unread named) low is piece refuses said = absurd said
 
   -- a refusal names no unread file

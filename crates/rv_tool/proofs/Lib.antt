@@ -9,6 +9,7 @@ pub mod FrontLemmas
 pub mod GrowingTexts
 pub mod JudgedLemmas
 pub mod NamedLemmas
+pub mod NumberLemmas
 pub mod NumberedLemmas
 pub mod OneLemmas
 pub mod PiecesLemmas

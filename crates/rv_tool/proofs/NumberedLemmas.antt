@@ -14,7 +14,7 @@ use Rattle.rv_text.specs.Readings.{refused_with}
 use Rattle.rv_bind.specs.declared.fault.BindFault.{BindFault}
 use Rattle.rv_bind.specs.declared.fault.BindFault.TheVariants as faults
 use Rattle.rv_bind.specs.Values.{OnValue}
-use Rattle.rv_bind.specs.Outcomes.{Names, of_file, refused, IsFaultOf}
+use Rattle.rv_bind.specs.Outcomes.{Names, of_file, refused, IsRefusal, IsFaultOf}
 use Rattle.rv_bind.proofs.ReachedLemmas.{step_named}
 use Rattle.rv_feed.specs.Lane.{is_panic_reactor}
 use Rattle.rv_shown.specs.Numbered.{atom_count, IsNarrowMonitor, IsNumbered}
@@ -89,10 +89,10 @@ numbered_so monitors tables false so = go (are_narrow monitors tables) refl
     go true e = let no : false ≡ true = so.1 (numbered_by monitors tables e) in absurd (cc)
 
 -- a refusal of the bindings is what is told of it
-refused_told : (bindings : List ℕ) (refusal : Refusal) (fault : BindFault) → IsFaultOf fault bindings refusal → Tells ready_value (Err fault) (of_file bindings (Err refusal))
-refused_told bindings refusal faults.Memory is = tt
-refused_told bindings refusal (faults.Refused named given) is = λ i. refused (sym is.0 i) (sym is.1 i)
-refused_told bindings refusal (faults.Unread named) is = absurd is
+refused_told : (bindings : List ℕ) (refusal : Refusal) (fault : BindFault) → IsRefusal refusal → IsFaultOf fault bindings refusal → Tells ready_value (Err fault) (of_file bindings (Err refusal))
+refused_told bindings refusal faults.Memory numbered is = tt
+refused_told bindings refusal (faults.Refused named given) numbered is = (rw is.1 numbered, λ i. refused (sym is.0 i) (sym is.1 i))
+refused_told bindings refusal (faults.Unread named) numbered is = absurd is
 
 module _ (ready : Ready) (given : List Monitor) (had : List Table) (told : Bool) (rules : List OnValue) (ends : Bool)
     (given_are : given ≡ ready.bindings.monitors.items) (had_are : had ≡ ready.setup.tables) (rules_are : rules ≡ ready.bindings.rules.items)
@@ -131,7 +131,7 @@ module _ (ready : Ready) (given : List Monitor) (had : List Table) (told : Bool)
   -- and else it is refused
   pub not_told : (bindings : List ℕ) (fault : BindFault) → (told && not ends) ≡ false → IsFaultOf fault bindings (record { number = NOT_NUMBERED; line = 0 }) → Tells ready_value (Err fault) (of_file bindings (numbered (ready_value ready)))
   not_told bindings fault off is =
-      subst (λ (r : Result InputValue Refusal). Tells ready_value (Err fault) (of_file bindings r)) (sym (number_is false off)) (refused_told bindings (record { number = NOT_NUMBERED; line = 0 }) fault is)
+      subst (λ (r : Result InputValue Refusal). Tells ready_value (Err fault) (of_file bindings r)) (sym (number_is false off)) (refused_told bindings (record { number = NOT_NUMBERED; line = 0 }) fault (omega arith, omega arith) is)
 
 -- ---- what a reading comes to
 

@@ -35,7 +35,7 @@ module _ (told : Option Files) (kind : Kind) (file text : List ℕ) (read : (fil
   pub table_comes : {X : Type 0} (view : X → List ℕ) (before now : ℕ) (result : Result X BindFault) → Tells view result (of_file file (table_text kind text)) → Comes view told before now result (λ files. table_in files kind file)
   table_comes view before now (Ok x) tells = λ files known. read_whole files known ∙ tells
   table_comes view before now (Err faults.Memory) tells = tt
-  table_comes view before now (Err (faults.Refused named refusal)) tells = λ files known. read_whole files known ∙ tells
+  table_comes view before now (Err (faults.Refused named refusal)) tells = (tells.0, λ files known. read_whole files known ∙ tells.1)
   table_comes view before now (Err (faults.Unread named)) tells = absurd tells
 
 -- an unread file is the whole's fault

@@ -1,6 +1,7 @@
 -- From how the parts of a run end to what the top call answers on a store that tells no files.
-use Rattle.std.proofs.Common.{◌≡◌, ℕ, List, [], inl, inr, subst}
+use Rattle.std.proofs.Common.{◌≡◌, ℕ, List, [], inl, inr, subst, arith}
 use Rattle.std.specs.Prelude.{Option, Some, None, Result, Ok, Err, IfOk}
+use Rattle.rv_text.specs.declared.numbers.TheConstants.{USAGE}
 use Rattle.rv_model.specs.declared.entry.Entry.{Entry}
 use Rattle.rv_io.specs.Files.{Files}
 use Rattle.rv_bind.specs.declared.fault.BindFault.{BindFault}
@@ -18,8 +19,8 @@ module _ (old new : Option (List ℕ)) (before now status : ℕ) (h : List Entry
   -- a fault of reading a store that tells no files
   fault_ends : {X Y Z : Type 0} (view : X → Y) (Accepted : Z → Ending) (outcome : Files → Outcome Y) (told : Option Files) (first last : ℕ) → told ≡ None → (fault : BindFault)
       → Comes view told first last (Err fault) outcome → Fails fault old new before now status h → EndsSomehow Accepted first last old new before now status h
-  fault_ends view Accepted outcome told first last none faults.Memory comes up = inr (inl ([], record { number = 0; line = 0 }, inr up))
-  fault_ends view Accepted outcome told first last none (faults.Refused file refusal) comes says = inr (inl (file, refusal, says))
+  fault_ends view Accepted outcome told first last none faults.Memory comes up = inr (inl ([], record { number = USAGE; line = 0 }, (omega arith, omega arith), inr up))
+  fault_ends view Accepted outcome told first last none (faults.Refused file refusal) comes says = inr (inl (file, refusal, comes.0, says))
   fault_ends view Accepted outcome told first last none (faults.Unread file) (inl lacks) says = absurd (let both : Some lacks.0 ≡ None = rw (← lacks.1) none in cc)
   fault_ends view Accepted outcome told first last none (faults.Unread file) (inr rose) says = inr (inr (rose, file, says))
 

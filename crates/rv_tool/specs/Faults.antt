@@ -5,18 +5,18 @@ use Rattle.rv_text.specs.declared.refusals.Refused.{Refused}
 use Rattle.rv_text.specs.declared.refusals.Refused.TheVariants as refuseds
 use Rattle.rv_bind.specs.declared.fault.BindFault.{BindFault}
 use Rattle.rv_bind.specs.declared.fault.BindFault.TheVariants as faults
-use Rattle.rv_bind.specs.Outcomes.{Outcome, accepted, refused, IsFaultOf, Comes, Names}
+use Rattle.rv_bind.specs.Outcomes.{Outcome, accepted, refused, IsRefusal, IsFaultOf, Comes, Names}
 
 -- the refusal with its file, or want of memory
 abbrev pub IsFaultIn : List ℕ → Refused → BindFault → Type 0
 IsFaultIn file refuseds.Memory fault = fault ≡ faults.Memory
 IsFaultIn file (refuseds.Because refusal) fault = IsFaultOf fault file refusal
 
--- what was answered is the outcome, unless memory ran out
+-- what was answered is the outcome, unless memory ran out; a refusal has one of the numbers
 abbrev pub Tells : {X Y : Type 0} → (X → Y) → Result X BindFault → Outcome Y → Type 0
 Tells view (Ok x) outcome = outcome ≡ accepted (view x)
 Tells view (Err faults.Memory) outcome = Unit {0}
-Tells view (Err (faults.Refused file refusal)) outcome = outcome ≡ refused file refusal
+Tells view (Err (faults.Refused file refusal)) outcome = IsRefusal refusal × (outcome ≡ refused file refusal)
 Tells view (Err (faults.Unread file)) outcome = ⊥
 
 -- a fault of a reading, by what it comes to on what the store tells

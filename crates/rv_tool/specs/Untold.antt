@@ -3,6 +3,7 @@ use Rattle.std.specs.Prelude.{◌⊎◌, ℕ, List, Option, Some, None}
 use Rattle.rv_text.specs.declared.numbers.TheConstants.{USAGE}
 use Rattle.rv_text.specs.declared.refusals.Refusal.{Refusal}
 use Rattle.rv_io.specs.Files.{Rose}
+use Rattle.rv_bind.specs.Outcomes.{IsRefusal}
 use Rattle.rv_model.specs.Histories.{IsLegal}
 use Rattle.rv_tool.specs.Checks.{Checks}
 use Rattle.rv_tool.specs.HeaderFiles.{header_text}
@@ -18,11 +19,11 @@ use Rattle.rv_tool.specs.Verdicts.{ReportsOne, ReportsVerdicts}
 use Rattle.rv_tool.specs.WatchReports.{Watches}
 use Rattle.rv_tool.specs.Words.{CommandValue, replay, feed, feed_beside, journal, check, watch, table, header, control, load}
 
--- something was accepted and ends in its own way, or a refusal of a file is said; or the store's count of faults rose, and a file is said to be unread
+-- something was accepted and ends in its own way, or a refusal of a file is said, by one of the refusals' numbers; or the store's count of faults rose, and a file is said to be unread
 abbrev pub EndsSomehow : {Y : Type 0} → (Y → Ending) → ℕ → ℕ → Ending
 EndsSomehow {Y} Accepted first last old new before now status h =
     ((y : Y) × Accepted y old new before now status h)
-    ⊎ ((file : List ℕ) × (refusal : Refusal) × Says (refusal_text (Some file) refusal) 2 old new before now status h)
+    ⊎ ((file : List ℕ) × (refusal : Refusal) × IsRefusal refusal × Says (refusal_text (Some file) refusal) 2 old new before now status h)
     ⊎ (Rose first last × (file : List ℕ) × Says (missing_text file) 3 old new before now status h)
 
 -- it is one of these, and ends in its own way

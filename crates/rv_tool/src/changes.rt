@@ -80,6 +80,7 @@ fn changes_of(
 }
 
 /// The changes of the text of a script.
+#[tactic(auto, using(crate::proofs::NumberLemmas::changes_numbered, crate::proofs::NumberLemmas::fault_tells))]
 fn changes_in_text(
     alloc: Global,
     script: &str,

@@ -25,6 +25,7 @@ fn header_text(alloc: Global, name: &str, bytes: &[u8]) -> Result<Vec<u8>, Refus
 }
 
 /// The same, with the file in its fault.
+#[tactic(auto, using(crate::proofs::NumberLemmas::header_numbered, crate::proofs::NumberLemmas::fault_tells))]
 fn named_header(alloc: Global, name: &str, file: &str, bytes: &[u8]) -> Result<Vec<u8>, BindFault>
     requires { is_header_name name.now ≡ true }
     ensures { Tells (λ text. text.items) result (of_file file.now (header_text name.now bytes.now)) }

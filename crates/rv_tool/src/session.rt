@@ -108,6 +108,7 @@ fn run_commands(
 }
 
 /// The commands of a script.
+#[tactic(auto, using(crate::proofs::NumberLemmas::script_numbered, crate::proofs::NumberLemmas::fault_tells))]
 pub(crate) fn commands_in(
     alloc: Global,
     script: &str,

@@ -56,6 +56,7 @@ fn table_text(alloc: Global, kind: Kind, bytes: &[u8]) -> Result<Vec<u8>, Refuse
 }
 
 /// The same, with the file in its fault.
+#[tactic(auto, using(crate::proofs::NumberLemmas::table_numbered, crate::proofs::NumberLemmas::fault_tells))]
 fn named_text(alloc: Global, kind: Kind, name: &str, bytes: &[u8]) -> Result<Vec<u8>, BindFault>
     ensures { Tells (λ text. text.items) result (of_file name.now (table_text kind bytes.now)) }
 {

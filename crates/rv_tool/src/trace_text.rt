@@ -191,6 +191,7 @@ pub(crate) fn read_routed<S: Store>(
 }
 
 /// What the whole trace is routed to.
+#[tactic(auto, using(crate::proofs::NumberLemmas::routed_numbered, crate::proofs::NumberLemmas::fault_tells))]
 fn end_routing(
     alloc: Global,
     name: &str,

@@ -1,0 +1,139 @@
+-- Every refusal of a trace, a script, a table, C tables and a watched slot has one of the refusals' numbers.
+use Rattle.std.proofs.Common.{◌≡◌, ℕ, List, [], ◌∷◌, subst, ap, arith}
+use Rattle.std.specs.Prelude.{Option, Result, Ok, Err, IfErr}
+use Rattle.rv_text.specs.declared.refusals.Refusal.{Refusal}
+use Rattle.rv_text.specs.declared.refusals.Refused.{Refused}
+use Rattle.rv_text.specs.declared.refusals.Refused.TheVariants as refuseds
+use Rattle.rv_text.specs.Readings.{Refuses, and_then}
+use Rattle.rv_text.specs.TextLines.{LineText, lines_of}
+use Rattle.rv_model.specs.declared.work.Change.{Change}
+use Rattle.rv_model.specs.Machine.{Machine}
+use Rattle.rv_trace.specs.declared.line.TraceLine.{TraceLine}
+use Rattle.rv_trace.specs.Lines.{said, line_of}
+use Rattle.rv_trace.specs.Traces.{reading_of, all_read, trace_of}
+use Rattle.rv_bind.specs.declared.bindings.Monitor.{Monitor}
+use Rattle.rv_bind.specs.declared.fault.BindFault.{BindFault}
+use Rattle.rv_bind.specs.declared.fault.BindFault.TheVariants as faults
+use Rattle.rv_bind.specs.Values.{OnValue}
+use Rattle.rv_bind.specs.Outcomes.{IsRefusal, of_file}
+use Rattle.rv_bind.proofs.NumberLemmas.{then_numbered, dot_numbered, ltl_numbered, normal_numbered, tableau_numbered}
+use Rattle.rv_route.specs.Asking.{ask_of}
+use Rattle.rv_route.specs.Routing.{Routes, answer, line_routes, routes_of, route_of, nothing}
+use Rattle.rv_control.specs.declared.script.Numbered.{Numbered}
+use Rattle.rv_control.specs.Trees.{Tree}
+use Rattle.rv_control.specs.Scripts.{line_said, all_said, script_of}
+use Rattle.rv_header.specs.HeaderText.{header_of}
+use Rattle.rv_tool.specs.declared.words.Kind.{Kind}
+use Rattle.rv_tool.specs.declared.words.Kind.TheVariants as kinds
+use Rattle.rv_tool.specs.Changes.{asked, asked_in, in_line, changes_of}
+use Rattle.rv_tool.specs.Faults.{IsFaultIn, Tells}
+use Rattle.rv_tool.specs.HeaderFiles.{header_text}
+use Rattle.rv_tool.specs.Inputs.{InputValue}
+use Rattle.rv_tool.specs.Tables.{rule_text, table_text}
+use Rattle.rv_tool.specs.Watched.{watched_by}
+
+-- ---- what is read of a text
+
+-- the refusal of a reading
+pub refusal_numbered : {X : Type 0} (read : Result X Refusal) (refusal : Refusal) → IfErr read IsRefusal → read ≡ Err refusal → IsRefusal refusal
+refusal_numbered {X} read refusal numbered is = subst (λ (r : Result X Refusal). IfErr r IsRefusal) is numbered
+
+-- a reader's refusal is what its file's text comes to
+pub fault_tells : {Y : Type 0} (file : List ℕ) (read : Result Y Refusal) (fault : Refused) (given : BindFault) → IfErr read IsRefusal → Refuses fault read → IsFaultIn file fault given → Tells {X = Y} (λ y. y) (Err given) (of_file file read)
+fault_tells file read refuseds.Memory given numbered refuses is = rw is tt
+fault_tells file read (refuseds.Because refusal) faults.Memory numbered refuses is = tt
+fault_tells file read (refuseds.Because refusal) (faults.Unread named) numbered refuses is = absurd is
+fault_tells file read (refuseds.Because refusal) (faults.Refused named told) numbered refuses is = rw (is.0, is.1) (refusal_numbered read refusal numbered refuses, ap (of_file file) refuses)
+
+-- ---- traces
+
+-- what a line says
+line_numbered : (text : List ℕ) (from number : ℕ) → IfErr (line_of text from number) IsRefusal
+unfolding line_of said
+line_numbered text from number = grind arith
+
+-- a line that ends in time
+reading_numbered : (line : LineText) → IfErr (reading_of line) IsRefusal
+unfolding reading_of
+reading_numbered line = grind (arith, line_numbered)
+
+-- the lines
+lines_numbered : (lines : List LineText) → IfErr (all_read lines) IsRefusal
+unfolding all_read
+lines_numbered [] = tt
+lines_numbered (line ∷ later) = then_numbered (reading_of line) _ (reading_numbered line) (λ read. then_numbered (all_read later) _ (lines_numbered later) (λ more. tt))
+
+-- the trace of a text
+pub trace_numbered : (text : List ℕ) → IfErr (trace_of text) IsRefusal
+unfolding trace_of
+trace_numbered text = lines_numbered (lines_of text)
+
+-- what a rule does
+answer_numbered : (text : List ℕ) (line : TraceLine) (monitors : List Monitor) (rule : OnValue) (routes : Routes) → IfErr (answer routes line rule (ask_of text line monitors rule)) IsRefusal
+answer_numbered text line monitors rule routes = grind arith
+
+-- the rules on one line
+rules_numbered : (text : List ℕ) (line : TraceLine) (monitors : List Monitor) (rules : List OnValue) (routes : Routes) → IfErr (line_routes text line monitors rules routes) IsRefusal
+unfolding line_routes
+rules_numbered text line monitors [] routes = tt
+rules_numbered text line monitors (rule ∷ rules) routes =
+    then_numbered (answer routes line rule (ask_of text line monitors rule)) _ (answer_numbered text line monitors rule routes) (rules_numbered text line monitors rules)
+
+-- the rules on the lines
+routes_numbered : (text : List ℕ) (monitors : List Monitor) (rules : List OnValue) (lines : List TraceLine) (routes : Routes) → IfErr (routes_of text monitors rules lines routes) IsRefusal
+unfolding routes_of
+routes_numbered text monitors rules [] routes = tt
+routes_numbered text monitors rules (line ∷ lines) routes =
+    then_numbered (line_routes text line monitors rules routes) _ (rules_numbered text line monitors rules routes) (routes_numbered text monitors rules lines)
+
+-- what a trace is routed to
+pub route_numbered : (monitors : List Monitor) (rules : List OnValue) (text : List ℕ) (lines : List TraceLine) → IfErr (route_of monitors rules text lines) IsRefusal
+unfolding route_of
+route_numbered monitors rules text lines = grind (arith, routes_numbered text monitors rules lines nothing)
+
+-- a trace and what it is routed to
+pub routed_numbered : (monitors : List Monitor) (rules : List OnValue) (text : List ℕ) → IfErr (and_then (trace_of text) (route_of monitors rules text)) IsRefusal
+routed_numbered monitors rules text = then_numbered (trace_of text) _ (trace_numbered text) (route_numbered monitors rules text)
+
+-- ---- control scripts
+
+-- the commands of lines
+commands_numbered : (lines : List LineText) → IfErr (all_said lines) IsRefusal
+unfolding all_said
+commands_numbered [] = tt
+commands_numbered (line ∷ later) = then_numbered (line_said line) _ (grind arith) (λ commands. then_numbered (all_said later) _ (commands_numbered later) (λ more. tt))
+
+-- the commands of a script
+pub script_numbered : (text : List ℕ) → IfErr (script_of text) IsRefusal
+unfolding script_of
+script_numbered text = commands_numbered (lines_of text)
+
+-- what a command asks of a run
+asked_numbered : (tree : Tree) (n : Numbered) → IfErr (asked_in tree n) IsRefusal
+asked_numbered tree n = placed (asked tree n.command) (grind arith)
+  where
+    placed : (read : Result (Tree × Change) Refusal) → IfErr read IsRefusal → IfErr (in_line n.line read) IsRefusal
+    placed (Ok done) numbered = tt
+    placed (Err refusal) numbered = numbered
+
+-- what a script asks of a run
+pub changes_numbered : (tree : Tree) (commands : List Numbered) → IfErr (changes_of tree commands) IsRefusal
+unfolding changes_of
+changes_numbered tree [] = tt
+changes_numbered tree (n ∷ ns) = then_numbered (asked_in tree n) _ (asked_numbered tree n) (λ done. then_numbered (changes_of done.0 ns) _ (changes_numbered done.0 ns) (λ changes. tt))
+
+-- ---- specifications, and a watched slot
+
+-- the printed table of a specification
+pub table_numbered : (kind : Kind) (bytes : List ℕ) → IfErr (table_text kind bytes) IsRefusal
+table_numbered kinds.Da bytes = then_numbered _ _ (dot_numbered bytes) (λ automaton. tt)
+table_numbered kinds.Ltl bytes =
+    then_numbered _ rule_text (ltl_numbered bytes) (λ rule. then_numbered _ _ (normal_numbered rule.formula) (λ parts. then_numbered _ _ (tableau_numbered parts) (λ table. tt)))
+
+-- the C tables of an automaton
+pub header_numbered : (name bytes : List ℕ) → IfErr (header_text name bytes) IsRefusal
+header_numbered name bytes = then_numbered _ (header_of name) (dot_numbered bytes) (λ (automaton : Machine). grind arith)
+
+-- a slot that is watched
+pub watched_numbered : (input : InputValue) (slot : Option ℕ) → IfErr (watched_by input slot) IsRefusal
+watched_numbered input slot = grind arith
