@@ -1,10 +1,10 @@
 //! An example: a folder with bindings, a trace, and the report that they come to.
 
 use crate::fault::Fault;
+use crate::outcome::is_outcome;
 use crate::words::joined;
-use rv_io::{Disk, MemSink, OpenGate, Store};
+use rv_io::{Disk, Store};
 use rv_text::{Words, decimal};
-use rv_tool::rv;
 use std::alloc::Global;
 use std::fs::Files;
 use std::thread::Threads;
@@ -24,8 +24,13 @@ pub(crate) fn run<R: Files + Threads + Sync>(
     words.push(joined(alloc, &["examples/", name, "/", name, ".txt"])?)?;
     let report = joined(alloc, &["examples/", name, "/report.txt"])?;
     let mut disk = Disk::new(rt);
-    let wanted = disk.read(alloc, report.as_str())?;
-    let mut out = MemSink::new(alloc, 4096, 1_048_576)?;
-    let finished = rv(rt, alloc, words.as_slice(), &mut disk, &mut out, &OpenGate);
-    Ok(finished.status as u64 == status && out.taken() == wanted.as_slice())
+    let report = disk.read(alloc, report.as_str())?;
+    is_outcome(
+        rt,
+        alloc,
+        words.as_slice(),
+        &mut disk,
+        status,
+        report.as_slice(),
+    )
 }

@@ -1,9 +1,13 @@
-//! Runs the stored cases and the examples on the top call, and says which of them differ.
+//! Runs the stored cases, the tables of cases, the examples and the monitors on the top call, and says which of them differ.
 #![tactic(auto)]
 
 mod case;
 mod example;
 mod fault;
+mod marks;
+mod monitor;
+mod outcome;
+mod table;
 mod words;
 
 use crate::fault::Fault;
@@ -15,69 +19,83 @@ use std::io::Print;
 use std::process::ExitCode;
 use std::thread::Threads;
 
-/// Cases by name, one a line.
-const CASES: &str = "cases/list";
-
-/// Examples by name and status, one a line.
-const EXAMPLES: &str = "examples/list";
-
-/// Whether what is named agrees; what cannot be read or run does not.
-fn agrees(outcome: Result<bool, Fault>) -> bool {
-    matches!(outcome, Ok(true))
+/// What a list names, one a line.
+#[derive(Clone, Copy, Debug, Drop)]
+enum Kind {
+    /// A case in a file of its own, by its name.
+    Case,
+    /// A table of cases, by its name.
+    Table,
+    /// An example, by its name and its status.
+    Example,
+    /// A run of a monitor, by its files.
+    Monitor,
 }
 
-/// Says which one differs.
-fn tell<R: Print>(rt: &R, name: &[u8], agreed: bool) -> Result<(), Fault> {
-    if !agreed {
-        println!(rt; "{} differs", std::str::from_utf8(name)?)?;
+/// The file of the list.
+fn list_of(kind: Kind) -> &'static str {
+    match kind {
+        Kind::Case => "cases/list",
+        Kind::Table => "tables/list",
+        Kind::Example => "examples/list",
+        Kind::Monitor => "monitors/list",
     }
-    Ok(())
 }
 
-/// Runs all cases of the list, and counts those that agree.
-fn all_cases<R: Files + Print + Threads + Sync>(
+/// Says which one differs; what cannot be read or run does. The answer is how many agree: one or none.
+pub(crate) fn tell<R: Print>(
+    rt: &R,
+    name: &[u8],
+    outcome: Result<bool, Fault>,
+) -> Result<u32, Fault> {
+    if let Ok(true) = outcome {
+        return Ok(1);
+    }
+    println!(rt; "{} differs", std::str::from_utf8(name)?)?;
+    Ok(0)
+}
+
+/// Runs what a line names, and counts the runs that agree.
+fn run<R: Files + Print + Threads + Sync>(
     rt: &R,
     alloc: Global,
-    list: &[u8],
+    kind: Kind,
+    line: &[u8],
 ) -> Result<u32, Fault> {
-    let mut count: u32 = 0;
-    let mut names = Cursor::new(list);
-    while let Some(name) = names.next_line() {
-        let agreed = agrees(case::run(rt, alloc, name.bytes));
-        tell(rt, name.bytes, agreed)?;
-        if agreed {
-            count = count.saturating_add(1);
-        }
+    match kind {
+        Kind::Case => tell(rt, line, case::run(rt, alloc, line)),
+        Kind::Table => match table::run(rt, alloc, line) {
+            Ok(count) => Ok(count),
+            Err(fault) => tell(rt, line, Err(fault)),
+        },
+        Kind::Example => tell(rt, line, example::run(rt, alloc, line)),
+        Kind::Monitor => tell(rt, line, monitor::run(rt, alloc, line)),
     }
-    Ok(count)
 }
 
-/// Runs all examples of the list, and counts those that agree.
-fn all_examples<R: Files + Print + Threads + Sync>(
+/// Runs all that a list names, and counts the runs that agree.
+fn run_all<R: Files + Print + Threads + Sync>(
     rt: &R,
     alloc: Global,
-    list: &[u8],
+    kind: Kind,
 ) -> Result<u32, Fault> {
+    let list = Disk::new(rt).read(alloc, list_of(kind))?;
     let mut count: u32 = 0;
-    let mut lines = Cursor::new(list);
+    let mut lines = Cursor::new(list.as_slice());
     while let Some(line) = lines.next_line() {
-        let agreed = agrees(example::run(rt, alloc, line.bytes));
-        tell(rt, line.bytes, agreed)?;
-        if agreed {
-            count = count.saturating_add(1);
-        }
+        count = count.saturating_add(run(rt, alloc, kind, line.bytes)?);
     }
     Ok(count)
 }
 
-/// Runs both lists.
+/// Runs all lists.
 fn all<R: Files + Print + Threads + Sync>(rt: &R, alloc: Global) -> Result<(), Fault> {
-    let mut disk = Disk::new(rt);
-    let cases = disk.read(alloc, CASES)?;
-    let examples = disk.read(alloc, EXAMPLES)?;
-    let cases = all_cases(rt, alloc, cases.as_slice())?;
-    let examples = all_examples(rt, alloc, examples.as_slice())?;
-    println!(rt; "{cases} cases and {examples} examples agree")?;
+    let alone = run_all(rt, alloc, Kind::Case)?;
+    let in_tables = run_all(rt, alloc, Kind::Table)?;
+    let examples = run_all(rt, alloc, Kind::Example)?;
+    let monitors = run_all(rt, alloc, Kind::Monitor)?;
+    let cases = alone.saturating_add(in_tables);
+    println!(rt; "{cases} cases, {examples} examples and {monitors} runs of monitors agree")?;
     Ok(())
 }
 

@@ -1,5 +1,5 @@
 use Rattle.std.proofs.Common.{ℕ, length}
-use Rattle.rv_cases.proofs.all_examples.Given as goal
+use Rattle.rv_cases.proofs.marks.pieces.Given as goal
 
 abbrev pub decreases-loop-line : goal.decreases-loop-line
-decreases-loop-line g l = length l.lines
+decreases-loop-line l = length l.lines
