@@ -1,97 +1,61 @@
 //! What no clause says: which call of the store or the sink fails, and with which line or front of the report the run then ends.
-use crate::texts::{BINDINGS, REPORT, TRACE, WIP, first_words};
-use rv_io::{MemSink, MemStore, OpenGate};
-use rv_tool::rv;
+use crate::files::{BINDINGS, REPORT, TRACE, store_of};
+use crate::run;
+use rv_io::{MemSink, OpenGate};
 use std::test::Fail;
 
-/// The files of the first run.
-fn first_files(rt: &HostRuntime) -> Result<MemStore, Fail> {
-    let mut store = MemStore::new(rt.alloc());
-    store.add("wip.rv", BINDINGS.as_bytes())?;
-    store.add("wip.dot", WIP.as_bytes())?;
-    store.add("wip.txt", TRACE.as_bytes())?;
-    Ok(store)
+/// The most bytes that one put takes. The report is nine of them.
+const PIECE: usize = 16;
+
+/// What was put of the text before this put, counted from 1. No put is 0.
+fn put_before(text: &str, put: usize) -> &[u8] {
+    let bytes = text.as_bytes();
+    if put == 0 {
+        return bytes;
+    }
+    let count = PIECE.saturating_mul(put - 1);
+    bytes.get(..count).unwrap_or(bytes)
 }
 
 #[test]
-fn a_failed_read_names_its_file(rt: HostRuntime) -> Result<(), Fail> {
+fn a_failed_call_ends_the_run(rt: HostRuntime) -> Result<(), Fail> {
+    let unread = "rv: cannot read wip.txt\n";
+    // The read or the piece that fails, the most bytes of a piece, the put that fails, the status and the text. No
+    // limit, and no call, are 0. A whole read is one call.
     let cases = [
-        (1, 3, "rv: cannot read wip.rv\n"),
-        (2, 3, "rv: cannot read wip.dot\n"),
-        (3, 3, "rv: cannot read wip.txt\n"),
+        (1, 0, 0, 3, "rv: cannot read wip.rv\n"),
+        (2, 0, 0, 3, "rv: cannot read wip.dot\n"),
+        (3, 0, 0, 3, unread),
         // the piece that shows the end of the trace
-        (4, 3, "rv: cannot read wip.txt\n"),
-        (5, 1, REPORT),
+        (4, 0, 0, 3, unread),
+        (5, 0, 0, 1, REPORT),
+        (0, 1, 0, 1, REPORT),
+        (0, 7, 0, 1, REPORT),
+        (0, 4096, 0, 1, REPORT),
+        (4, 7, 0, 3, unread),
+        (0, 0, 1, 4, REPORT),
+        (0, 0, 2, 4, REPORT),
+        (0, 0, 3, 4, REPORT),
+        (0, 0, 4, 4, REPORT),
+        (0, 0, 5, 4, REPORT),
+        (0, 0, 6, 4, REPORT),
+        (0, 0, 7, 4, REPORT),
+        (0, 0, 8, 4, REPORT),
+        (0, 0, 9, 4, REPORT),
+        (0, 0, 10, 1, REPORT),
     ];
-    let words = first_words(&rt)?;
-    for (call, status, text) in cases {
-        let mut store = first_files(&rt)?;
-        store.fail_at(call)?;
-        let mut out = MemSink::new(rt.alloc(), 16, 512)?;
-        let finished = rv(
-            &rt,
-            rt.alloc(),
-            words.as_slice(),
-            &mut store,
-            &mut out,
-            &OpenGate,
-        );
-        assert_eq!(rt; finished.status, status, "at read {call}");
-        assert_eq!(rt; out.taken(), text.as_bytes(), "at read {call}");
-    }
-    Ok(())
-}
-
-#[test]
-fn pieces_of_any_size_come_to_the_same(rt: HostRuntime) -> Result<(), Fail> {
-    // The most bytes of a piece, the call that fails, the status and the text. A whole read of the trace is one call.
-    let cases = [
-        (1, 1000, 1, REPORT),
-        (7, 1000, 1, REPORT),
-        (4096, 1000, 1, REPORT),
-        (7, 4, 3, "rv: cannot read wip.txt\n"),
-    ];
-    let words = first_words(&rt)?;
-    for (most, call, status, text) in cases {
-        let mut store = first_files(&rt)?;
-        store.cut(most);
-        store.fail_at(call)?;
-        let mut out = MemSink::new(rt.alloc(), 512, 512)?;
-        let finished = rv(
-            &rt,
-            rt.alloc(),
-            words.as_slice(),
-            &mut store,
-            &mut out,
-            &OpenGate,
-        );
-        assert_eq!(rt; finished.status, status, "in pieces of {most}");
-        assert_eq!(rt; out.taken(), text.as_bytes(), "in pieces of {most}");
-    }
-    Ok(())
-}
-
-#[test]
-fn a_failed_put_leaves_the_pieces_before_it(rt: HostRuntime) -> Result<(), Fail> {
-    let report = REPORT.as_bytes();
-    let words = first_words(&rt)?;
-    // The report is nine pieces, so that the tenth put is never made.
-    for earlier in 0..10usize {
-        let count = report.len().min(16 * earlier);
-        let status = if earlier < 9 { 4 } else { 1 };
-        let mut store = first_files(&rt)?;
-        let mut out = MemSink::new(rt.alloc(), 16, 512)?;
-        out.fail_at(earlier as u64 + 1)?;
-        let finished = rv(
-            &rt,
-            rt.alloc(),
-            words.as_slice(),
-            &mut store,
-            &mut out,
-            &OpenGate,
-        );
-        assert_eq!(rt; finished.status, status, "behind {earlier} puts");
-        assert_eq!(rt; out.taken(), &report[..count], "behind {earlier} puts");
+    for (read, most, put, status, text) in cases {
+        let mut store = store_of(rt.alloc(), BINDINGS, TRACE)?;
+        store.fail_at(read)?;
+        if most > 0 {
+            store.cut(most);
+        }
+        let mut out = MemSink::new(rt.alloc(), PIECE, 512)?;
+        out.fail_at(put as u64)?;
+        let words = "replay wip.rv wip.txt";
+        let ended = run(&rt, rt.alloc(), words, &mut store, &mut out, &OpenGate)?;
+        let agrees = ended == status && out.taken() == put_before(text, put);
+        assert!(rt; agrees, "at read {read}, in pieces of {most}, at put {put}");
     }
     Ok(())
 }
@@ -99,24 +63,12 @@ fn a_failed_put_leaves_the_pieces_before_it(rt: HostRuntime) -> Result<(), Fail>
 #[test]
 fn a_long_line_without_a_blank_is_refused(rt: HostRuntime) -> Result<(), Fail> {
     let trace = vec![in rt.alloc(); b'x'; 1_000_000]?;
-    let mut store = MemStore::new(rt.alloc());
-    store.add("wip.rv", BINDINGS.as_bytes())?;
-    store.add("wip.dot", WIP.as_bytes())?;
+    let mut store = store_of(rt.alloc(), BINDINGS, TRACE)?;
     store.add("wip.txt", trace.as_slice())?;
-    let words = first_words(&rt)?;
     let mut out = MemSink::new(rt.alloc(), 512, 512)?;
-    let finished = rv(
-        &rt,
-        rt.alloc(),
-        words.as_slice(),
-        &mut store,
-        &mut out,
-        &OpenGate,
-    );
-    assert_eq!(rt; finished.status, 2);
-    assert_eq!(rt;
-        out.taken(),
-        b"rv: refused 24 in wip.txt line 1\n".as_slice()
-    );
+    let words = "replay wip.rv wip.txt";
+    let ended = run(&rt, rt.alloc(), words, &mut store, &mut out, &OpenGate)?;
+    let text = b"rv: refused 24 in wip.txt line 1\n".as_slice();
+    assert!(rt; ended == 2 && out.taken() == text);
     Ok(())
 }

@@ -1,23 +1,23 @@
-//! Texts that end too early, and the tests of the top call that no file of cases can state: stores and sinks that fail, and gates that
-//! hold the CPUs in turn.
+//! Tests of the report, and those of the top call that no file of cases can state: stores and sinks that fail, and CPUs
+//! that are held in turn.
 #![tactic(auto)]
 
 #[cfg(test)]
 mod beside;
-mod cutting;
 #[cfg(test)]
 mod failing;
 #[cfg(test)]
 mod feeding;
 #[cfg(test)]
+mod files;
+mod holding;
+#[cfg(test)]
 mod journal;
 #[cfg(test)]
 mod report;
-#[cfg(test)]
-mod table;
-#[cfg(test)]
-mod texts;
+mod running;
 #[cfg(test)]
 mod watching;
 
-pub use cutting::cut;
+pub use holding::{ACTOR, Count, Held, Marks, Place, READER, Wait};
+pub use running::{Came, run, run_held};

@@ -1,7 +1,6 @@
 //! What no clause says of a report of records: that there is one where memory is ample.
-use crate::texts::{BINDINGS, WIP};
+use crate::files::{BINDINGS, store_of};
 use rv_bind::read_bindings;
-use rv_io::MemStore;
 use rv_model::{Answer, Delivered, Hit, Mode, Record, What};
 use rv_report::report;
 use rv_slots::Tasks;
@@ -9,9 +8,7 @@ use std::test::Fail;
 
 #[test]
 fn a_failure_is_reported(rt: HostRuntime) -> Result<(), Fail> {
-    let mut store = MemStore::new(rt.alloc());
-    store.add("wip.rv", BINDINGS.as_bytes())?;
-    store.add("wip.dot", WIP.as_bytes())?;
+    let mut store = store_of(rt.alloc(), BINDINGS, "")?;
     let Ok(bound) = read_bindings(rt.alloc(), &mut store, "wip.rv") else {
         assert!(rt; false, "no bindings");
         return Ok(());
@@ -30,12 +27,10 @@ fn a_failure_is_reported(rt: HostRuntime) -> Result<(), Fail> {
     };
     let tasks = Tasks::new(rt.alloc());
     let text = report(rt.alloc(), &bound.bindings, &tasks, &[record])?;
-    assert_eq!(rt;
-        text.as_slice(),
-        b"rv: monitor wip[cpu 0] does not allow event sched_waking on state preemptive (line 5)
+    let wanted =
+        "rv: monitor wip[cpu 0] does not allow event sched_waking on state preemptive (line 5)
 wip: instances 1, deliveries 1, failures 1, stopped 0
-"
-            .as_slice()
-    );
+";
+    assert!(rt; text.as_slice() == wanted.as_bytes());
     Ok(())
 }
