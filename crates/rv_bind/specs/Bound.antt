@@ -4,6 +4,7 @@ use Rattle.rv_text.specs.declared.numbers.TheConstants.{BIND_SYNTAX, NAME_TWICE,
 use Rattle.rv_text.specs.TextLines.{LineText, lines_of}
 use Rattle.rv_text.specs.Words.{words_of}
 use Rattle.rv_io.specs.Files.{Files}
+use Rattle.rv_model.specs.declared.formula.Spec.{Spec}
 use Rattle.rv_model.specs.declared.work.Scope.{Scope}
 use Rattle.rv_model.specs.declared.reactor.Reactor.TheVariants as reactors
 use Rattle.rv_bind.specs.declared.bindings.Monitor.{Monitor}
@@ -52,10 +53,14 @@ abbrev pub items_of : Option ℕ → ℕ → List Item
 items_of None place = items.Monitor place ∷ []
 items_of (Some holder) place = []
 
+-- a monitor as its line makes it: enabled, with no atom that starts true and the reactor that does nothing
+abbrev pub new_monitor : List ℕ → Option ℕ → Scope → List ℕ → Spec → Monitor
+new_monitor name holder scope file spec = record { name = name; container = holder; scope = scope; spec = spec; file = file; starting = 0; reactor = reactors.Nop; enabled = true }
+
 -- one more monitor, with its table
 abbrev pub with_monitor : BoundValue → List ℕ → Option ℕ → Scope → List ℕ → Compiled → BoundValue
 with_monitor bound name holder scope file compiled = record bound {
-  monitors = bound.monitors ++ record { name = name; container = holder; scope = scope; spec = compiled.spec; file = file; starting = 0; reactor = reactors.Nop; enabled = true } ∷ [];
+  monitors = bound.monitors ++ new_monitor name holder scope file compiled.spec ∷ [];
   items = bound.items ++ items_of holder (length bound.monitors);
   tables = bound.tables ++ compiled.table ∷ [];
 }

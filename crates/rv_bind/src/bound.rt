@@ -4,7 +4,7 @@ ghost use Rattle.std.specs.List.{position_or_len};
 ghost use Rattle.rv_ltl.specs.Texts.{texts};
 ghost use Rattle.rv_bind.specs.LineReads.{Reads};
 ghost use Rattle.rv_bind.specs.Compiling.{Compiles};
-ghost use Rattle.rv_bind.specs.Bound.{nothing_bound, is_called, is_taken, monitor_named, holder_named, room_for, place_for, with_monitor, items_of, container_bound};
+ghost use Rattle.rv_bind.specs.Bound.{nothing_bound, is_called, is_taken, monitor_named, holder_named, room_for, place_for, new_monitor, with_monitor, items_of, container_bound};
 ghost use Rattle.rv_bind.specs.MonitorLines.{allows_by, rule_bound, change_bound, reacting, disabled, begin_bound};
 ghost use Rattle.rv_bind.specs.BoundViews.{bound_value};
 ghost use Rattle.rv_bind.specs.WellFormed.{IsWellFormed, IsHolder};
@@ -17,7 +17,7 @@ use crate::fault::LineFault;
 use crate::forms::{MonitorForm, OnForm};
 use crate::limits::{MAX_CONTAINERS, MAX_MONITORS, MAX_RULES};
 use crate::words::SYNTAX;
-use rv_model::{Hit, Name, Names, Reactor, Scope};
+use rv_model::{Hit, Name, Names, Reactor, Scope, Spec};
 use rv_text::{NAME_TWICE, TOO_MANY_MONITORS, TOO_MANY_RULES};
 use std::alloc::{AllocError, Global};
 
@@ -92,6 +92,29 @@ fn add_item(items: &mut Vec<Item>, container: Option<u8>, place: u8) -> Result<(
         items.push(Item::Monitor(place))?;
     }
     Ok(())
+}
+
+/// The monitor of a line.
+fn new_monitor(
+    alloc: Global,
+    form: MonitorForm<'_>,
+    container: Option<u8>,
+    spec: Spec,
+) -> Result<Monitor, AllocError>
+    ensures { IfOk result (λ monitor. monitor ≡ new_monitor form.entry.name.now container form.entry.scope form.entry.file.now spec) }
+{
+    let name = Name::new(alloc, form.name)?;
+    let file = Name::new(alloc, form.file.as_bytes())?;
+    Ok(Monitor {
+        name,
+        container,
+        scope: form.scope,
+        spec,
+        file,
+        starting: 0,
+        reactor: Reactor::Nop,
+        enabled: true,
+    })
 }
 
 impl Bound {
@@ -199,20 +222,11 @@ impl Bound {
         ensures formed { OnOk result (IsWellFormed (bound_value self.new)) }
     {
         let place = self.bindings.monitors.len() as u8;
-        let name = Name::new(alloc, form.name)?;
-        let file = Name::new(alloc, form.file.as_bytes())?;
-        self.tables.push(compiled.table)?;
+        let Compiled { spec, table } = compiled;
+        let monitor = new_monitor(alloc, form, container, spec)?;
+        self.tables.push(table)?;
         add_item(&mut self.bindings.items, container, place)?;
-        self.bindings.monitors.push(Monitor {
-            name,
-            container,
-            scope: form.scope,
-            spec: compiled.spec,
-            file,
-            starting: 0,
-            reactor: Reactor::Nop,
-            enabled: true,
-        })?;
+        self.bindings.monitors.push(monitor)?;
         Ok(())
     }
 

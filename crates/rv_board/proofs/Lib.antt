@@ -4,8 +4,10 @@ pub mod GrowLemmas
 pub mod JoinLemmas
 pub mod KeepLemmas
 pub mod Knowing
+pub mod ListLemmas
 pub mod NumberLemmas
 pub mod RaceLemmas
+pub mod RunSeatLemmas
 pub mod SoundLemmas
 pub mod SplitLemmas
 pub mod StepLemmas

@@ -2,5 +2,6 @@ pub mod Codes
 pub mod Deliveries
 pub mod Known
 pub mod Rule
+pub mod RunSeats
 pub mod Seats
 pub mod Steps

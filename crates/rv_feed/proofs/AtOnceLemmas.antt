@@ -1,8 +1,8 @@
 -- The history of a run at once is legal, and its records are the lanes'.
 use Rattle.std.proofs.Common.{◌≡◌, ◌⊎◌, inl, inr, ℕ, ◌+◌, ◌<◌, Bool, true, List, [], ◌∷◌, ◌++◌, length, map, reverse, arith, sym, ap, ◌∙◌, subst}
-use Rattle.std.specs.Prelude.{All, Any, drop, take}
+use Rattle.std.specs.Prelude.{All, Any}
 use Rattle.std.specs.List.{AllZip}
-use Rattle.std.proofs.lemmas.List.{take_at, length-map, length-reverse}
+use Rattle.std.proofs.lemmas.List.{length-map, length-reverse}
 use Rattle.std.proofs.lemmas.List.Elements.{All-nil, All-map, All-weaker, length_all_zip}
 use Rattle.rv_model.specs.declared.entry.Entry.{Entry}
 use Rattle.rv_model.specs.declared.formula.Spec.{Spec}
@@ -16,27 +16,20 @@ use Rattle.rv_model.specs.Seats.{known_of}
 use Rattle.rv_model.specs.Works.{Work}
 use Rattle.rv_core.specs.Setup.{judges_of}
 use Rattle.rv_board.specs.Known.{part}
+use Rattle.rv_board.specs.RunSeats.{IsFresh, Holds}
 use Rattle.rv_board.specs.Seats.{BoardId, SeatValue, seat_value, Follows, Joins, Closes}
+use Rattle.rv_board.proofs.ListLemmas.{kept-holds, map-reverse, All-reverse, Any-reverse, Any-implied, Any-map, zip-with, zip-left, zip-right, zip-map}
+use Rattle.rv_board.proofs.RunSeatLemmas.{follows-then, holds-itself, holds-still, holds-joined, later-own, split_known}
 use Rattle.rv_feed.specs.declared.feeder.Feeder.{Feeder}
-use Rattle.rv_feed.specs.AtOnce.{input_with, IsLegalOf, IsFresh, Holds, IsSeated, lanes_of, AreSeated}
+use Rattle.rv_feed.specs.AtOnce.{input_with, IsLegalOf, IsSeated, lanes_of, AreSeated}
 use Rattle.rv_feed.specs.Changes.{DoesAll}
 use Rattle.rv_feed.specs.Feeders.{RunsFeeder}
 use Rattle.rv_feed.specs.Lane.{LaneValue, works_of}
 use Rattle.rv_feed.specs.One.{lane_records}
 use Rattle.rv_feed.specs.Order.{Whole}
 use Rattle.rv_feed.specs.Runs.{IsRunOf}
-use Rattle.rv_feed.proofs.JoinAllLemmas.{follows-then, holds-itself, holds-still, holds-joined}
-use Rattle.rv_feed.proofs.JoinedLemmas.{kept-holds, later-played, later-acts, later-own}
-use Rattle.rv_feed.proofs.ListLemmas.{map-reverse, All-reverse, Any-reverse, Any-implied, Any-map, zip-with, zip-left, zip-right, zip-map}
+use Rattle.rv_feed.proofs.JoinedLemmas.{later-played, later-acts}
 use Rattle.rv_feed.proofs.OneLemmas.{legal-of-run, run-of}
-use Rattle.rv_feed.proofs.SeatedLemmas.{split_known}
-
--- what a list is after it was lent as a slice
-pub lent : {X : Type 0} (R : X → X → Type 0) (n : ℕ) (xs slice ys : List X) → n ≡ length xs → slice ≡ xs → AllZip R slice ys → AllZip R xs (take n (ys ++ drop (length ys) xs))
-lent R n xs slice ys count is zip =
-    let zip' : AllZip R xs ys = subst (λ (z : List _). AllZip R z ys) is zip in
-    let same : length ys ≡ n = sym (length_all_zip R xs ys zip') ∙ sym count in
-    subst (AllZip R xs) (sym (take_at ys (drop (length ys) xs) n same)) zip'
 
 module _ {G : Type 0} (board : BoardId) (panics : ℕ → Bool) (h : List Entry) where
   -- the history has a feeder's script and nothing else by the numbers of its seat, and the lane has the script's records
@@ -62,7 +55,7 @@ module _ {G : Type 0} (board : BoardId) (panics : ℕ → Bool) (h : List Entry)
           plays = subst (λ (w : Work). Plays board.setup panics w runs.script) work (subst (λ (b : BoardId). Plays b.setup panics old.lane.work runs.script) on runs.plays);
           records = subst (λ (w : Work). script_records w.deliveries w.turns runs.script ≡ new.lane.records) work runs.records;
         };
-        own = λ before e after cut knows. later-own old.seat new.seat h fresh.seen fresh.has later _ runs.adds.grows before e after cut knows ∙ number;
+        own = λ before e after cut knows. later-own old.seat new.seat h fresh.seen later _ runs.adds.grows before e after cut knows ∙ number;
       }
 
   -- all feeders ran and the changes were made, from seats that had all numbers, and the history follows all seats
@@ -106,7 +99,7 @@ module _ {G : Type 0} (board : BoardId) (panics : ℕ → Bool) (h : List Entry)
     nobody before e after cut = elim (fed.cover e.seat (fed.sound.held before e after cut).0) [
       | inl knows ↦ absurd (nothing knows)
       | inr other ↦ elim other [
-        | inl knows ↦ inl (later-own actor actor' h fed.actor_fresh.seen fed.actor_fresh.has fed.actor_in fed.did.own fed.did.grows before e after cut knows ∙ fed.actor_is)
+        | inl knows ↦ inl (later-own actor actor' h fed.actor_fresh.seen fed.actor_in fed.did.own fed.did.grows before e after cut knows ∙ fed.actor_is)
         | inr any ↦ inr (of_works (Any-implied (λ f. known_of f.seat.part e.seat ≡ true) (λ f. e.seat ≡ 2 + f.lane.work.cpu) fs (zip-left IsIn (λ f. known_of f.seat.part e.seat ≡ true → e.seat ≡ 2 + f.lane.work.cpu) (λ f f' i. i.own before e after cut) fs fs' all-in) any))
       ]
     ]

@@ -1,7 +1,5 @@
 -- What a later history has of a seat that had seen nothing: what it played, its acts, and nothing by the other numbers that the seat knew.
-use Rattle.std.proofs.Common.{◌≡◌, ℕ, ◌<◌, ◌==◌, Bool, true, false, List, [], ◌∷◌, ◌++◌, map, reverse, refl, sym, ap, ◌∙◌, subst, append-nil}
-use Rattle.std.specs.Prelude.{All, filter}
-use Rattle.std.proofs.lemmas.List.Elements.{All-head, filter-append}
+use Rattle.std.proofs.Common.{◌≡◌, ℕ, ◌<◌, ◌==◌, Bool, true, false, List, [], ◌∷◌, ◌++◌, map, reverse, refl, sym, ap, ◌∙◌, subst}
 use Rattle.rv_model.specs.declared.entry.Act.{Act}
 use Rattle.rv_model.specs.declared.entry.Entry.{Entry}
 use Rattle.rv_model.specs.Histories.{NoneOf, acts_of}
@@ -11,21 +9,13 @@ use Rattle.rv_model.specs.Seats.{known_of, entries_of}
 use Rattle.rv_model.specs.Setups.{Setup}
 use Rattle.rv_model.proofs.SeatLemmas.{played-none}
 use Rattle.rv_core.specs.Setup.{judges_of}
-use Rattle.rv_board.specs.Seats.{BoardId, SeatValue, SeatGrows, Follows}
+use Rattle.rv_board.specs.Seats.{BoardId, SeatValue, Follows}
 use Rattle.rv_board.proofs.GrowLemmas.{same_known, own_entries}
 use Rattle.rv_board.proofs.Knowing.{knows_own, known_is}
 use Rattle.rv_feed.specs.Changes.{DoesAll}
 use Rattle.rv_feed.specs.Feeding.{Adds, played_by}
 use Rattle.rv_feed.specs.Turns.{entries_of as entries_in}
 use Rattle.rv_feed.proofs.AddLemmas.{none_known}
-use Rattle.rv_feed.proofs.FeederLemmas.{All-back}
-
--- what holds of each that passes holds of one that does
-pub kept-holds : (P : Entry → Type 0) (passes : Entry → Bool) (h before : List Entry) (e : Entry) (after : List Entry) → h ≡ before ++ e ∷ after → passes e ≡ true → All P (filter passes h) → P e
-kept-holds P passes h before e after cut passed all =
-    let here : filter passes (e ∷ after) ≡ e ∷ filter passes after = rw passed refl in
-    let parts : filter passes h ≡ filter passes before ++ e ∷ filter passes after = ap (filter passes) cut ∙ filter-append passes before (e ∷ after) ∙ ap (λ (z : List Entry). filter passes before ++ z) here in
-    All-head P e (filter passes after) (All-back P (filter passes before) (e ∷ filter passes after) (subst (All P) parts all))
 
 module _ (old new : SeatValue) (h : List Entry) (fresh : old.part.seen ≡ []) (has : old.part.number < old.part.end) (later : Follows h new.part) where
   -- it has played what it added, and nothing else
@@ -55,13 +45,3 @@ module _ (old new : SeatValue) (h : List Entry) (fresh : old.part.seen ≡ []) (
           go : (b : Bool) → (x.seat == seat) ≡ b → acts_of seat xs ≡ map (λ (e : Entry). e.act) (entries_of (λ n. n == seat) xs) → acts_of seat (x ∷ xs) ≡ map (λ (e : Entry). e.act) (entries_of (λ n. n == seat) (x ∷ xs))
           go true y rest = rw y (ap (λ (z : List Act). x.act ∷ z) rest)
           go false n rest = rw n rest
-
-  -- of the numbers that it knew only its own has entries
-  pub later-own : (own : List Entry) → SeatGrows old new own → (before : List Entry) (e : Entry) (after : List Entry) → h ≡ before ++ e ∷ after → known_of old.part e.seat ≡ true → e.seat ≡ old.part.number
-  later-own own g before e after cut knows =
-      let p = g.grows in
-      let known : ℕ → Bool = known_of old.part in
-      let all : h ≡ p.rest ++ later.rest = later.list ∙ ap (λ (l : List Entry). l ++ later.rest) (p.list ∙ ap (λ (l : List Entry). l ++ p.rest) fresh) in
-      let none_left : entries_of known later.rest ≡ [] = subst (λ (t : ℕ → Bool). entries_of t later.rest ≡ []) (same_known old new own g) later.none in
-      let kept : entries_of known h ≡ own = ap (entries_of known) all ∙ filter-append (λ (x : Entry). known x.seat) p.rest later.rest ∙ (λ i. p.known i ++ none_left i) ∙ append-nil own in
-      kept-holds (λ (x : Entry). x.seat ≡ old.part.number) (λ (x : Entry). known x.seat) h before e after cut knows (subst (All (λ (x : Entry). x.seat ≡ old.part.number)) (sym kept) p.seats)

@@ -7,12 +7,10 @@ pub mod DoneLemmas
 pub mod EntryLemmas
 pub mod FedLemmas
 pub mod FeedLemmas
-pub mod FeederLemmas
 pub mod JoinAllLemmas
 pub mod JoinedLemmas
 pub mod LaneLemmas
 pub mod LineLemmas
-pub mod ListLemmas
 pub mod OneLemmas
 pub mod RunLemmas
 pub mod SeatedLemmas

@@ -1,6 +1,6 @@
 -- Seats are split off from the first one, lane by lane from the last to the first.
-use Rattle.std.proofs.Common.{◌≡◌, ◌⊎◌, inl, inr, ℕ, ◌+◌, ◌<◌, Bool, true, false, List, [], ◌∷◌, ◌++◌, length, map, reverse, get_or, arith, refl, sym, ap, ◌∙◌, subst, append_assoc, append-nil}
-use Rattle.std.specs.Prelude.{All, AllPairs, nat_lt}
+use Rattle.std.proofs.Common.{◌≡◌, inl, inr, ℕ, ◌+◌, ◌<◌, true, List, [], ◌∷◌, ◌++◌, length, map, reverse, get_or, arith, refl, sym, ap, ◌∙◌, subst, append_assoc, append-nil}
+use Rattle.std.specs.Prelude.{All, AllPairs}
 use Rattle.std.proofs.lemmas.Bool.Decides.{nat_tests}
 use Rattle.std.proofs.lemmas.List.{reverse-append, map-append, get_or_at, get_or_append_left, length-append}
 use Rattle.std.proofs.lemmas.List.Elements.{All-nil, All-head, All-push}
@@ -8,14 +8,15 @@ use Rattle.std.proofs.lemmas.List.Quantifiers.{Any-push}
 use Rattle.rv_model.specs.Seats.{is_in, is_among, known_of}
 use Rattle.rv_model.specs.Setups.{Setup}
 use Rattle.rv_board.specs.Known.{known_by, part}
+use Rattle.rv_board.specs.RunSeats.{IsFirst}
 use Rattle.rv_board.specs.Seats.{BoardId, SeatValue, seat_value}
 use Rattle.rv_board.proofs.Knowing.{known_is}
+use Rattle.rv_board.proofs.ListLemmas.{All-front, All-back, Any-front}
+use Rattle.rv_board.proofs.RunSeatLemmas.{split_known}
 use Rattle.rv_feed.specs.declared.feeder.Feeder.{Feeder}
-use Rattle.rv_feed.specs.AtOnce.{IsFirst, IsSeated, lanes_of, AreSeated}
+use Rattle.rv_feed.specs.AtOnce.{IsSeated, lanes_of, AreSeated}
 use Rattle.rv_feed.specs.Feeding.{CanFeed}
 use Rattle.rv_feed.specs.Lane.{LaneValue, FitsLane}
-use Rattle.rv_feed.proofs.FeederLemmas.{All-front, All-back}
-use Rattle.rv_feed.proofs.ListLemmas.{Any-front}
 
 -- ---- numbers
 
@@ -23,25 +24,6 @@ use Rattle.rv_feed.proofs.ListLemmas.{Any-front}
 all_known : (end : ℕ) (gone : List ℕ) (n : ℕ) → n < end → known_by 0 end gone n ≡ true
 unfolding known_by is_in is_among
 all_known end gone n lt = grind (arith, nat_tests)
-
--- what is known is on one of the two sides of a cut
-cut_known : (number at end : ℕ) (gone : List ℕ) (n : ℕ) → known_by number end gone n ≡ true → (known_by number at gone n ≡ true) ⊎ (known_by at end [] n ≡ true)
-unfolding known_by is_in is_among
-cut_known number at end gone n t = go (is_among gone n) (nat_lt n at) refl refl
-  where
-    go : (a b : Bool) → is_among gone n ≡ a → nat_lt n at ≡ b → (known_by number at gone n ≡ true) ⊎ (known_by at end [] n ≡ true)
-    go true b ga lt = inl (grind (arith, nat_tests))
-    go false true ga lt = inl (grind (arith, nat_tests))
-    go false false ga lt = inr (grind (arith, nat_tests))
-
--- of seats
-pub split_known : (old left right : SeatValue) (at n : ℕ) → left.part ≡ part old.part.number at old.part.gone old.part.seen → right.part ≡ part at old.part.end [] old.part.seen
-    → known_of old.part n ≡ true → (known_of left.part n ≡ true) ⊎ (known_of right.part n ≡ true)
-split_known old left right at n l r t =
-    elim (cut_known old.part.number at old.part.end old.part.gone n ((λ i. sym (known_is old.part) i n) ∙ t)) [
-      | inl a ↦ inl ((λ i. known_of (l i) n) ∙ (λ i. known_is (part old.part.number at old.part.gone old.part.seen) i n) ∙ a)
-      | inr b ↦ inr ((λ i. known_of (r i) n) ∙ (λ i. known_is (part at old.part.end [] old.part.seen) i n) ∙ b)
-    ]
 
 -- ---- lanes
 

@@ -1,5 +1,5 @@
 -- A run of all scripts at once: its seats, and what it comes to.
-use Rattle.std.specs.Prelude.{◌≡◌, ℕ, ◌<◌, Bool, true, List, [], ◌++◌, map, reverse, All, Any}
+use Rattle.std.specs.Prelude.{◌≡◌, ℕ, ◌<◌, Bool, true, List, ◌++◌, map, reverse, All, Any}
 use Rattle.std.proofs.Common.{◌⊎◌}
 use Rattle.rv_model.specs.declared.entry.Entry.{Entry}
 use Rattle.rv_model.specs.declared.formula.Spec.{Spec}
@@ -8,7 +8,8 @@ use Rattle.rv_model.specs.declared.work.Change.{Change}
 use Rattle.rv_model.specs.Histories.{Input, IsLegal}
 use Rattle.rv_model.specs.Seats.{known_of}
 use Rattle.rv_model.specs.Setups.{Setup}
-use Rattle.rv_board.specs.Seats.{BoardId, SeatValue, Follows}
+use Rattle.rv_board.specs.RunSeats.{IsFresh, IsFirst}
+use Rattle.rv_board.specs.Seats.{BoardId, SeatValue}
 use Rattle.rv_feed.specs.declared.feeder.Feeder.{Feeder}
 use Rattle.rv_feed.specs.Feeders.{FitsFeeder}
 use Rattle.rv_feed.specs.Lane.{LaneValue, works_of}
@@ -25,23 +26,6 @@ abbrev pub IsLegalOf : Input → List Record → List Entry → Type 0
 IsLegalOf = IsRunOf IsLegal
 
 -- ---- its seats
-
--- the seat has seen nothing
-pub record IsFresh (s : SeatValue) : Type 0 where
-  pub has : s.part.number < s.part.end
-  pub seen : s.part.seen ≡ []
-
--- the list begins with what the other seat had seen and goes on without its numbers, and all of them are known
-pub record Holds (into seat : SeatValue) : Type 0 where
-  pub follows : Follows into.part.seen seat.part
-  pub within : (n : ℕ) → known_of seat.part n ≡ true → known_of into.part n ≡ true
-
--- the first seat of this board, which has handed on numbers above 1 and has seen nothing
-pub record IsFirst (board : BoardId) (first : SeatValue) : Type 0 where
-  pub board_is : first.board ≡ board
-  pub number : first.part.number ≡ 0
-  pub end : 1 < first.part.end
-  pub seen : first.part.seen ≡ []
 
 module _ {G : Type 0} where
   -- the feeder fits the board, and its seat has seen nothing

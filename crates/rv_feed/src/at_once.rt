@@ -3,11 +3,12 @@ ghost use Rattle.std.specs.Prelude.{◌≡◌, ◌+◌, ◌<◌, ◌≤◌, ◌�
 ghost use Rattle.rv_model.specs.declared.formula.Spec.{Spec};
 ghost use Rattle.rv_core.specs.Judged.{AllMean};
 ghost use Rattle.rv_board.specs.Known.{part};
+ghost use Rattle.rv_board.specs.RunSeats.{Holds, IsFirst};
 ghost use Rattle.rv_board.specs.Seats.{seat_value};
 ghost use Rattle.rv_feed.specs.Changes.{IsBelowHalt};
 ghost use Rattle.rv_feed.specs.Lane.{FitsLane, panics_of, works_of};
 ghost use Rattle.rv_feed.specs.One.{lane_records};
-ghost use Rattle.rv_feed.specs.AtOnce.{input_with, IsLegalOf, Holds, IsFirst, lanes_of, AreSeated};
+ghost use Rattle.rv_feed.specs.AtOnce.{input_with, IsLegalOf, lanes_of, AreSeated};
 
 use crate::changer::{CONTROL, Changer};
 use crate::feeder::Feeder;

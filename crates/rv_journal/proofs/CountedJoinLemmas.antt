@@ -3,9 +3,9 @@ use Rattle.std.proofs.Common.{◌≡◌, List, [], ◌∷◌, ◌++◌, map, sym
 use Rattle.std.specs.Prelude.{All}
 use Rattle.std.proofs.lemmas.List.{reverse-append}
 use Rattle.std.proofs.lemmas.List.Elements.{All-cons, All-weaker}
+use Rattle.rv_board.specs.RunSeats.{Holds}
 use Rattle.rv_board.specs.Seats.{SeatValue, Joins}
-use Rattle.rv_feed.specs.AtOnce.{Holds}
-use Rattle.rv_feed.proofs.JoinAllLemmas.{holds-still, holds-joined}
+use Rattle.rv_board.proofs.RunSeatLemmas.{holds-still, holds-joined}
 use Rattle.rv_journal.specs.declared.feeding.CountedFeeder.{CountedFeeder}
 use Rattle.rv_journal.specs.Running.{lanes_in}
 

@@ -3,7 +3,6 @@ pub mod CountLemmas
 pub mod CountedCallLemmas
 pub mod CountedDeliveryLemmas
 pub mod CountedFeedLemmas
-pub mod CountedFeederLemmas
 pub mod CountedJoinLemmas
 pub mod CountedOpeningLemmas
 pub mod CountedRaceLemmas

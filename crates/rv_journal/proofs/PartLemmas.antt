@@ -15,7 +15,7 @@ use Rattle.rv_model.specs.Setups.{Setup}
 use Rattle.rv_board.specs.Seats.{Follows}
 use Rattle.rv_board.proofs.GrowLemmas.{own_entries}
 use Rattle.rv_board.proofs.Knowing.{knows_own, known_is, none_is}
-use Rattle.rv_feed.proofs.FeederLemmas.{All-front}
+use Rattle.rv_board.proofs.ListLemmas.{All-front}
 use Rattle.rv_journal.specs.declared.counted.Counted.{Counted}
 use Rattle.rv_journal.specs.CountedLanes.{slot_at, EndsAs, IsTold, AllToldAfter, entries_told, FeedsCounted}
 use Rattle.rv_journal.specs.CountedSeats.{CountedValue}

@@ -13,10 +13,10 @@ use Rattle.rv_model.specs.Seats.{known_of, entries_of}
 use Rattle.rv_model.specs.Setups.{Setup}
 use Rattle.rv_model.specs.Works.{Work}
 use Rattle.rv_core.specs.Setup.{judges_of}
+use Rattle.rv_board.specs.RunSeats.{Holds}
 use Rattle.rv_board.specs.Seats.{BoardId, SeatValue, Follows}
-use Rattle.rv_feed.specs.AtOnce.{Holds}
-use Rattle.rv_feed.proofs.JoinedLemmas.{kept-holds, later-own}
-use Rattle.rv_feed.proofs.ListLemmas.{map-reverse, All-reverse, Any-reverse, Any-map, zip-with, zip-right, zip-map}
+use Rattle.rv_board.proofs.ListLemmas.{kept-holds, map-reverse, All-reverse, Any-reverse, Any-map, zip-with, zip-right, zip-map}
+use Rattle.rv_board.proofs.RunSeatLemmas.{later-own}
 use Rattle.rv_journal.specs.declared.feeding.CountedFeeder.{CountedFeeder}
 use Rattle.rv_journal.specs.CountedFeeders.{FitsCountedFeeder, RunsCounted}
 use Rattle.rv_journal.specs.CountedLanes.{CountedLaneValue, FitsCounted, AllToldAfter, FeedsCounted, entries_told}
@@ -50,7 +50,7 @@ module _ {G : Type 0} (board : BoardId) (h : List Entry) where
               (subst (λ (s : Setup). AllToldAfter s (known_of old.seat.seat.part) old.seat.seat.part.seen new.seat.seat.part.seen (entries_of (known_of old.seat.seat.part) old.seat.seat.part.seen) new.lane.work.deliveries new.lane.counted) on feeds.told);
           part = subst (λ (n : ℕ). IsPartOf h n new.lane.counted) number (is-part old.seat new.seat h fresh.seen fresh.has later new.lane.work.deliveries new.lane.counted feeds);
         };
-        own = λ before e after cut knows. later-own old.seat.seat new.seat.seat h fresh.seen fresh.has later (entries_told new.lane.counted) runs.feeds.grows before e after cut knows ∙ number;
+        own = λ before e after cut knows. later-own old.seat.seat new.seat.seat h fresh.seen later (entries_told new.lane.counted) runs.feeds.grows before e after cut knows ∙ number;
       }
 
   -- all feeders ran, from seats that had all numbers, and the history follows all seats

@@ -9,12 +9,11 @@ use Rattle.rv_model.specs.Seats.{is_in, is_among, known_of}
 use Rattle.rv_model.specs.Setups.{Setup}
 use Rattle.rv_model.specs.Works.{Work}
 use Rattle.rv_board.specs.Known.{known_by, part}
+use Rattle.rv_board.specs.RunSeats.{IsFirst}
 use Rattle.rv_board.specs.Seats.{BoardId, SeatValue, seat_value}
 use Rattle.rv_board.proofs.Knowing.{known_is}
-use Rattle.rv_feed.specs.AtOnce.{IsFirst}
-use Rattle.rv_feed.proofs.FeederLemmas.{All-front, All-back}
-use Rattle.rv_feed.proofs.ListLemmas.{Any-front}
-use Rattle.rv_feed.proofs.SeatedLemmas.{split_known}
+use Rattle.rv_board.proofs.ListLemmas.{All-front, All-back, Any-front}
+use Rattle.rv_board.proofs.RunSeatLemmas.{split_known}
 use Rattle.rv_journal.specs.declared.feeding.CountedFeeder.{CountedFeeder}
 use Rattle.rv_journal.specs.CountedLanes.{IsNewCountedLane, FitsCounted}
 use Rattle.rv_journal.specs.CountedSeats.{CountedValue, counted_value}

@@ -9,8 +9,8 @@ use Rattle.rv_model.specs.Seats.{known_of}
 use Rattle.rv_model.specs.Setups.{Setup}
 use Rattle.rv_model.specs.Works.{Work}
 use Rattle.rv_core.specs.Setup.{judges_of}
+use Rattle.rv_board.specs.RunSeats.{IsFirst, IsFresh, Holds}
 use Rattle.rv_board.specs.Seats.{BoardId, SeatValue}
-use Rattle.rv_feed.specs.AtOnce.{IsFirst, IsFresh, Holds}
 use Rattle.rv_journal.specs.declared.feeding.CountedFeeder.{CountedFeeder}
 use Rattle.rv_journal.specs.CountedFeeders.{FitsCountedFeeder}
 use Rattle.rv_journal.specs.CountedLanes.{CountedLaneValue, FitsCounted}

@@ -101,6 +101,13 @@ run_is i unchanged few =
     let same : has_bit (number_of (panics_of reactors) 32) ≡ panics_of reactors = panics_same reactors (omega arith) in
     λ j. record { setup = (run_of i).setup; specs = (run_of i).specs; panics = same j; works = (run_of i).works; changes = (sym unchanged) j }
 
+-- what is judged, before its journal is read
+pub begins_judged : (ready : Ready) → IsReady ready → (reactors : List Reactor) (panics : ℕ) → reactors ≡ ready.reactors.items → panics ≡ number_of (panics_of reactors) 32
+    → record { setup = ready.setup; panics = panics; works = works_of ready.lanes.items; text = [] } ≡ judged (ready_value ready) []
+begins_judged ready is reactors panics same number =
+    let bits : panics ≡ panic_bits (ready_value ready) = number ∙ ap (λ (rs : List Reactor). number_of (panics_of rs) 32) (same ∙ is.reactors) in
+    λ j. record { setup = is.setup j; panics = bits j; works = works_of ready.lanes.items; text = [] }
+
 module _ (ready : Ready) (is : IsReady ready) (unchanged : ready.changes.items ≡ []) (known : JudgesBySpecs ready.setup) (r : ReaderValue) (verdict : Verdict) (run : IsSameRun (judged (ready_value ready) []) r.journal)
     (holds : (specs : List Spec) → Holds r.journal specs verdict) (stays : r.stopped ≡ true → (specs : List Spec) (more : List ℕ) → Holds (longer r.journal more) specs verdict) where
   -- a verdict that holds of bytes is one on the run with these bytes as its journal

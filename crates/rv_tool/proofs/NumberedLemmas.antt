@@ -22,7 +22,7 @@ use Rattle.rv_tool.specs.declared.input.Ready.{Ready}
 use Rattle.rv_tool.specs.Inputs.{InputValue, run_input}
 use Rattle.rv_text.specs.declared.numbers.TheConstants.{NOT_NUMBERED}
 use Rattle.rv_tool.specs.Faults.{Tells}
-use Rattle.rv_tool.specs.Journals.{is_narrow, are_narrow, ends_instances, numbered, numbered_input, IsToRecord}
+use Rattle.rv_tool.specs.Journals.{is_narrow, are_narrow, ends_instances, can_record, numbered, numbered_input, IsToRecord}
 use Rattle.rv_tool.specs.Ready.{ready_value, IsReady}
 
 -- ---- which runs are recorded
@@ -102,36 +102,51 @@ module _ (ready : Ready) (given : List Monitor) (had : List Table) (told : Bool)
   ended = ap (list_any ends_instances) (sym rules_are) ∙ sym ends_are
 
   -- the test by what is answered of what is ready
-  test_is : (are_narrow ready.bindings.monitors.items ready.setup.tables && not (list_any ends_instances ready.bindings.rules.items)) ≡ (told && not ends)
+  pub test_is : can_record (ready_value ready) ≡ (told && not ends)
   test_is =
       let narrow : are_narrow ready.bindings.monitors.items ready.setup.tables ≡ told = (λ i. are_narrow (sym given_are i) (sym had_are i)) ∙ numbered_so given had told so in
       λ i. narrow i && not (ended i)
 
+-- where a rule ends an instance the test is false
+pub ends_off : (told ends : Bool) → ends ≡ true → (told && not ends) ≡ false
+ends_off true ends on = rw on refl
+ends_off false ends on = refl
+
+-- where none does, it is what is told of the monitors
+pub ends_on : (told ends : Bool) → ends ≡ false → (told && not ends) ≡ told
+ends_on true ends off = rw off refl
+ends_on false ends off = refl
+
+-- what does not hold is false
+not_so : (b : Bool) → not b ≡ true → b ≡ false
+not_so true e = cc
+not_so false e = refl
+
+module _ (ready : Ready) where
   -- what is ready where the test passes, and else the refusal of what cannot be recorded
   abbrev by_test : Bool → Result InputValue Refusal
   by_test b = if b then Ok (ready_value ready) else refused_with NOT_NUMBERED
 
-  -- whether what is ready can be recorded goes by what is answered
-  number_is : (b : Bool) → (told && not ends) ≡ b → numbered (ready_value ready) ≡ by_test b
-  number_is b e = ap by_test (test_is ∙ e)
+  -- where the test passes, the run can be recorded
+  pub may_record : IsReady ready → ready.changes.items ≡ [] → can_record (ready_value ready) ≡ true → IsToRecord ready
+  may_record is unchanged on =
+      let monitors : List Monitor = ready.bindings.monitors.items in
+      let parts = both (are_narrow monitors ready.setup.tables) (not (list_any ends_instances ready.bindings.rules.items)) on in
+      record {
+        ready = is;
+        unchanged = unchanged;
+        numbered = numbered_by monitors ready.setup.tables parts.0;
+        no_ends = not_so (list_any ends_instances ready.bindings.rules.items) parts.1;
+      }
 
-  -- where it is yes and no rule ends an instance, the run can be recorded
-  pub may_record : IsReady ready → ready.changes.items ≡ [] → told ≡ true → ends ≡ false → IsToRecord ready
-  may_record is unchanged on goes = record {
-    ready = is;
-    unchanged = unchanged;
-    numbered = subst (λ (z : List Monitor × List Table). IsNumbered z.0 z.1) (λ i. (given_are i, had_are i)) (so.0 on);
-    no_ends = ended ∙ goes;
-  }
-
-  -- where it is yes and no rule ends an instance, what is ready is accepted
-  pub ready_told : (bindings : List ℕ) → told ≡ true → ends ≡ false → Tells ready_value (Ok ready) (of_file bindings (numbered (ready_value ready)))
-  ready_told bindings on goes = ap (of_file bindings) (number_is true (rw (on, goes) refl))
+  -- and what is ready is accepted
+  pub ready_told : (bindings : List ℕ) → can_record (ready_value ready) ≡ true → Tells ready_value (Ok ready) (of_file bindings (numbered (ready_value ready)))
+  ready_told bindings on = ap (λ (b : Bool). of_file bindings (by_test b)) on
 
   -- and else it is refused
-  pub not_told : (bindings : List ℕ) (fault : BindFault) → (told && not ends) ≡ false → IsFaultOf fault bindings (record { number = NOT_NUMBERED; line = 0 }) → Tells ready_value (Err fault) (of_file bindings (numbered (ready_value ready)))
+  pub not_told : (bindings : List ℕ) (fault : BindFault) → can_record (ready_value ready) ≡ false → IsFaultOf fault bindings (record { number = NOT_NUMBERED; line = 0 }) → Tells ready_value (Err fault) (of_file bindings (numbered (ready_value ready)))
   not_told bindings fault off is =
-      subst (λ (r : Result InputValue Refusal). Tells ready_value (Err fault) (of_file bindings r)) (sym (number_is false off)) (refused_told bindings (record { number = NOT_NUMBERED; line = 0 }) fault (omega arith, omega arith) is)
+      subst (λ (r : Result InputValue Refusal). Tells ready_value (Err fault) (of_file bindings r)) (sym (ap by_test off)) (refused_told bindings (record { number = NOT_NUMBERED; line = 0 }) fault (omega arith, omega arith) is)
 
 -- ---- what a reading comes to
 

@@ -40,9 +40,13 @@ are_narrow (m ∷ monitors) (t ∷ tables) = is_narrow m t && are_narrow monitor
 abbrev pub ends_instances : OnValue → Bool
 ends_instances r = is_end r.hit.mode
 
--- the input, where its monitors are narrow and no rule ends an instance, or the refusal
+-- the monitors are narrow, and no rule ends an instance
+abbrev pub can_record : InputValue → Bool
+can_record i = are_narrow i.bound.monitors i.bound.tables && not (list_any ends_instances i.bound.rules)
+
+-- the input, where it can be recorded, or the refusal
 abbrev pub numbered : InputValue → Result InputValue Refusal
-numbered i = if are_narrow i.bound.monitors i.bound.tables && not (list_any ends_instances i.bound.rules) then Ok i else refused_with NOT_NUMBERED
+numbered i = if can_record i then Ok i else refused_with NOT_NUMBERED
 
 -- the bindings and the trace, and then whether the bindings' monitors can be numbered
 abbrev pub numbered_input : Files → List ℕ → List ℕ → Outcome InputValue

@@ -9,6 +9,7 @@ pub mod Headline
 pub mod Inputs
 pub mod JournalPieces
 pub mod Journals
+pub mod LaneReports
 pub mod Loaded
 pub mod Output
 pub mod Pieces

@@ -3,7 +3,7 @@ ghost use Rattle.std.specs.Prelude.{◌≡◌, ◌≤◌, ◌<◌, [], length, f
 ghost use Rattle.rv_model.specs.Numbers.{number_of};
 ghost use Rattle.rv_core.specs.Judged.{JudgesBySpecs};
 ghost use Rattle.rv_bind.specs.Outcomes.{Names, of_text, accepted};
-ghost use Rattle.rv_feed.specs.Lane.{panics_of, works_of};
+ghost use Rattle.rv_feed.specs.Lane.{FitLanes, panics_of, works_of};
 ghost use Rattle.rv_tool.specs.Checks.{judged, verdict_text, verdict_status, JudgesRead, IsVerdict, checked_input};
 ghost use Rattle.rv_tool.specs.Faults.{FaultComes, FaultNames};
 ghost use Rattle.rv_tool.specs.JournalPieces.{IsSameRun, IsEnough};
@@ -13,6 +13,7 @@ use crate::input::{Ready, read_input};
 use crate::trace_text::fetch;
 use rv_bind::BindFault;
 use rv_check::{Checker, JournalReader, Verdict};
+use rv_core::Setup;
 use rv_feed::Lane;
 use rv_io::Store;
 use rv_model::{CpuWork, Reactor};
@@ -81,6 +82,23 @@ pub(crate) fn works(alloc: Global, lanes: Vec<Lane>) -> Result<Vec<CpuWork>, All
     Ok(works)
 }
 
+/// A reader of a journal of the works of these lanes, to which nothing was fed.
+fn reader_of(
+    alloc: Global,
+    setup: Setup,
+    panics: u32,
+    lanes: Vec<Lane>,
+) -> Result<JournalReader, AllocError>
+    requires { FitLanes setup lanes.items }
+    ensures begins { IfOk result (λ reader. reader ≡ record { journal = record { setup = setup; panics = panics; works = works_of lanes.items; text = [] }; stopped = false }) }
+    ensures judges { OnOk result (JudgesBySpecs setup) }
+{
+    let works = works(alloc, lanes)?;
+    let checker = Checker::new(alloc, setup, panics, works)?;
+    checker.known();
+    JournalReader::new(alloc, checker)
+}
+
 /// A reader of a journal of what is ready, to which nothing was fed.
 fn reader(alloc: Global, ready: Ready) -> Result<JournalReader, AllocError>
     requires { IsReady ready }
@@ -88,14 +106,11 @@ fn reader(alloc: Global, ready: Ready) -> Result<JournalReader, AllocError>
     ensures judges { OnOk result (JudgesBySpecs ready.setup) }
 {
     let panics = panic_bits(ready.reactors.as_slice());
-    let works = works(alloc, ready.lanes)?;
-    let checker = Checker::new(alloc, ready.setup, panics, works)?;
-    checker.known();
-    JournalReader::new(alloc, checker)
+    reader_of(alloc, ready.setup, panics, ready.lanes)
 }
 
 /// Feeds the reader the pieces of the journal, up to its end or to a line after which no more has to be read.
-fn take_journal<S: Store>(
+fn take_pieces<S: Store>(
     alloc: Global,
     store: &mut S,
     journal: &str,
@@ -131,6 +146,27 @@ fn take_journal<S: Store>(
     Err(BindFault::Memory)
 }
 
+/// The same, with a buffer for the pieces.
+fn take_journal<S: Store>(
+    alloc: Global,
+    store: &mut S,
+    journal: &str,
+    reader: &mut JournalReader,
+) -> Result<(), BindFault>
+    requires { reader.old.journal.text ≡ [] }
+    ensures kept { S.files store.new ≡ S.files store.old }
+    ensures later { S.faults store.old ≤ S.faults store.new }
+    ensures same { OnOk result (IsSameRun reader.old.journal reader.new.journal) }
+    ensures all { OnOk result (IsEnough (S.files store.old) journal.now reader.new) }
+    ensures fault { IfErr result (λ fault. FaultComes (S.files store.old) (S.faults store.old) (S.faults store.new) fault (λ files. of_text journal.now (files journal.now) accepted)) }
+    ensures named { IfErr result (λ fault. FaultNames (S.files store.old) fault (λ files. of_text journal.now (files journal.now) accepted)) }
+{
+    let Ok(mut buffer) = vec![in alloc; 0u8; PIECE] else {
+        return Err(BindFault::Memory);
+    };
+    take_pieces(alloc, store, journal, buffer.as_mut_slice(), reader)
+}
+
 /// The verdict on the journal, once the bindings and the trace were read.
 pub(crate) fn read_verdict<S: Store>(
     alloc: Global,
@@ -146,9 +182,9 @@ pub(crate) fn read_verdict<S: Store>(
     ensures some { IfOk result IsVerdict }
 {
     let ready = read_input(alloc, store, bindings, trace)?;
-    let (Ok(mut reader), Ok(mut buffer)) = (reader(alloc, ready), vec![in alloc; 0u8; PIECE]) else {
+    let Ok(mut reader) = reader(alloc, ready) else {
         return Err(BindFault::Memory);
     };
-    take_journal(alloc, store, journal, buffer.as_mut_slice(), &mut reader)?;
+    take_journal(alloc, store, journal, &mut reader)?;
     Ok(reader.verdict())
 }

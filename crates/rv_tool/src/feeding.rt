@@ -5,10 +5,9 @@ ghost use Rattle.rv_tool.specs.Headline.{IsReported};
 ghost use Rattle.rv_tool.specs.Ready.{ready_value, IsReady};
 
 use crate::input::Ready;
-use crate::replaying::Done;
+use crate::replaying::{Done, report};
 use rv_feed::feed;
 use rv_io::Gate;
-use rv_report::{lanes_status, report_lanes};
 use std::alloc::{AllocError, Global};
 use std::thread::Threads;
 
@@ -31,11 +30,6 @@ pub(crate) fn fed<R: Threads + Sync, G: Gate + Send>(
         changes,
     } = ready;
     let run = feed(rt, alloc, setup, reactors.as_slice(), lanes, changes, gate)?;
-    let text = report_lanes(alloc, &bindings, &tasks, run.lanes.as_slice())?;
-    let status = lanes_status(run.lanes.as_slice());
-    Ok(Done {
-        status,
-        text,
-        closed: run.closed,
-    })
+    let closed = run.closed;
+    report(alloc, &bindings, &tasks, run.lanes.as_slice(), closed)
 }

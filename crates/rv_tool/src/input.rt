@@ -56,7 +56,6 @@ pub(crate) fn read_input<S: Store>(
 }
 
 /// What the bindings and the works make ready.
-#[tactic(auto, using(crate::proofs::ReadyLemmas::lanes_fit, crate::proofs::ReadyLemmas::tables_mean))]
 fn prepare(alloc: Global, bound: Bound, routed: Routed) -> Result<Ready, AllocError>
     requires formed { IsWellFormed (bound_value bound) }
     requires fit { WorksFit (kinds_of bound.bindings.monitors.items) (length routed.tasks) routed.works.items }

@@ -3,7 +3,7 @@ ghost use Rattle.std.specs.Prelude.{◌≡◌, ◌≤◌, [], true, IfOk};
 ghost use Rattle.std.specs.List.{list_any};
 ghost use Rattle.rv_bind.specs.Outcomes.{Comes, Names, of_file, IsFaultOf};
 ghost use Rattle.rv_tool.specs.Faults.{Tells};
-ghost use Rattle.rv_tool.specs.Journals.{numbered, numbered_input, ends_instances, IsJournalReport, IsToRecord};
+ghost use Rattle.rv_tool.specs.Journals.{can_record, numbered, numbered_input, ends_instances, IsJournalReport, IsToRecord};
 ghost use Rattle.rv_tool.specs.Ready.{ready_value, IsReady};
 
 use crate::checking::works;
@@ -36,20 +36,24 @@ fn not_numbered(alloc: Global, bindings: &str) -> BindFault
     )
 }
 
-/// What is ready, where its monitors can be numbered and no rule ends an instance.
+/// Whether the monitors can be numbered, and no rule ends an instance.
+fn can_record(ready: &Ready) -> bool
+    ensures { result ≡ can_record (ready_value ready.now) }
+{
+    let monitors = ready.bindings.monitors.as_slice();
+    let narrow = is_numbered(monitors, ready.setup.tables.as_slice());
+    let ends = end_instances(ready.bindings.rules.as_slice());
+    if ends { false } else { narrow }
+}
+
+/// What is ready, where it can be recorded.
 fn numbered(alloc: Global, bindings: &str, ready: Ready) -> Result<Ready, BindFault>
     requires ready { IsReady ready }
     requires unchanged { ready.changes.items ≡ [] }
     ensures ready { IfOk result IsToRecord }
     ensures value { Tells ready_value result (of_file bindings.now (numbered (ready_value ready))) }
 {
-    let monitors = ready.bindings.monitors.as_slice();
-    let narrow = is_numbered(monitors, ready.setup.tables.as_slice());
-    let ends = end_instances(ready.bindings.rules.as_slice());
-    if ends {
-        return Err(not_numbered(alloc, bindings));
-    }
-    if narrow {
+    if can_record(&ready) {
         Ok(ready)
     } else {
         Err(not_numbered(alloc, bindings))
@@ -86,12 +90,15 @@ pub(crate) fn recorded<R: Threads + Sync, G: Gate + Send>(
 {
     let Ready {
         bindings,
-        tasks: _tasks,
+        tasks,
         setup,
-        reactors: _reactors,
+        reactors,
         lanes,
-        changes: _changes,
+        changes,
     } = ready;
+    drop(tasks);
+    drop(reactors);
+    drop(changes);
     setup.known();
     let works = works(alloc, lanes)?;
     let shown = shown_works(alloc, setup.switches, works)?;

@@ -1,13 +1,17 @@
 //! A run on one thread.
 ghost use Rattle.std.specs.Prelude.{◌≡◌, [], IfOk};
 ghost use Rattle.rv_model.specs.Histories.{IsOneHistory};
+ghost use Rattle.rv_feed.specs.One.{lane_records};
 ghost use Rattle.rv_tool.specs.Headline.{IsReported};
+ghost use Rattle.rv_tool.specs.LaneReports.{ReportsLanes};
 ghost use Rattle.rv_tool.specs.Ready.{ready_value, IsReady};
 
 use crate::input::Ready;
-use rv_feed::replay;
+use rv_bind::Bindings;
+use rv_feed::{Lane, replay};
 use rv_model::Closed;
 use rv_report::{lanes_status, report_lanes};
+use rv_slots::Tasks;
 use std::alloc::{AllocError, Global};
 
 /// A run that has ended, before anything is put out.
@@ -16,6 +20,25 @@ pub(crate) struct Done {
     pub(crate) status: u8,
     pub(crate) text: Vec<u8>,
     pub(crate) closed: Closed,
+}
+
+/// The report of the lanes of a run, and its history.
+pub(crate) fn report(
+    alloc: Global,
+    bindings: &Bindings,
+    tasks: &Tasks,
+    lanes: &[Lane],
+    closed: Closed,
+) -> Result<Done, AllocError>
+    ensures { IfOk result (ReportsLanes bindings.now tasks.now (lane_records lanes.now) closed) }
+{
+    let text = report_lanes(alloc, bindings, tasks, lanes)?;
+    let status = lanes_status(lanes);
+    Ok(Done {
+        status,
+        text,
+        closed,
+    })
 }
 
 /// The whole run, its scripts in the order of the trace, and its report.
@@ -30,14 +53,9 @@ pub(crate) fn replayed(alloc: Global, ready: Ready) -> Result<Done, AllocError>
         setup,
         reactors,
         mut lanes,
-        changes: _changes,
+        changes,
     } = ready;
+    drop(changes);
     let closed = replay(alloc, setup, reactors.as_slice(), lanes.as_mut_slice())?;
-    let text = report_lanes(alloc, &bindings, &tasks, lanes.as_slice())?;
-    let status = lanes_status(lanes.as_slice());
-    Ok(Done {
-        status,
-        text,
-        closed,
-    })
+    report(alloc, &bindings, &tasks, lanes.as_slice(), closed)
 }

@@ -158,6 +158,29 @@ fn take_pieces<S: Store>(
     Ok(())
 }
 
+/// Routes the trace piece by piece, with a buffer for the pieces.
+fn take_trace<S: Store>(
+    alloc: Global,
+    store: &mut S,
+    trace: &str,
+    bound: &Bound,
+    routing: &mut Routing,
+) -> Result<(), BindFault>
+    requires open { IsOpen bound.now.bindings routing.old }
+    requires fed { routing.old.lines.fed ≡ [] }
+    ensures kept { S.files store.new ≡ S.files store.old }
+    ensures later { S.faults store.old ≤ S.faults store.new }
+    ensures open { OnOk result (IsOpen bound.now.bindings routing.new) }
+    ensures all { OnOk result (IsAll (S.files store.old) trace.now routing.new.lines.fed) }
+    ensures fault { IfErr result (λ fault. FaultComes (S.files store.old) (S.faults store.old) (S.faults store.new) fault (λ files. routed_in files trace.now (bound_value bound.now))) }
+    ensures named { IfErr result (λ fault. FaultNames (S.files store.old) fault (λ files. routed_in files trace.now (bound_value bound.now))) }
+{
+    let Ok(mut buffer) = vec![in alloc; 0u8; PIECE] else {
+        return Err(BindFault::Memory);
+    };
+    take_pieces(alloc, store, trace, bound, buffer.as_mut_slice(), routing)
+}
+
 /// Reads the trace in pieces and routes it.
 pub(crate) fn read_routed<S: Store>(
     alloc: Global,
@@ -173,20 +196,10 @@ pub(crate) fn read_routed<S: Store>(
     ensures value { Comes routed_value (S.files store.old) (S.faults store.old) (S.faults store.new) result (λ files. routed_in files trace.now (bound_value bound.now)) }
     ensures named { Names (S.files store.old) result (λ files. routed_in files trace.now (bound_value bound.now)) }
 {
-    let (Ok(mut routing), Ok(mut buffer)) = (
-        Routing::new(alloc, &bound.bindings),
-        vec![in alloc; 0u8; PIECE],
-    ) else {
+    let Ok(mut routing) = Routing::new(alloc, &bound.bindings) else {
         return Err(BindFault::Memory);
     };
-    take_pieces(
-        alloc,
-        store,
-        trace,
-        bound,
-        buffer.as_mut_slice(),
-        &mut routing,
-    )?;
+    take_trace(alloc, store, trace, bound, &mut routing)?;
     end_routing(alloc, trace, bound, routing)
 }
 

@@ -87,8 +87,9 @@ pub(crate) fn watched<R: Threads + Sync, G: Gate + Send>(
         setup,
         reactors,
         lanes,
-        changes: _changes,
+        changes,
     } = ready;
+    drop(changes);
     let run = feed_watched(rt, alloc, setup, reactors.as_slice(), lanes, slot, gate)?;
     let mut text = report_lanes(alloc, &bindings, &tasks, run.lanes.as_slice())?;
     let lines = watch_lines(alloc, run.words.as_slice(), run.last)?;

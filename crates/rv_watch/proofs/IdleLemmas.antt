@@ -4,10 +4,10 @@ use Rattle.std.proofs.lemmas.Bool.Decides.{nat_tests}
 use Rattle.rv_model.specs.declared.entry.Entry.{Entry}
 use Rattle.rv_model.specs.Seats.{Seat, is_in, is_among, known_of, entries_of}
 use Rattle.rv_board.specs.Known.{known_by}
+use Rattle.rv_board.specs.RunSeats.{Holds}
 use Rattle.rv_board.specs.Seats.{SeatValue, SeatGrows, Follows}
 use Rattle.rv_board.proofs.GrowLemmas.{same_known}
-use Rattle.rv_feed.specs.AtOnce.{Holds}
-use Rattle.rv_feed.proofs.JoinAllLemmas.{follows-then}
+use Rattle.rv_board.proofs.RunSeatLemmas.{follows-then}
 
 -- ---- seats
 

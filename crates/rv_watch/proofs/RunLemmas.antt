@@ -14,19 +14,20 @@ use Rattle.rv_model.specs.SharedWords.{word_of}
 use Rattle.rv_model.proofs.NumberLemmas.{nat_lt_or}
 use Rattle.rv_core.specs.Setup.{judges_of}
 use Rattle.rv_board.specs.Known.{known_by, part}
+use Rattle.rv_board.specs.RunSeats.{Holds}
 use Rattle.rv_board.specs.Seats.{BoardId, SeatValue, SeatGrows, seat_value, Follows, Joins, Closes}
 use Rattle.rv_board.proofs.GrowLemmas.{same_known}
 use Rattle.rv_board.proofs.Knowing.{known_is, knows_own, none_of, none_either}
 use Rattle.rv_board.proofs.SoundLemmas.{sound-empty}
+use Rattle.rv_board.proofs.ListLemmas.{Any-implied, zip-with, zip-left}
+use Rattle.rv_board.proofs.RunSeatLemmas.{follows-then, holds-itself, holds-still, holds-joined}
 use Rattle.rv_feed.specs.declared.feeder.Feeder.{Feeder}
-use Rattle.rv_feed.specs.AtOnce.{input_with, IsLegalOf, Holds, IsSeated, lanes_of, AreSeated}
+use Rattle.rv_feed.specs.AtOnce.{input_with, IsLegalOf, IsSeated, lanes_of, AreSeated}
 use Rattle.rv_feed.specs.Feeders.{RunsFeeder}
 use Rattle.rv_feed.specs.Lane.{LaneValue, works_of}
 use Rattle.rv_feed.specs.One.{lane_records}
 use Rattle.rv_feed.proofs.AtOnceLemmas.{IsFed, fed-says, fed-works}
 use Rattle.rv_feed.proofs.ChangeLemmas.{does-none}
-use Rattle.rv_feed.proofs.JoinAllLemmas.{follows-then, holds-itself, holds-still, holds-joined}
-use Rattle.rv_feed.proofs.ListLemmas.{Any-implied, zip-with, zip-left}
 use Rattle.rv_watch.specs.declared.watcher.Watcher.{Watcher}
 use Rattle.rv_watch.specs.Runs.{IsWatched, IsWatchedOf}
 use Rattle.rv_watch.specs.Watching.{Watches}

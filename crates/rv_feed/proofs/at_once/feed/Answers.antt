@@ -6,12 +6,13 @@ use Rattle.rv_model.specs.Setups.{Setup}
 use Rattle.rv_core.specs.Setup.{judges_of}
 use Rattle.rv_core.proofs.JudgedLemmas.{are-judges}
 use Rattle.rv_board.specs.Seats.{SeatValue}
+use Rattle.rv_board.proofs.ListLemmas.{lent}
 use Rattle.rv_feed.specs.declared.feeder.Feeder.{Feeder}
 use Rattle.rv_feed.specs.AtOnce.{input_with, IsLegalOf, lanes_of}
 use Rattle.rv_feed.specs.Feeders.{RunsFeeder}
 use Rattle.rv_feed.specs.Lane.{LaneValue, panics_of, works_of}
 use Rattle.rv_feed.specs.One.{lane_records}
-use Rattle.rv_feed.proofs.AtOnceLemmas.{lent, ran-on, ran-many, fed-from, fed-works, fed-legal}
+use Rattle.rv_feed.proofs.AtOnceLemmas.{ran-on, ran-many, fed-from, fed-works, fed-legal}
 use Rattle.rv_feed.proofs.at_once.feed.Goals as goal
 
 pub join_all-requires-clause-seats : goal.join_all-requires-clause-seats

@@ -3,11 +3,13 @@ use Rattle.std.proofs.Common.{◌≡◌, ◌+◌, List, [], ◌∷◌, ◌++◌,
 use Rattle.std.specs.Prelude.{All}
 use Rattle.std.proofs.lemmas.List.{length-append}
 use Rattle.std.proofs.lemmas.List.Elements.{All-nil, All-head}
+use Rattle.rv_board.specs.RunSeats.{Holds}
+use Rattle.rv_board.proofs.ListLemmas.{All-front, All-back}
+use Rattle.rv_board.proofs.RunSeatLemmas.{holds-itself, holds-still}
 use Rattle.rv_feed.specs.declared.feeder.Feeder.{Feeder}
-use Rattle.rv_feed.specs.AtOnce.{Holds, lanes_of}
+use Rattle.rv_feed.specs.AtOnce.{lanes_of}
 use Rattle.rv_feed.specs.Lane.{LaneValue}
-use Rattle.rv_feed.proofs.FeederLemmas.{All-front, All-back}
-use Rattle.rv_feed.proofs.JoinAllLemmas.{holds-itself, holds-still, all-held, lanes-more}
+use Rattle.rv_feed.proofs.JoinAllLemmas.{all-held, lanes-more}
 use Rattle.rv_feed.proofs.at_once.join_all.Goals as goal
 
 pub loop-feeder-init : goal.loop-feeder-init

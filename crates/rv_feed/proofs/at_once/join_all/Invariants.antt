@@ -1,8 +1,9 @@
 -- What was joined is in the seat, and its lanes are back.
 use Rattle.std.proofs.Common.{◌≡◌, ◌+◌, ◌≤◌, List, ◌++◌, length, vec_len}
 use Rattle.std.specs.Prelude.{All}
+use Rattle.rv_board.specs.RunSeats.{Holds}
 use Rattle.rv_feed.specs.declared.feeder.Feeder.{Feeder}
-use Rattle.rv_feed.specs.AtOnce.{Holds, lanes_of}
+use Rattle.rv_feed.specs.AtOnce.{lanes_of}
 use Rattle.rv_feed.proofs.at_once.join_all.Given as goal
 
 abbrev pub invariant-loop-feeder : goal.invariant-loop-feeder

@@ -6,9 +6,9 @@ use Rattle.std.specs.List.{AllZip}
 use Rattle.rv_feed.specs.declared.feeder.Feeder.{Feeder}
 use Rattle.rv_feed.specs.Feeders.{FitsFeeder, RunsFeeder}
 use Rattle.rv_feed.specs.Lane.{panics_of}
-use Rattle.rv_feed.proofs.FeederLemmas.{All-front, All-back, AllZip-append}
 use Rattle.std.proofs.Crossing.{crosses}
 use Rattle.rv_board.proofs.ThreadLemmas.{board-sync}
+use Rattle.rv_board.proofs.ListLemmas.{All-front, All-back, AllZip-append}
 use Rattle.rv_feed.proofs.feeder.Feeder.TheSendSync.{the_send as feeder-send}
 use Rattle.rv_feed.proofs.feeders.+halves.Goals as goal
 

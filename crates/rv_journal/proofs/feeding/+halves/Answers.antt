@@ -3,9 +3,9 @@ use denote.Param.Send.{sendable}
 use Rattle.std.proofs.Common.{List, ◌++◌, sym, subst}
 use Rattle.std.specs.Prelude.{All}
 use Rattle.std.specs.List.{AllZip}
+use Rattle.rv_board.proofs.ListLemmas.{All-front, All-back, AllZip-append}
 use Rattle.rv_journal.specs.declared.feeding.CountedFeeder.{CountedFeeder}
 use Rattle.rv_journal.specs.CountedFeeders.{FitsCountedFeeder, RunsCounted}
-use Rattle.rv_journal.proofs.CountedFeederLemmas.{All-parts, AllZip-append}
 use Rattle.std.proofs.Crossing.{crosses}
 use Rattle.rv_journal.proofs.ThreadLemmas.{counted_board-sync}
 use Rattle.rv_journal.proofs.feeding.CountedFeeder.TheSendSync.{the_send as feeder-send}
@@ -13,11 +13,11 @@ use Rattle.rv_journal.proofs.feeding.+halves.Goals as goal
 
 pub run_counted-run_both-requires-clause-low : goal.run_counted-run_both-requires-clause-low
 run_counted-run_both-requires-clause-low g t c κs within =
-    (All-parts (FitsCountedFeeder c.args.board.now) c.split_at_mut-low.result.0.now c.split_at_mut-low.result.1.now (subst (All (FitsCountedFeeder {G = g.row.G.Denot} c.args.board.now)) c.split_at_mut-low.ensures.value c.requires.feeders)).0
+    All-front (FitsCountedFeeder c.args.board.now) c.split_at_mut-low.result.0.now c.split_at_mut-low.result.1.now (subst (All (FitsCountedFeeder {G = g.row.G.Denot} c.args.board.now)) c.split_at_mut-low.ensures.value c.requires.feeders)
 
 pub run_counted-run_both-requires-clause-high : goal.run_counted-run_both-requires-clause-high
 run_counted-run_both-requires-clause-high g t c κs within =
-    (All-parts (FitsCountedFeeder c.args.board.now) c.split_at_mut-low.result.0.now c.split_at_mut-low.result.1.now (subst (All (FitsCountedFeeder {G = g.row.G.Denot} c.args.board.now)) c.split_at_mut-low.ensures.value c.requires.feeders)).1
+    All-back (FitsCountedFeeder c.args.board.now) c.split_at_mut-low.result.0.now c.split_at_mut-low.result.1.now (subst (All (FitsCountedFeeder {G = g.row.G.Denot} c.args.board.now)) c.split_at_mut-low.ensures.value c.requires.feeders)
 
 pub run_counted-returns : goal.run_counted-returns
 run_counted-returns g t c =

@@ -2,9 +2,9 @@
 use Rattle.std.proofs.Common.{◌≡◌, List, [], ◌∷◌, ◌++◌, refl, sym, ap, ◌∙◌, subst, append_assoc, append-nil}
 use Rattle.std.specs.Prelude.{All}
 use Rattle.std.proofs.lemmas.List.Elements.{All-nil, All-head}
-use Rattle.rv_feed.specs.AtOnce.{Holds}
-use Rattle.rv_feed.proofs.FeederLemmas.{All-front, All-back}
-use Rattle.rv_feed.proofs.JoinAllLemmas.{holds-itself, holds-still}
+use Rattle.rv_board.specs.RunSeats.{Holds}
+use Rattle.rv_board.proofs.ListLemmas.{All-front, All-back}
+use Rattle.rv_board.proofs.RunSeatLemmas.{holds-itself, holds-still}
 use Rattle.rv_journal.specs.declared.feeding.CountedFeeder.{CountedFeeder}
 use Rattle.rv_journal.specs.CountedLanes.{CountedLaneValue}
 use Rattle.rv_journal.proofs.CountedJoinLemmas.{counted-held, lanes-in-more}

@@ -1,7 +1,7 @@
 -- What was joined is in the seat, and its lanes are back.
 use Rattle.std.proofs.Common.{◌≡◌, List, ◌++◌, vec_len}
 use Rattle.std.specs.Prelude.{All}
-use Rattle.rv_feed.specs.AtOnce.{Holds}
+use Rattle.rv_board.specs.RunSeats.{Holds}
 use Rattle.rv_journal.specs.declared.feeding.CountedFeeder.{CountedFeeder}
 use Rattle.rv_journal.specs.Running.{lanes_in}
 use Rattle.rv_journal.proofs.running.join_all.Given as goal

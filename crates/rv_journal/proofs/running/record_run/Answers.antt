@@ -5,7 +5,7 @@ use Rattle.rv_model.specs.declared.entry.Entry.{Entry}
 use Rattle.rv_model.specs.Numbers.{has_bit}
 use Rattle.rv_model.specs.Setups.{Setup}
 use Rattle.rv_core.proofs.JudgedLemmas.{are-judges}
-use Rattle.rv_feed.proofs.AtOnceLemmas.{lent}
+use Rattle.rv_board.proofs.ListLemmas.{lent}
 use Rattle.rv_journal.specs.declared.feeding.CountedFeeder.{CountedFeeder}
 use Rattle.rv_journal.specs.CountedFeeders.{FitsCountedFeeder, RunsCounted}
 use Rattle.rv_journal.specs.CountedLanes.{CountedLaneValue}

@@ -38,8 +38,8 @@ returns-clause-value g c = λ files known.
     let ready = c.in_ok-ready.ready in
     let i : InputValue = ready_value ready in
     let new = c.take_journal.new.reader in
-    let run = subst (λ (j : Journal). IsSameRun j new.journal) (ap (λ (x : ReaderValue). x.journal) c.in-Ok-Ok.ensures.begins) c.in_ok-take_journal.ensures.same in
-    let found = verdict_judged ready c.in_ok-ready.ensures.ready c.in_ok-ready.ensures.unchanged c.in-Ok-Ok.ensures.judges new c.verdict.result run c.verdict.ensures.holds c.verdict.ensures.stays (files journal) (c.in_ok-take_journal.ensures.all files (c.in_ok-ready.ensures.kept ∙ known)) in (
+    let run = subst (λ (j : Journal). IsSameRun j new.journal) (ap (λ (x : ReaderValue). x.journal) c.in-Ok.ensures.begins) c.in_ok-take_journal.ensures.same in
+    let found = verdict_judged ready c.in_ok-ready.ensures.ready c.in_ok-ready.ensures.unchanged c.in-Ok.ensures.judges new c.verdict.result run c.verdict.ensures.holds c.verdict.ensures.stays (files journal) (c.in_ok-take_journal.ensures.all files (c.in_ok-ready.ensures.kept ∙ known)) in (
       record { input = i; journal = found.0 },
       ap (λ o. reading o (λ input. of_text journal (files journal) (λ text. accepted (record { input = input; journal = text })))) (c.in_ok-ready.ensures.value files known) ∙ ap (λ (held : Option (List ℕ)). of_text journal held (λ text. accepted (record { input = i; journal = text }))) found.1,
       found.2,
@@ -49,5 +49,5 @@ pub returns-clause-some : goal.returns-clause-some
 returns-clause-some g c =
     let ready = c.in_ok-ready.ready in
     let new = c.take_journal.new.reader in
-    let run = subst (λ (j : Journal). IsSameRun j new.journal) (ap (λ (x : ReaderValue). x.journal) c.in-Ok-Ok.ensures.begins) c.in_ok-take_journal.ensures.same in
-    verdict_some ready c.in_ok-ready.ensures.ready c.in_ok-ready.ensures.unchanged c.in-Ok-Ok.ensures.judges new c.verdict.result run c.verdict.ensures.holds c.verdict.ensures.stays
+    let run = subst (λ (j : Journal). IsSameRun j new.journal) (ap (λ (x : ReaderValue). x.journal) c.in-Ok.ensures.begins) c.in_ok-take_journal.ensures.same in
+    verdict_some ready c.in_ok-ready.ensures.ready c.in_ok-ready.ensures.unchanged c.in-Ok.ensures.judges new c.verdict.result run c.verdict.ensures.holds c.verdict.ensures.stays

@@ -1,7 +1,10 @@
-use Rattle.std.proofs.Common.{sym, subst}
-use Rattle.rv_check.specs.Beginnings.{FitWorks}
-use Rattle.rv_tool.proofs.JudgedLemmas.{works_fit}
+use Rattle.std.proofs.Common.{◌≡◌, false, subst}
+use Rattle.std.specs.Prelude.{IfOk}
+use Rattle.rv_check.specs.Verdicts.{Journal}
+use Rattle.rv_tool.proofs.JudgedLemmas.{begins_judged}
 use Rattle.rv_tool.proofs.checking.reader.Goals as goal
 
-pub new-requires : goal.new-requires
-new-requires c = subst (FitWorks c.args.ready.setup) (sym c.in_ok-works.ensures) (works_fit c.args.ready.setup c.args.ready.lanes.items c.requires.lanes)
+pub returns-clause-begins : goal.returns-clause-begins
+returns-clause-begins c =
+    subst (λ (j : Journal). IfOk c.reader_of.result (λ r. r ≡ record { journal = j; stopped = false }))
+    (begins_judged c.args.ready c.requires c.as_slice.result.now c.panic_bits-panics.result c.as_slice.ensures.value c.panic_bits-panics.ensures) c.reader_of.ensures.begins

@@ -2,6 +2,7 @@ use Rattle.std.proofs.Common.{length, map, sym, ap, ◌∙◌, subst}
 use Rattle.std.specs.Prelude.{All}
 use Rattle.std.proofs.lemmas.List.Elements.{All-nil}
 use Rattle.rv_feed.specs.Changes.{IsBelowHalt}
+use Rattle.rv_model.specs.Setups.{Setup}
 use Rattle.rv_bind.specs.declared.bindings.Monitor.{Monitor}
 use Rattle.rv_route.specs.Fitting.{FromRules}
 use Rattle.rv_tool.proofs.ReadyLemmas.{ready_made}
@@ -24,4 +25,13 @@ returns-clause-ready c =
       tables = made.tables;
       routed = made.routed;
       rules = subst (FromRules c.args.bound.bindings.rules.items) (sym c.in_ok-lanes.ensures.0) c.requires.rules;
+    }
+
+pub returns-clause-value : goal.returns-clause-value
+returns-clause-value c =
+    let bindings = c.args.bound.bindings in
+    λ i. record {
+      bound = record { containers = bindings.containers; monitors = bindings.monitors.items; rules = bindings.rules.items; items = bindings.items.items; tables = ap (λ (s : Setup). s.tables) c.in_ok-setup.ensures i };
+      routed = record { tasks = c.args.routed.tasks; works = c.in_ok-lanes.ensures.0 i };
+      changes = c.new.ensures.items i;
     }

@@ -14,9 +14,9 @@ use Rattle.rv_tool.proofs.trace_text.read_routed.Goals as goal
 pub returns-clause-value : goal.returns-clause-value
 returns-clause-value g c =
     let bound = c.args.bound.now.bindings in
-    let text = c.take_pieces.new.routing.lines.fed in
-    routed_comes (g.S.Store.files c.args.store.now) c.args.trace.now text (bound_value c.args.bound.now) c.in_ok-take_pieces.ensures.all
-    routed_value (g.S.Store.faults c.args.store.now) (g.S.Store.faults c.take_pieces.new.store) c.end_routing.result
+    let text = c.take_trace.new.routing.lines.fed in
+    routed_comes (g.S.Store.files c.args.store.now) c.args.trace.now text (bound_value c.args.bound.now) c.in_ok-take_trace.ensures.all
+    routed_value (g.S.Store.faults c.args.store.now) (g.S.Store.faults c.take_trace.new.store) c.end_routing.result
     (subst (λ (o : Outcome RoutedValue). Tells routed_value c.end_routing.result o) (of_file-and_then c.args.trace.now (trace_of text) (route_of bound.monitors.items bound.rules.items text)) c.end_routing.ensures.value)
 
 pub returns-clause-named : goal.returns-clause-named

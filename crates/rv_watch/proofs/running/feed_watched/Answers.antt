@@ -2,11 +2,12 @@
 use Rattle.std.proofs.Common.{◌≡◌, Bool, ℕ, List, ◌++◌, length, ap, ◌∙◌, arith}
 use Rattle.std.specs.Prelude.{take, drop}
 use Rattle.rv_core.proofs.JudgedLemmas.{are-judges}
+use Rattle.rv_board.proofs.ListLemmas.{lent}
 use Rattle.rv_feed.specs.declared.feeder.Feeder.{Feeder}
 use Rattle.rv_feed.specs.AtOnce.{lanes_of}
 use Rattle.rv_feed.specs.Feeders.{RunsFeeder}
 use Rattle.rv_feed.specs.Lane.{LaneValue, panics_of, works_of}
-use Rattle.rv_feed.proofs.AtOnceLemmas.{lent, ran-on, ran-many}
+use Rattle.rv_feed.proofs.AtOnceLemmas.{ran-on, ran-many}
 use Rattle.rv_watch.proofs.RunLemmas.{IsRun, run-works, run-promised, legal-of-watched}
 use Rattle.rv_watch.proofs.running.feed_watched.Goals as goal
 

@@ -2,7 +2,7 @@
 use Rattle.std.proofs.Common.{◌≡◌, ◌≤◌, length}
 use Rattle.rv_tool.specs.Feeding.{IsFed}
 use Rattle.rv_tool.specs.JournalPieces.{IsSameRun}
-use Rattle.rv_tool.proofs.checking.take_journal.Given as goal
+use Rattle.rv_tool.proofs.checking.take_pieces.Given as goal
 
 abbrev pub invariant-loop-piece : goal.invariant-loop-piece
 invariant-loop-piece g l =

@@ -1,9 +1,36 @@
--- What holds of each and of some element: of a list from its end, of what was made of each, and of two lists side by side.
-use Rattle.std.proofs.Common.{◌≡◌, ◌-◌, List, [], ◌∷◌, ◌++◌, length, map, reverse, arith, refl, sym, ap, ◌∙◌, subst}
-use Rattle.std.specs.Prelude.{All, Any, Contains}
+-- What holds of each and of some element: of a list cut in two, of one from its end, of what was made of each, and of two lists side by side.
+use Rattle.std.proofs.Common.{◌≡◌, ℕ, ◌-◌, List, [], ◌∷◌, ◌++◌, length, map, reverse, arith, refl, sym, ap, ◌∙◌, subst}
+use Rattle.std.specs.Prelude.{All, Any, Contains, Bool, true, filter, drop, take}
 use Rattle.std.specs.List.{AllZip}
-use Rattle.std.proofs.lemmas.List.{reverse-append, reverse-reverse, get_or-reverse, get_or-map, length-map, length-reverse, map-append}
-use Rattle.std.proofs.lemmas.List.Elements.{All-nil, All-cons, All-head, All-tail, All-contains, All-contains_itself, Contains-append_left}
+use Rattle.std.proofs.lemmas.List.{reverse-append, reverse-reverse, get_or-reverse, get_or-map, length-map, length-reverse, map-append, take_at}
+use Rattle.std.proofs.lemmas.List.Elements.{All-nil, All-cons, All-head, All-tail, All-contains, All-contains_itself, Contains-append_left, filter-append, length_all_zip}
+
+-- ---- cut in two
+
+module _ {X : Type 0} where
+  -- what holds of each holds of the front
+  pub All-front : (P : X → Type 0) (xs ys : List X) → All P (xs ++ ys) → All P xs
+  All-front P [] ys all = All-nil P
+  All-front P (x ∷ xs) ys all = All-cons P x xs (All-head P x (xs ++ ys) all) (All-front P xs ys (All-tail P x (xs ++ ys) all))
+
+  -- and of the rest
+  pub All-back : (P : X → Type 0) (xs ys : List X) → All P (xs ++ ys) → All P ys
+  All-back P [] ys all = all
+  All-back P (x ∷ xs) ys all = All-back P xs ys (All-tail P x (xs ++ ys) all)
+
+  -- lists that go together, one behind the other
+  pub AllZip-append : (R : X → X → Type 0) (xs xs' ys ys' : List X) → AllZip R xs xs' → AllZip R ys ys' → AllZip R (xs ++ ys) (xs' ++ ys')
+  AllZip-append R [] [] ys ys' one two = two
+  AllZip-append R [] (y ∷ xs') ys ys' one two = absurd one
+  AllZip-append R (x ∷ xs) [] ys ys' one two = absurd one
+  AllZip-append R (x ∷ xs) (y ∷ xs') ys ys' one two = (one.0, AllZip-append R xs xs' ys ys' one.1 two)
+
+-- what holds of each that passes holds of one that does
+pub kept-holds : {X : Type 0} (P : X → Type 0) (passes : X → Bool) (h before : List X) (e : X) (after : List X) → h ≡ before ++ e ∷ after → passes e ≡ true → All P (filter passes h) → P e
+kept-holds P passes h before e after cut passed all =
+    let here : filter passes (e ∷ after) ≡ e ∷ filter passes after = rw passed refl in
+    let parts : filter passes h ≡ filter passes before ++ e ∷ filter passes after = ap (filter passes) cut ∙ filter-append passes before (e ∷ after) ∙ ap (λ (z : List _). filter passes before ++ z) here in
+    All-head P e (filter passes after) (All-back P (filter passes before) (e ∷ filter passes after) (subst (All P) parts all))
 
 -- ---- from the end
 
@@ -74,3 +101,10 @@ module _ {X : Type 0} (R : X → X → Type 0) where
   zip-map f same [] (y ∷ ys) zip = absurd zip
   zip-map f same (x ∷ xs) [] zip = absurd zip
   zip-map f same (x ∷ xs) (y ∷ ys) zip = λ i. same x y zip.0 i ∷ zip-map f same xs ys zip.1 i
+
+-- what a list is after it was lent as a slice
+pub lent : {X : Type 0} (R : X → X → Type 0) (n : ℕ) (xs slice ys : List X) → n ≡ length xs → slice ≡ xs → AllZip R slice ys → AllZip R xs (take n (ys ++ drop (length ys) xs))
+lent R n xs slice ys count is zip =
+    let zip' : AllZip R xs ys = subst (λ (z : List _). AllZip R z ys) is zip in
+    let same : length ys ≡ n = sym (length_all_zip R xs ys zip') ∙ sym count in
+    subst (AllZip R xs) (sym (take_at ys (drop (length ys) xs) n same)) zip'

@@ -1,0 +1,21 @@
+-- The seats of a run: the first one, which splits off the others, and what is joined into a seat.
+use Rattle.std.specs.Prelude.{◌≡◌, ℕ, ◌<◌, true, []}
+use Rattle.rv_model.specs.Seats.{known_of}
+use Rattle.rv_board.specs.Seats.{BoardId, SeatValue, Follows}
+
+-- the seat has seen nothing
+pub record IsFresh (s : SeatValue) : Type 0 where
+  pub has : s.part.number < s.part.end
+  pub seen : s.part.seen ≡ []
+
+-- the list begins with what the other seat had seen and goes on without its numbers, and all of them are known
+pub record Holds (into seat : SeatValue) : Type 0 where
+  pub follows : Follows into.part.seen seat.part
+  pub within : (n : ℕ) → known_of seat.part n ≡ true → known_of into.part n ≡ true
+
+-- the first seat of this board, which has handed on numbers above 1 and has seen nothing
+pub record IsFirst (board : BoardId) (first : SeatValue) : Type 0 where
+  pub board_is : first.board ≡ board
+  pub number : first.part.number ≡ 0
+  pub end : 1 < first.part.end
+  pub seen : first.part.seen ≡ []

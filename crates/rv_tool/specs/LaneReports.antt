@@ -1,0 +1,16 @@
+-- What is told of the lanes of a run that has ended.
+use Rattle.std.specs.Prelude.{◌≡◌, List}
+use Rattle.rv_model.specs.declared.entry.Entry.{Entry}
+use Rattle.rv_model.specs.declared.record.Record.{Record}
+use Rattle.rv_model.specs.declared.record.Task.{Task}
+use Rattle.rv_model.specs.Records.{sort_records, status_of}
+use Rattle.rv_model.specs.Reports.{report_text}
+use Rattle.rv_bind.specs.declared.bindings.Bindings.{Bindings}
+use Rattle.rv_report.specs.Shown.{reported_of}
+use Rattle.rv_tool.specs.declared.replaying.Done.{Done}
+
+-- the text is the report of the records, the status is theirs, and the history is this one
+pub record ReportsLanes (bindings : Bindings) (tasks : List Task) (rs : List Record) (h : List Entry) (done : Done) : Type 0 where
+  pub text_is : done.text.items ≡ report_text (reported_of bindings) tasks (sort_records rs)
+  pub status_is : done.status ≡ status_of rs
+  pub history_is : done.closed ≡ h
