@@ -1,6 +1,7 @@
 //! Laws of the definitions, each the contract of a call that does nothing.
 ghost use Rattle.rv_verdicts.specs.Lone.{LoneHasNoStop, AllLoneHaveNoStop, AllLoneGiveNoSix, CpuSlotsAreLone, AllByCpuAreLone};
 ghost use Rattle.rv_verdicts.specs.Exits.{StatusIsSeen};
+ghost use Rattle.rv_verdicts.specs.Parts.{PartHasItsRecords};
 ghost use Rattle.rv_verdicts.specs.Shown.{ShownIsEnough};
 ghost use Rattle.rv_verdicts.specs.Verdicts.{LoneRecordsAgree, AllRecordsAgree, LoneRecordsAreOne, AllRecordsAreOne};
 
@@ -37,4 +38,9 @@ pub fn shown_deliveries_are_enough()
 /// The status can be seen in the history, without the works and their records.
 pub fn status_is_seen()
     ensures { StatusIsSeen }
+{}
+
+/// A part of an input, with the deliveries to some instances alone, has the whole's records of them.
+pub fn parts_have_the_whole()
+    ensures { PartHasItsRecords }
 {}

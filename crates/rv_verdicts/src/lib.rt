@@ -5,5 +5,5 @@ mod laws;
 
 pub use laws::{
     cpu_slots_are_lone, lone_records_agree, lone_records_are_one, lone_slots_are_not_stopped,
-    shown_deliveries_are_enough, status_is_seen,
+    parts_have_the_whole, shown_deliveries_are_enough, status_is_seen,
 };
