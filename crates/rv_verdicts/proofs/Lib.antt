@@ -4,6 +4,7 @@ pub mod ControlLemmas
 pub mod CpuLemmas
 pub mod ExitLemmas
 pub mod FilterLemmas
+pub mod JoinLemmas
 pub mod KnownLemmas
 pub mod LikeLemmas
 pub mod LineLemmas
@@ -18,6 +19,7 @@ pub mod PartLemmas
 pub mod PartMadeLemmas
 pub mod PartRecordLemmas
 pub mod PastLemmas
+pub mod RiseLemmas
 pub mod SeatStepLemmas
 pub mod ShownLemmas
 pub mod StatusLemmas

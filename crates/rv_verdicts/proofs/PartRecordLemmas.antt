@@ -52,7 +52,7 @@ flat-none f [] each = refl
 flat-none f (w ∷ works) each = ap (λ (z : List Record). z ++ flat_map f works) (each w (0, omega arith, refl)) ∙ flat-none f works (λ v has. each v (suc (has.0), (let l = has.1 in omega arith), has.2))
 
 -- so the history has none
-halted-records : (input : Input) (js : List Judge) (h : List Entry) → IsPlain input → IsOneHistory input js h → has_bit (opening_word input.setup) 34 ≡ true → records_of input js h ≡ []
+pub halted-records : (input : Input) (js : List Judge) (h : List Entry) → IsPlain input → IsOneHistory input js h → has_bit (opening_word input.setup) 34 ≡ true → records_of input js h ≡ []
 halted-records input js h plain one halted =
     ap sort_records (flat-none (λ w. script_records w.deliveries w.turns (played input.setup js (2 + w.cpu) (reverse h))) input.works
     (λ w has. halted-script input.setup input.panics halted w.deliveries w.turns (played input.setup js (2 + w.cpu) (reverse h)) (plays input js h one.legal one.no_changes w has)

@@ -1,4 +1,5 @@
 pub mod Exits
+pub mod Joins
 pub mod Lone
 pub mod Parts
 pub mod Shown

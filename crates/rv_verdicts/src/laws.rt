@@ -2,6 +2,7 @@
 ghost use Rattle.rv_verdicts.specs.Lone.{LoneHasNoStop, AllLoneHaveNoStop, AllLoneGiveNoSix, CpuSlotsAreLone, AllByCpuAreLone};
 ghost use Rattle.rv_verdicts.specs.Exits.{StatusIsSeen};
 ghost use Rattle.rv_verdicts.specs.Parts.{PartHasItsRecords};
+ghost use Rattle.rv_verdicts.specs.Joins.{PartsHaveAllRecords};
 ghost use Rattle.rv_verdicts.specs.Shown.{ShownIsEnough};
 ghost use Rattle.rv_verdicts.specs.Verdicts.{LoneRecordsAgree, AllRecordsAgree, LoneRecordsAreOne, AllRecordsAreOne};
 
@@ -42,5 +43,6 @@ pub fn status_is_seen()
 
 /// A part of an input, with the deliveries to some instances alone, has the whole's records of them.
 pub fn parts_have_the_whole()
-    ensures { PartHasItsRecords }
+    ensures part { PartHasItsRecords }
+    ensures all { PartsHaveAllRecords }
 {}

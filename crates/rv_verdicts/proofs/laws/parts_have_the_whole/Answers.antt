@@ -1,5 +1,9 @@
+use Rattle.rv_verdicts.proofs.JoinLemmas.{parts_have_all_records}
 use Rattle.rv_verdicts.proofs.PartRecordLemmas.{part_has_its_records}
 use Rattle.rv_verdicts.proofs.laws.parts_have_the_whole.Goals as goal
 
-pub returns : goal.returns
-returns c = part_has_its_records
+pub returns-clause-part : goal.returns-clause-part
+returns-clause-part c = part_has_its_records
+
+pub returns-clause-all : goal.returns-clause-all
+returns-clause-all c = parts_have_all_records

@@ -1,0 +1,89 @@
+-- Parts together: the whole has the records of all of them, and its report is theirs joined.
+use Rattle.std.specs.Prelude.{◌≡◌, ◌≢◌, ℕ, ◌+◌, Bool, ◌&&◌, List, [], ◌∷◌, ◌++◌, map, flat_map, count_by, Option, Some, slice_get, slice_index, All, AllPairs}
+use Rattle.std.specs.List.{sum_by}
+use Rattle.rv_model.specs.declared.entry.Entry.{Entry}
+use Rattle.rv_model.specs.declared.record.Record.{Record}
+use Rattle.rv_model.specs.declared.record.Task.{Task}
+use Rattle.rv_model.specs.declared.work.Scope.{Scope}
+use Rattle.rv_model.specs.declared.work.Scope.TheVariants as scope
+use Rattle.rv_model.specs.Histories.{Input}
+use Rattle.rv_model.specs.Judging.{Judge}
+use Rattle.rv_model.specs.Records.{records_of, sort_records, is_failure, is_stopped, status_of}
+use Rattle.rv_model.specs.Reports.{Reported, record_text, task_at, instances_in, is_of, instance_count, count_text, report_text}
+use Rattle.rv_model.specs.Works.{Work}
+use Rattle.rv_verdicts.specs.Lone.{HasInstance}
+use Rattle.rv_verdicts.specs.Parts.{Numbering, placed_in, record_in, ArePlayed}
+
+-- ---- records
+
+-- a part of an input: its numbers in the whole, what it keeps, its history, and the tasks that its report names
+pub record PlayedPart : Type 0 where
+  pub numbers : Numbering
+  pub keep : ℕ → ℕ → Bool
+  pub input : Input
+  pub judges : List Judge
+  pub history : List Entry
+  pub tasks : List Task
+
+-- the records of a part
+abbrev pub own_records : PlayedPart → List Record
+own_records p = records_of p.input p.judges p.history
+
+-- the same, as the whole has them
+abbrev pub records_by : PlayedPart → List Record
+records_by p = map (record_in p.numbers) (own_records p)
+
+-- the records of all parts, ascending by order
+abbrev pub joined_records : List PlayedPart → List Record
+joined_records parts = sort_records (flat_map records_by parts)
+
+-- each is a part with its history, each instance is kept by one part and no other, and no two deliveries have one order
+pub record ArePartsOf (whole : Input) (js : List Judge) (h : List Entry) (parts : List PlayedPart) : Type 0 where
+  pub each : All (λ p. ArePlayed p.numbers p.keep whole p.input js p.judges h p.history) parts
+  pub once : (monitor instance : ℕ) → count_by (λ p. p.keep monitor instance) parts ≡ 1
+  pub orders : AllPairs (λ p q. p.delivery.order ≢ q.delivery.order) (placed_in whole.works)
+
+-- a law: the whole has the records of its parts, and no other
+abbrev pub PartsHaveAllRecords : Type 0
+PartsHaveAllRecords = (whole : Input) (js : List Judge) (h : List Entry) (parts : List PlayedPart) → ArePartsOf whole js h parts → records_of whole js h ≡ joined_records parts
+
+-- ---- reports
+
+-- two numbers mean one instance of a monitor, each by its own tasks
+abbrev pub MeanOne : List Task → List Task → Scope → ℕ → ℕ → Type 0
+MeanOne tasks own scope.Global instance other = instance ≡ other
+MeanOne tasks own scope.Cpu instance other = instance ≡ other
+MeanOne tasks own scope.Task instance other = task_at tasks instance ≡ task_at own other
+
+-- the setup has as many slots of each monitor as the monitor has instances
+abbrev pub HasSlots : List Reported → List Task → List ℕ → Type 0
+HasSlots monitors tasks shape = (monitor : ℕ) (m : Reported) → slice_get monitors monitor ≡ Some m → slice_index shape monitor ≡ instances_in tasks m.scope
+
+-- the instances of a part are those that its numbers mean in the whole
+abbrev pub MeansItsOwn : List Reported → List Task → PlayedPart → Type 0
+MeansItsOwn monitors tasks p = (monitor instance : ℕ) (m : Reported) → slice_get monitors monitor ≡ Some m → HasInstance p.input.setup.shape monitor instance → MeanOne tasks p.tasks m.scope (p.numbers.instance_of monitor instance) instance
+
+-- a law: a part says of a record what the whole says of it, with the line that the record has in the part
+abbrev pub PartSaysItsOwn : Type 0
+PartSaysItsOwn = (monitors : List Reported) (tasks : List Task) (p : PlayedPart) (r : Record) → MeansItsOwn monitors tasks p → HasInstance p.input.setup.shape r.monitor r.instance
+    → record_text (slice_get monitors r.monitor) tasks (record_in p.numbers r) ≡ record_text (slice_get monitors r.monitor) p.tasks (record r { line = p.numbers.line r.line })
+
+-- a monitor's line, by the sums of what its parts count
+abbrev pub joined_summary : List PlayedPart → ℕ → Reported → List ℕ
+joined_summary parts monitor m =
+    count_text m.shown (sum_by (λ p. instance_count monitor (own_records p) (instances_in p.tasks m.scope)) parts) (sum_by (λ p. count_by (is_of monitor) (own_records p)) parts)
+    (sum_by (λ p. count_by (λ r. is_of monitor r && is_failure r) (own_records p)) parts) (sum_by (λ p. count_by (λ r. is_of monitor r && is_stopped r) (own_records p)) parts)
+
+-- a line for each monitor, the first of which has this number
+abbrev pub joined_summaries : List PlayedPart → ℕ → List Reported → List ℕ
+joined_summaries parts monitor [] = []
+joined_summaries parts monitor (m ∷ monitors) = joined_summary parts monitor m ++ joined_summaries parts (monitor + 1) monitors
+
+-- the report that is made of the parts
+abbrev pub joined_text : List Reported → List Task → List PlayedPart → List ℕ
+joined_text monitors tasks parts = flat_map (λ r. record_text (slice_get monitors r.monitor) tasks r) (joined_records parts) ++ joined_summaries parts 0 monitors
+
+-- a law: the whole's report is made of its parts, and so is its status
+pub record ReportIsJoined : Type 0 where
+  pub text : (whole : Input) (js : List Judge) (h : List Entry) (monitors : List Reported) (tasks : List Task) (parts : List PlayedPart) → ArePartsOf whole js h parts → HasSlots monitors tasks whole.setup.shape → All (λ p. HasSlots monitors p.tasks p.input.setup.shape) parts
+      → report_text monitors tasks (records_of whole js h) ≡ joined_text monitors tasks parts
