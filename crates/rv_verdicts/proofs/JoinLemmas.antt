@@ -59,7 +59,7 @@ keeps_record p r = is_kept p.keep r
 
 module _ (whole : Input) (js : List Judge) (h : List Entry) where
   -- the part is one of the whole
-  abbrev IsPlayed : PlayedPart → Type 0
+  abbrev pub IsPlayed : PlayedPart → Type 0
   IsPlayed p = ArePlayed p.numbers p.keep whole p.input js p.judges h p.history
 
   -- the records of the parts are what they keep of the whole's

@@ -1,10 +1,13 @@
 pub mod AllMadeLemmas
 pub mod AnswerLemmas
 pub mod ControlLemmas
+pub mod CountLemmas
 pub mod CpuLemmas
 pub mod ExitLemmas
 pub mod FilterLemmas
+pub mod InstanceLemmas
 pub mod JoinLemmas
+pub mod JoinedReportLemmas
 pub mod KnownLemmas
 pub mod LikeLemmas
 pub mod LineLemmas
@@ -25,6 +28,7 @@ pub mod ShownLemmas
 pub mod StatusLemmas
 pub mod StepLemmas
 pub mod StopLemmas
+pub mod SumLemmas
 pub mod SwitchLemmas
 pub mod ToldLemmas
 pub mod VerdictLemmas

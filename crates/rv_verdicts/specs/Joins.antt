@@ -1,5 +1,5 @@
 -- Parts together: the whole has the records of all of them, and its report is theirs joined.
-use Rattle.std.specs.Prelude.{◌≡◌, ◌≢◌, ℕ, ◌+◌, Bool, ◌&&◌, List, [], ◌∷◌, ◌++◌, map, flat_map, count_by, Option, Some, slice_get, slice_index, All, AllPairs}
+use Rattle.std.specs.Prelude.{◌≡◌, ◌≢◌, ℕ, ◌+◌, Bool, ◌&&◌, List, [], ◌∷◌, ◌++◌, map, flat_map, count_by, Option, Some, slice_get, All, AllPairs}
 use Rattle.std.specs.List.{sum_by}
 use Rattle.rv_model.specs.declared.entry.Entry.{Entry}
 use Rattle.rv_model.specs.declared.record.Record.{Record}
@@ -55,9 +55,9 @@ MeanOne tasks own scope.Global instance other = instance ≡ other
 MeanOne tasks own scope.Cpu instance other = instance ≡ other
 MeanOne tasks own scope.Task instance other = task_at tasks instance ≡ task_at own other
 
--- the setup has as many slots of each monitor as the monitor has instances
+-- the setup has for each monitor as many slots as the monitor has instances
 abbrev pub HasSlots : List Reported → List Task → List ℕ → Type 0
-HasSlots monitors tasks shape = (monitor : ℕ) (m : Reported) → slice_get monitors monitor ≡ Some m → slice_index shape monitor ≡ instances_in tasks m.scope
+HasSlots monitors tasks shape = shape ≡ map (λ m. instances_in tasks m.scope) monitors
 
 -- the instances of a part are those that its numbers mean in the whole
 abbrev pub MeansItsOwn : List Reported → List Task → PlayedPart → Type 0
@@ -83,7 +83,11 @@ joined_summaries parts monitor (m ∷ monitors) = joined_summary parts monitor m
 abbrev pub joined_text : List Reported → List Task → List PlayedPart → List ℕ
 joined_text monitors tasks parts = flat_map (λ r. record_text (slice_get monitors r.monitor) tasks r) (joined_records parts) ++ joined_summaries parts 0 monitors
 
--- a law: the whole's report is made of its parts, and so is its status
-pub record ReportIsJoined : Type 0 where
-  pub text : (whole : Input) (js : List Judge) (h : List Entry) (monitors : List Reported) (tasks : List Task) (parts : List PlayedPart) → ArePartsOf whole js h parts → HasSlots monitors tasks whole.setup.shape → All (λ p. HasSlots monitors p.tasks p.input.setup.shape) parts
-      → report_text monitors tasks (records_of whole js h) ≡ joined_text monitors tasks parts
+-- a law: the whole's report is made of its parts
+abbrev pub ReportIsJoined : Type 0
+ReportIsJoined = (whole : Input) (js : List Judge) (h : List Entry) (monitors : List Reported) (tasks : List Task) (parts : List PlayedPart) → ArePartsOf whole js h parts
+    → HasSlots monitors tasks whole.setup.shape → All (λ p. HasSlots monitors p.tasks p.input.setup.shape) parts → report_text monitors tasks (records_of whole js h) ≡ joined_text monitors tasks parts
+
+-- a law: its status is that of the records of all parts
+abbrev pub StatusIsJoined : Type 0
+StatusIsJoined = (whole : Input) (js : List Judge) (h : List Entry) (parts : List PlayedPart) → ArePartsOf whole js h parts → status_of (records_of whole js h) ≡ status_of (flat_map own_records parts)
