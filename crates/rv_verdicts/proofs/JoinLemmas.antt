@@ -9,10 +9,10 @@ use Rattle.rv_model.specs.Histories.{Input, IsOneHistory}
 use Rattle.rv_model.specs.Judging.{Judge}
 use Rattle.rv_model.specs.Numbers.{has_bit}
 use Rattle.rv_model.specs.Records.{sort_records, records_of}
-use Rattle.rv_verdicts.specs.Joins.{PlayedPart, records_by, joined_records, ArePartsOf, PartsHaveAllRecords}
-use Rattle.rv_verdicts.specs.Parts.{Placed, placed_in, is_kept, IsPlain, ArePlayed}
+use Rattle.rv_verdicts.specs.Joins.{PlayedPart, own_records, records_by, joined_records, ArePartsOf, PartsHaveAllRecords}
+use Rattle.rv_verdicts.specs.Parts.{Placed, placed_in, record_in, is_kept, IsPlain, ArePlayed}
 use Rattle.rv_verdicts.proofs.AllMadeLemmas.{all-made}
-use Rattle.rv_verdicts.proofs.ListLemmas.{Every}
+use Rattle.rv_verdicts.proofs.ListLemmas.{Every, filter-map}
 use Rattle.rv_verdicts.proofs.Made.{Made, made_record, shown}
 use Rattle.rv_verdicts.proofs.PartLemmas.{place_of}
 use Rattle.rv_verdicts.proofs.PartRecordLemmas.{halted-records, part_has_its_records}
@@ -62,11 +62,15 @@ module _ (whole : Input) (js : List Judge) (h : List Entry) where
   abbrev pub IsPlayed : PlayedPart → Type 0
   IsPlayed p = ArePlayed p.numbers p.keep whole p.input js p.judges h p.history
 
+  -- what a part keeps are the whole's records of its instances
+  pub by-part : (p : PlayedPart) → IsPlayed p → records_by p ≡ filter (is_kept p.keep) (records_of whole js h)
+  by-part p a = sym (filter-map (record_in p.numbers) (is_kept p.keep) (own_records p)) ∙ sym (part_has_its_records p.numbers p.keep whole p.input js p.judges h p.history a)
+
   -- the records of the parts are what they keep of the whole's
   pub records-picked : (parts : List PlayedPart) → All IsPlayed parts → flat_map records_by parts ≡ picks keeps_record parts (records_of whole js h)
   records-picked [] all = refl
   records-picked (p ∷ parts) all =
-      ap (λ (z : List Record). z ++ flat_map records_by parts) (sym (part_has_its_records p.numbers p.keep whole p.input js p.judges h p.history (All-head IsPlayed p parts all)))
+      ap (λ (z : List Record). z ++ flat_map records_by parts) (by-part p (All-head IsPlayed p parts all))
       ∙ ap (λ (z : List Record). filter (is_kept p.keep) (records_of whole js h) ++ z) (records-picked parts (All-tail IsPlayed p parts all))
 
   -- a part of the whole

@@ -19,7 +19,7 @@ use Rattle.rv_model.specs.Histories.{Input}
 use Rattle.rv_model.specs.Judging.{Judge}
 use Rattle.rv_model.specs.Records.{records_of, is_failure, is_stopped, status_of}
 use Rattle.rv_model.specs.Reports.{Reported, task_text, place_text, instance_text, fault_text, reaction_text, failed_text, record_text, instances_in, is_of, instance_count, count_text, summary_text, summaries_text, report_text}
-use Rattle.rv_verdicts.specs.Joins.{PlayedPart, own_records, records_by, joined_records, ArePartsOf, MeanOne, HasSlots, MeansItsOwn, PartSaysItsOwn, joined_summary, joined_summaries, ReportIsJoined, StatusIsJoined}
+use Rattle.rv_verdicts.specs.Joins.{PlayedPart, kept_records, records_by, joined_records, ArePartsOf, MeanOne, HasSlots, MeansItsOwn, PartSaysItsOwn, joined_summary, joined_summaries, ReportIsJoined, StatusIsJoined}
 use Rattle.rv_verdicts.specs.Lone.{HasInstance}
 use Rattle.rv_verdicts.specs.Parts.{record_in}
 use Rattle.rv_verdicts.proofs.CountLemmas.{many}
@@ -68,7 +68,7 @@ part_says_its_own monitors tasks p r means has = go (slice_get monitors r.monito
 
 module _ (whole : Input) (js : List Judge) (h : List Entry) (tasks : List Task) (parts : List PlayedPart) (a : ArePartsOf whole js h parts) where
   -- a count that numbers do not change
-  count-joined : (test : Record → Bool) → ((p : PlayedPart) → (λ (r : Record). test (record_in p.numbers r)) ≡ test) → count_by test (records_of whole js h) ≡ sum_by (λ p. count_by test (own_records p)) parts
+  count-joined : (test : Record → Bool) → ((p : PlayedPart) → (λ (r : Record). test (record_in p.numbers r)) ≡ test) → count_by test (records_of whole js h) ≡ sum_by (λ p. count_by test (kept_records p)) parts
   count-joined test same = ap (count_by test) (parts_have_all_records whole js h parts a) ∙ count-sort test (flat_map records_by parts) ∙ count-parts test same parts
 
   -- the slots of each part's monitor
@@ -77,26 +77,26 @@ module _ (whole : Input) (js : List Judge) (h : List Entry) (tasks : List Task) 
 
   -- the instances of each part, by its slots
   sum-slots : (monitor : ℕ) (m : Reported) (some : List PlayedPart) → All (SlotsAt monitor m) some
-      → sum_by (λ p. instance_count monitor (own_records p) (slice_index p.input.setup.shape monitor)) some ≡ sum_by (λ p. instance_count monitor (own_records p) (instances_in p.tasks m.scope)) some
+      → sum_by (λ p. instance_count monitor (kept_records p) (slice_index p.input.setup.shape monitor)) some ≡ sum_by (λ p. instance_count monitor (kept_records p) (instances_in p.tasks m.scope)) some
   sum-slots monitor m [] all = refl
   sum-slots monitor m (p ∷ some) all =
-      sum_by-cons (λ q. instance_count monitor (own_records q) (slice_index q.input.setup.shape monitor)) p some
-      ∙ ap (λ (n : ℕ). instance_count monitor (own_records p) n + sum_by (λ q. instance_count monitor (own_records q) (slice_index q.input.setup.shape monitor)) some) (All-head (SlotsAt monitor m) p some all)
-      ∙ ap (λ (n : ℕ). instance_count monitor (own_records p) (instances_in p.tasks m.scope) + n) (sum-slots monitor m some (All-tail (SlotsAt monitor m) p some all))
-      ∙ sym (sum_by-cons (λ q. instance_count monitor (own_records q) (instances_in q.tasks m.scope)) p some)
+      sum_by-cons (λ q. instance_count monitor (kept_records q) (slice_index q.input.setup.shape monitor)) p some
+      ∙ ap (λ (n : ℕ). instance_count monitor (kept_records p) n + sum_by (λ q. instance_count monitor (kept_records q) (slice_index q.input.setup.shape monitor)) some) (All-head (SlotsAt monitor m) p some all)
+      ∙ ap (λ (n : ℕ). instance_count monitor (kept_records p) (instances_in p.tasks m.scope) + n) (sum-slots monitor m some (All-tail (SlotsAt monitor m) p some all))
+      ∙ sym (sum_by-cons (λ q. instance_count monitor (kept_records q) (instances_in q.tasks m.scope)) p some)
 
   -- a monitor's line
   summary-joined : (monitor : ℕ) (m : Reported) → slice_index whole.setup.shape monitor ≡ instances_in tasks m.scope → All (SlotsAt monitor m) parts → summary_text tasks (records_of whole js h) monitor m ≡ joined_summary parts monitor m
   summary-joined monitor m slots all =
-      let instances : instance_count monitor (records_of whole js h) (instances_in tasks m.scope) ≡ sum_by (λ p. instance_count monitor (own_records p) (instances_in p.tasks m.scope)) parts =
+      let instances : instance_count monitor (records_of whole js h) (instances_in tasks m.scope) ≡ sum_by (λ p. instance_count monitor (kept_records p) (instances_in p.tasks m.scope)) parts =
       ap (instance_count monitor (records_of whole js h)) (sym slots) ∙ many-joined whole js h monitor parts a ∙ sum-slots monitor m parts all in
       let deliveries = count-joined (is_of monitor) (λ p. refl) in
       let failures = count-joined (λ r. is_of monitor r && is_failure r) (λ p. refl) in
       let stopped = count-joined (λ r. is_of monitor r && is_stopped r) (λ p. refl) in
       ap (λ (n : ℕ). count_text m.shown n (count_by (is_of monitor) (records_of whole js h)) (count_by (λ r. is_of monitor r && is_failure r) (records_of whole js h)) (count_by (λ r. is_of monitor r && is_stopped r) (records_of whole js h))) instances
-      ∙ ap (λ (n : ℕ). count_text m.shown (sum_by (λ p. instance_count monitor (own_records p) (instances_in p.tasks m.scope)) parts) n (count_by (λ r. is_of monitor r && is_failure r) (records_of whole js h)) (count_by (λ r. is_of monitor r && is_stopped r) (records_of whole js h))) deliveries
-      ∙ ap (λ (n : ℕ). count_text m.shown (sum_by (λ p. instance_count monitor (own_records p) (instances_in p.tasks m.scope)) parts) (sum_by (λ p. count_by (is_of monitor) (own_records p)) parts) n (count_by (λ r. is_of monitor r && is_stopped r) (records_of whole js h))) failures
-      ∙ ap (count_text m.shown (sum_by (λ p. instance_count monitor (own_records p) (instances_in p.tasks m.scope)) parts) (sum_by (λ p. count_by (is_of monitor) (own_records p)) parts) (sum_by (λ p. count_by (λ r. is_of monitor r && is_failure r) (own_records p)) parts)) stopped
+      ∙ ap (λ (n : ℕ). count_text m.shown (sum_by (λ p. instance_count monitor (kept_records p) (instances_in p.tasks m.scope)) parts) n (count_by (λ r. is_of monitor r && is_failure r) (records_of whole js h)) (count_by (λ r. is_of monitor r && is_stopped r) (records_of whole js h))) deliveries
+      ∙ ap (λ (n : ℕ). count_text m.shown (sum_by (λ p. instance_count monitor (kept_records p) (instances_in p.tasks m.scope)) parts) (sum_by (λ p. count_by (is_of monitor) (kept_records p)) parts) n (count_by (λ r. is_of monitor r && is_stopped r) (records_of whole js h))) failures
+      ∙ ap (count_text m.shown (sum_by (λ p. instance_count monitor (kept_records p) (instances_in p.tasks m.scope)) parts) (sum_by (λ p. count_by (is_of monitor) (kept_records p)) parts) (sum_by (λ p. count_by (λ r. is_of monitor r && is_failure r) (kept_records p)) parts)) stopped
 
   -- the lines of all monitors from a place on
   summaries-joined : (front monitors : List Reported) → HasSlots (front ++ monitors) tasks whole.setup.shape → All (λ p. HasSlots (front ++ monitors) p.tasks p.input.setup.shape) parts → summaries_text tasks (records_of whole js h) (length front) monitors ≡ joined_summaries parts (length front) monitors
@@ -134,13 +134,13 @@ module _ (test : Record → Bool) where
   any-map f same (r ∷ rs) = ap (λ (t : Record → Bool). t r || list_any test (map f rs)) same ∙ ap (λ (b : Bool). test r || b) (any-map f same rs)
 
   -- of all parts
-  any-parts : ((p : PlayedPart) → (λ (r : Record). test (record_in p.numbers r)) ≡ test) → (parts : List PlayedPart) → list_any test (flat_map records_by parts) ≡ list_any test (flat_map own_records parts)
+  any-parts : ((p : PlayedPart) → (λ (r : Record). test (record_in p.numbers r)) ≡ test) → (parts : List PlayedPart) → list_any test (flat_map records_by parts) ≡ list_any test (flat_map kept_records parts)
   any-parts same [] = refl
   any-parts same (p ∷ parts) =
       list_any-append test (records_by p) (flat_map records_by parts)
-      ∙ ap (λ (b : Bool). b || list_any test (flat_map records_by parts)) (any-map (record_in p.numbers) (same p) (own_records p))
-      ∙ ap (λ (b : Bool). list_any test (own_records p) || b) (any-parts same parts)
-      ∙ sym (list_any-append test (own_records p) (flat_map own_records parts))
+      ∙ ap (λ (b : Bool). b || list_any test (flat_map records_by parts)) (any-map (record_in p.numbers) (same p) (kept_records p))
+      ∙ ap (λ (b : Bool). list_any test (kept_records p) || b) (any-parts same parts)
+      ∙ sym (list_any-append test (kept_records p) (flat_map kept_records parts))
 
 -- the status by its two tests
 abbrev if_status : Bool → Bool → ℕ
@@ -149,7 +149,7 @@ if_status failed stopped = if failed then 1 else if stopped then 6 else 0
 -- the whole's status
 pub status_is_joined : StatusIsJoined
 status_is_joined whole js h parts a =
-    let failed : list_any is_failure (joined_records parts) ≡ list_any is_failure (flat_map own_records parts) = any-sort is_failure (flat_map records_by parts) ∙ any-parts is_failure (λ p. refl) parts in
-    let stopped : list_any is_stopped (joined_records parts) ≡ list_any is_stopped (flat_map own_records parts) = any-sort is_stopped (flat_map records_by parts) ∙ any-parts is_stopped (λ p. refl) parts in
+    let failed : list_any is_failure (joined_records parts) ≡ list_any is_failure (flat_map kept_records parts) = any-sort is_failure (flat_map records_by parts) ∙ any-parts is_failure (λ p. refl) parts in
+    let stopped : list_any is_stopped (joined_records parts) ≡ list_any is_stopped (flat_map kept_records parts) = any-sort is_stopped (flat_map records_by parts) ∙ any-parts is_stopped (λ p. refl) parts in
     ap status_of (parts_have_all_records whole js h parts a)
-    ∙ ap (λ (b : Bool). if_status b (list_any is_stopped (joined_records parts))) failed ∙ ap (if_status (list_any is_failure (flat_map own_records parts))) stopped
+    ∙ ap (λ (b : Bool). if_status b (list_any is_stopped (joined_records parts))) failed ∙ ap (if_status (list_any is_failure (flat_map kept_records parts))) stopped

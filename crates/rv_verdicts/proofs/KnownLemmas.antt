@@ -10,7 +10,7 @@ use Rattle.rv_model.specs.Works.{Work}
 use Rattle.rv_verdicts.specs.Lone.{HasInstance, HaveInstances}
 use Rattle.rv_verdicts.specs.Parts.{Placed, placed_of, placed_in, placed_by, Numbering, KeepsApart, keeps, IsPartOf}
 use Rattle.rv_verdicts.proofs.CpuLemmas.{slot-later, slot-tells}
-use Rattle.rv_verdicts.proofs.ListLemmas.{Every, every-append, every-kept}
+use Rattle.rv_verdicts.proofs.ListLemmas.{Every, every-append, every-filter, every-kept, filter-map}
 use Rattle.rv_verdicts.proofs.Made.{is_for, placed_from}
 use Rattle.rv_verdicts.proofs.WholeLemmas.{is_at}
 
@@ -79,6 +79,11 @@ test-with true b to = let here : b ≡ true = to refl in rw here refl
 test-with false true to = refl
 test-with false false to = refl
 
+-- the second of two tests that both hold
+second-holds : (a b : Bool) → (a && b) ≡ true → b ≡ true
+second-holds true b e = e
+second-holds false b e = absurd (let wrong : false ≡ true = e in cc)
+
 module _ (n : Numbering) (keep : ℕ → ℕ → Bool) (whole part : Input) where
   -- the part and the whole have the instance, and it is kept
   pub record IsKnown (monitor instance : ℕ) : Type 0 where
@@ -95,11 +100,16 @@ module _ (n : Numbering) (keep : ℕ → ℕ → Bool) (whole part : Input) wher
   known-map [] own there = tt
   known-map (p ∷ ps) own there = (record { own = own.0; there = there.0.0; kept = there.0.1 }, known-map ps own.1 there.1)
 
-  -- all instances of the part are known
-  pub known : IsPartOf n keep whole part → HaveInstances whole.setup.shape whole.works → HaveInstances part.setup.shape part.works → Every KnowsPlace (placed_in part.works)
+  -- the delivery of the part is to an instance that is kept
+  abbrev pub kept_here : Placed → Bool
+  kept_here p = keeps keep (placed_by n p)
+
+  -- the instances of the deliveries that are kept are known
+  pub known : IsPartOf n keep whole part → HaveInstances whole.setup.shape whole.works → HaveInstances part.setup.shape part.works → Every KnowsPlace (filter kept_here (placed_in part.works))
   known is has has' =
-      known-map (placed_in part.works) (places-have part.setup.shape part.works has')
-      (subst (Every (λ p. HasPlace whole.setup.shape p × (keeps keep p ≡ true))) (sym is.deliveries) (every-kept (HasPlace whole.setup.shape) (keeps keep) (placed_in whole.works) (places-have whole.setup.shape whole.works has)))
+      let same : map (placed_by n) (filter kept_here (placed_in part.works)) ≡ filter (keeps keep) (placed_in whole.works) = sym (filter-map (placed_by n) (keeps keep) (placed_in part.works)) ∙ is.deliveries in
+      known-map (filter kept_here (placed_in part.works)) (every-filter (HasPlace part.setup.shape) kept_here (placed_in part.works) (places-have part.setup.shape part.works has'))
+      (subst (Every (λ p. HasPlace whole.setup.shape p × (keeps keep p ≡ true))) (sym same) (every-kept (HasPlace whole.setup.shape) (keeps keep) (placed_in whole.works) (places-have whole.setup.shape whole.works has)))
 
   module _ (monitor instance : ℕ) (at : IsKnown monitor instance) where
     -- a delivery of the whole to the instance is kept
@@ -110,10 +120,15 @@ module _ (n : Numbering) (keep : ℕ → ℕ → Bool) (whole part : Input) wher
         let same : slot_of whole.setup.shape p.delivery.monitor p.delivery.instance ≡ slot = grind arith in
         let both = slot-tells whole.setup.shape p.delivery.monitor p.delivery.instance monitor (n.instance_of monitor instance) has at.there same in
         ap (λ (m : ℕ). keep m p.delivery.instance) both.0 ∙ ap (keep monitor) both.1 ∙ at.kept
-      where
-        second-holds : (a b : Bool) → (a && b) ≡ true → b ≡ true
-        second-holds true b e = e
-        second-holds false b e = absurd (let wrong : false ≡ true = e in cc)
+
+    -- so is one of the part
+    pub kept-here : (seat : ℕ) (p : Placed) → HasPlace part.setup.shape p → is_at seat part.setup.shape (slot_of part.setup.shape monitor instance) p ≡ true → kept_here p ≡ true
+    kept-here seat p has on =
+        let slot : ℕ = slot_of part.setup.shape monitor instance in
+        let here : is_for part.setup.shape slot p ≡ true = second-holds (2 + p.cpu == seat) (is_for part.setup.shape slot p) on in
+        let same : slot_of part.setup.shape p.delivery.monitor p.delivery.instance ≡ slot = grind arith in
+        let both = slot-tells part.setup.shape p.delivery.monitor p.delivery.instance monitor instance has at.own same in
+        ap (λ (m : ℕ). keep m (n.instance_of m p.delivery.instance)) both.0 ∙ ap (λ (i : ℕ). keep monitor (n.instance_of monitor i)) both.1 ∙ at.kept
 
     -- a delivery of the part is to the instance where the whole's is
     pub test-at : KeepsApart n part.setup.shape → (seat : ℕ) (p : Placed) → KnowsPlace p

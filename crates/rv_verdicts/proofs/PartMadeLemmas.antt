@@ -8,7 +8,7 @@ use Rattle.rv_model.specs.Numbers.{has_bit, number_of}
 use Rattle.rv_model.specs.Setups.{monitor_of, slot_of, judge_of, start_of, no_judge}
 use Rattle.rv_verdicts.specs.Parts.{Placed, placed_in, placed_by, Numbering, KeepsApart, keeps, IsPartOf, IsPlain}
 use Rattle.rv_verdicts.proofs.AllMadeLemmas.{IsMade, all-made}
-use Rattle.rv_verdicts.proofs.KnownLemmas.{monitor-of, HasPlace, places-have, test-with, IsKnown, KnowsPlace, known, kept-at, test-at}
+use Rattle.rv_verdicts.proofs.KnownLemmas.{monitor-of, HasPlace, places-have, test-with, IsKnown, KnowsPlace, kept_here, known, kept-at, kept-here, test-at}
 use Rattle.rv_verdicts.proofs.LineLemmas.{in-order, descends, tells-seats}
 use Rattle.rv_verdicts.proofs.ListLemmas.{Every, every-filter, every-weaker, filter-map, filter-same, filter-both, filter-swap, map-map, map-reverse, reverse-same}
 use Rattle.rv_verdicts.proofs.Made.{Made, made_told, placed_step, shown}
@@ -46,6 +46,11 @@ module _ (input : Input) (js : List Judge) (h : List Entry) (plain : IsPlain inp
       ∙ map-reverse (λ (t : Answered). t.step) (map made_told (made_at seat slot))
       ∙ ap reverse (map-map made_told (λ (t : Answered). t.step) (made_at seat slot) ∙ sym (map-map place_of placed_step (made_at seat slot)))
 
+-- what holds of places holds of what was made there
+places-every : (P : Placed → Type 0) (xs : List Made) → Every P (map place_of xs) → Every (λ x. P x.place) xs
+places-every P [] h = tt
+places-every P (x ∷ xs) h = (h.0, places-every P xs h.1)
+
 -- ---- a part
 module _ (n : Numbering) (keep : ℕ → ℕ → Bool) (whole part : Input) (js : List Judge) (h k : List Entry) (plain : IsPlain whole) (plain' : IsPlain part) (apart : KeepsApart n part.setup.shape) (is : IsPartOf n keep whole part)
     (one : IsOneHistory whole js h) (one' : IsOneHistory part js k) (running : has_bit (opening_word whole.setup) 34 ≡ false) (running' : has_bit (opening_word part.setup) 34 ≡ false) where
@@ -61,11 +66,17 @@ module _ (n : Numbering) (keep : ℕ → ℕ → Bool) (whole part : Input) (js 
   same-look : opening_word part.setup ≡ opening_word whole.setup
   same-look = ap (λ (w : ℕ). number_of (has_bit w) 64) is.switches
 
-  -- the instances of all deliveries are known
-  known-parts : Every (KnowsPlace n keep whole part) (map place_of parts)
+  -- the delivery of the part is kept
+  abbrev here : Placed → Bool
+  here p = kept_here n keep whole part p
+
+  -- the instances of what is kept are known
+  known-parts : Every (KnowsPlace n keep whole part) (filter here (map place_of parts))
   known-parts =
-      subst (Every (KnowsPlace n keep whole part)) (sym (all-made part js k plain' one' running').places_are)
-      (every-filter (KnowsPlace n keep whole part) (shown (opening_word part.setup)) (placed_in part.works) (known n keep whole part is plain.instances plain'.instances))
+      let same : filter here (map place_of parts) ≡ filter (shown (opening_word part.setup)) (filter here (placed_in part.works)) =
+      ap (filter here) (all-made part js k plain' one' running').places_are ∙ filter-swap here (shown (opening_word part.setup)) (placed_in part.works) in
+      subst (Every (KnowsPlace n keep whole part)) (sym same)
+      (every-filter (KnowsPlace n keep whole part) (shown (opening_word part.setup)) (filter here (placed_in part.works)) (known n keep whole part is plain.instances plain'.instances))
 
   -- the whole's setup has the instances of what it makes
   have-wholes : Every (HasPlace whole.setup.shape) (map place_of wholes)
@@ -73,15 +84,21 @@ module _ (n : Numbering) (keep : ℕ → ℕ → Bool) (whole part : Input) (js 
       subst (Every (HasPlace whole.setup.shape)) (sym (all-made whole js h plain one running).places_are)
       (every-filter (HasPlace whole.setup.shape) (shown (opening_word whole.setup)) (placed_in whole.works) (places-have whole.setup.shape whole.works plain.instances))
 
-  -- the deliveries that are kept are the part's
-  kept-places : filter (keeps keep) (map place_of wholes) ≡ map (placed_by n) (map place_of parts)
+  -- and the part's those of what the part makes
+  have-parts : Every (HasPlace part.setup.shape) (map place_of parts)
+  have-parts =
+      subst (Every (HasPlace part.setup.shape)) (sym (all-made part js k plain' one' running').places_are)
+      (every-filter (HasPlace part.setup.shape) (shown (opening_word part.setup)) (placed_in part.works) (places-have part.setup.shape part.works plain'.instances))
+
+  -- the deliveries that are kept are the same
+  kept-places : filter (keeps keep) (map place_of wholes) ≡ map (placed_by n) (filter here (map place_of parts))
   kept-places =
       ap (filter (keeps keep)) (all-made whole js h plain one running).places_are
       ∙ filter-swap (keeps keep) (shown (opening_word whole.setup)) (placed_in whole.works)
-      ∙ ap (filter (shown (opening_word whole.setup))) (sym is.deliveries)
-      ∙ filter-map (placed_by n) (shown (opening_word whole.setup)) (placed_in part.works)
-      ∙ ap (λ (w : ℕ). map (placed_by n) (filter (shown w) (placed_in part.works))) (sym same-look)
-      ∙ ap (map (placed_by n)) (sym (all-made part js k plain' one' running').places_are)
+      ∙ ap (filter (shown (opening_word whole.setup))) (sym is.deliveries ∙ filter-map (placed_by n) (keeps keep) (placed_in part.works))
+      ∙ filter-map (placed_by n) (shown (opening_word whole.setup)) (filter here (placed_in part.works))
+      ∙ ap (λ (w : ℕ). map (placed_by n) (filter (shown w) (filter here (placed_in part.works)))) (sym same-look)
+      ∙ ap (map (placed_by n)) (filter-swap (shown (opening_word part.setup)) here (placed_in part.works) ∙ ap (filter here) (sym (all-made part js k plain' one' running').places_are))
 
   -- ---- at one instance
   module _ (monitor instance : ℕ) (at : IsKnown n keep whole part monitor instance) where
@@ -107,6 +124,12 @@ module _ (n : Numbering) (keep : ℕ → ℕ → Bool) (whole part : Input) (js 
         filter-same (test seat) (λ p. keeps keep p && test seat p) ps (every-weaker (HasPlace whole.setup.shape) (λ p. test seat p ≡ (keeps keep p && test seat p)) (λ p has. test-with (test seat p) (keeps keep p) (kept-at n keep whole part monitor instance at seat p has)) ps have)
         ∙ sym (filter-both (test seat) (keeps keep) ps)
 
+    -- so it is of the part
+    passes-here : (seat : ℕ) (ps : List Placed) → Every (HasPlace part.setup.shape) ps → filter (test' seat) ps ≡ filter (test' seat) (filter here ps)
+    passes-here seat ps have =
+        filter-same (test' seat) (λ p. here p && test' seat p) ps (every-weaker (HasPlace part.setup.shape) (λ p. test' seat p ≡ (here p && test' seat p)) (λ p has. test-with (test' seat p) (here p) (kept-here n keep whole part monitor instance at seat p has)) ps have)
+        ∙ sym (filter-both (test' seat) here ps)
+
     -- tests of the part's deliveries, as the whole has them
     tests-same : (seat : ℕ) (ps : List Placed) → Every (KnowsPlace n keep whole part) ps → filter (test seat) (map (placed_by n) ps) ≡ map (placed_by n) (filter (test' seat) ps)
     tests-same seat ps all =
@@ -125,7 +148,7 @@ module _ (n : Numbering) (keep : ℕ → ℕ → Bool) (whole part : Input) (js 
     same-places : (seat : ℕ) → map place_of (there seat) ≡ map (placed_by n) (map place_of (there' seat))
     same-places seat =
         place-filter (test seat) wholes ∙ passes-kept seat (map place_of wholes) have-wholes ∙ ap (filter (test seat)) kept-places
-        ∙ tests-same seat (map place_of parts) known-parts ∙ ap (map (placed_by n)) (sym (place-filter (test' seat) parts))
+        ∙ tests-same seat (filter here (map place_of parts)) known-parts ∙ ap (map (placed_by n)) (sym (passes-here seat (map place_of parts) have-parts) ∙ sym (place-filter (test' seat) parts))
 
     -- the steps there are the same
     same-at : steps whole js h plain one running slot ≡ map (step_in n) (steps part js k plain' one' running' slot')
@@ -168,37 +191,32 @@ module _ (n : Numbering) (keep : ℕ → ℕ → Bool) (whole part : Input) (js 
         (same-places seat ∙ map-map place_of (placed_by n) (there' seat) ∙ sym (map-map (made_in n) place_of (there' seat)))
         (reverse-same (map made_told (there seat)) (map made_told (map (made_in n) (there' seat))) back)
 
-    -- as tests of all that is made
-    same-tests : (seat : ℕ) → filter (of_place (test seat)) (filter (of_place (keeps keep)) wholes) ≡ filter (of_place (test seat)) (map (made_in n) parts)
+    -- as tests of all that is kept
+    same-tests : (seat : ℕ) → filter (of_place (test seat)) (filter (of_place (keeps keep)) wholes) ≡ filter (of_place (test seat)) (map (made_in n) (filter (of_place here) parts))
     same-tests seat =
-        sym (made-kept wholes have-wholes) ∙ same-there seat
-        ∙ ap (map (made_in n)) (sym (made-tests parts known-parts)) ∙ sym (filter-map (made_in n) (of_place (test seat)) parts)
+        filter-both (of_place (test seat)) (of_place (keeps keep)) wholes
+        ∙ sym (filter-same (of_place (test seat)) (λ x. keeps keep x.place && test seat x.place) wholes
+        (places-every (λ p. test seat p ≡ (keeps keep p && test seat p)) wholes (every-weaker (HasPlace whole.setup.shape) (λ p. test seat p ≡ (keeps keep p && test seat p)) (λ p has. test-with (test seat p) (keeps keep p) (kept-at n keep whole part monitor instance at seat p has)) (map place_of wholes) have-wholes)))
+        ∙ same-there seat
+        ∙ ap (map (made_in n)) made-here ∙ sym (filter-map (made_in n) (of_place (test seat)) (filter (of_place here) parts))
       where
-        made-kept : (xs : List Made) → Every (HasPlace whole.setup.shape) (map place_of xs) → filter (of_place (test seat)) xs ≡ filter (of_place (test seat)) (filter (of_place (keeps keep)) xs)
-        made-kept xs have =
-            filter-same (of_place (test seat)) (λ x. keeps keep x.place && test seat x.place) xs (each xs have) ∙ sym (filter-both (of_place (test seat)) (of_place (keeps keep)) xs)
-          where
-            each : (xs : List Made) → Every (HasPlace whole.setup.shape) (map place_of xs) → Every (λ x. test seat x.place ≡ (keeps keep x.place && test seat x.place)) xs
-            each [] have = tt
-            each (x ∷ xs) have = (test-with (test seat x.place) (keeps keep x.place) (kept-at n keep whole part monitor instance at seat x.place have.0), each xs have.1)
-
-        made-tests : (xs : List Made) → Every (KnowsPlace n keep whole part) (map place_of xs) → filter (λ x. test seat (placed_by n x.place)) xs ≡ filter (of_place (test' seat)) xs
-        made-tests xs have = filter-same (λ x. test seat (placed_by n x.place)) (of_place (test' seat)) xs (each xs have)
-          where
-            each : (xs : List Made) → Every (KnowsPlace n keep whole part) (map place_of xs) → Every (λ x. test seat (placed_by n x.place) ≡ test' seat x.place) xs
-            each [] have = tt
-            each (x ∷ xs) have = (test-at n keep whole part monitor instance at apart seat x.place have.0, each xs have.1)
+        -- of the part
+        made-here : there' seat ≡ filter (λ x. test seat (placed_by n x.place)) (filter (of_place here) parts)
+        made-here =
+            filter-same (of_place (test' seat)) (λ x. here x.place && test' seat x.place) parts
+            (places-every (λ p. test' seat p ≡ (here p && test' seat p)) parts (every-weaker (HasPlace part.setup.shape) (λ p. test' seat p ≡ (here p && test' seat p)) (λ p has. test-with (test' seat p) (here p) (kept-here n keep whole part monitor instance at seat p has)) (map place_of parts) have-parts))
+            ∙ sym (filter-both (of_place (test' seat)) (of_place here) parts)
+            ∙ filter-same (of_place (test' seat)) (λ x. test seat (placed_by n x.place)) (filter (of_place here) parts)
+            (places-every (λ p. test' seat p ≡ test seat (placed_by n p)) (filter (of_place here) parts)
+            (subst (Every (λ p. test' seat p ≡ test seat (placed_by n p))) (sym (place-filter here parts))
+            (every-weaker (KnowsPlace n keep whole part) (λ p. test' seat p ≡ test seat (placed_by n p)) (λ p is'. sym (test-at n keep whole part monitor instance at apart seat p is')) (filter here (map place_of parts)) known-parts)))
 
   -- ---- at all instances
 
-  -- what holds of places holds of what was made there
-  every-place : (P : Placed → Type 0) (xs : List Made) → Every P (map place_of xs) → Every (λ x. P x.place) xs
-  every-place P [] h = tt
-  every-place P (x ∷ xs) h = (h.0, every-place P xs h.1)
-
   -- the whole makes there what the part makes
-  pub part-made : filter (of_place (keeps keep)) wholes ≡ map (made_in n) parts
+  pub part-made : filter (of_place (keeps keep)) wholes ≡ map (made_in n) (filter (of_place here) parts)
   part-made =
-      made-same n keep whole part (filter (of_place (keeps keep)) wholes) parts (every-place (KnowsPlace n keep whole part) parts known-parts)
-      (place-filter (keeps keep) wholes ∙ kept-places ∙ map-map place_of (placed_by n) parts ∙ sym (map-map (made_in n) place_of parts))
+      made-same n keep whole part (filter (of_place (keeps keep)) wholes) (filter (of_place here) parts)
+      (places-every (KnowsPlace n keep whole part) (filter (of_place here) parts) (subst (Every (KnowsPlace n keep whole part)) (sym (place-filter here parts)) known-parts))
+      (place-filter (keeps keep) wholes ∙ kept-places ∙ ap (map (placed_by n)) (sym (place-filter here parts)) ∙ map-map place_of (placed_by n) (filter (of_place here) parts) ∙ sym (map-map (made_in n) place_of (filter (of_place here) parts)))
       (λ seat monitor instance at. same-tests monitor instance at seat)

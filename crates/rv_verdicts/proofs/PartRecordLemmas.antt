@@ -1,4 +1,4 @@
--- On the instances that are kept the whole has the records of the part.
+-- Of the instances that are kept the whole and the part have the same records.
 use Rattle.std.proofs.Common.{◌≡◌, ℕ, zero, suc, ◌+◌, Bool, true, false, List, [], ◌∷◌, ◌++◌, map, reverse, arith, refl, sym, ap, ◌∙◌, subst}
 use Rattle.std.specs.Prelude.{filter, flat_map, Contains, MatchBool, slice_range}
 use Rattle.rv_model.specs.declared.entry.Answer.TheVariants.{Looked}
@@ -17,7 +17,7 @@ use Rattle.rv_model.specs.Setups.{Setup}
 use Rattle.rv_model.specs.Table.{Table}
 use Rattle.rv_model.specs.Works.{Work}
 use Rattle.rv_model.proofs.OneJudgeLemmas.{lists-same}
-use Rattle.rv_verdicts.specs.Parts.{Numbering, KeepsApart, is_kept, record_in, IsPartOf, IsPlain, ArePlayed, PartHasItsRecords}
+use Rattle.rv_verdicts.specs.Parts.{Numbering, KeepsApart, placed_by, keeps, is_kept, record_in, IsPartOf, IsPlain, ArePlayed, PartHasItsRecords}
 use Rattle.rv_verdicts.proofs.AllMadeLemmas.{all-made, quiet}
 use Rattle.rv_verdicts.proofs.FilterLemmas.{filter-sort}
 use Rattle.rv_verdicts.proofs.ListLemmas.{filter-map, map-map}
@@ -69,29 +69,36 @@ module _ (n : Numbering) (keep : ℕ → ℕ → Bool) (whole part : Input) (js 
   abbrev flat : Input → List Entry → List Record
   flat input past = flat_map (λ w. script_records w.deliveries w.turns (played input.setup js (2 + w.cpu) (reverse past))) input.works
 
+  -- the delivery of the part is kept
+  abbrev here : Made → Bool
+  here x = keeps keep (placed_by n x.place)
+
   -- the records of the whole, of one that runs
-  running-records : has_bit (opening_word whole.setup) 34 ≡ false → has_bit (opening_word part.setup) 34 ≡ false → filter (is_kept keep) (flat whole h) ≡ map (record_in n) (flat part k)
+  running-records : has_bit (opening_word whole.setup) 34 ≡ false → has_bit (opening_word part.setup) 34 ≡ false → filter (is_kept keep) (flat whole h) ≡ filter (is_kept keep) (map (record_in n) (flat part k))
   running-records running running' =
       let wholes : List Made = all whole js h plain one running in
       let parts : List Made = all part js k plain' one' running' in
+      let look : ℕ = opening_word part.setup in
       ap (filter (is_kept keep)) (all-made whole js h plain one running).records_are
       ∙ filter-map (made_record (opening_word whole.setup)) (is_kept keep) wholes
       ∙ ap (map (made_record (opening_word whole.setup))) (part-made n keep whole part js h k plain plain' apart is one one' running running')
-      ∙ map-map (made_in n) (made_record (opening_word whole.setup)) parts
-      ∙ ap (λ (w : ℕ). map (λ x. record_in n (made_record w x)) parts) (sym same-look)
-      ∙ sym (map-map (made_record (opening_word part.setup)) (record_in n) parts)
-      ∙ ap (map (record_in n)) (sym (all-made part js k plain' one' running').records_are)
+      ∙ map-map (made_in n) (made_record (opening_word whole.setup)) (filter here parts)
+      ∙ ap (λ (w : ℕ). map (λ x. record_in n (made_record w x)) (filter here parts)) (sym same-look)
+      ∙ sym (filter-map (λ x. record_in n (made_record look x)) (is_kept keep) parts)
+      ∙ ap (filter (is_kept keep)) (sym (map-map (made_record look) (record_in n) parts))
+      ∙ ap (λ (z : List Record). filter (is_kept keep) (map (record_in n) z)) (sym (all-made part js k plain' one' running').records_are)
 
   -- the records of the whole on what is kept
-  pub part-records : filter (is_kept keep) (records_of whole js h) ≡ map (record_in n) (records_of part js k)
+  pub part-records : filter (is_kept keep) (records_of whole js h) ≡ filter (is_kept keep) (map (record_in n) (records_of part js k))
   part-records = go (has_bit (opening_word whole.setup) 34) refl
     where
-      go : (b : Bool) → has_bit (opening_word whole.setup) 34 ≡ b → filter (is_kept keep) (records_of whole js h) ≡ map (record_in n) (records_of part js k)
+      go : (b : Bool) → has_bit (opening_word whole.setup) 34 ≡ b → filter (is_kept keep) (records_of whole js h) ≡ filter (is_kept keep) (map (record_in n) (records_of part js k))
       go true halted =
           ap (filter (is_kept keep)) (halted-records whole js h plain one halted)
-          ∙ ap (map (record_in n)) (sym (halted-records part js k plain' one' (ap (λ (w : ℕ). has_bit w 34) same-look ∙ halted)))
+          ∙ ap (λ (z : List Record). filter (is_kept keep) (map (record_in n) z)) (sym (halted-records part js k plain' one' (ap (λ (w : ℕ). has_bit w 34) same-look ∙ halted)))
       go false running =
-          filter-sort (is_kept keep) (flat whole h) ∙ ap sort_records (running-records running (ap (λ (w : ℕ). has_bit w 34) same-look ∙ running)) ∙ sort-in n apart.orders (flat part k)
+          filter-sort (is_kept keep) (flat whole h) ∙ ap sort_records (running-records running (ap (λ (w : ℕ). has_bit w 34) same-look ∙ running))
+          ∙ sym (filter-sort (is_kept keep) (map (record_in n) (flat part k))) ∙ ap (filter (is_kept keep)) (sort-in n apart.orders (flat part k))
 
 -- the law
 pub part_has_its_records : PartHasItsRecords
@@ -100,4 +107,4 @@ part_has_its_records n keep whole part js ks h k a =
     let by_specs : AreJudges whole.specs whole.setup.tables ks = subst (λ (z : List Spec). AreJudges z whole.setup.tables ks) a.is_part.specs by_tables in
     let same : ks ≡ js = lists-same whole.specs whole.setup.tables ks js by_specs a.judges in
     part-records n keep whole part js h k a.plain a.part_plain a.numbers a.is_part a.history (subst (λ (z : List Judge). IsOneHistory part z k) same a.part_history)
-    ∙ ap (λ (z : List Judge). map (record_in n) (records_of part z k)) (sym same)
+    ∙ ap (λ (z : List Judge). filter (is_kept keep) (map (record_in n) (records_of part z k))) (sym same)

@@ -1,18 +1,18 @@
 -- Parts together: the whole has the records of all of them, and its report is theirs joined.
-use Rattle.std.specs.Prelude.{◌≡◌, ◌≢◌, ℕ, ◌+◌, Bool, ◌&&◌, List, [], ◌∷◌, ◌++◌, map, flat_map, count_by, Option, Some, slice_get, All, AllPairs}
+use Rattle.std.specs.Prelude.{◌≡◌, ◌≢◌, ℕ, ◌+◌, Bool, true, ◌&&◌, List, [], ◌∷◌, ◌++◌, map, filter, flat_map, count_by, Option, Some, slice_get, All, AllPairs}
 use Rattle.std.specs.List.{sum_by}
 use Rattle.rv_model.specs.declared.entry.Entry.{Entry}
 use Rattle.rv_model.specs.declared.record.Record.{Record}
 use Rattle.rv_model.specs.declared.record.Task.{Task}
 use Rattle.rv_model.specs.declared.work.Scope.{Scope}
 use Rattle.rv_model.specs.declared.work.Scope.TheVariants as scope
-use Rattle.rv_model.specs.Histories.{Input}
+use Rattle.rv_model.specs.Histories.{Input, IsOneHistory}
 use Rattle.rv_model.specs.Judging.{Judge}
 use Rattle.rv_model.specs.Records.{records_of, sort_records, is_failure, is_stopped, status_of}
 use Rattle.rv_model.specs.Reports.{Reported, record_text, task_at, instances_in, is_of, instance_count, count_text, report_text}
 use Rattle.rv_model.specs.Works.{Work}
 use Rattle.rv_verdicts.specs.Lone.{HasInstance}
-use Rattle.rv_verdicts.specs.Parts.{Numbering, placed_in, record_in, ArePlayed}
+use Rattle.rv_verdicts.specs.Parts.{Numbering, placed_in, placed_by, record_in, keeps, is_kept, IsPlain, ArePlayed}
 
 -- ---- records
 
@@ -29,9 +29,13 @@ pub record PlayedPart : Type 0 where
 abbrev pub own_records : PlayedPart → List Record
 own_records p = records_of p.input p.judges p.history
 
+-- those of the instances that it keeps
+abbrev pub kept_records : PlayedPart → List Record
+kept_records p = filter (λ r. is_kept p.keep (record_in p.numbers r)) (own_records p)
+
 -- the same, as the whole has them
 abbrev pub records_by : PlayedPart → List Record
-records_by p = map (record_in p.numbers) (own_records p)
+records_by p = map (record_in p.numbers) (kept_records p)
 
 -- the records of all parts, ascending by order
 abbrev pub joined_records : List PlayedPart → List Record
@@ -46,6 +50,14 @@ pub record ArePartsOf (whole : Input) (js : List Judge) (h : List Entry) (parts 
 -- a law: the whole has the records of its parts, and no other
 abbrev pub PartsHaveAllRecords : Type 0
 PartsHaveAllRecords = (whole : Input) (js : List Judge) (h : List Entry) (parts : List PlayedPart) → ArePartsOf whole js h parts → records_of whole js h ≡ joined_records parts
+
+-- the part has deliveries to instances that it keeps, and to no other
+abbrev pub KeepsAll : PlayedPart → Type 0
+KeepsAll p = All (λ q. keeps p.keep (placed_by p.numbers q) ≡ true) (placed_in p.input.works)
+
+-- a law: then it keeps all its records
+abbrev pub AllAreKept : Type 0
+AllAreKept = (p : PlayedPart) → IsPlain p.input → IsOneHistory p.input p.judges p.history → KeepsAll p → kept_records p ≡ own_records p
 
 -- ---- reports
 
@@ -68,11 +80,11 @@ abbrev pub PartSaysItsOwn : Type 0
 PartSaysItsOwn = (monitors : List Reported) (tasks : List Task) (p : PlayedPart) (r : Record) → MeansItsOwn monitors tasks p → HasInstance p.input.setup.shape r.monitor r.instance
     → record_text (slice_get monitors r.monitor) tasks (record_in p.numbers r) ≡ record_text (slice_get monitors r.monitor) p.tasks (record r { line = p.numbers.line r.line })
 
--- a monitor's line, by the sums of what its parts count
+-- a monitor's line, by the sums of what the parts count of the instances that they keep
 abbrev pub joined_summary : List PlayedPart → ℕ → Reported → List ℕ
 joined_summary parts monitor m =
-    count_text m.shown (sum_by (λ p. instance_count monitor (own_records p) (instances_in p.tasks m.scope)) parts) (sum_by (λ p. count_by (is_of monitor) (own_records p)) parts)
-    (sum_by (λ p. count_by (λ r. is_of monitor r && is_failure r) (own_records p)) parts) (sum_by (λ p. count_by (λ r. is_of monitor r && is_stopped r) (own_records p)) parts)
+    count_text m.shown (sum_by (λ p. instance_count monitor (kept_records p) (instances_in p.tasks m.scope)) parts) (sum_by (λ p. count_by (is_of monitor) (kept_records p)) parts)
+    (sum_by (λ p. count_by (λ r. is_of monitor r && is_failure r) (kept_records p)) parts) (sum_by (λ p. count_by (λ r. is_of monitor r && is_stopped r) (kept_records p)) parts)
 
 -- a line for each monitor, the first of which has this number
 abbrev pub joined_summaries : List PlayedPart → ℕ → List Reported → List ℕ
@@ -88,6 +100,6 @@ abbrev pub ReportIsJoined : Type 0
 ReportIsJoined = (whole : Input) (js : List Judge) (h : List Entry) (monitors : List Reported) (tasks : List Task) (parts : List PlayedPart) → ArePartsOf whole js h parts
     → HasSlots monitors tasks whole.setup.shape → All (λ p. HasSlots monitors p.tasks p.input.setup.shape) parts → report_text monitors tasks (records_of whole js h) ≡ joined_text monitors tasks parts
 
--- a law: its status is that of the records of all parts
+-- a law: its status is that of what the parts keep
 abbrev pub StatusIsJoined : Type 0
-StatusIsJoined = (whole : Input) (js : List Judge) (h : List Entry) (parts : List PlayedPart) → ArePartsOf whole js h parts → status_of (records_of whole js h) ≡ status_of (flat_map own_records parts)
+StatusIsJoined = (whole : Input) (js : List Judge) (h : List Entry) (parts : List PlayedPart) → ArePartsOf whole js h parts → status_of (records_of whole js h) ≡ status_of (flat_map kept_records parts)

@@ -1,4 +1,4 @@
--- Parts of an input: its deliveries to some instances alone, whose lines, orders and instances may have other numbers there.
+-- Parts of an input: other inputs with the same deliveries to some instances, whose lines, orders and instances may have other numbers there.
 use Rattle.std.specs.Prelude.{◌≡◌, ◌≢◌, ℕ, ◌<◌, Bool, List, map, filter, flat_map, slice_range, AllPairs}
 use Rattle.rv_model.specs.declared.entry.Entry.{Entry}
 use Rattle.rv_model.specs.declared.record.Record.{Record}
@@ -62,9 +62,9 @@ keeps keep p = keep p.delivery.monitor p.delivery.instance
 abbrev pub is_kept : (ℕ → ℕ → Bool) → Record → Bool
 is_kept keep r = keep r.monitor r.instance
 
--- the part has the whole's deliveries to the instances that are kept and no other, CPU by CPU and in their order; the specifications, the tables, the starting levels and the opening switches are the whole's
+-- to the instances that are kept the part and the whole have the same deliveries, CPU by CPU and in their order; of others nothing is said. The specifications, the tables, the starting levels and the opening switches are the whole's
 pub record IsPartOf (n : Numbering) (keep : ℕ → ℕ → Bool) (whole part : Input) : Type 0 where
-  pub deliveries : map (placed_by n) (placed_in part.works) ≡ filter (keeps keep) (placed_in whole.works)
+  pub deliveries : filter (keeps keep) (map (placed_by n) (placed_in part.works)) ≡ filter (keeps keep) (placed_in whole.works)
   pub specs : part.specs ≡ whole.specs
   pub tables : part.setup.tables ≡ whole.setup.tables
   pub starts : part.setup.starts ≡ whole.setup.starts
@@ -88,6 +88,6 @@ pub record ArePlayed (n : Numbering) (keep : ℕ → ℕ → Bool) (whole part :
   pub history : IsOneHistory whole js h
   pub part_history : IsOneHistory part ks k
 
--- a law: on the instances that are kept the whole has the records of the part
+-- a law: of the instances that are kept the whole and the part have the same records
 abbrev pub PartHasItsRecords : Type 0
-PartHasItsRecords = (n : Numbering) (keep : ℕ → ℕ → Bool) (whole part : Input) (js ks : List Judge) (h k : List Entry) → ArePlayed n keep whole part js ks h k → filter (is_kept keep) (records_of whole js h) ≡ map (record_in n) (records_of part ks k)
+PartHasItsRecords = (n : Numbering) (keep : ℕ → ℕ → Bool) (whole part : Input) (js ks : List Judge) (h k : List Entry) → ArePlayed n keep whole part js ks h k → filter (is_kept keep) (records_of whole js h) ≡ filter (is_kept keep) (map (record_in n) (records_of part ks k))
