@@ -12,7 +12,7 @@ use Rattle.rv_model.specs.Judging.{Judge}
 use Rattle.rv_model.specs.Numbers.{has_bit}
 use Rattle.rv_model.specs.Records.{sort_records, records_of, is_ended}
 use Rattle.rv_model.specs.Reports.{is_of, is_at}
-use Rattle.rv_verdicts.specs.Joins.{PlayedPart, own_records, records_by, ArePartsOf}
+use Rattle.rv_verdicts.specs.Joins.{own_records, AllAreKept}
 use Rattle.rv_verdicts.specs.Lone.{HasInstance}
 use Rattle.rv_verdicts.specs.Parts.{Placed, placed_in, Numbering, KeepsApart, is_kept, record_in, IsPlain, ArePlayed}
 use Rattle.rv_verdicts.proofs.AllMadeLemmas.{all-made}
@@ -23,7 +23,7 @@ use Rattle.rv_verdicts.proofs.ListLemmas.{Every, every-filter, every-kept}
 use Rattle.rv_verdicts.proofs.Made.{Made, made_record, shown}
 use Rattle.rv_verdicts.proofs.PartLemmas.{place_of}
 use Rattle.rv_verdicts.proofs.PartRecordLemmas.{halted-records, part_has_its_records}
-use Rattle.rv_verdicts.proofs.RiseLemmas.{count-cons, every-sort}
+use Rattle.rv_verdicts.proofs.RiseLemmas.{every-from-all, every-sort}
 use Rattle.rv_verdicts.proofs.SwitchLemmas.{opening_word}
 
 -- ---- the instances of records
@@ -32,24 +32,47 @@ use Rattle.rv_verdicts.proofs.SwitchLemmas.{opening_word}
 abbrev pub HasRecord : List ℕ → Record → Type 0
 HasRecord shape r = HasInstance shape r.monitor r.instance
 
--- of what was made
-have-made : (shape : List ℕ) (look : ℕ) (made : List Made) → Every (HasPlace shape) (map place_of made) → Every (HasRecord shape) (map (made_record look) made)
-have-made shape look [] all = tt
-have-made shape look (x ∷ made) all = (all.0, have-made shape look made all.1)
+module _ (P : ℕ → ℕ → Type 0) where
+  -- the fact of a delivery's instance
+  abbrev pub OfPlace : Placed → Type 0
+  OfPlace p = P p.delivery.monitor p.delivery.instance
 
--- of each record of a history
+  -- and of a record's
+  abbrev pub OfRecord : Record → Type 0
+  OfRecord r = P r.monitor r.instance
+
+  -- of what was made
+  of-made : (look : ℕ) (made : List Made) → Every OfPlace (map place_of made) → Every OfRecord (map (made_record look) made)
+  of-made look [] all = tt
+  of-made look (x ∷ made) all = (all.0, of-made look made all.1)
+
+  -- what holds of the instances of all deliveries holds of those of the records
+  pub records-every : (input : Input) (js : List Judge) (h : List Entry) → IsPlain input → IsOneHistory input js h → Every OfPlace (placed_in input.works) → Every OfRecord (records_of input js h)
+  records-every input js h plain one all = go (has_bit (opening_word input.setup) 34) refl
+    where
+      go : (b : Bool) → has_bit (opening_word input.setup) 34 ≡ b → Every OfRecord (records_of input js h)
+      go true halted = subst (Every OfRecord) (sym (halted-records input js h plain one halted)) tt
+      go false running =
+          let m = all-made input js h plain one running in
+          let look : ℕ = opening_word input.setup in
+          let places : Every OfPlace (map place_of m.made) = subst (Every OfPlace) (sym m.places_are) (every-filter OfPlace (shown look) (placed_in input.works) all) in
+          subst (λ (z : List Record). Every OfRecord (sort_records z)) (sym m.records_are) (every-sort OfRecord (map (made_record look) m.made) (of-made look m.made places))
+
+-- the setup has the instances of all records of a history
 pub records-have : (input : Input) (js : List Judge) (h : List Entry) → IsPlain input → IsOneHistory input js h → Every (HasRecord input.setup.shape) (records_of input js h)
-records-have input js h plain one = go (has_bit (opening_word input.setup) 34) refl
-  where
-    go : (b : Bool) → has_bit (opening_word input.setup) 34 ≡ b → Every (HasRecord input.setup.shape) (records_of input js h)
-    go true halted = subst (Every (HasRecord input.setup.shape)) (sym (halted-records input js h plain one halted)) tt
-    go false running =
-        let m = all-made input js h plain one running in
-        let look : ℕ = opening_word input.setup in
-        let places : Every (HasPlace input.setup.shape) (map place_of m.made) =
-        subst (Every (HasPlace input.setup.shape)) (sym m.places_are) (every-filter (HasPlace input.setup.shape) (shown look) (placed_in input.works) (places-have input.setup.shape input.works plain.instances)) in
-        subst (λ (z : List Record). Every (HasRecord input.setup.shape) (sort_records z)) (sym m.records_are)
-        (every-sort (HasRecord input.setup.shape) (map (made_record look) m.made) (have-made input.setup.shape look m.made places))
+records-have input js h plain one = records-every (HasInstance input.setup.shape) input js h plain one (places-have input.setup.shape input.works plain.instances)
+
+-- all pass
+filter-all : (test : Record → Bool) (rs : List Record) → Every (λ r. test r ≡ true) rs → filter test rs ≡ rs
+filter-all test [] all = refl
+filter-all test (r ∷ rs) all = rw all.0 (ap (λ (z : List Record). r ∷ z) (filter-all test rs all.1))
+
+-- where a part keeps all deliveries, it keeps all records
+pub all_are_kept : AllAreKept
+all_are_kept p plain one all =
+    let kept : ℕ → ℕ → Type 0 = λ monitor instance. p.keep monitor (p.numbers.instance_of monitor instance) ≡ true in
+    filter-all (λ r. is_kept p.keep (record_in p.numbers r)) (own_records p)
+    (records-every kept p.input p.judges p.history plain one (every-from-all (λ q. kept q.delivery.monitor q.delivery.instance) (placed_in p.input.works) all))
 
 -- a monitor that has an instance is there
 monitor-below : (shape : List ℕ) (monitor a : ℕ) → a < slice_index shape monitor → monitor < length shape

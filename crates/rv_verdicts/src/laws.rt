@@ -2,7 +2,7 @@
 ghost use Rattle.rv_verdicts.specs.Lone.{LoneHasNoStop, AllLoneHaveNoStop, AllLoneGiveNoSix, CpuSlotsAreLone, AllByCpuAreLone};
 ghost use Rattle.rv_verdicts.specs.Exits.{StatusIsSeen};
 ghost use Rattle.rv_verdicts.specs.Parts.{PartHasItsRecords};
-ghost use Rattle.rv_verdicts.specs.Joins.{PartsHaveAllRecords, PartSaysItsOwn, ReportIsJoined, StatusIsJoined};
+ghost use Rattle.rv_verdicts.specs.Joins.{PartsHaveAllRecords, AllAreKept, PartSaysItsOwn, ReportIsJoined, StatusIsJoined};
 ghost use Rattle.rv_verdicts.specs.Shown.{ShownIsEnough};
 ghost use Rattle.rv_verdicts.specs.Verdicts.{LoneRecordsAgree, AllRecordsAgree, LoneRecordsAreOne, AllRecordsAreOne};
 
@@ -41,11 +41,12 @@ pub fn status_is_seen()
     ensures { StatusIsSeen }
 {}
 
-/// A part of an input, with the deliveries to some instances alone, has the whole's records of them; so parts that keep
-/// each instance once have all records together.
+/// A part of an input has the whole's records of the instances that it keeps; so parts that keep each instance once have
+/// all records together.
 pub fn parts_have_the_whole()
     ensures part { PartHasItsRecords }
     ensures all { PartsHaveAllRecords }
+    ensures kept { AllAreKept }
 {}
 
 /// So the whole's report and its status are made of what its parts say and count.
