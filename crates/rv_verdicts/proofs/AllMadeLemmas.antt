@@ -1,23 +1,21 @@
 -- The whole of what a history of one thread makes.
-use Rattle.std.proofs.Common.{◌≡◌, ◌≢◌, ℕ, zero, suc, ◌+◌, ◌-◌, Bool, true, false, ◌==◌, ◌&&◌, List, [], ◌∷◌, ◌++◌, ◌⊎◌, inl, inr, map, reverse, arith, refl, sym, ap, ◌∙◌, subst}
-use Rattle.std.specs.Prelude.{filter, flat_map, Contains, AllPairs, slice_index}
+use Rattle.std.proofs.Common.{◌≡◌, ◌≢◌, ℕ, zero, suc, ◌+◌, ◌-◌, Bool, true, false, ◌==◌, List, [], ◌∷◌, ◌++◌, inl, inr, map, reverse, arith, refl, sym, ap, ◌∙◌, subst}
+use Rattle.std.specs.Prelude.{filter, flat_map, Contains, slice_index}
 use Rattle.std.proofs.lemmas.List.{map-append, append-nil}
 use Rattle.std.proofs.lemmas.List.Elements.{filter-append}
 use Rattle.rv_model.specs.declared.entry.Entry.{Entry}
 use Rattle.rv_model.specs.declared.record.Record.{Record}
-use Rattle.rv_model.specs.declared.work.Turn.{Turn}
 use Rattle.rv_model.specs.Histories.{Input, IsOneHistory, is_on, work_of, line_in}
 use Rattle.rv_model.specs.Judging.{Judge}
 use Rattle.rv_model.specs.Numbers.{has_bit}
 use Rattle.rv_model.specs.Records.{script_records}
 use Rattle.rv_model.specs.Scripts.{Played, played}
-use Rattle.rv_model.specs.Setups.{Setup}
 use Rattle.rv_model.specs.Works.{Work}
 use Rattle.rv_model.proofs.UniqueLemmas.{one_has_no_stop}
 use Rattle.rv_verdicts.specs.Parts.{Placed, placed_of, placed_in, IsPlain}
-use Rattle.rv_verdicts.proofs.LineLemmas.{IsOfTurn, OfTurn, all-of-turn}
-use Rattle.rv_verdicts.proofs.ListLemmas.{Every, every-filter, filter-none}
-use Rattle.rv_verdicts.proofs.Made.{Made, made_record, made_told, is_for, told_by, Ahead, shown, MadeBy}
+use Rattle.rv_verdicts.proofs.LineLemmas.{OfTurn, all-of-turn}
+use Rattle.rv_verdicts.proofs.ListLemmas.{Every, every-filter}
+use Rattle.rv_verdicts.proofs.Made.{Made, made_record, made_told, is_for, Ahead, shown, MadeBy}
 use Rattle.rv_verdicts.proofs.MadeLemmas.{made-script}
 use Rattle.rv_verdicts.proofs.OwnerLemmas.{plays}
 use Rattle.rv_verdicts.proofs.PastLemmas.{Each, each-of}

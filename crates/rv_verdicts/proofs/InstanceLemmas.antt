@@ -1,10 +1,7 @@
 -- How many instances of a monitor have a record: in the whole as many as in all its parts.
-use Rattle.std.proofs.Common.{◌≡◌, ◌≢◌, ℕ, zero, suc, ◌+◌, ◌<◌, Bool, true, false, ◌==◌, ◌&&◌, ◌||◌, not, List, [], ◌∷◌, ◌++◌, map, length, arith, refl, sym, ap, ◌∙◌, subst}
-use Rattle.std.specs.Prelude.{filter, flat_map, count_by, slice_index, All, if◌then◌else◌}
-use Rattle.std.specs.List.{list_any, sum_by}
-use Rattle.std.proofs.lemmas.List.Elements.{All-head, All-tail}
-use Rattle.std.proofs.lemmas.List.Folds.{list_any-append}
-use Rattle.std.proofs.lemmas.List.Sums.{sum_by-cons}
+use Rattle.std.proofs.Common.{◌≡◌, ℕ, zero, suc, ◌<◌, Bool, true, false, ◌==◌, ◌&&◌, ◌||◌, not, List, [], ◌∷◌, map, length, arith, refl, sym, ap, ◌∙◌, subst}
+use Rattle.std.specs.Prelude.{filter, slice_index}
+use Rattle.std.specs.List.{list_any}
 use Rattle.rv_model.specs.declared.entry.Entry.{Entry}
 use Rattle.rv_model.specs.declared.record.Record.{Record}
 use Rattle.rv_model.specs.Histories.{Input, IsOneHistory}
@@ -14,15 +11,14 @@ use Rattle.rv_model.specs.Records.{sort_records, records_of, is_ended}
 use Rattle.rv_model.specs.Reports.{is_of, is_at}
 use Rattle.rv_verdicts.specs.Joins.{own_records, AllAreKept}
 use Rattle.rv_verdicts.specs.Lone.{HasInstance}
-use Rattle.rv_verdicts.specs.Parts.{Placed, placed_in, Numbering, KeepsApart, is_kept, record_in, IsPlain, ArePlayed}
+use Rattle.rv_verdicts.specs.Parts.{Placed, placed_in, Numbering, KeepsApart, is_kept, record_in, IsPlain}
 use Rattle.rv_verdicts.proofs.AllMadeLemmas.{all-made}
-use Rattle.rv_verdicts.proofs.CountLemmas.{many, many-none, many-or, many-moved, AreMoved}
-use Rattle.rv_verdicts.proofs.JoinLemmas.{IsPlayed}
-use Rattle.rv_verdicts.proofs.KnownLemmas.{HasPlace, places-have}
-use Rattle.rv_verdicts.proofs.ListLemmas.{Every, every-filter, every-kept}
+use Rattle.rv_verdicts.proofs.CountLemmas.{many, many-moved}
+use Rattle.rv_verdicts.proofs.KnownLemmas.{places-have}
+use Rattle.rv_verdicts.proofs.ListLemmas.{Every, every-filter}
 use Rattle.rv_verdicts.proofs.Made.{Made, made_record, shown}
 use Rattle.rv_verdicts.proofs.PartLemmas.{place_of}
-use Rattle.rv_verdicts.proofs.PartRecordLemmas.{halted-records, part_has_its_records}
+use Rattle.rv_verdicts.proofs.PartRecordLemmas.{halted-records}
 use Rattle.rv_verdicts.proofs.RiseLemmas.{every-from-all, every-sort}
 use Rattle.rv_verdicts.proofs.SwitchLemmas.{opening_word}
 

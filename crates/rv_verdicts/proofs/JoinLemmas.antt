@@ -1,5 +1,5 @@
 -- The whole has the records of its parts.
-use Rattle.std.proofs.Common.{◌≡◌, ◌≢◌, ℕ, suc, ◌+◌, ◌<◌, Bool, true, false, List, [], ◌∷◌, ◌++◌, map, arith, refl, sym, ap, ◌∙◌, subst}
+use Rattle.std.proofs.Common.{◌≡◌, ◌≢◌, ℕ, suc, Bool, true, false, List, [], ◌∷◌, ◌++◌, map, arith, refl, sym, ap, ◌∙◌, subst}
 use Rattle.std.specs.Prelude.{filter, flat_map, count_by, All, AllPairs}
 use Rattle.std.proofs.lemmas.List.Elements.{All-head, All-tail}
 use Rattle.std.proofs.lemmas.List.Kept.{AllPairs-filter}
@@ -9,7 +9,7 @@ use Rattle.rv_model.specs.Histories.{Input, IsOneHistory}
 use Rattle.rv_model.specs.Judging.{Judge}
 use Rattle.rv_model.specs.Numbers.{has_bit}
 use Rattle.rv_model.specs.Records.{sort_records, records_of}
-use Rattle.rv_verdicts.specs.Joins.{PlayedPart, own_records, records_by, joined_records, ArePartsOf, PartsHaveAllRecords}
+use Rattle.rv_verdicts.specs.Joins.{PlayedPart, own_records, records_by, PartsHaveAllRecords}
 use Rattle.rv_verdicts.specs.Parts.{Placed, placed_in, record_in, is_kept, IsPlain, ArePlayed}
 use Rattle.rv_verdicts.proofs.AllMadeLemmas.{all-made}
 use Rattle.rv_verdicts.proofs.ListLemmas.{Every, filter-map}

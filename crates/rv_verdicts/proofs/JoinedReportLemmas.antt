@@ -1,12 +1,10 @@
 -- The whole's report is made of what its parts count and say.
-use Rattle.std.proofs.Common.{◌≡◌, ℕ, zero, suc, ◌+◌, ◌<◌, Bool, true, false, ◌&&◌, ◌||◌, List, [], ◌∷◌, ◌++◌, map, length, Option, Some, None, arith, refl, sym, ap, ◌∙◌, subst, append_assoc, length-append}
+use Rattle.std.proofs.Common.{◌≡◌, ℕ, ◌+◌, Bool, ◌&&◌, ◌||◌, List, [], ◌∷◌, ◌++◌, map, length, Option, Some, None, refl, sym, ap, ◌∙◌, subst, append_assoc, length-append}
 use Rattle.std.specs.Prelude.{codes, flat_map, count_by, slice_get, slice_index, All, if◌then◌else◌}
 use Rattle.std.specs.List.{list_any, sum_by}
-use Rattle.std.proofs.lemmas.List.{get_or_at}
 use Rattle.std.proofs.lemmas.List.Elements.{All-head, All-tail}
 use Rattle.std.proofs.lemmas.List.Folds.{list_any-append}
 use Rattle.std.proofs.lemmas.List.Sums.{sum_by-cons}
-use Rattle.rv_model.specs.declared.entry.Answer.{Answer}
 use Rattle.rv_model.specs.declared.entry.Answer.TheVariants.{Passed, Started, Kept, Failed, Stopped, Cleared, Ended, Looked, Switched}
 use Rattle.rv_model.specs.declared.entry.Entry.{Entry}
 use Rattle.rv_model.specs.declared.record.Delivered.{Delivered}
@@ -18,11 +16,9 @@ use Rattle.rv_model.specs.declared.work.Scope.TheVariants as scope
 use Rattle.rv_model.specs.Histories.{Input}
 use Rattle.rv_model.specs.Judging.{Judge}
 use Rattle.rv_model.specs.Records.{records_of, is_failure, is_stopped, status_of}
-use Rattle.rv_model.specs.Reports.{Reported, task_text, place_text, instance_text, fault_text, reaction_text, failed_text, record_text, instances_in, is_of, instance_count, count_text, summary_text, summaries_text, report_text}
-use Rattle.rv_verdicts.specs.Joins.{PlayedPart, kept_records, records_by, joined_records, ArePartsOf, MeanOne, HasSlots, MeansItsOwn, PartSaysItsOwn, joined_summary, joined_summaries, ReportIsJoined, StatusIsJoined}
-use Rattle.rv_verdicts.specs.Lone.{HasInstance}
+use Rattle.rv_model.specs.Reports.{Reported, task_text, place_text, fault_text, reaction_text, failed_text, record_text, instances_in, is_of, instance_count, count_text, summary_text, summaries_text}
+use Rattle.rv_verdicts.specs.Joins.{PlayedPart, kept_records, records_by, joined_records, ArePartsOf, MeanOne, HasSlots, PartSaysItsOwn, joined_summary, joined_summaries, ReportIsJoined, StatusIsJoined}
 use Rattle.rv_verdicts.specs.Parts.{record_in}
-use Rattle.rv_verdicts.proofs.CountLemmas.{many}
 use Rattle.rv_verdicts.proofs.JoinLemmas.{parts_have_all_records}
 use Rattle.rv_verdicts.proofs.OutcomeLemmas.{any-sort}
 use Rattle.rv_verdicts.proofs.SumLemmas.{count-sort, count-parts, many-joined}

@@ -13,6 +13,7 @@ pub mod LikeLemmas
 pub mod LineLemmas
 pub mod ListLemmas
 pub mod Made
+pub mod MadeAtLemmas
 pub mod MadeLemmas
 pub mod MergeLemmas
 pub mod NumberingLemmas

@@ -1,10 +1,9 @@
 -- A script that is shown its deliveries makes them all.
 use Rattle.std.proofs.Common.{◌≡◌, ℕ, suc, ◌+◌, Bool, true, false, ◌==◌, List, [], ◌∷◌, ◌++◌, inl, inr, map, arith, refl, sym, ap, ◌∙◌, subst}
-use Rattle.std.specs.Prelude.{filter, flat_map, MatchBool, slice_range, slice_index, if◌then◌else◌}
+use Rattle.std.specs.Prelude.{filter, MatchBool, slice_range, if◌then◌else◌}
 use Rattle.std.proofs.lemmas.List.Elements.{filter-append}
 use Rattle.rv_model.specs.declared.entry.Act.{Act}
-use Rattle.rv_model.specs.declared.entry.Act.TheVariants.{Deliver, Look, End}
-use Rattle.rv_model.specs.declared.entry.Answer.{Answer}
+use Rattle.rv_model.specs.declared.entry.Act.TheVariants.{Deliver, End}
 use Rattle.rv_model.specs.declared.entry.Answer.TheVariants.{Looked}
 use Rattle.rv_model.specs.declared.hit.Hit.{Hit}
 use Rattle.rv_model.specs.declared.record.Delivered.{Delivered}
@@ -24,7 +23,7 @@ use Rattle.rv_verdicts.proofs.LikeLemmas.{begins, made-record, made-from}
 use Rattle.rv_verdicts.proofs.ListLemmas.{filter-map}
 use Rattle.rv_verdicts.proofs.Made.{Made, made_record, made_told, is_for, looked, told_by, Ahead, placed_from, shown, AreCalm, MadeBy}
 use Rattle.rv_verdicts.proofs.OwnerLemmas.{hit-on}
-use Rattle.rv_verdicts.proofs.StepLemmas.{at_zero, Step, Answered}
+use Rattle.rv_verdicts.proofs.StepLemmas.{at_zero, Answered}
 use Rattle.rv_verdicts.proofs.SwitchLemmas.{opening_word, rest-of}
 
 -- the second case is taken

@@ -1,5 +1,5 @@
 -- What the numbers of a part leave as it is: the order of steps and of records, and the answers.
-use Rattle.std.proofs.Common.{◌≡◌, ℕ, ◌<◌, ◌≤◌, Bool, true, false, List, [], ◌∷◌, inl, inr, map, arith, refl, sym, ap, ◌∙◌, subst}
+use Rattle.std.proofs.Common.{◌≡◌, ℕ, ◌<◌, ◌≤◌, Bool, true, false, List, [], ◌∷◌, inl, inr, map, arith, refl, ap, ◌∙◌}
 use Rattle.std.specs.Prelude.{nat_le}
 use Rattle.rv_model.specs.declared.entry.Entry.{Entry}
 use Rattle.rv_model.specs.declared.record.Record.{Record}
@@ -42,11 +42,11 @@ module _ (n : Numbering) where
       ap (λ (z : List Answered). record { step = step_in x; answer = answer_after j start (map step_in xs) x.act } ∷ z) (answered-in j start xs)
       ∙ ap (λ (z : List Entry). record { step = step_in x; answer = answer_to j start z (bare x.act) x.act } ∷ map told_in (answered j start xs)) (past-in xs)
 
-  module _ (lines : (a b : ℕ) → a < b → n.line a < n.line b) where
+  module _ (lines : (a b : ℕ) → a ≤ b → n.line a ≤ n.line b) where
     -- no line is above
     below-in : (k : ℕ) (xs : List Step) → Below k xs → Below (n.line k) (map step_in xs)
     below-in k [] below = tt
-    below-in k (x ∷ xs) below = (keeps-le n.line lines x.line k below.0, below-in k xs below.1)
+    below-in k (x ∷ xs) below = (lines x.line k below.0, below-in k xs below.1)
 
     -- the lines never ascend
     pub descends-in : (xs : List Step) → Descends xs → Descends (map step_in xs)

@@ -1,23 +1,14 @@
 -- What the whole makes on the instances that are kept is what the part makes.
-use Rattle.std.proofs.Common.{◌≡◌, ℕ, ◌+◌, ◌<◌, Bool, true, false, ◌==◌, ◌&&◌, List, [], ◌∷◌, map, reverse, arith, refl, sym, ap, ◌∙◌, subst}
-use Rattle.std.specs.Prelude.{filter, slice_index, slice_index_or}
-use Rattle.rv_model.specs.declared.entry.Answer.{Answer}
-use Rattle.rv_model.specs.declared.entry.Entry.{Entry}
-use Rattle.rv_model.specs.Histories.{Input, IsOneHistory}
-use Rattle.rv_model.specs.Judging.{Judge}
-use Rattle.rv_model.specs.Numbers.{has_bit, number_of}
-use Rattle.rv_model.specs.Setups.{slot_of, judge_of, start_of, no_judge}
-use Rattle.rv_verdicts.specs.Parts.{Placed, placed_in, placed_by, Numbering, KeepsApart, keeps, IsPartOf, IsPlain}
-use Rattle.rv_verdicts.proofs.AllMadeLemmas.{IsMade, all-made}
-use Rattle.rv_verdicts.proofs.KnownLemmas.{monitor-of, HasPlace, places-have, test-with, IsKnown, KnowsPlace, known, kept-at, test-at}
-use Rattle.rv_verdicts.proofs.LineLemmas.{in-order, descends, tells-seats}
-use Rattle.rv_verdicts.proofs.ListLemmas.{Every, every-filter, every-weaker, filter-map, filter-same, filter-both, filter-swap, map-map, map-reverse, reverse-same}
-use Rattle.rv_verdicts.proofs.Made.{Made, made_told, placed_step, shown}
-use Rattle.rv_verdicts.proofs.MergeLemmas.{is_by, same-steps}
-use Rattle.rv_verdicts.proofs.NumberingLemmas.{step_in, told_in, made_in, answered-in, descends-in}
-use Rattle.rv_verdicts.proofs.SeatStepLemmas.{line_of, is_told}
-use Rattle.rv_verdicts.proofs.StepLemmas.{Step, Answered, steps_of, told_of, told-answered, told-steps, answered}
-use Rattle.rv_verdicts.proofs.SwitchLemmas.{opening_word}
+use Rattle.std.proofs.Common.{◌≡◌, ℕ, ◌+◌, Bool, true, false, ◌==◌, ◌&&◌, List, [], ◌∷◌, map, arith, refl, sym, ap, ◌∙◌}
+use Rattle.std.specs.Prelude.{filter}
+use Rattle.rv_model.specs.Histories.{Input}
+use Rattle.rv_model.specs.Setups.{slot_of}
+use Rattle.rv_verdicts.specs.Parts.{Placed, placed_by, Numbering}
+use Rattle.rv_verdicts.proofs.KnownLemmas.{IsKnown, KnowsPlace}
+use Rattle.rv_verdicts.proofs.ListLemmas.{Every, filter-map}
+use Rattle.rv_verdicts.proofs.Made.{Made, made_told}
+use Rattle.rv_verdicts.proofs.NumberingLemmas.{made_in}
+use Rattle.rv_verdicts.proofs.StepLemmas.{Answered}
 use Rattle.rv_verdicts.proofs.WholeLemmas.{is_at, of_place}
 
 -- ---- lists of what was made

@@ -1,5 +1,5 @@
 -- What the whole makes on the instances that are kept is what the part makes.
-use Rattle.std.proofs.Common.{◌≡◌, ℕ, ◌+◌, ◌<◌, Bool, true, false, ◌==◌, ◌&&◌, List, [], ◌∷◌, map, reverse, arith, refl, sym, ap, ◌∙◌, subst}
+use Rattle.std.proofs.Common.{◌≡◌, ℕ, Bool, false, ◌&&◌, List, map, reverse, sym, ap, ◌∙◌, subst}
 use Rattle.std.specs.Prelude.{filter, slice_index, slice_index_or}
 use Rattle.rv_model.specs.declared.entry.Entry.{Entry}
 use Rattle.rv_model.specs.Histories.{Input, IsOneHistory}
@@ -7,51 +7,20 @@ use Rattle.rv_model.specs.Judging.{Judge}
 use Rattle.rv_model.specs.Numbers.{has_bit, number_of}
 use Rattle.rv_model.specs.Setups.{monitor_of, slot_of, judge_of, start_of, no_judge}
 use Rattle.rv_verdicts.specs.Parts.{Placed, placed_in, placed_by, Numbering, KeepsApart, keeps, IsPartOf, IsPlain}
-use Rattle.rv_verdicts.proofs.AllMadeLemmas.{IsMade, all-made}
+use Rattle.rv_verdicts.proofs.AllMadeLemmas.{all-made}
 use Rattle.rv_verdicts.proofs.KnownLemmas.{monitor-of, HasPlace, places-have, test-with, IsKnown, KnowsPlace, kept_here, known, kept-at, kept-here, test-at}
 use Rattle.rv_verdicts.proofs.LineLemmas.{in-order, descends, tells-seats}
 use Rattle.rv_verdicts.proofs.ListLemmas.{Every, every-filter, every-weaker, filter-map, filter-same, filter-both, filter-swap, map-map, map-reverse, reverse-same}
 use Rattle.rv_verdicts.proofs.Made.{Made, made_told, placed_step, shown}
+use Rattle.rv_verdicts.proofs.MadeAtLemmas.{all, made_at, steps, told, seat-steps, places-every}
 use Rattle.rv_verdicts.proofs.MergeLemmas.{is_by, same-steps}
 use Rattle.rv_verdicts.proofs.NumberingLemmas.{step_in, told_in, made_in, answered-in, descends-in}
 use Rattle.rv_verdicts.proofs.PartLemmas.{place_of, slot_in, same-made, place-filter, made-same}
 use Rattle.rv_verdicts.proofs.SeatStepLemmas.{line_of, is_told}
-use Rattle.rv_verdicts.proofs.StepLemmas.{Step, Answered, steps_of, told_of, told-answered, told-steps, answered}
+use Rattle.rv_verdicts.proofs.StepLemmas.{told-answered, answered}
 use Rattle.rv_verdicts.proofs.SwitchLemmas.{opening_word}
 use Rattle.rv_verdicts.proofs.WholeLemmas.{is_at, of_place}
 
--- ---- one history
-module _ (input : Input) (js : List Judge) (h : List Entry) (plain : IsPlain input) (one : IsOneHistory input js h) (running : has_bit (opening_word input.setup) 34 ≡ false) where
-  -- what it makes
-  abbrev pub all : List Made
-  all = (all-made input js h plain one running).made
-
-  -- what a seat makes on a slot
-  abbrev pub made_at : ℕ → ℕ → List Made
-  made_at seat slot = filter (of_place (is_at seat input.setup.shape slot)) all
-
-  -- the steps on a slot, and with their answers
-  abbrev pub steps : ℕ → List Step
-  steps slot = steps_of slot (line_of input.works) (reverse h)
-
-  abbrev pub told : ℕ → List Answered
-  told slot = told_of slot (line_of input.works) input.setup js (reverse h)
-
-  -- the steps of a seat on a slot are those of what it makes there
-  pub seat-steps : (seat slot : ℕ) → filter (is_by seat) (steps slot) ≡ reverse (map placed_step (map place_of (made_at seat slot)))
-  seat-steps seat slot =
-      ap (filter (is_by seat)) (sym (told-steps slot (line_of input.works) input.setup js (reverse h)))
-      ∙ filter-map (λ (t : Answered). t.step) (is_by seat) (told slot)
-      ∙ ap (map (λ (t : Answered). t.step)) ((all-made input js h plain one running).steps_are seat slot)
-      ∙ map-reverse (λ (t : Answered). t.step) (map made_told (made_at seat slot))
-      ∙ ap reverse (map-map made_told (λ (t : Answered). t.step) (made_at seat slot) ∙ sym (map-map place_of placed_step (made_at seat slot)))
-
--- what holds of places holds of what was made there
-places-every : (P : Placed → Type 0) (xs : List Made) → Every P (map place_of xs) → Every (λ x. P x.place) xs
-places-every P [] h = tt
-places-every P (x ∷ xs) h = (h.0, places-every P xs h.1)
-
--- ---- a part
 module _ (n : Numbering) (keep : ℕ → ℕ → Bool) (whole part : Input) (js : List Judge) (h k : List Entry) (plain : IsPlain whole) (plain' : IsPlain part) (apart : KeepsApart n part.setup.shape) (is : IsPartOf n keep whole part)
     (one : IsOneHistory whole js h) (one' : IsOneHistory part js k) (running : has_bit (opening_word whole.setup) 34 ≡ false) (running' : has_bit (opening_word part.setup) 34 ≡ false) where
   -- what the whole makes

@@ -1,5 +1,5 @@
 -- Of the instances that are kept the whole and the part have the same records.
-use Rattle.std.proofs.Common.{◌≡◌, ℕ, zero, suc, ◌+◌, Bool, true, false, List, [], ◌∷◌, ◌++◌, map, reverse, arith, refl, sym, ap, ◌∙◌, subst}
+use Rattle.std.proofs.Common.{◌≡◌, ℕ, suc, ◌+◌, Bool, true, false, List, [], ◌∷◌, ◌++◌, map, reverse, arith, refl, sym, ap, ◌∙◌, subst}
 use Rattle.std.specs.Prelude.{filter, flat_map, Contains, MatchBool, slice_range}
 use Rattle.rv_model.specs.declared.entry.Answer.TheVariants.{Looked}
 use Rattle.rv_model.specs.declared.entry.Entry.{Entry}
@@ -12,12 +12,12 @@ use Rattle.rv_model.specs.Judging.{Judge}
 use Rattle.rv_model.specs.Numbers.{has_bit, number_of}
 use Rattle.rv_model.specs.Records.{look_word, until_look, from_look, turn_records, script_records, sort_records, records_of}
 use Rattle.rv_model.specs.ScriptParts.{turn_lists}
-use Rattle.rv_model.specs.Scripts.{Played, played, is_shown, Delivers, PlaysTurns}
+use Rattle.rv_model.specs.Scripts.{Played, played, is_shown, PlaysTurns}
 use Rattle.rv_model.specs.Setups.{Setup}
 use Rattle.rv_model.specs.Table.{Table}
 use Rattle.rv_model.specs.Works.{Work}
 use Rattle.rv_model.proofs.OneJudgeLemmas.{lists-same}
-use Rattle.rv_verdicts.specs.Parts.{Numbering, KeepsApart, placed_by, keeps, is_kept, record_in, IsPartOf, IsPlain, ArePlayed, PartHasItsRecords}
+use Rattle.rv_verdicts.specs.Parts.{Numbering, KeepsApart, placed_by, keeps, is_kept, record_in, IsPartOf, IsPlain, PartHasItsRecords}
 use Rattle.rv_verdicts.proofs.AllMadeLemmas.{all-made, quiet}
 use Rattle.rv_verdicts.proofs.FilterLemmas.{filter-sort}
 use Rattle.rv_verdicts.proofs.ListLemmas.{filter-map, map-map}
@@ -25,7 +25,8 @@ use Rattle.rv_verdicts.proofs.Made.{Made, made_record, AreCalm}
 use Rattle.rv_verdicts.proofs.NumberingLemmas.{made_in, sort-in}
 use Rattle.rv_verdicts.proofs.OutcomeLemmas.{none-in, none-left}
 use Rattle.rv_verdicts.proofs.OwnerLemmas.{plays}
-use Rattle.rv_verdicts.proofs.PartMadeLemmas.{all, part-made}
+use Rattle.rv_verdicts.proofs.MadeAtLemmas.{all}
+use Rattle.rv_verdicts.proofs.PartMadeLemmas.{part-made}
 use Rattle.rv_verdicts.proofs.SwitchLemmas.{opening_word}
 use Rattle.rv_verdicts.proofs.WholeLemmas.{calm-played}
 

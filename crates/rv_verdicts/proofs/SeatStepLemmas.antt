@@ -1,5 +1,5 @@
 -- The steps of one seat in a past are those of what it has played.
-use Rattle.std.proofs.Common.{◌≡◌, ℕ, ◌+◌, Bool, true, false, ◌==◌, List, [], ◌∷◌, ◌++◌, map, reverse, arith, refl, sym, ap, ◌∙◌, append_assoc, append-nil}
+use Rattle.std.proofs.Common.{◌≡◌, ℕ, ◌+◌, Bool, true, false, ◌==◌, List, [], ◌∷◌, ◌++◌, reverse, arith, refl, sym, ap, ◌∙◌, append-nil}
 use Rattle.std.specs.Prelude.{filter, if◌then◌else◌}
 use Rattle.std.proofs.lemmas.List.{reverse-append}
 use Rattle.rv_model.specs.declared.entry.Act.{Act}
@@ -13,7 +13,7 @@ use Rattle.rv_model.specs.Setups.{Setup}
 use Rattle.rv_model.specs.SharedWords.{answer_at}
 use Rattle.rv_model.specs.Works.{Work}
 use Rattle.rv_verdicts.proofs.Made.{looked, told_by}
-use Rattle.rv_verdicts.proofs.StepLemmas.{at_zero, Step, Answered, told_of}
+use Rattle.rv_verdicts.proofs.StepLemmas.{at_zero, Answered, told_of}
 
 -- the line of an entry's turn, after a past
 abbrev pub line_of : List Work → List Entry → Entry → ℕ

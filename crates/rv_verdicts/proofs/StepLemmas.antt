@@ -1,5 +1,5 @@
 -- The steps on a slot: its acts, as if its number were 0, each with its seat and its line, the newest first. They tell its answers.
-use Rattle.std.proofs.Common.{◌≡◌, ℕ, Bool, true, false, ◌==◌, List, [], ◌∷◌, map, arith, refl, sym, ap, ◌∙◌, subst}
+use Rattle.std.proofs.Common.{◌≡◌, ℕ, Bool, true, false, ◌==◌, List, [], ◌∷◌, map, arith, refl, sym, ap, ◌∙◌}
 use Rattle.std.specs.Prelude.{if◌then◌else◌}
 use Rattle.rv_model.specs.declared.entry.Act.{Act}
 use Rattle.rv_model.specs.declared.entry.Act.TheVariants.{Deliver, Stop, Look, Raise, Lower, Clear, End}
@@ -7,7 +7,6 @@ use Rattle.rv_model.specs.declared.entry.Answer.{Answer}
 use Rattle.rv_model.specs.declared.entry.Entry.{Entry}
 use Rattle.rv_model.specs.Histories.{is_on}
 use Rattle.rv_model.specs.Judging.{Judge}
-use Rattle.rv_model.specs.Numbers.{has_bit}
 use Rattle.rv_model.specs.Phases.{Phase, level, level_by, level_after, letter_at, phase_of, phase_after, turn, answer_to}
 use Rattle.rv_model.specs.Setups.{Setup, judge_of, start_of}
 use Rattle.rv_model.specs.SharedWords.{answer_at}

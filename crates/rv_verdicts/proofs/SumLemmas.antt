@@ -1,6 +1,6 @@
 -- Counts of the whole's records are the sums of those of its parts.
-use Rattle.std.proofs.Common.{◌≡◌, ◌≢◌, ℕ, zero, suc, ◌+◌, ◌<◌, ◌≤◌, Bool, true, false, ◌==◌, ◌&&◌, ◌||◌, List, [], ◌∷◌, ◌++◌, map, arith, refl, sym, ap, ◌∙◌, subst}
-use Rattle.std.specs.Prelude.{filter, flat_map, count_by, nat_le, slice_index, All, if◌then◌else◌}
+use Rattle.std.proofs.Common.{◌≡◌, ℕ, ◌+◌, ◌<◌, ◌≤◌, Bool, true, false, ◌||◌, List, [], ◌∷◌, map, arith, refl, sym, ap, ◌∙◌, subst}
+use Rattle.std.specs.Prelude.{flat_map, count_by, nat_le, slice_index, All, if◌then◌else◌}
 use Rattle.std.specs.List.{list_any, sum_by}
 use Rattle.std.proofs.lemmas.List.Elements.{All-head, All-tail}
 use Rattle.std.proofs.lemmas.List.Folds.{list_any-append}
@@ -12,13 +12,12 @@ use Rattle.rv_model.specs.Judging.{Judge}
 use Rattle.rv_model.specs.Records.{insert_record, sort_records, records_of}
 use Rattle.rv_model.specs.Reports.{is_at}
 use Rattle.rv_verdicts.specs.Joins.{PlayedPart, own_records, kept_records, records_by, joined_records, ArePartsOf}
-use Rattle.rv_verdicts.specs.Parts.{is_kept, record_in, ArePlayed}
+use Rattle.rv_verdicts.specs.Parts.{is_kept, record_in}
 use Rattle.rv_verdicts.proofs.CountLemmas.{many, many-none, many-or, many-same}
 use Rattle.rv_verdicts.proofs.InstanceLemmas.{HasRecord, records-have, IsRecordOf, part-many, part-kept}
 use Rattle.rv_verdicts.proofs.JoinLemmas.{IsPlayed, by-part, parts_have_all_records}
 use Rattle.rv_verdicts.proofs.ListLemmas.{Every, every-filter, every-kept}
 use Rattle.rv_verdicts.proofs.OutcomeLemmas.{any-sort}
-use Rattle.rv_verdicts.proofs.PartRecordLemmas.{part_has_its_records}
 use Rattle.rv_verdicts.proofs.RiseLemmas.{count-cons}
 
 -- ---- counts of records

@@ -1,33 +1,21 @@
 -- What a history of one thread makes: all deliveries that its looks show on, each with its answer, and the steps of each seat on each slot.
-use Rattle.std.proofs.Common.{◌≡◌, ◌≢◌, ℕ, zero, suc, ◌+◌, ◌-◌, Bool, true, false, ◌==◌, ◌&&◌, List, [], ◌∷◌, ◌++◌, ◌⊎◌, inl, inr, map, reverse, arith, refl, sym, ap, ◌∙◌, subst}
-use Rattle.std.specs.Prelude.{filter, flat_map, Contains, AllPairs, slice_index, slice_index_or, slice_range}
-use Rattle.std.proofs.lemmas.List.{map-append, append-nil}
-use Rattle.std.proofs.lemmas.List.Elements.{filter-append}
+use Rattle.std.proofs.Common.{◌≡◌, ◌≢◌, ℕ, zero, suc, ◌+◌, Bool, true, false, ◌==◌, ◌&&◌, List, [], ◌∷◌, ◌++◌, ◌⊎◌, inl, inr, map, arith, refl, sym, ap, ◌∙◌}
+use Rattle.std.specs.Prelude.{filter, Contains, AllPairs, slice_index_or, slice_range}
 use Rattle.rv_model.specs.declared.entry.Act.TheVariants.{Look}
 use Rattle.rv_model.specs.declared.entry.Answer.TheVariants.{Looked}
 use Rattle.rv_model.specs.declared.entry.Entry.{Entry}
-use Rattle.rv_model.specs.declared.record.Record.{Record}
 use Rattle.rv_model.specs.declared.work.Delivery.{Delivery}
 use Rattle.rv_model.specs.declared.work.Turn.{Turn}
-use Rattle.rv_model.specs.Histories.{Input, IsOneHistory, IsNoStop, is_on, work_of, line_in}
+use Rattle.rv_model.specs.Histories.{IsNoStop, work_of}
 use Rattle.rv_model.specs.Judging.{Judge}
-use Rattle.rv_model.specs.Numbers.{has_bit}
-use Rattle.rv_model.specs.Records.{script_records}
 use Rattle.rv_model.specs.Scripts.{Played, played}
 use Rattle.rv_model.specs.Setups.{Setup}
 use Rattle.rv_model.specs.SharedWords.{answer_at}
 use Rattle.rv_model.specs.Works.{Work}
-use Rattle.rv_model.proofs.UniqueLemmas.{one_has_no_stop}
-use Rattle.rv_verdicts.specs.Parts.{Placed, placed_of, placed_in, IsPlain}
-use Rattle.rv_verdicts.proofs.LineLemmas.{IsOfTurn, OfTurn, all-of-turn}
-use Rattle.rv_verdicts.proofs.ListLemmas.{Every, every-append, every-filter, filter-same, filter-none}
-use Rattle.rv_verdicts.proofs.Made.{Made, made_record, made_told, is_for, told_by, Ahead, placed_from, shown, IsCalm, AreCalm, MadeBy}
-use Rattle.rv_verdicts.proofs.MadeLemmas.{made-script}
-use Rattle.rv_verdicts.proofs.OwnerLemmas.{plays}
-use Rattle.rv_verdicts.proofs.PastLemmas.{Each, each-of}
-use Rattle.rv_verdicts.proofs.SeatStepLemmas.{line_of, is_told, seat-told}
-use Rattle.rv_verdicts.proofs.StepLemmas.{Answered, step_of, told_of}
-use Rattle.rv_verdicts.proofs.SwitchLemmas.{opening_word, look-opening}
+use Rattle.rv_verdicts.specs.Parts.{Placed, placed_of, placed_in}
+use Rattle.rv_verdicts.proofs.ListLemmas.{Every, every-append}
+use Rattle.rv_verdicts.proofs.Made.{Made, is_for, placed_from, IsCalm, AreCalm}
+use Rattle.rv_verdicts.proofs.PastLemmas.{Each}
 
 -- ---- what a seat plays is calm
 module _ (look : ℕ) where

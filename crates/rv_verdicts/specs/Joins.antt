@@ -1,5 +1,5 @@
 -- Parts together: the whole has the records of all of them, and its report is theirs joined.
-use Rattle.std.specs.Prelude.{◌≡◌, ◌≢◌, ℕ, ◌+◌, Bool, true, ◌&&◌, List, [], ◌∷◌, ◌++◌, map, filter, flat_map, count_by, Option, Some, slice_get, All, AllPairs}
+use Rattle.std.specs.Prelude.{◌≡◌, ◌≢◌, ℕ, ◌+◌, Bool, true, ◌&&◌, List, [], ◌∷◌, ◌++◌, map, filter, flat_map, count_by, Some, slice_get, All, AllPairs}
 use Rattle.std.specs.List.{sum_by}
 use Rattle.rv_model.specs.declared.entry.Entry.{Entry}
 use Rattle.rv_model.specs.declared.record.Record.{Record}
@@ -10,7 +10,6 @@ use Rattle.rv_model.specs.Histories.{Input, IsOneHistory}
 use Rattle.rv_model.specs.Judging.{Judge}
 use Rattle.rv_model.specs.Records.{records_of, sort_records, is_failure, is_stopped, status_of}
 use Rattle.rv_model.specs.Reports.{Reported, record_text, task_at, instances_in, is_of, instance_count, count_text, report_text}
-use Rattle.rv_model.specs.Works.{Work}
 use Rattle.rv_verdicts.specs.Lone.{HasInstance}
 use Rattle.rv_verdicts.specs.Parts.{Numbering, placed_in, placed_by, record_in, keeps, is_kept, IsPlain, ArePlayed}
 

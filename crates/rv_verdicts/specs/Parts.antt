@@ -1,5 +1,5 @@
 -- Parts of an input: other inputs with the same deliveries to some instances, whose lines, orders and instances may have other numbers there.
-use Rattle.std.specs.Prelude.{◌≡◌, ◌≢◌, ℕ, ◌<◌, Bool, List, map, filter, flat_map, slice_range, AllPairs}
+use Rattle.std.specs.Prelude.{◌≡◌, ◌≢◌, ℕ, ◌<◌, ◌≤◌, Bool, List, map, filter, flat_map, slice_range, AllPairs}
 use Rattle.rv_model.specs.declared.entry.Entry.{Entry}
 use Rattle.rv_model.specs.declared.record.Record.{Record}
 use Rattle.rv_model.specs.declared.work.Delivery.{Delivery}
@@ -34,9 +34,9 @@ pub record Numbering : Type 0 where
   pub order : ℕ → ℕ
   pub instance_of : ℕ → ℕ → ℕ
 
--- lines and orders keep their order, and different instances of a monitor stay different
+-- lines keep their order, different orders theirs, and different instances of a monitor stay different
 pub record KeepsApart (n : Numbering) (shape : List ℕ) : Type 0 where
-  pub lines : (a b : ℕ) → a < b → n.line a < n.line b
+  pub lines : (a b : ℕ) → a ≤ b → n.line a ≤ n.line b
   pub orders : (a b : ℕ) → a < b → n.order a < n.order b
   pub instances : (monitor a b : ℕ) → HasInstance shape monitor a → HasInstance shape monitor b → n.instance_of monitor a ≡ n.instance_of monitor b → a ≡ b
 
