@@ -10,6 +10,7 @@ pub mod JoinLemmas
 pub mod JoinedReportLemmas
 pub mod KnownLemmas
 pub mod LikeLemmas
+pub mod LineJoinLemmas
 pub mod LineLemmas
 pub mod ListLemmas
 pub mod Made
@@ -17,6 +18,7 @@ pub mod MadeAtLemmas
 pub mod MadeLemmas
 pub mod MergeLemmas
 pub mod NumberingLemmas
+pub mod OrderLemmas
 pub mod OutcomeLemmas
 pub mod OwnerLemmas
 pub mod PartLemmas

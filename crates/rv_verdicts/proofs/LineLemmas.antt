@@ -15,7 +15,8 @@ use Rattle.rv_model.specs.Works.{Work}
 use Rattle.rv_model.proofs.AgreeLemmas.{plays-looks, plays-begun, looks_in, looks_in-append}
 use Rattle.rv_model.proofs.SeatLemmas.{looks_of-reverse, played-looks, played-cut, IsWorkOf, find-work, line-index}
 use Rattle.rv_verdicts.proofs.Made.{looked}
-use Rattle.rv_verdicts.proofs.MergeLemmas.{In, Below, Descends, TellsSeats}
+use Rattle.rv_verdicts.proofs.MergeLemmas.{Below, Descends, TellsSeats}
+use Rattle.rv_verdicts.proofs.OrderLemmas.{In}
 use Rattle.rv_verdicts.proofs.OwnerLemmas.{by-cpu, plays}
 use Rattle.rv_verdicts.proofs.PastLemmas.{Each, each-of}
 use Rattle.rv_verdicts.proofs.SeatStepLemmas.{line_of, looked-is}

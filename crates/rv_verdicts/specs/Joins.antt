@@ -1,5 +1,5 @@
 -- Parts together: the whole has the records of all of them, and its report is theirs joined.
-use Rattle.std.specs.Prelude.{◌≡◌, ◌≢◌, ℕ, ◌+◌, Bool, true, ◌&&◌, List, [], ◌∷◌, ◌++◌, map, filter, flat_map, count_by, Some, slice_get, All, AllPairs}
+use Rattle.std.specs.Prelude.{◌≡◌, ◌≢◌, ◌↔◌, ℕ, ◌+◌, ◌<◌, ◌≤◌, Bool, true, ◌&&◌, List, [], ◌∷◌, ◌++◌, map, filter, flat_map, count_by, Some, slice_get, All, AllPairs, Contains}
 use Rattle.std.specs.List.{sum_by}
 use Rattle.rv_model.specs.declared.entry.Entry.{Entry}
 use Rattle.rv_model.specs.declared.record.Record.{Record}
@@ -10,8 +10,9 @@ use Rattle.rv_model.specs.Histories.{Input, IsOneHistory}
 use Rattle.rv_model.specs.Judging.{Judge}
 use Rattle.rv_model.specs.Records.{records_of, sort_records, is_failure, is_stopped, status_of}
 use Rattle.rv_model.specs.Reports.{Reported, record_text, task_at, instances_in, is_of, instance_count, count_text, report_text}
+use Rattle.rv_model.specs.Works.{Work}
 use Rattle.rv_verdicts.specs.Lone.{HasInstance}
-use Rattle.rv_verdicts.specs.Parts.{Numbering, placed_in, placed_by, record_in, keeps, is_kept, IsPlain, ArePlayed}
+use Rattle.rv_verdicts.specs.Parts.{Numbering, Placed, placed_in, placed_by, record_in, keeps, is_kept, IsPlain, ArePlayed}
 
 -- ---- records
 
@@ -57,6 +58,26 @@ KeepsAll p = All (λ q. keeps p.keep (placed_by p.numbers q) ≡ true) (placed_i
 -- a law: then it keeps all its records
 abbrev pub AllAreKept : Type 0
 AllAreKept = (p : PlayedPart) → IsPlain p.input → IsOneHistory p.input p.judges p.history → KeepsAll p → kept_records p ≡ own_records p
+
+-- ---- by lines
+
+-- a delivery of a later line has a higher order
+abbrev pub OrdersFollowLines : List Work → Type 0
+OrdersFollowLines works = (p q : Placed) → Contains (placed_in works) p → Contains (placed_in works) q → p.line < q.line → p.delivery.order < q.delivery.order
+
+-- of the deliveries of one line the same parts keep each
+abbrev pub LinesOfOnePart : List PlayedPart → List Work → Type 0
+LinesOfOnePart parts works = (p q : Placed) → Contains (placed_in works) p → Contains (placed_in works) q → p.line ≡ q.line → All (λ part. keeps part.keep p ≡ keeps part.keep q) parts
+
+-- the lines never descend, and what each part keeps of the records are its own, in their order
+pub record IsMergedByLine (parts : List PlayedPart) (rs : List Record) : Type 0 where
+  pub lines : AllPairs (λ r t. r.line ≤ t.line) rs
+  pub each : All (λ p. filter (is_kept p.keep) rs ≡ records_by p) parts
+
+-- a law: where each line is one part's, the records of the parts are merged by line in one way, which gives the whole's
+abbrev pub MergedByLineIsWhole : Type 0
+MergedByLineIsWhole = (whole : Input) (js : List Judge) (h : List Entry) (parts : List PlayedPart) → ArePartsOf whole js h parts → OrdersFollowLines whole.works → LinesOfOnePart parts whole.works
+    → (rs : List Record) → IsMergedByLine parts rs ↔ (rs ≡ records_of whole js h)
 
 -- ---- reports
 

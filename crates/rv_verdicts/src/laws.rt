@@ -2,7 +2,7 @@
 ghost use Rattle.rv_verdicts.specs.Lone.{LoneHasNoStop, AllLoneHaveNoStop, AllLoneGiveNoSix, CpuSlotsAreLone, AllByCpuAreLone};
 ghost use Rattle.rv_verdicts.specs.Exits.{StatusIsSeen};
 ghost use Rattle.rv_verdicts.specs.Parts.{PartHasItsRecords};
-ghost use Rattle.rv_verdicts.specs.Joins.{PartsHaveAllRecords, AllAreKept, PartSaysItsOwn, ReportIsJoined, StatusIsJoined};
+ghost use Rattle.rv_verdicts.specs.Joins.{PartsHaveAllRecords, AllAreKept, MergedByLineIsWhole, PartSaysItsOwn, ReportIsJoined, StatusIsJoined};
 ghost use Rattle.rv_verdicts.specs.Shown.{ShownIsEnough};
 ghost use Rattle.rv_verdicts.specs.Verdicts.{LoneRecordsAgree, AllRecordsAgree, LoneRecordsAreOne, AllRecordsAreOne};
 
@@ -47,6 +47,7 @@ pub fn parts_have_the_whole()
     ensures part { PartHasItsRecords }
     ensures all { PartsHaveAllRecords }
     ensures kept { AllAreKept }
+    ensures by_line { MergedByLineIsWhole }
 {}
 
 /// So the whole's report and its status are made of what its parts say and count.
