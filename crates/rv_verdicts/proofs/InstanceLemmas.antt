@@ -71,7 +71,7 @@ all_are_kept p plain one all =
     (records-every kept p.input p.judges p.history plain one (every-from-all (λ q. kept q.delivery.monitor q.delivery.instance) (placed_in p.input.works) all))
 
 -- a monitor that has an instance is there
-monitor-below : (shape : List ℕ) (monitor a : ℕ) → a < slice_index shape monitor → monitor < length shape
+pub monitor-below : (shape : List ℕ) (monitor a : ℕ) → a < slice_index shape monitor → monitor < length shape
 monitor-below [] monitor a lt = absurd (let none : a < 0 = lt in omega arith)
 monitor-below (count ∷ shape) zero a lt = omega arith
 monitor-below (count ∷ shape) (suc monitor) a lt = let rest = monitor-below shape monitor a lt in omega arith

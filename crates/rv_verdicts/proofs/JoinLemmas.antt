@@ -12,7 +12,8 @@ use Rattle.rv_model.specs.Records.{sort_records, records_of}
 use Rattle.rv_verdicts.specs.Joins.{PlayedPart, own_records, records_by, PartsHaveAllRecords}
 use Rattle.rv_verdicts.specs.Parts.{Placed, placed_in, record_in, is_kept, IsPlain, ArePlayed}
 use Rattle.rv_verdicts.proofs.AllMadeLemmas.{all-made}
-use Rattle.rv_verdicts.proofs.ListLemmas.{Every, filter-map}
+use Rattle.rv_verdicts.proofs.InstanceLemmas.{HasRecord, records-have}
+use Rattle.rv_verdicts.proofs.ListLemmas.{Every, every-weaker, filter-map}
 use Rattle.rv_verdicts.proofs.Made.{Made, made_record, shown}
 use Rattle.rv_verdicts.proofs.PartLemmas.{place_of}
 use Rattle.rv_verdicts.proofs.PartRecordLemmas.{halted-records, part_has_its_records}
@@ -73,20 +74,11 @@ module _ (whole : Input) (js : List Judge) (h : List Entry) where
       ap (λ (z : List Record). z ++ flat_map records_by parts) (by-part p (All-head IsPlayed p parts all))
       ∙ ap (λ (z : List Record). filter (is_kept p.keep) (records_of whole js h) ++ z) (records-picked parts (All-tail IsPlayed p parts all))
 
-  -- a part of the whole
-  pub some-part : (parts : List PlayedPart) → count_by (λ p. p.keep 0 0) parts ≡ 1 → All IsPlayed parts → (p : PlayedPart) × IsPlayed p
-  some-part [] one all = absurd (let no : 0 ≡ 1 = one in omega arith)
-  some-part (p ∷ parts) one all = (p, All-head IsPlayed p parts all)
-
--- each record has the fact
-each-record : (P : Record → Type 0) → ((r : Record) → P r) → (rs : List Record) → Every P rs
-each-record P all [] = tt
-each-record P all (r ∷ rs) = (all r, each-record P all rs)
-
 -- the law
 pub parts_have_all_records : PartsHaveAllRecords
 parts_have_all_records whole js h parts a =
-    let p = some-part whole js h parts (a.once 0 0) a.each in
-    let up : Rises (records_of whole js h) = rises-records whole js h p.1.plain p.1.history a.orders in
-    sym (ap sort_records (records-picked whole js h parts a.each)
-    ∙ picks-all keeps_record parts (records_of whole js h) up (each-record (λ r. count_by (λ p. keeps_record p r) parts ≡ 1) (λ r. a.once r.monitor r.instance) (records_of whole js h)))
+    let all : List Record = records_of whole js h in
+    let up : Rises all = rises-records whole js h a.plain a.history a.orders in
+    let once : Every (λ r. count_by (λ p. keeps_record p r) parts ≡ 1) all =
+    every-weaker (HasRecord whole.setup.shape) (λ r. count_by (λ p. keeps_record p r) parts ≡ 1) (λ r has. a.once r.monitor r.instance has) all (records-have whole js h a.plain a.history) in
+    sym (ap sort_records (records-picked whole js h parts a.each) ∙ picks-all keeps_record parts all up once)

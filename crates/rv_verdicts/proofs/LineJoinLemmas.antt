@@ -1,7 +1,7 @@
 -- Records that are merged by line from parts are the whole's.
 use Rattle.std.proofs.Common.{◌≡◌, ◌↔◌, ℕ, zero, suc, ◌+◌, ◌<◌, ◌≤◌, Bool, true, false, List, [], ◌∷◌, map, arith, refl, sym, ap, ◌∙◌, subst}
-use Rattle.std.specs.Prelude.{filter, count_by, All, AllPairs, Contains, if◌then◌else◌}
-use Rattle.std.proofs.lemmas.List.Elements.{All-contains, All-contains_itself, All-cons, All-weaker}
+use Rattle.std.specs.Prelude.{filter, count_by, All, AllPairs, Any, Contains, if◌then◌else◌}
+use Rattle.std.proofs.lemmas.List.Elements.{All-contains, All-contains_itself, All-cons, All-head, All-tail, All-weaker}
 use Rattle.std.proofs.lemmas.List.Kept.{AllPairs-cons}
 use Rattle.rv_model.specs.declared.entry.Entry.{Entry}
 use Rattle.rv_model.specs.declared.record.Record.{Record}
@@ -11,9 +11,11 @@ use Rattle.rv_model.specs.Numbers.{has_bit}
 use Rattle.rv_model.specs.Records.{sort_records, records_of}
 use Rattle.rv_model.specs.Works.{Work}
 use Rattle.rv_verdicts.specs.Joins.{PlayedPart, records_by, ArePartsOf, OrdersFollowLines, LinesOfOnePart, IsMergedByLine, MergedByLineIsWhole}
+use Rattle.rv_verdicts.specs.Lone.{HasInstance}
 use Rattle.rv_verdicts.specs.Parts.{Placed, placed_in, keeps, is_kept, IsPlain}
 use Rattle.rv_verdicts.proofs.AllMadeLemmas.{all-made}
-use Rattle.rv_verdicts.proofs.JoinLemmas.{rises-records, keeps_record, IsPlayed, by-part, some-part}
+use Rattle.rv_verdicts.proofs.InstanceLemmas.{HasRecord, records-have}
+use Rattle.rv_verdicts.proofs.JoinLemmas.{rises-records, keeps_record, IsPlayed, by-part}
 use Rattle.rv_verdicts.proofs.ListLemmas.{Every, every-filter}
 use Rattle.rv_verdicts.proofs.Made.{Made, made_record, shown}
 use Rattle.rv_verdicts.proofs.OrderLemmas.{In, every-in, InOrder, TellsTests, PassesOne, same-list}
@@ -124,10 +126,23 @@ keeper r (p ∷ parts) one = go (keeps_record p r) refl (keeper r parts)
         let has = found.0.1 in
         ((found.0.0, (suc (has.0), (let l = has.1 in omega arith), has.2)), found.1)
 
--- every record is kept by one
-keepers : (parts : List PlayedPart) → ((monitor instance : ℕ) → count_by (λ p. p.keep monitor instance) parts ≡ 1) → (rs : List Record) → Every (PassesOne Before (keeps_at parts)) rs
-keepers parts once [] = tt
-keepers parts once (r ∷ rs) = (keeper r parts (once r.monitor r.instance), keepers parts once rs)
+-- every record is kept by one, where all are kept once
+keepers : (shape : List ℕ) (parts : List PlayedPart) → ((monitor instance : ℕ) → HasInstance shape monitor instance → count_by (λ p. p.keep monitor instance) parts ≡ 1)
+    → (rs : List Record) → Every (HasRecord shape) rs → Every (PassesOne Before (keeps_at parts)) rs
+keepers shape parts once [] all = tt
+keepers shape parts once (r ∷ rs) all = (keeper r parts (once r.monitor r.instance all.0), keepers shape parts once rs all.1)
+
+-- or by some
+some-keep : (parts : List PlayedPart) (rs : List Record) → All (λ r. Any (λ p. is_kept p.keep r ≡ true) parts) rs → Every (PassesOne Before (keeps_at parts)) rs
+some-keep parts [] all = tt
+some-keep parts (r ∷ rs) all =
+    let one = All-head (λ t. Any (λ p. is_kept p.keep t ≡ true) parts) r rs all in
+    (((one.1, (one.0, one.2, one.3)), one.4), some-keep parts rs (All-tail (λ t. Any (λ p. is_kept p.keep t ≡ true) parts) r rs all))
+
+-- and back
+keep-some : (parts : List PlayedPart) (rs : List Record) → Every (PassesOne Before (keeps_at parts)) rs → Every (λ r. Any (λ p. is_kept p.keep r ≡ true) parts) rs
+keep-some parts [] all = tt
+keep-some parts (r ∷ rs) all = let i = all.0.0 in ((i.1.0, i.0, i.1.1, i.1.2, all.0.1), keep-some parts rs all.1)
 
 module _ (whole : Input) (js : List Judge) (h : List Entry) (parts : List PlayedPart) (a : ArePartsOf whole js h parts) (follow : OrdersFollowLines whole.works) (lines : LinesOfOnePart parts whole.works) where
   -- the whole's records
@@ -136,11 +151,15 @@ module _ (whole : Input) (js : List Judge) (h : List Entry) (parts : List Played
 
   -- each comes from a delivery
   from : Every (ComesFrom (placed_in whole.works)) all
-  from = let p = some-part whole js h parts (a.once 0 0) a.each in records-from whole js h p.1.plain p.1.history
+  from = records-from whole js h a.plain a.history
 
   -- their lines never descend
   in-order : InOrder Before (keeps_at parts) all
-  in-order = let p = some-part whole js h parts (a.once 0 0) a.each in lines-rise parts whole.works follow all from (rises-records whole js h p.1.plain p.1.history a.orders)
+  in-order = lines-rise parts whole.works follow all from (rises-records whole js h a.plain a.history a.orders)
+
+  -- each is kept by a part
+  kept-once : Every (PassesOne Before (keeps_at parts)) all
+  kept-once = keepers whole.setup.shape parts a.once all (records-have whole js h a.plain a.history)
 
   -- one line, one part
   tells : TellsTests Before (keeps_at parts) all
@@ -156,12 +175,12 @@ module _ (whole : Input) (js : List Judge) (h : List Entry) (parts : List Played
   -- what is merged by line is the whole's
   merged-is : (rs : List Record) → IsMergedByLine parts rs → rs ≡ all
   merged-is rs m =
-      sym (same-list Before (keeps_at parts) all rs in-order (order-of parts rs m.lines) tells (keepers parts a.once all) (keepers parts a.once rs)
+      sym (same-list Before (keeps_at parts) all rs in-order (order-of parts rs m.lines) tells kept-once (some-keep parts rs m.some)
       (λ i. sym (by-part whole js h i.0 (All-contains (IsPlayed whole js h) parts i.0 a.each i.1)) ∙ sym (All-contains (λ p. filter (is_kept p.keep) rs ≡ records_by p) parts i.0 m.each i.1)))
 
   -- the whole's are so merged
   is-merged : IsMergedByLine parts all
-  is-merged = record { lines = pairs-of parts all in-order; each = All-weaker (IsPlayed whole js h) (λ p. filter (is_kept p.keep) all ≡ records_by p) (λ p one. sym (by-part whole js h p one)) parts a.each }
+  is-merged = record { lines = pairs-of parts all in-order; each = All-weaker (IsPlayed whole js h) (λ p. filter (is_kept p.keep) all ≡ records_by p) (λ p one. sym (by-part whole js h p one)) parts a.each; some = all-from-every (λ r. Any (λ p. is_kept p.keep r ≡ true) parts) all (keep-some parts all kept-once) }
 
 -- the law
 pub merged_by_line_is_whole : MergedByLineIsWhole

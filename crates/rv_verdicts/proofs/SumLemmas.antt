@@ -14,7 +14,7 @@ use Rattle.rv_model.specs.Reports.{is_at}
 use Rattle.rv_verdicts.specs.Joins.{PlayedPart, own_records, kept_records, records_by, joined_records, ArePartsOf}
 use Rattle.rv_verdicts.specs.Parts.{is_kept, record_in}
 use Rattle.rv_verdicts.proofs.CountLemmas.{many, many-none, many-or, many-same}
-use Rattle.rv_verdicts.proofs.InstanceLemmas.{HasRecord, records-have, IsRecordOf, part-many, part-kept}
+use Rattle.rv_verdicts.proofs.InstanceLemmas.{monitor-below, HasRecord, records-have, IsRecordOf, part-many, part-kept}
 use Rattle.rv_verdicts.proofs.JoinLemmas.{IsPlayed, by-part, parts_have_all_records}
 use Rattle.rv_verdicts.proofs.ListLemmas.{Every, every-filter, every-kept}
 use Rattle.rv_verdicts.proofs.OutcomeLemmas.{any-sort}
@@ -90,7 +90,7 @@ module _ (whole : Input) (js : List Judge) (h : List Entry) where
         go false gone false off keeps more rest = let zero_is : ◌≡◌ {A = ℕ} (if p.keep monitor a then 1 else 0) 0 = rw gone refl in rw off (rest (omega arith))
 
     -- the instances of parts that are kept once
-    many-parts : (parts : List PlayedPart) → All (IsPlayed whole js h) parts → ((a : ℕ) → count_by (λ p. p.keep monitor a) parts ≤ 1)
+    many-parts : (parts : List PlayedPart) → All (IsPlayed whole js h) parts → ((a : ℕ) → a < slice_index whole.setup.shape monitor → count_by (λ p. p.keep monitor a) parts ≤ 1)
         → many (has_at (flat_map records_by parts)) (slice_index whole.setup.shape monitor) ≡ sum_by (λ p. many (has_at (kept_records p)) (slice_index p.input.setup.shape monitor)) parts
     many-parts [] all once = many-none (has_at []) (slice_index whole.setup.shape monitor) (λ a lt. refl)
     many-parts (p ∷ parts) all once =
@@ -98,11 +98,11 @@ module _ (whole : Input) (js : List Judge) (h : List Entry) where
         let here = All-head (IsPlayed whole js h) p parts all in
         let later = All-tail (IsPlayed whole js h) p parts all in
         let more : (a : ℕ) → count_by (λ q. q.keep monitor a) (p ∷ parts) ≡ (if p.keep monitor a then 1 else 0) + count_by (λ q. q.keep monitor a) parts = λ a. count-cons (λ q. q.keep monitor a) p parts in
-        let fewer : (a : ℕ) → count_by (λ q. q.keep monitor a) parts ≤ 1 = λ a. (let e = more a in let o = once a in omega arith) in
+        let fewer : (a : ℕ) → a < n → count_by (λ q. q.keep monitor a) parts ≤ 1 = λ a lt. (let e = more a in let o = once a lt in omega arith) in
         let apart : (a : ℕ) → a < n → has_at (records_by p) a ≡ true → has_at (flat_map records_by parts) a ≡ false = λ a lt some.
         let kept = part-kept p.numbers p.keep whole.setup.shape p.input.setup.shape monitor a (kept_records p) (known-records p here) some in
         let one : ◌≡◌ {A = ℕ} (if p.keep monitor a then 1 else 0) 1 = rw kept refl in
-        none-rest a parts later (let e = more a in let o = once a in omega arith) in
+        none-rest a parts later (let e = more a in let o = once a lt in omega arith) in
         many-same (has_at (flat_map records_by (p ∷ parts))) (λ a. has_at (records_by p) a || has_at (flat_map records_by parts) a) n (λ a lt. list_any-append (is_at monitor a) (records_by p) (flat_map records_by parts))
         ∙ many-or (has_at (records_by p)) (has_at (flat_map records_by parts)) n apart
         ∙ ap (λ (m : ℕ). m + many (has_at (flat_map records_by parts)) n) (part-many p.numbers p.keep whole.setup.shape p.input.setup.shape monitor here.numbers (kept_records p) (known-records p here))
@@ -115,4 +115,4 @@ module _ (whole : Input) (js : List Judge) (h : List Entry) where
     many-joined parts a =
         ap (λ (rs : List Record). many (has_at rs) (slice_index whole.setup.shape monitor)) (parts_have_all_records whole js h parts a)
         ∙ many-same (has_at (joined_records parts)) (has_at (flat_map records_by parts)) (slice_index whole.setup.shape monitor) (λ i lt. any-sort (is_at monitor i) (flat_map records_by parts))
-        ∙ many-parts parts a.each (λ i. (let e = a.once monitor i in omega arith))
+        ∙ many-parts parts a.each (λ i lt. (let e = a.once monitor i (record { monitor_below = monitor-below whole.setup.shape monitor i lt; instance_below = lt }) in omega arith))

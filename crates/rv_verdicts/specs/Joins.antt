@@ -1,5 +1,5 @@
 -- Parts together: the whole has the records of all of them, and its report is theirs joined.
-use Rattle.std.specs.Prelude.{◌≡◌, ◌≢◌, ◌↔◌, ℕ, ◌+◌, ◌<◌, ◌≤◌, Bool, true, ◌&&◌, List, [], ◌∷◌, ◌++◌, map, filter, flat_map, count_by, Some, slice_get, All, AllPairs, Contains}
+use Rattle.std.specs.Prelude.{◌≡◌, ◌≢◌, ◌↔◌, ℕ, ◌+◌, ◌<◌, ◌≤◌, Bool, true, ◌&&◌, List, [], ◌∷◌, ◌++◌, map, filter, flat_map, count_by, Some, slice_get, All, AllPairs, Any, Contains}
 use Rattle.std.specs.List.{sum_by}
 use Rattle.rv_model.specs.declared.entry.Entry.{Entry}
 use Rattle.rv_model.specs.declared.record.Record.{Record}
@@ -41,10 +41,12 @@ records_by p = map (record_in p.numbers) (kept_records p)
 abbrev pub joined_records : List PlayedPart → List Record
 joined_records parts = sort_records (flat_map records_by parts)
 
--- each is a part with its history, each instance is kept by one part and no other, and no two deliveries have one order
+-- each is a part with its history, each instance that the whole has is kept by one part and no other, and no two deliveries have one order
 pub record ArePartsOf (whole : Input) (js : List Judge) (h : List Entry) (parts : List PlayedPart) : Type 0 where
+  pub plain : IsPlain whole
+  pub history : IsOneHistory whole js h
   pub each : All (λ p. ArePlayed p.numbers p.keep whole p.input js p.judges h p.history) parts
-  pub once : (monitor instance : ℕ) → count_by (λ p. p.keep monitor instance) parts ≡ 1
+  pub once : (monitor instance : ℕ) → HasInstance whole.setup.shape monitor instance → count_by (λ p. p.keep monitor instance) parts ≡ 1
   pub orders : AllPairs (λ p q. p.delivery.order ≢ q.delivery.order) (placed_in whole.works)
 
 -- a law: the whole has the records of its parts, and no other
@@ -69,10 +71,11 @@ OrdersFollowLines works = (p q : Placed) → Contains (placed_in works) p → Co
 abbrev pub LinesOfOnePart : List PlayedPart → List Work → Type 0
 LinesOfOnePart parts works = (p q : Placed) → Contains (placed_in works) p → Contains (placed_in works) q → p.line ≡ q.line → All (λ part. keeps part.keep p ≡ keeps part.keep q) parts
 
--- the lines never descend, and what each part keeps of the records are its own, in their order
+-- the lines never descend, what each part keeps of the records are its own, in their order, and each record is kept by some part
 pub record IsMergedByLine (parts : List PlayedPart) (rs : List Record) : Type 0 where
   pub lines : AllPairs (λ r t. r.line ≤ t.line) rs
   pub each : All (λ p. filter (is_kept p.keep) rs ≡ records_by p) parts
+  pub some : All (λ r. Any (λ p. is_kept p.keep r ≡ true) parts) rs
 
 -- a law: where each line is one part's, the records of the parts are merged by line in one way, which gives the whole's
 abbrev pub MergedByLineIsWhole : Type 0
