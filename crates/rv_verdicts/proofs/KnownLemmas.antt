@@ -41,7 +41,7 @@ HasPlace shape p = HasInstance shape p.delivery.monitor p.delivery.instance
 -- what holds of all deliveries holds of those of turns
 module _ (P : Delivery → Type 0) (cpu : ℕ) where
   -- the fact of a placed delivery
-  abbrev OfDelivery : Placed → Type 0
+  abbrev pub OfDelivery : Placed → Type 0
   OfDelivery p = P p.delivery
 
   -- of a line's
@@ -50,7 +50,7 @@ module _ (P : Delivery → Type 0) (cpu : ℕ) where
   every-line line (d ∷ ds) all = (All-head P d ds all, every-line line ds (All-tail P d ds all))
 
   -- of each turn's
-  every-turn : (ds : List Delivery) (turns : List Turn) → All P ds → Every OfDelivery (placed_from cpu ds turns)
+  pub every-turn : (ds : List Delivery) (turns : List Turn) → All P ds → Every OfDelivery (placed_from cpu ds turns)
   every-turn ds [] all = tt
   every-turn ds (t ∷ turns) all =
       every-append OfDelivery (map (λ d. record { cpu = cpu; line = t.line; delivery = d }) (slice_range ds t.from t.to)) (placed_from cpu ds turns)

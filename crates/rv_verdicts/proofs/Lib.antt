@@ -3,6 +3,7 @@ pub mod AnswerLemmas
 pub mod ControlLemmas
 pub mod CountLemmas
 pub mod CpuLemmas
+pub mod CpuPartLemmas
 pub mod ExitLemmas
 pub mod FilterLemmas
 pub mod InstanceLemmas

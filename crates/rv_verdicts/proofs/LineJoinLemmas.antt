@@ -1,5 +1,5 @@
 -- Records that are merged by line from parts are the whole's.
-use Rattle.std.proofs.Common.{◌≡◌, ◌↔◌, ℕ, zero, suc, ◌+◌, ◌<◌, ◌≤◌, Bool, true, false, List, [], ◌∷◌, map, arith, refl, sym, ap, ◌∙◌, subst}
+use Rattle.std.proofs.Common.{◌≡◌, ℕ, suc, ◌+◌, ◌<◌, ◌≤◌, Bool, true, false, List, [], ◌∷◌, map, arith, refl, sym, ap, ◌∙◌, subst}
 use Rattle.std.specs.Prelude.{filter, count_by, All, AllPairs, Any, Contains, if◌then◌else◌}
 use Rattle.std.proofs.lemmas.List.Elements.{All-contains, All-contains_itself, All-cons, All-head, All-tail, All-weaker}
 use Rattle.std.proofs.lemmas.List.Kept.{AllPairs-cons}
@@ -18,7 +18,7 @@ use Rattle.rv_verdicts.proofs.InstanceLemmas.{HasRecord, records-have}
 use Rattle.rv_verdicts.proofs.JoinLemmas.{rises-records, keeps_record, IsPlayed, by-part}
 use Rattle.rv_verdicts.proofs.ListLemmas.{Every, every-filter}
 use Rattle.rv_verdicts.proofs.Made.{Made, made_record, shown}
-use Rattle.rv_verdicts.proofs.OrderLemmas.{In, every-in, InOrder, TellsTests, PassesOne, same-list}
+use Rattle.rv_verdicts.proofs.OrderLemmas.{every-in, InOrder, TellsTests, PassesOne, same-list}
 use Rattle.rv_verdicts.proofs.PartLemmas.{place_of}
 use Rattle.rv_verdicts.proofs.PartRecordLemmas.{halted-records}
 use Rattle.rv_verdicts.proofs.RiseLemmas.{every-from-all, every-sort, count-cons, Rises}

@@ -1,5 +1,5 @@
 -- Steps whose lines never ascend, and of which a line tells the seat, are told by the steps of each seat.
-use Rattle.std.proofs.Common.{◌≡◌, ℕ, ◌≤◌, Bool, true, ◌==◌, List, [], ◌∷◌, arith, refl, subst}
+use Rattle.std.proofs.Common.{◌≡◌, ℕ, ◌≤◌, Bool, true, ◌==◌, List, [], ◌∷◌, arith, subst}
 use Rattle.std.specs.Prelude.{filter}
 use Rattle.rv_verdicts.proofs.ListLemmas.{Every}
 use Rattle.rv_verdicts.proofs.OrderLemmas.{In, InOrder, PassesOne, same-list}

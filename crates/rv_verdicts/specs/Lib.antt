@@ -1,3 +1,4 @@
+pub mod CpuParts
 pub mod Exits
 pub mod Joins
 pub mod Lone

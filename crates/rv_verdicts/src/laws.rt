@@ -1,6 +1,7 @@
 //! Laws of the definitions, each the contract of a call that does nothing.
 ghost use Rattle.rv_verdicts.specs.Lone.{LoneHasNoStop, AllLoneHaveNoStop, AllLoneGiveNoSix, CpuSlotsAreLone, AllByCpuAreLone};
 ghost use Rattle.rv_verdicts.specs.Exits.{StatusIsSeen};
+ghost use Rattle.rv_verdicts.specs.CpuParts.{CpuWorkIsPart};
 ghost use Rattle.rv_verdicts.specs.Parts.{PartHasItsRecords};
 ghost use Rattle.rv_verdicts.specs.Joins.{PartsHaveAllRecords, AllAreKept, MergedByLineIsWhole, PartSaysItsOwn, ReportIsJoined, StatusIsJoined};
 ghost use Rattle.rv_verdicts.specs.Shown.{ShownIsEnough};
@@ -39,6 +40,11 @@ pub fn shown_deliveries_are_enough()
 /// The status can be seen in the history, without the works and their records.
 pub fn status_is_seen()
     ensures { StatusIsSeen }
+{}
+
+/// Where all monitors are by CPU, the work of each CPU is a part.
+pub fn cpu_works_are_parts()
+    ensures { CpuWorkIsPart }
 {}
 
 /// A part of an input has the whole's records of the instances that it keeps; so parts that keep each instance once have

@@ -4,6 +4,7 @@
 mod laws;
 
 pub use laws::{
-    cpu_slots_are_lone, lone_records_agree, lone_records_are_one, lone_slots_are_not_stopped,
-    parts_have_the_whole, parts_report_the_whole, shown_deliveries_are_enough, status_is_seen,
+    cpu_slots_are_lone, cpu_works_are_parts, lone_records_agree, lone_records_are_one,
+    lone_slots_are_not_stopped, parts_have_the_whole, parts_report_the_whole,
+    shown_deliveries_are_enough, status_is_seen,
 };
