@@ -9,21 +9,7 @@ use Rattle.rv_verdicts.specs.CpuParts.{is_of_cpu, CpuWorkIsPart}
 use Rattle.rv_verdicts.specs.Lone.{HasInstance, IsByCpu}
 use Rattle.rv_verdicts.specs.Parts.{Placed, placed_of, placed_in, keeps}
 use Rattle.rv_verdicts.proofs.KnownLemmas.{every-turn}
-use Rattle.rv_verdicts.proofs.ListLemmas.{Every, every-weaker, filter-none}
-
--- all pass
-filter-all : {X : Type 0} (test : X → Bool) (xs : List X) → Every (λ x. test x ≡ true) xs → filter test xs ≡ xs
-filter-all test [] all = refl
-filter-all {X = X} test (x ∷ xs) all = rw all.0 (ap (λ (z : List X). x ∷ z) (filter-all test xs all.1))
-
--- what is filtered stays so
-filter-twice : {X : Type 0} (test : X → Bool) (xs : List X) → filter test (filter test xs) ≡ filter test xs
-filter-twice test [] = refl
-filter-twice {X = X} test (x ∷ xs) = go (test x) refl (filter-twice test xs)
-  where
-    go : (b : Bool) → test x ≡ b → filter test (filter test xs) ≡ filter test xs → filter test (filter test (x ∷ xs)) ≡ filter test (x ∷ xs)
-    go true kept rest = rw (kept, kept) (ap (λ (z : List X). x ∷ z) rest)
-    go false gone rest = rw gone rest
+use Rattle.rv_verdicts.proofs.ListLemmas.{Every, every-weaker, filter-all, filter-none, filter-twice}
 
 -- one of some is one of all
 contains-filter : (test : Work → Bool) (works : List Work) (w : Work) → Contains (filter test works) w → Contains works w

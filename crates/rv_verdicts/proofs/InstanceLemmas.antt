@@ -1,6 +1,6 @@
 -- How many instances of a monitor have a record: in the whole as many as in all its parts.
 use Rattle.std.proofs.Common.{◌≡◌, ℕ, zero, suc, ◌<◌, Bool, true, false, ◌==◌, ◌&&◌, ◌||◌, not, List, [], ◌∷◌, map, length, arith, refl, sym, ap, ◌∙◌, subst}
-use Rattle.std.specs.Prelude.{filter, slice_index}
+use Rattle.std.specs.Prelude.{slice_index}
 use Rattle.std.specs.List.{list_any}
 use Rattle.rv_model.specs.declared.entry.Entry.{Entry}
 use Rattle.rv_model.specs.declared.record.Record.{Record}
@@ -15,7 +15,7 @@ use Rattle.rv_verdicts.specs.Parts.{Placed, placed_in, Numbering, KeepsApart, is
 use Rattle.rv_verdicts.proofs.AllMadeLemmas.{all-made}
 use Rattle.rv_verdicts.proofs.CountLemmas.{many, many-moved}
 use Rattle.rv_verdicts.proofs.KnownLemmas.{places-have}
-use Rattle.rv_verdicts.proofs.ListLemmas.{Every, every-filter}
+use Rattle.rv_verdicts.proofs.ListLemmas.{Every, every-filter, filter-all}
 use Rattle.rv_verdicts.proofs.Made.{Made, made_record, shown}
 use Rattle.rv_verdicts.proofs.PartLemmas.{place_of}
 use Rattle.rv_verdicts.proofs.PartRecordLemmas.{halted-records}
@@ -57,11 +57,6 @@ module _ (P : ℕ → ℕ → Type 0) where
 -- the setup has the instances of all records of a history
 pub records-have : (input : Input) (js : List Judge) (h : List Entry) → IsPlain input → IsOneHistory input js h → Every (HasRecord input.setup.shape) (records_of input js h)
 records-have input js h plain one = records-every (HasInstance input.setup.shape) input js h plain one (places-have input.setup.shape input.works plain.instances)
-
--- all pass
-filter-all : (test : Record → Bool) (rs : List Record) → Every (λ r. test r ≡ true) rs → filter test rs ≡ rs
-filter-all test [] all = refl
-filter-all test (r ∷ rs) all = rw all.0 (ap (λ (z : List Record). r ∷ z) (filter-all test rs all.1))
 
 -- where a part keeps all deliveries, it keeps all records
 pub all_are_kept : AllAreKept

@@ -81,6 +81,20 @@ module _ {X : Type 0} where
       go true is_q false not_p rest = rw (is_q, not_p) rest
       go false not_q c is rest = rw not_q rest
 
+  -- all pass
+  pub filter-all : (p : X → Bool) (xs : List X) → Every (λ x. p x ≡ true) xs → filter p xs ≡ xs
+  filter-all p [] h = refl
+  filter-all p (x ∷ xs) h = rw h.0 (ap (λ (z : List X). x ∷ z) (filter-all p xs h.1))
+
+  -- what was filtered stays so
+  pub filter-twice : (p : X → Bool) (xs : List X) → filter p (filter p xs) ≡ filter p xs
+  filter-twice p [] = refl
+  filter-twice p (x ∷ xs) = go (p x) refl (filter-twice p xs)
+    where
+      go : (b : Bool) → p x ≡ b → filter p (filter p xs) ≡ filter p xs → filter p (filter p (x ∷ xs)) ≡ filter p (x ∷ xs)
+      go true kept rest = rw (kept, kept) (ap (λ (z : List X). x ∷ z) rest)
+      go false gone rest = rw gone rest
+
   -- the order of two tests is no matter
   pub filter-swap : (p q : X → Bool) (xs : List X) → filter p (filter q xs) ≡ filter q (filter p xs)
   filter-swap p q [] = refl

@@ -42,11 +42,6 @@ pub fn status_is_seen()
     ensures { StatusIsSeen }
 {}
 
-/// Where all monitors are by CPU, the work of each CPU is a part.
-pub fn cpu_works_are_parts()
-    ensures { CpuWorkIsPart }
-{}
-
 /// A part of an input has the whole's records of the instances that it keeps; so parts that keep each instance once have
 /// all records together.
 pub fn parts_have_the_whole()
@@ -54,6 +49,11 @@ pub fn parts_have_the_whole()
     ensures all { PartsHaveAllRecords }
     ensures kept { AllAreKept }
     ensures by_line { MergedByLineIsWhole }
+{}
+
+/// Where all monitors are by CPU, the work of each CPU is a part.
+pub fn cpu_works_are_parts()
+    ensures { CpuWorkIsPart }
 {}
 
 /// So the whole's report and its status are made of what its parts say and count.
