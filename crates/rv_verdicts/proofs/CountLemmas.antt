@@ -52,7 +52,7 @@ many-or test other (suc n) apart =
     one-or false b off = omega arith
 
 -- all but one number
-abbrev but : (ℕ → Bool) → ℕ → ℕ → Bool
+abbrev pub but : (ℕ → Bool) → ℕ → ℕ → Bool
 but test out a = test a && not (a == out)
 
 -- a number that is not left out
@@ -64,7 +64,7 @@ but-other test out a other = let no : (a == out) ≡ false = grind arith in rw n
     go false = refl
 
 -- one passes, and the others
-many-but : (test : ℕ → Bool) (out n : ℕ) → out < n → test out ≡ true → many test n ≡ 1 + many (but test out) n
+pub many-but : (test : ℕ → Bool) (out n : ℕ) → out < n → test out ≡ true → many test n ≡ 1 + many (but test out) n
 many-but test out zero lt passes = absurd (omega arith)
 many-but test out (suc n) lt passes = elim (nat_lt_or out n (omega arith)) [
   | inl below ↦

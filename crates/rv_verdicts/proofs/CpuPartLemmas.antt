@@ -28,7 +28,7 @@ contains-filter test (v ∷ works) w has = go (test v) refl (contains-filter tes
     go false no' rest = let all : filter test (v ∷ works) ≡ filter test works = rw no' refl in later (rest (subst (λ (z : List Work). Contains z w) all has))
 
 -- a delivery of a work is to the instance of its CPU
-abbrev IsOwn : Work → Type 0
+abbrev pub IsOwn : Work → Type 0
 IsOwn w = Every (λ p. p.delivery.instance ≡ w.cpu) (placed_of w)
 
 module _ (works : List Work) (by : (monitor : ℕ) → IsByCpu works monitor) where
@@ -40,7 +40,7 @@ module _ (works : List Work) (by : (monitor : ℕ) → IsByCpu works monitor) wh
       all k d lt = All-contains (λ v. All (λ e. e.monitor ≡ (slice_index_or w.deliveries k d).monitor → e.instance ≡ v.cpu) v.deliveries) works w (by (slice_index_or w.deliveries k d).monitor) has k d lt refl
 
   -- some of the works
-  owns : (some : List Work) → ((w : Work) → Contains some w → Contains works w) → Every IsOwn some
+  pub owns : (some : List Work) → ((w : Work) → Contains some w → Contains works w) → Every IsOwn some
   owns [] each = tt
   owns (w ∷ some) each = (own-of w (each w (0, omega arith, refl)), owns some (λ v has. each v (suc (has.0), (let l = has.1 in omega arith), has.2)))
 
@@ -50,7 +50,7 @@ module _ (cpu : ℕ) where
   test w = w.cpu == cpu
 
   -- the deliveries to its instances are those of its work
-  kept-works : (works : List Work) → Every IsOwn works → filter (keeps (is_of_cpu cpu)) (placed_in works) ≡ placed_in (filter test works)
+  pub kept-works : (works : List Work) → Every IsOwn works → filter (keeps (is_of_cpu cpu)) (placed_in works) ≡ placed_in (filter test works)
   kept-works [] own = refl
   kept-works (w ∷ works) own = filter-append (keeps (is_of_cpu cpu)) (placed_of w) (placed_in works) ∙ go (test w) refl (kept-works works own.1)
     where

@@ -2,6 +2,7 @@ pub mod AllMadeLemmas
 pub mod AnswerLemmas
 pub mod ControlLemmas
 pub mod CountLemmas
+pub mod CpuJoinLemmas
 pub mod CpuLemmas
 pub mod CpuPartLemmas
 pub mod ExitLemmas

@@ -17,12 +17,12 @@ module _ {X : Type 0} (P : X → Type 0) where
   every-from-all (x ∷ xs) all = (All-head P x xs all, every-from-all xs (All-tail P x xs all))
 
   -- of the front of a list
-  every-front : (xs ys : List X) → Every P (xs ++ ys) → Every P xs
+  pub every-front : (xs ys : List X) → Every P (xs ++ ys) → Every P xs
   every-front [] ys all = tt
   every-front (x ∷ xs) ys all = (all.0, every-front xs ys all.1)
 
   -- of the back
-  every-back : (xs ys : List X) → Every P (xs ++ ys) → Every P ys
+  pub every-back : (xs ys : List X) → Every P (xs ++ ys) → Every P ys
   every-back [] ys all = all
   every-back (x ∷ xs) ys all = every-back xs ys all.1
 

@@ -1,7 +1,7 @@
 //! Laws of the definitions, each the contract of a call that does nothing.
 ghost use Rattle.rv_verdicts.specs.Lone.{LoneHasNoStop, AllLoneHaveNoStop, AllLoneGiveNoSix, CpuSlotsAreLone, AllByCpuAreLone};
 ghost use Rattle.rv_verdicts.specs.Exits.{StatusIsSeen};
-ghost use Rattle.rv_verdicts.specs.CpuParts.{CpuWorkIsPart};
+ghost use Rattle.rv_verdicts.specs.CpuParts.{CpuWorkIsPart, CpuWorksAreParts};
 ghost use Rattle.rv_verdicts.specs.Parts.{PartHasItsRecords};
 ghost use Rattle.rv_verdicts.specs.Joins.{PartsHaveAllRecords, AllAreKept, MergedByLineIsWhole, PartSaysItsOwn, ReportIsJoined, StatusIsJoined};
 ghost use Rattle.rv_verdicts.specs.Shown.{ShownIsEnough};
@@ -51,9 +51,10 @@ pub fn parts_have_the_whole()
     ensures by_line { MergedByLineIsWhole }
 {}
 
-/// Where all monitors are by CPU, the work of each CPU is a part.
+/// Where all monitors are by CPU, the work of each CPU is a part, and those of all CPUs are the whole's parts.
 pub fn cpu_works_are_parts()
-    ensures { CpuWorkIsPart }
+    ensures part { CpuWorkIsPart }
+    ensures all { CpuWorksAreParts }
 {}
 
 /// So the whole's report and its status are made of what its parts say and count.
