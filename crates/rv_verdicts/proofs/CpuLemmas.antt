@@ -12,11 +12,11 @@ use Rattle.rv_verdicts.specs.Lone.{is_named, HasInstance, HaveInstances, IsByCpu
 -- ---- slots
 
 -- the slots after a monitor's
-slot-later : (count : ℕ) (shape : List ℕ) (monitor instance : ℕ) → slot_of (count ∷ shape) (suc monitor) instance ≡ count + slot_of shape monitor instance
+pub slot-later : (count : ℕ) (shape : List ℕ) (monitor instance : ℕ) → slot_of (count ∷ shape) (suc monitor) instance ≡ count + slot_of shape monitor instance
 slot-later count shape monitor instance = let front = sum_by-cons (λ (n : ℕ). n) count (take monitor shape) in omega arith
 
 -- the slots of different instances differ
-slot-tells : (shape : List ℕ) (m i n k : ℕ) → HasInstance shape m i → HasInstance shape n k → slot_of shape m i ≡ slot_of shape n k → (m ≡ n) × (i ≡ k)
+pub slot-tells : (shape : List ℕ) (m i n k : ℕ) → HasInstance shape m i → HasInstance shape n k → slot_of shape m i ≡ slot_of shape n k → (m ≡ n) × (i ≡ k)
 slot-tells [] m i n k a b e = absurd (let none = a.monitor_below in omega arith)
 slot-tells (count ∷ shape) zero i zero k a b e = (refl, (let same : 0 + i ≡ 0 + k = e in omega arith))
 slot-tells (count ∷ shape) zero i (suc n) k a b e =

@@ -46,12 +46,12 @@ module _ (test : Record → Bool) where
 -- ---- nothing
 
 -- no entry makes no record
-none-in : (line look : ℕ) (ds : List Delivery) → records_in line look ds [] ≡ []
+pub none-in : (line look : ℕ) (ds : List Delivery) → records_in line look ds [] ≡ []
 none-in line look [] = refl
 none-in line look (d ∷ ds) = refl
 
 -- an empty script has no record
-none-left : (ds : List Delivery) (turns : List Turn) → script_records ds turns [] ≡ []
+pub none-left : (ds : List Delivery) (turns : List Turn) → script_records ds turns [] ≡ []
 none-left ds [] = refl
 none-left ds (t ∷ turns) = refl
 

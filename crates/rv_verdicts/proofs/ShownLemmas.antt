@@ -18,19 +18,9 @@ use Rattle.rv_model.proofs.CutLemmas.{at_each-weaker}
 use Rattle.rv_model.proofs.NumberLemmas.{number_of-bits}
 use Rattle.rv_verdicts.specs.Shown.{IsShownOf, ShownIsEnough}
 use Rattle.rv_verdicts.specs.Verdicts.{IsSteady}
+use Rattle.rv_verdicts.proofs.ListLemmas.{filter-twice}
 use Rattle.rv_verdicts.proofs.PastLemmas.{Each, each-of}
 use Rattle.rv_verdicts.proofs.SwitchLemmas.{opening_word, look-opening}
-
--- ---- lists
-
--- what was filtered stays so
-filter-twice : (keep : Delivery → Bool) (xs : List Delivery) → filter keep (filter keep xs) ≡ filter keep xs
-filter-twice keep [] = refl
-filter-twice keep (x ∷ xs) = go (keep x) refl (filter-twice keep xs)
-  where
-    go : (b : Bool) → keep x ≡ b → filter keep (filter keep xs) ≡ filter keep xs → filter keep (filter keep (x ∷ xs)) ≡ filter keep (x ∷ xs)
-    go true kept rest = rw (kept, kept) (ap (λ (z : List Delivery). x ∷ z) rest)
-    go false gone rest = rw gone rest
 
 -- both cases become others
 match-map : (b : Bool) (P Q P' Q' : Type 0) → MatchBool b P Q → (P → P') → (Q → Q') → MatchBool b P' Q'
