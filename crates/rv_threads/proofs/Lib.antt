@@ -1,4 +1,1 @@
-pub mod StartLemmas
-pub mod SteppingLemmas
-pub mod WakingLemmas
-pub mod WakingWidthLemmas
+pub mod EventLemmas

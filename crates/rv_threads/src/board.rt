@@ -1,59 +1,28 @@
-//! Two seats on one instance of the kernel's automaton of waking in a section that can't be preempted, and a gate
-//! at which one delivers between the tries of the other.
-ghost use Rattle.std.specs.Prelude.{◌≡◌, ◌<◌, [], ◌∷◌, sum, IfOk, length, All};
+//! Two seats on one instance, and a gate at which one delivers between the tries of the other; and boards at their
+//! limits.
+ghost use Rattle.std.specs.Prelude.{◌≡◌, ◌<◌, [], ◌∷◌, sum, IfOk, length};
 ghost use Rattle.rv_model.specs.Table.{event_count};
 ghost use Rattle.rv_core.specs.Setup.{table_at};
 
+use crate::seats::{join_all, split_all};
+use crate::setup::one_instance;
 use rv_board::{Board, BoardStart, Delivered, Seat};
 use rv_core::Setup;
 use rv_io::{Gate, OpenGate};
-use rv_model::{Answer, Automaton, Edge, Hit, Mode, Name, Names, Scope, What};
-use rv_slots::{MAX_SLOTS, MAX_TASKS, Shape};
+use rv_model::{Answer, Hit, Mode, Scope, What};
+use rv_plain::worked::wip;
+use rv_slots::{MAX_TASKS, Shape};
 use rv_table::Table;
 use std::alloc::{AllocError, Global};
+use std::process::Abort;
 use std::test::Fail;
 
-/// These two names.
-fn two_names(alloc: Global, first: &[u8], second: &[u8]) -> Result<Names, AllocError>
-    ensures { IfOk result (λ names. names ≡ first.now ∷ second.now ∷ []) }
-{
-    let mut names = Names::new(alloc);
-    names.push(Name::new(alloc, first)?)?;
-    names.push(Name::new(alloc, second)?)?;
-    Ok(names)
-}
+/// The words of the instance: it waits, it can be preempted, it can't.
+const WAITS: u64 = 4_294_967_296;
 
-/// The state `p`, which can be preempted, and `n`, which can't. The events are `d`, preemption is disabled, `e`, it is
-/// enabled, and `w`, a waking.
-fn waking(alloc: Global) -> Result<Automaton, AllocError>
-    ensures { IfOk result (λ automaton. length automaton.events ≡ 3) }
-{
-    let states = two_names(alloc, b"p", b"n")?;
-    let mut events = two_names(alloc, b"d", b"e")?;
-    events.push(Name::new(alloc, b"w")?)?;
-    let mut edges = Vec::new(alloc);
-    edges.push(Edge {
-        from: 0,
-        event: 0,
-        to: 1,
-    })?;
-    edges.push(Edge {
-        from: 1,
-        event: 1,
-        to: 0,
-    })?;
-    edges.push(Edge {
-        from: 1,
-        event: 2,
-        to: 1,
-    })?;
-    Ok(Automaton {
-        states,
-        events,
-        edges,
-        marked: 1,
-    })
-}
+const CAN: u64 = 8_589_934_592;
+
+const CANNOT: u64 = 17_179_869_184;
 
 /// Preemption is disabled, as an event that is no start.
 const DISABLE: Hit = Hit {
@@ -74,24 +43,12 @@ const START: Hit = Hit {
 };
 
 /// A board of one instance.
-fn one_instance(alloc: Global) -> Result<BoardStart, AllocError>
+fn one_board(alloc: Global) -> Result<BoardStart, AllocError>
     ensures seat { IfOk result (λ start. (start.seat.board ≡ start.board) × (start.seat.part.number ≡ 0) × (start.seat.part.end ≡ 67)) }
     ensures slot { IfOk result (λ start. 0 < sum start.board.setup.shape) }
     ensures events { IfOk result (λ start. event_count (table_at start.board.setup 0) ≡ 3) }
 {
-    let automaton = waking(alloc)?;
-    let shape = Shape::new(alloc, &[Scope::Global], 0)?;
-    let mut tables = Vec::new(alloc);
-    tables.push(Table::from_automaton(alloc, &automaton)?)?;
-    let mut starts = Vec::new(alloc);
-    starts.push(0)?;
-    let setup = Setup {
-        shape,
-        tables,
-        starts,
-        switches: (1 << 32) + (1 << 33) + 1,
-    };
-    Board::new(alloc, setup)
+    Board::new(alloc, one_instance(alloc)?)
 }
 
 /// Another seat of the board, which disables and enables preemption in turn.
@@ -106,24 +63,18 @@ struct Other<'a> {
     /// Whether it has disabled preemption.
     disabled: bool,
     tries: u32,
-    /// The words that it left.
-    words: Vec<u64>,
     ghost same: { seat.board ≡ board.now },
     ghost slot: { 0 < sum board.now.setup.shape },
     ghost events: { event_count (table_at board.now.setup 0) ≡ 3 },
 }
 
 impl Other<'_> {
-    #[tactic(auto, using(crate::proofs::WakingLemmas::fits_event))]
+    #[tactic(auto, using(crate::proofs::EventLemmas::fits_event))]
     fn deliver(&mut self) -> Delivered {
         let hit = if self.disabled { ENABLE } else { DISABLE };
         let board = self.board;
-        let outcome = board.deliver(&mut self.seat, 1, 0, &hit, &mut OpenGate);
-        let word = board.word(&mut self.seat, 0);
-        if self.words.push(word).is_ok() {
-            self.disabled = !self.disabled;
-        }
-        outcome
+        self.disabled = !self.disabled;
+        board.deliver(&mut self.seat, 1, 0, &hit, &mut OpenGate)
     }
 
     fn before(&mut self, lost: u32) {
@@ -159,185 +110,139 @@ impl Gate for Rival<'_> {
     }
 }
 
-#[test]
-#[tactic(auto, using(crate::proofs::WakingLemmas::fits_event))]
-fn a_word_that_comes_back_is_no_lost_try(rt: HostRuntime) -> Result<(), Fail> {
-    let BoardStart { board, mut seat } = one_instance(rt.alloc())?;
-    let mut other = board.split(&mut seat, 3);
-    let mut own = board.split(&mut seat, 2);
-    assert_eq!(rt; board.word(&mut own, 0), 4_294_967_296);
-    let started = board.deliver(&mut other, 1, 0, &START, &mut OpenGate);
-    assert_eq!(rt; started, Delivered::Done(Answer::Started));
-    assert_eq!(rt; board.word(&mut own, 0), 8_589_934_592);
-    let mut gate = Rival::Somebody(Other {
-        board: &board,
-        seat: other,
-        twice: true,
-        again: false,
-        disabled: false,
-        tries: 0,
-        words: Vec::new(rt.alloc()),
-    });
-    let kept = board.deliver(&mut own, 0, 0, &DISABLE, &mut gate);
-    assert_eq!(rt; kept, Delivered::Done(Answer::Kept));
-    assert_eq!(rt; board.word(&mut own, 0), 17_179_869_184);
-    let Rival::Somebody(other) = gate else {
-        panic!(rt; "the gate was taken away");
-    };
-    assert_eq!(rt; other.tries, 1);
-    assert_eq!(rt;
-        other.words.as_slice(),
-        [17_179_869_184, 8_589_934_592].as_slice()
-    );
-    Ok(())
+/// How the other seat races with a delivery, and whether an end or a clear wakes the instance behind it.
+#[derive(Clone, Copy, Drop)]
+struct Race {
+    twice: bool,
+    again: bool,
+    ends: bool,
 }
 
-#[test]
-#[tactic(auto, using(crate::proofs::WakingLemmas::fits_event))]
-fn a_lost_try_starts_from_the_word_that_was_found(rt: HostRuntime) -> Result<(), Fail> {
-    let BoardStart { board, mut seat } = one_instance(rt.alloc())?;
-    let mut other = board.split(&mut seat, 3);
-    let mut own = board.split(&mut seat, 2);
-    board.deliver(&mut other, 1, 0, &START, &mut OpenGate);
-    let mut gate = Rival::Somebody(Other {
-        board: &board,
-        seat: other,
-        twice: false,
-        again: false,
-        disabled: false,
-        tries: 0,
-        words: Vec::new(rt.alloc()),
-    });
-    let failed = board.deliver(&mut own, 0, 0, &DISABLE, &mut gate);
-    assert_eq!(rt; failed, Delivered::Done(Answer::Failed(4)));
-    assert_eq!(rt; board.word(&mut own, 0), 4_294_967_296);
-    let Rival::Somebody(other) = gate else {
-        panic!(rt; "the gate was taken away");
-    };
-    assert_eq!(rt; other.tries, 2);
-    assert_eq!(rt; other.words.as_slice(), [17_179_869_184].as_slice());
-    Ok(())
+/// What a delivery came to that the other seat raced with.
+#[derive(Clone, Copy, Drop, PartialEq, Eq)]
+struct Raced {
+    outcome: Delivered,
+    word: u64,
+    tries: u32,
+    /// The other seat's next delivery.
+    next: Delivered,
+    /// The word once the instance was woken.
+    woken: u64,
+    /// A start of it then.
+    started: Delivered,
 }
 
-#[test]
-#[tactic(auto, using(crate::proofs::WakingLemmas::fits_event))]
-fn three_lost_tries_stop_the_instance_until_it_is_cleared(rt: HostRuntime) -> Result<(), Fail> {
-    let BoardStart { board, mut seat } = one_instance(rt.alloc())?;
-    let mut other = board.split(&mut seat, 3);
+/// Runs the race.
+#[tactic(auto, using(crate::proofs::EventLemmas::fits_event))]
+fn run_race(rt: &impl Abort, alloc: Global, race: Race) -> Result<Raced, AllocError> {
+    let BoardStart { board, mut seat } = one_board(alloc)?;
+    let mut third = board.split(&mut seat, 3);
     let mut own = board.split(&mut seat, 2);
     let mut actor = board.split(&mut seat, 1);
-    board.deliver(&mut other, 1, 0, &START, &mut OpenGate);
+    board.deliver(&mut third, 1, 0, &START, &mut OpenGate);
     let mut gate = Rival::Somebody(Other {
         board: &board,
-        seat: other,
-        twice: false,
-        again: true,
+        seat: third,
+        twice: race.twice,
+        again: race.again,
         disabled: false,
         tries: 0,
-        words: Vec::new(rt.alloc()),
     });
-    let racing = board.deliver(&mut own, 0, 0, &DISABLE, &mut gate);
-    assert_eq!(rt; racing, Delivered::Racing);
-    assert_eq!(rt; board.word(&mut own, 0), 0);
+    let outcome = board.deliver(&mut own, 0, 0, &DISABLE, &mut gate);
+    let word = board.word(&mut own, 0);
     let Rival::Somebody(mut other) = gate else {
         panic!(rt; "the gate was taken away");
     };
-    assert_eq!(rt; other.tries, 3);
-    assert_eq!(rt;
-        other.words.as_slice(),
-        [17_179_869_184, 8_589_934_592, 17_179_869_184].as_slice()
-    );
-    assert_eq!(rt; other.deliver(), Delivered::Done(Answer::Passed));
-    assert_eq!(rt; board.word(&mut own, 0), 0);
-    board.clear(&mut actor, 0);
-    assert_eq!(rt; board.word(&mut own, 0), 4_294_967_296);
+    let next = other.deliver();
+    if race.ends {
+        board.end(&mut own, 0);
+    } else {
+        board.clear(&mut actor, 0);
+    }
+    let woken = board.word(&mut own, 0);
     let started = board.deliver(&mut own, 0, 0, &START, &mut OpenGate);
-    assert_eq!(rt; started, Delivered::Done(Answer::Started));
-    assert_eq!(rt; board.word(&mut own, 0), 8_589_934_592);
-    Ok(())
+    Ok(Raced {
+        outcome,
+        word,
+        tries: other.tries,
+        next,
+        woken,
+        started,
+    })
 }
 
 #[test]
-#[tactic(auto, using(crate::proofs::WakingLemmas::fits_event))]
-fn an_end_wakes_a_stopped_instance(rt: HostRuntime) -> Result<(), Fail> {
-    let BoardStart { board, mut seat } = one_instance(rt.alloc())?;
-    let mut other = board.split(&mut seat, 3);
-    let mut own = board.split(&mut seat, 2);
-    board.deliver(&mut other, 1, 0, &START, &mut OpenGate);
-    let mut gate = Rival::Somebody(Other {
-        board: &board,
-        seat: other,
-        twice: false,
-        again: true,
-        disabled: false,
-        tries: 0,
-        words: Vec::new(rt.alloc()),
-    });
-    let racing = board.deliver(&mut own, 0, 0, &DISABLE, &mut gate);
-    assert_eq!(rt; racing, Delivered::Racing);
-    assert_eq!(rt; board.word(&mut own, 0), 0);
-    board.end(&mut own, 0);
-    assert_eq!(rt; board.word(&mut own, 0), 4_294_967_296);
-    let started = board.deliver(&mut own, 0, 0, &START, &mut OpenGate);
-    assert_eq!(rt; started, Delivered::Done(Answer::Started));
-    Ok(())
-}
-
-#[test]
-fn switches_go_on_and_off_and_stay_halted(rt: HostRuntime) -> Result<(), Fail> {
-    let BoardStart { board, mut seat } = one_instance(rt.alloc())?;
-    let mut cpu = board.split(&mut seat, 2);
-    let mut actor = board.split(&mut seat, 1);
-    assert_eq!(rt; board.look(&mut cpu), 12_884_901_889);
-    board.lower(&mut actor, (1 << 33) + 1);
-    assert_eq!(rt; board.look(&mut cpu), 4_294_967_296);
-    board.halt(&mut cpu);
-    board.raise(&mut actor, 1);
-    assert_eq!(rt; board.look(&mut cpu), 21_474_836_481);
-    assert_eq!(rt; board.word(&mut cpu, 0), 4_294_967_296);
-    Ok(())
-}
-
-/// Seats of the numbers 66 down to 1, one each, which have looked.
-fn split_all(alloc: Global, board: &Board, seat: &mut Seat) -> Result<Vec<Seat>, AllocError>
-    requires board { seat.old.board ≡ board.now }
-    requires range { (seat.old.part.number ≡ 0) × (seat.old.part.end ≡ 67) }
-    ensures same { seat.new.board ≡ board.now }
-    ensures seats { IfOk result (λ seats. All (λ s. s.board ≡ board.now) seats.items) }
-{
-    let mut seats = Vec::new(alloc);
-    for above in 0..66 {
-        let mut new = board.split(seat, 66 - above);
-        board.look(&mut new);
-        seats.push(new)?;
+fn three_lost_tries_stop_an_instance_until_it_is_woken(rt: HostRuntime) -> Result<(), Fail> {
+    // two deliveries bring the word back, which is no lost try; one loses the first try; and one before each loses all
+    let cases = [
+        (
+            true,
+            false,
+            false,
+            Delivered::Done(Answer::Kept),
+            CANNOT,
+            1,
+            Delivered::Done(Answer::Failed(4)),
+        ),
+        (
+            false,
+            false,
+            false,
+            Delivered::Done(Answer::Failed(4)),
+            WAITS,
+            2,
+            Delivered::Done(Answer::Passed),
+        ),
+        (
+            false,
+            true,
+            false,
+            Delivered::Racing,
+            0,
+            3,
+            Delivered::Done(Answer::Passed),
+        ),
+        (
+            false,
+            true,
+            true,
+            Delivered::Racing,
+            0,
+            3,
+            Delivered::Done(Answer::Passed),
+        ),
+    ];
+    for (twice, again, ends, outcome, word, tries, next) in cases {
+        let wanted = Raced {
+            outcome,
+            word,
+            tries,
+            next,
+            woken: WAITS,
+            started: Delivered::Done(Answer::Started),
+        };
+        let race = Race { twice, again, ends };
+        assert!(rt;
+            run_race(&rt, rt.alloc(), race)? == wanted,
+            "after {tries} tries"
+        );
     }
-    Ok(seats)
-}
-
-/// Joins them all.
-fn join_all(board: &Board, seat: &mut Seat, seats: Vec<Seat>)
-    requires board { seat.old.board ≡ board.now }
-    requires seats { All (λ s. s.board ≡ board.now) seats.items }
-    ensures { seat.new.board ≡ board.now }
-{
-    for from in seats {
-        board.join(seat, from);
-    }
+    Ok(())
 }
 
 #[test]
 fn all_seats_are_split_joined_and_closed(rt: HostRuntime) -> Result<(), Fail> {
-    let BoardStart { board, mut seat } = one_instance(rt.alloc())?;
+    let BoardStart { board, mut seat } = one_board(rt.alloc())?;
     cross(&board, &seat);
     let seats = split_all(rt.alloc(), &board, &mut seat)?;
-    assert_eq!(rt; seats.len(), 66);
+    assert!(rt; seats.len() == 66);
     for (place, other) in seats.iter().enumerate() {
-        assert_eq!(rt; other.number() as usize + place, 66);
-        assert_eq!(rt; other.end(), other.number() + 1);
+        let number = other.number();
+        assert!(rt; number as usize + place == 66 && other.end() == number + 1);
     }
-    assert_eq!(rt; seat.end(), 1);
+    assert!(rt; seat.end() == 1);
     join_all(&board, &mut seat, seats);
-    assert_eq!(rt; (seat.number(), seat.end()), (0, 1));
+    assert!(rt; seat.number() == 0 && seat.end() == 1);
     board.close(seat);
     Ok(())
 }
@@ -346,7 +251,7 @@ fn all_seats_are_split_joined_and_closed(rt: HostRuntime) -> Result<(), Fail> {
 fn full_setup(alloc: Global) -> Result<Setup, AllocError>
     ensures { IfOk result (λ setup. length setup.shape ≡ 32) }
 {
-    let automaton = waking(alloc)?;
+    let automaton = wip(alloc)?;
     let shape = Shape::new(alloc, &[Scope::Task; 32], MAX_TASKS)?;
     let mut tables = Vec::new(alloc);
     let mut starts = Vec::new(alloc);
@@ -367,11 +272,8 @@ fn a_full_board_has_all_its_words(rt: HostRuntime) -> Result<(), Fail> {
     let setup = full_setup(rt.alloc())?;
     let BoardStart { board, mut seat } = Board::new(rt.alloc(), setup)?;
     let slots = board.shape().slots();
-    assert_eq!(rt; slots, MAX_SLOTS);
-    if slots > 0 {
-        assert_eq!(rt; board.word(&mut seat, 0), 4_294_967_296);
-        assert_eq!(rt; board.word(&mut seat, slots - 1), 4_294_967_296);
-    }
+    assert!(rt; slots == 2_097_152);
+    assert!(rt; board.word(&mut seat, 0) == WAITS && board.word(&mut seat, slots - 1) == WAITS);
     board.close(seat);
     Ok(())
 }

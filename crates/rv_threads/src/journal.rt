@@ -75,10 +75,12 @@ fn each_act_has_its_line(rt: HostRuntime) -> Result<(), Fail> {
     ];
     for (told, line) in cases {
         let text = journal_text(rt.alloc(), &[told])?;
-        assert_eq!(rt; text.as_slice(), line.as_bytes(), "for {line}");
-        let bytes = line.as_bytes();
+        let read = line
+            .as_bytes()
+            .split_last()
+            .and_then(|(_, front)| read_entry(front));
         assert!(rt;
-            read_entry(&bytes[..bytes.len() - 1]) == Some(told),
+            text.as_slice() == line.as_bytes() && read == Some(told),
             "at {line}"
         );
     }
@@ -90,9 +92,8 @@ fn a_history_has_its_lines_in_order(rt: HostRuntime) -> Result<(), Fail> {
     let look = entry(Act::Look, 1, 1);
     let stop = entry(Act::Stop { slot: 3 }, 9, 0);
     let text = journal_text(rt.alloc(), &[look, stop])?;
-    assert_eq!(rt; text.as_slice(), b"2 look 1 1\n2 stop 3 9 0\n".as_slice());
     let none = journal_text(rt.alloc(), &[])?;
-    assert!(rt; none.is_empty());
+    assert!(rt; text.as_slice() == b"2 look 1 1\n2 stop 3 9 0\n".as_slice() && none.is_empty());
     Ok(())
 }
 

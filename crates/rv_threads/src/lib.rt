@@ -1,19 +1,14 @@
-//! Tests of what runs at once, and of its histories. Gates hold the CPUs in turn.
+//! All seats of a board, and tests of what runs at once and of its histories. Gates hold the CPUs in turn.
 #![tactic(auto)]
 
 #[cfg(test)]
 mod board;
 #[cfg(test)]
-mod check;
-#[cfg(test)]
 mod feed;
 #[cfg(test)]
-mod instances;
-#[cfg(test)]
 mod journal;
+mod seats;
 #[cfg(test)]
-mod races;
-#[cfg(test)]
-mod shown;
-#[cfg(test)]
-mod watch;
+mod setup;
+
+pub use seats::{join_all, split_all};

@@ -3,7 +3,7 @@ use Rattle.std.specs.List.{All}
 use Rattle.std.specs.Vec.Iter.{into_iter_items}
 use Rattle.std.proofs.lemmas.List.Elements.{All-tail}
 use Rattle.rv_board.specs.Seats.{SeatValue}
-use Rattle.rv_threads.proofs.board.join_all.Goals as goal
+use Rattle.rv_threads.proofs.seats.join_all.Goals as goal
 
 pub loop-from-preserved : goal.loop-from-preserved
 loop-from-preserved c =

@@ -1,6 +1,6 @@
 use Rattle.std.proofs.Common.{◌≡◌, ◌+◌}
 use Rattle.std.specs.List.{All}
-use Rattle.rv_threads.proofs.board.split_all.Given as goal
+use Rattle.rv_threads.proofs.seats.split_all.Given as goal
 
 abbrev pub invariant-loop-above : goal.invariant-loop-above
 invariant-loop-above l = record {
