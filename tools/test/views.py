@@ -1,0 +1,91 @@
+"""What the tests of rv-steps, rv-perfetto and rv-timeline share: the runs, the tools, and stored outputs."""
+import argparse
+import difflib
+import os
+import subprocess
+import sys
+
+ROOT = os.path.dirname(os.path.dirname(os.path.dirname(os.path.abspath(__file__))))
+STORED = os.path.join(ROOT, "tools", "test", "views")
+VIEWS = "tools/test/views"
+
+
+def runs(with_monitors=True):
+    """The runs of the repository: a name, the folder, the bindings and the trace."""
+    for line in open(f"{ROOT}/examples/list", encoding="utf-8"):
+        name = line.split()[0]
+        yield name, ROOT, f"examples/{name}/{name}.rv", f"examples/{name}/{name}.txt"
+    for name in ("mixed", "panic", "shared"):
+        yield name, ROOT, f"{VIEWS}/{name}.rv", f"{VIEWS}/mixed.txt"
+    if with_monitors:
+        for line in open(f"{ROOT}/monitors/list", encoding="utf-8"):
+            name, _, bindings, trace, *_ = line.split()
+            yield f"{name} {trace}", f"{ROOT}/monitors/{name}", bindings, trace
+
+
+class Test:
+    """Counts cases, and prints each that differs."""
+
+    def __init__(self, tool, text):
+        parser = argparse.ArgumentParser(description=text, formatter_class=argparse.RawDescriptionHelpFormatter)
+        parser.add_argument("--rv", metavar="PROGRAM", default=f"{ROOT}/crates/rv/out/rv", help="the built program (default: crates/rv/out/rv)")
+        parser.add_argument("--write", action="store_true", help="write the stored outputs anew")
+        given = parser.parse_args()
+        self.name, self.tool, self.rv, self._write = tool, f"{ROOT}/tools/{tool}", os.path.abspath(given.rv), given.write
+        self.agree = self.differ = 0
+        if not os.access(self.rv, os.X_OK):
+            print(f"{tool}: {given.rv} is not the built program; ./rv builds it")
+            sys.exit(3)
+
+    def run(self, *words, folder=ROOT):
+        """The status, output and errors of the tool."""
+        done = subprocess.run([self.tool, "--rv", self.rv, *words], cwd=folder, stdin=subprocess.DEVNULL, capture_output=True, check=False)
+        return done.returncode, done.stdout.decode("utf-8", "surrogateescape"), done.stderr.decode("utf-8", "surrogateescape")
+
+    def program(self, *words, folder=ROOT):
+        done = subprocess.run([self.rv, *words], cwd=folder, stdin=subprocess.DEVNULL, capture_output=True, check=False)
+        return done.returncode, done.stdout.decode("utf-8", "surrogateescape")
+
+    def case(self, what, agrees, told=""):
+        if agrees:
+            self.agree += 1
+        else:
+            self.differ += 1
+            print(f"{what}: {told or 'differs'}")
+
+    def same(self, what, wanted, came):
+        self.case(what, wanted == came, f"wanted {wanted!r}\n    came {came!r}")
+
+    def stored(self, name, text):
+        """Compares a text with the stored one."""
+        path = f"{STORED}/{name}"
+        if self._write:
+            with open(path, "w", encoding="utf-8", errors="surrogateescape") as file:
+                file.write(text)
+        with open(path, encoding="utf-8", errors="surrogateescape") as file:
+            wanted = file.read()
+        changes = difflib.unified_diff(wanted.splitlines(), text.splitlines(), f"stored {name}", "came", n=1, lineterm="")
+        self.case(name, wanted == text, "\n".join(list(changes)[:20]))
+
+    def wrong_uses(self, *rest):
+        """What every tool says of wrong words and of files that cannot be read; `rest` stands before the bindings."""
+        wip, trace = "examples/wip/wip.rv", "examples/wip/wip.txt"
+        told = self.run("--help")
+        self.case("--help", told[0] == 0 and told[1].startswith(f"usage: {self.name} ") and "Exit status: 0" in told[1], told)
+        for words, status in [
+            ([*rest, wip], 2),
+            (["--no-such", *rest, wip, trace], 2),
+            ([*rest, "no/such.rv", trace], 3),
+            ([*rest, wip, "no/such.txt"], 3),
+            ([*rest, wip, "examples"], 3),
+            ([*rest, wip, "/dev/null"], 3),
+            ([*rest, trace, wip], 3),
+            ([*rest, wip, wip], 3),
+            (["--rv", "/no/such/program", *rest, wip, trace], 3),
+        ]:
+            came, out, err = self.run(*words)
+            self.case(f"{' '.join(words)}", came == status and not out and err and "Traceback" not in err, f"status {came}, output {out[:80]!r}, errors {err[-300:]!r}")
+
+    def end(self):
+        print(f"{self.name}: {self.agree} of {self.agree + self.differ} cases agree")
+        sys.exit(1 if self.differ else 0)
