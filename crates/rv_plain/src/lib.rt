@@ -12,8 +12,6 @@ mod records;
 mod satisfaction;
 mod script;
 mod switches;
-#[cfg(test)]
-mod tests;
 pub mod worked;
 pub mod works;
 

@@ -1,6 +1,7 @@
 //! Whole texts: the wanted refusals and canonical texts were worked out by hand.
-use rv_dot::{read_dot, write_dot};
-use rv_text::Refused;
+use crate::drawing::redrawn;
+use crate::numbers::refusal_of;
+use rv_dot::read_dot;
 use std::alloc::{AllocError, Global};
 use std::test::Fail;
 
@@ -40,15 +41,6 @@ const WIP_CANONICAL: &[u8] = b"digraph state_automaton {
 \t\"non_preemptive\" -> \"non_preemptive\" [ label = \"sched_waking\" ];
 }
 ";
-
-/// The refusal's number, 0 for an automaton.
-fn number(alloc: Global, text: &[u8]) -> u8 {
-    match read_dot(alloc, text) {
-        Ok(_) => 0,
-        Err(Refused::Memory) => 255,
-        Err(Refused::Because(refusal)) => refusal.number,
-    }
-}
 
 /// A name of its own for each number.
 fn put_name(out: &mut Vec<u8>, number: u8) -> Result<(), AllocError> {
@@ -186,7 +178,10 @@ fn texts_have_the_first_refusal_that_applies(rt: HostRuntime) -> Result<(), Fail
         (b"digraph g { {node [] a} __init_ - > a }", 2),
     ];
     for (text, wanted) in cases {
-        assert_eq!(rt; number(rt.alloc(), text), wanted, "at {text:?}");
+        assert!(rt;
+            refusal_of(read_dot(rt.alloc(), text)) == wanted,
+            "at {text:?}"
+        );
     }
     Ok(())
 }
@@ -195,65 +190,63 @@ fn texts_have_the_first_refusal_that_applies(rt: HostRuntime) -> Result<(), Fail
 fn a_file_is_read_up_to_its_last_brace_and_not_before(rt: HostRuntime) -> Result<(), Fail> {
     for len in 0..WIP.len() + 1 {
         let wanted = if len + 1 < WIP.len() { 2 } else { 0 };
-        assert_eq!(rt; number(rt.alloc(), &WIP[..len]), wanted, "at {len}");
+        assert!(rt;
+            refusal_of(read_dot(rt.alloc(), &WIP[..len])) == wanted,
+            "at {len}"
+        );
+    }
+    Ok(())
+}
+
+/// What grows in a text.
+#[derive(Clone, Copy, Drop)]
+enum Grows {
+    States,
+    Events,
+    /// This byte, between two texts.
+    Byte(u8, &'static [u8], &'static [u8]),
+}
+
+/// The text with so many of them.
+fn grown(alloc: Global, grows: Grows, count: usize) -> Result<Vec<u8>, AllocError> {
+    match grows {
+        Grows::States => states(alloc, u8::try_from(count).unwrap_or(0)),
+        Grows::Events => events(alloc, u8::try_from(count).unwrap_or(0)),
+        Grows::Byte(byte, front, back) => filled(alloc, front, byte, count, back),
+    }
+}
+
+#[test]
+fn the_limits_of_states_events_and_bytes_are_exact(rt: HostRuntime) -> Result<(), Fail> {
+    // the front has 37 bytes
+    let blanks = Grows::Byte(b' ', b"digraph g { {node [] a} __init_ -> a ", b"}");
+    let braces = Grows::Byte(b'{', b"digraph g { {node [] a} __init_ -> a ", b"}");
+    let names = Grows::Byte(b'n', b"digraph g { {node [] ", b"} }");
+    let cases = [
+        (Grows::States, 31, 0),
+        (Grows::States, 32, 7),
+        (Grows::Events, 64, 0),
+        (Grows::Events, 65, 8),
+        (blanks, 1_048_538, 0),
+        (blanks, 1_048_539, 2),
+        (braces, 100_000, 2),
+        (names, 64, 3),
+        (names, 65, 2),
+    ];
+    for (grows, count, wanted) in cases {
+        let text = grown(rt.alloc(), grows, count)?;
+        assert!(rt;
+            refusal_of(read_dot(rt.alloc(), &text)) == wanted,
+            "at {count}"
+        );
     }
     Ok(())
 }
 
 #[test]
-fn the_limits_of_states_events_and_bytes_are_exact(rt: HostRuntime) -> Result<(), Fail> {
-    let alloc = rt.alloc();
-    assert_eq!(rt; number(alloc, &states(alloc, 31)?), 0);
-    assert_eq!(rt; number(alloc, &states(alloc, 32)?), 7);
-    assert_eq!(rt; number(alloc, &events(alloc, 64)?), 0);
-    assert_eq!(rt; number(alloc, &events(alloc, 65)?), 8);
-    let front = b"digraph g { {node [] a} __init_ -> a ";
-    assert_eq!(rt;
-        number(
-            alloc,
-            &filled(alloc, front, b' ', 1_048_576 - front.len() - 1, b"}")?
-        ),
-        0
-    );
-    assert_eq!(rt;
-        number(
-            alloc,
-            &filled(alloc, front, b' ', 1_048_576 - front.len(), b"}")?
-        ),
-        2
-    );
-    assert_eq!(rt;
-        number(alloc, &filled(alloc, front, b'{', 100_000, b"}")?),
-        2
-    );
-    assert_eq!(rt;
-        number(
-            alloc,
-            &filled(alloc, b"digraph g { {node [] ", b'n', 65, b"} }")?
-        ),
-        2
-    );
-    assert_eq!(rt;
-        number(
-            alloc,
-            &filled(alloc, b"digraph g { {node [] ", b'n', 64, b"} }")?
-        ),
-        3
-    );
-    Ok(())
-}
-
-#[test]
 fn a_kernel_model_has_its_canonical_text(rt: HostRuntime) -> Result<(), Fail> {
-    let alloc = rt.alloc();
     for text in [WIP, WIP_CANONICAL] {
-        match read_dot(alloc, text) {
-            Ok(automaton) => {
-                let written = write_dot(alloc, &automaton)?;
-                assert_eq!(rt; written.as_slice(), WIP_CANONICAL);
-            }
-            Err(_) => assert!(rt; false, "it is read"),
-        }
+        assert!(rt; redrawn(rt.alloc(), text)?.as_slice() == WIP_CANONICAL);
     }
     Ok(())
 }

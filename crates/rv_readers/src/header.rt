@@ -1,8 +1,11 @@
 //! Whole texts: the tables of wip were given, and the others were worked out by hand.
+use crate::drawing::redrawn;
+use crate::numbers::refusal_of;
 use rv_dot::{read_dot, write_dot};
-use rv_header::{read_header, write_header};
-use rv_text::{HEADER_SYNTAX, NO_HEADER, Refused};
-use std::alloc::{AllocError, Global};
+use rv_header::{is_header_name, read_header, write_header};
+use rv_text::Refused;
+use std::alloc::Global;
+use std::process::Abort;
 use std::test::Fail;
 
 /// Preemption is off wherever a task is woken.
@@ -83,15 +86,6 @@ static const struct automaton_1 automaton_1 = {
 };
 ";
 
-/// The refusal's number, or 0.
-fn number<T: Drop>(read: Result<T, Refused>) -> u8 {
-    match read {
-        Ok(_) => 0,
-        Err(Refused::Memory) => 1,
-        Err(Refused::Because(refusal)) => refusal.number,
-    }
-}
-
 /// The canonical automaton file of the tables' text, behind the name and a colon.
 fn read_again(alloc: Global, text: &[u8]) -> Result<Vec<u8>, Refused> {
     let header = read_header(alloc, text)?;
@@ -101,73 +95,65 @@ fn read_again(alloc: Global, text: &[u8]) -> Result<Vec<u8>, Refused> {
     Ok(found)
 }
 
-#[test]
-fn wip_is_printed(rt: HostRuntime) -> Result<(), Fail> {
-    let automaton = read_dot(rt.alloc(), WIP)?;
-    let text = write_header(rt.alloc(), b"wip", &automaton)?;
-    assert!(rt; text.as_slice() == WIP_TABLES);
-    Ok(())
+/// Whether the automaton's tables are this text, and are read back as the name and the automaton.
+fn agrees(
+    rt: &impl Abort,
+    alloc: Global,
+    name: &str,
+    dot: &[u8],
+    tables: &[u8],
+) -> Result<bool, Fail> {
+    assert!(rt; is_header_name(name.as_bytes()));
+    let automaton = read_dot(alloc, dot)?;
+    let text = write_header(alloc, name.as_bytes(), &automaton)?;
+    let mut wanted = Vec::from_slice(alloc, name.as_bytes())?;
+    wanted.push(b':')?;
+    wanted.extend_from_slice(redrawn(alloc, dot)?.as_slice())?;
+    let found = read_again(alloc, tables)?;
+    Ok(text.as_slice() == tables && found.as_slice() == wanted.as_slice())
 }
 
 #[test]
-fn wip_is_read_again(rt: HostRuntime) -> Result<(), Fail> {
-    let mut wanted = Vec::from_slice(rt.alloc(), b"wip:")?;
-    wanted.extend_from_slice(write_dot(rt.alloc(), &read_dot(rt.alloc(), WIP)?)?.as_slice())?;
-    assert!(rt; read_again(rt.alloc(), WIP_TABLES)?.as_slice() == wanted.as_slice());
+fn tables_are_printed_and_read_again(rt: HostRuntime) -> Result<(), Fail> {
+    for (name, dot, tables) in [("wip", WIP, WIP_TABLES), ("1", ONE, ONE_TABLES)] {
+        assert!(rt; agrees(&rt, rt.alloc(), name, dot, tables)?, "at {name}");
+    }
     Ok(())
 }
 
-#[test]
-fn one_state_has_empty_lists(rt: HostRuntime) -> Result<(), Fail> {
-    let automaton = read_dot(rt.alloc(), ONE)?;
-    let text = write_header(rt.alloc(), b"1", &automaton)?;
-    assert!(rt; text.as_slice() == ONE_TABLES);
-    let mut wanted = Vec::from_slice(rt.alloc(), b"1:")?;
-    wanted.extend_from_slice(write_dot(rt.alloc(), &automaton)?.as_slice())?;
-    assert!(rt; read_again(rt.alloc(), ONE_TABLES)?.as_slice() == wanted.as_slice());
-    Ok(())
-}
-
-/// What writing the tables of one state with one event comes to.
-fn written(alloc: Global, state: &str, event: &str) -> Result<u8, AllocError> {
+/// The tables of one state with one event.
+fn written(alloc: Global, state: &str, event: &str) -> Result<Vec<u8>, Refused> {
     let text = format!(in alloc;
         "digraph state_automaton {{\n\t\"__init_{state}\" -> \"{state}\";\n\t{{node [shape = circle] \"{state}\"}};\n\t\"{state}\" -> \"{state}\" [ label = \"{event}\" ];\n}}\n"
     )?;
-    match read_dot(alloc, text.as_bytes()) {
-        Ok(automaton) => Ok(number(write_header(alloc, b"m", &automaton))),
-        Err(refused) => Ok(number::<u8>(Err(refused))),
-    }
+    write_header(alloc, b"m", &read_dot(alloc, text.as_bytes())?)
 }
 
 #[test]
 fn names_are_refused(rt: HostRuntime) -> Result<(), Fail> {
-    let refused = [
-        ("a.b", "e"),
-        ("1a", "e"),
-        ("a", "1e"),
-        ("e", "e"),
-        ("state_max", "e"),
-        ("a", "state_max"),
-        ("event_max", "e"),
-        ("a", "event_max"),
-        ("automaton", "e"),
-        ("a", "automaton"),
+    let cases = [
+        ("a.b", "e", 35),
+        ("1a", "e", 35),
+        ("a", "1e", 35),
+        ("e", "e", 35),
+        ("state_max", "e", 35),
+        ("a", "state_max", 35),
+        ("event_max", "e", 35),
+        ("a", "event_max", 35),
+        ("automaton", "e", 35),
+        ("a", "automaton", 35),
+        ("a_b", "e", 0),
+        ("a1", "e", 0),
+        ("a", "e1", 0),
+        ("e", "f", 0),
+        ("state_maxx", "e", 0),
+        ("a", "state_ma", 0),
+        ("event", "max", 0),
+        ("INVALID_STATE", "automata", 0),
     ];
-    for (state, event) in &refused {
-        assert_eq!(rt; written(rt.alloc(), *state, *event)?, NO_HEADER);
-    }
-    let accepted = [
-        ("a_b", "e"),
-        ("a1", "e"),
-        ("a", "e1"),
-        ("e", "f"),
-        ("state_maxx", "e"),
-        ("a", "state_ma"),
-        ("event", "max"),
-        ("INVALID_STATE", "automata"),
-    ];
-    for (state, event) in &accepted {
-        assert_eq!(rt; written(rt.alloc(), *state, *event)?, 0);
+    for (state, event, wanted) in cases {
+        let number = refusal_of(written(rt.alloc(), state, event));
+        assert!(rt; number == wanted, "at {state}, {event}");
     }
     Ok(())
 }
@@ -178,21 +164,14 @@ fn each_changed_byte_is_refused(rt: HostRuntime) -> Result<(), Fail> {
     for place in 0..text.len() {
         let byte = text[place];
         text[place] = byte ^ 2;
-        assert_eq!(rt;
-            number(read_header(rt.alloc(), text.as_slice())),
-            HEADER_SYNTAX
+        assert!(rt;
+            refusal_of(read_header(rt.alloc(), text.as_slice())) == 36,
+            "at {place}"
         );
         text[place] = byte;
     }
-    assert_eq!(rt; number(read_header(rt.alloc(), text.as_slice())), 0);
-    Ok(())
-}
-
-#[test]
-fn other_texts_are_refused(rt: HostRuntime) -> Result<(), Fail> {
-    assert_eq!(rt; number(read_header(rt.alloc(), b"")), HEADER_SYNTAX);
-    assert_eq!(rt; number(read_header(rt.alloc(), WIP)), HEADER_SYNTAX);
-    let (front, _) = WIP_TABLES.split_at(700);
-    assert_eq!(rt; number(read_header(rt.alloc(), front)), HEADER_SYNTAX);
+    for other in [b"".as_slice(), WIP, &WIP_TABLES[..700]] {
+        assert!(rt; refusal_of(read_header(rt.alloc(), other)) == 36);
+    }
     Ok(())
 }

@@ -4,6 +4,15 @@ use rv_io::{Disk, MemSink, MemStore, ReadError, Sink, Stdout, Store, put_all};
 use std::fs;
 use std::test::Fail;
 
+/// Whether the read gives this text or this fault.
+fn reads(read: Result<Vec<u8>, ReadError>, wanted: Result<&str, ReadError>) -> bool {
+    match (read, wanted) {
+        (Ok(bytes), Ok(text)) => bytes.as_slice() == text.as_bytes(),
+        (Err(fault), Err(wanted)) => fault == wanted,
+        _ => false,
+    }
+}
+
 #[test]
 fn listed_reads_fail_and_others_give_the_newest_file(rt: HostRuntime) -> Result<(), Fail> {
     let mut store = MemStore::new(rt.alloc());
@@ -18,11 +27,7 @@ fn listed_reads_fail_and_others_give_the_newest_file(rt: HostRuntime) -> Result<
         ("b", Ok("other")),
     ];
     for (name, wanted) in cases {
-        match (store.read(rt.alloc(), name), wanted) {
-            (Ok(bytes), Ok(text)) => assert_eq!(rt; bytes.as_slice(), text.as_bytes(), "at {name}"),
-            (Err(fault), Err(wanted)) => assert_eq!(rt; fault, wanted, "at {name}"),
-            _ => assert!(rt; false, "at {name}"),
-        }
+        assert!(rt; reads(store.read(rt.alloc(), name), wanted), "at {name}");
     }
     Ok(())
 }
@@ -39,12 +44,11 @@ fn listed_puts_fail_and_others_take_what_fits(rt: HostRuntime) -> Result<(), Fai
     for (most, room, listed, text, is_whole, taken) in cases {
         let mut sink = MemSink::new(rt.alloc(), most, room)?;
         sink.fail_at(listed)?;
-        assert_eq!(rt;
-            put_all(&mut sink, text.as_bytes()).is_ok(),
-            is_whole,
-            "at {text}"
+        let whole = put_all(&mut sink, text.as_bytes()).is_ok();
+        assert!(rt;
+            whole == is_whole && sink.taken() == taken.as_bytes(),
+            "at {taken}"
         );
-        assert_eq!(rt; sink.taken(), taken.as_bytes(), "at {text}");
     }
     Ok(())
 }
@@ -57,10 +61,26 @@ fn a_file_is_read_whole_and_a_missing_one_is_told(rt: HostRuntime) -> Result<(),
     let mut disk = Disk::new(&rt);
     let read = disk.read(rt.alloc(), name);
     fs::remove_file(&rt, name)?;
-    assert_eq!(rt; read?.as_slice(), long.as_slice());
-    assert_eq!(rt; disk.read(rt.alloc(), name).err(), Some(ReadError::NoFile));
-    assert_eq!(rt; disk.read(rt.alloc(), ".").err(), Some(ReadError::Failed));
+    assert!(rt; read?.as_slice() == long.as_slice());
+    for (other, fault) in [(name, ReadError::NoFile), (".", ReadError::Failed)] {
+        assert!(rt;
+            reads(disk.read(rt.alloc(), other), Err(fault)),
+            "at {other}"
+        );
+    }
     Ok(())
+}
+
+/// Whether the piece is this text, at the front of a buffer of dashes, or this fault.
+fn is_piece(piece: Result<usize, ReadError>, into: &[u8], wanted: Result<&str, ReadError>) -> bool {
+    match (piece, wanted) {
+        (Ok(count), Ok(text)) => {
+            let (front, back) = into.split_at(count.min(into.len()));
+            front == text.as_bytes() && back.iter().all(|byte| *byte == b'-')
+        }
+        (Err(fault), Err(wanted)) => fault == wanted,
+        _ => false,
+    }
 }
 
 #[test]
@@ -82,17 +102,7 @@ fn pieces_are_cut_and_listed_ones_fail(rt: HostRuntime) -> Result<(), Fail> {
     for (name, from, room, wanted) in cases {
         let mut into = [b'-'; 5];
         let piece = store.piece(rt.alloc(), name, from, &mut into[..room]);
-        match (piece, wanted) {
-            (Ok(count), Ok(text)) => {
-                assert_eq!(rt; &into[..count], text.as_bytes(), "at {name} {from}");
-                assert!(rt;
-                    into[count..].iter().all(|byte| *byte == b'-'),
-                    "behind {name} {from}"
-                );
-            }
-            (Err(fault), Err(wanted)) => assert_eq!(rt; fault, wanted, "at {name} {from}"),
-            _ => assert!(rt; false, "at {name} {from}"),
-        }
+        assert!(rt; is_piece(piece, &into, wanted), "at {name} {from}");
     }
     Ok(())
 }
@@ -102,30 +112,28 @@ fn a_file_is_read_forward_and_opened_anew_for_what_was_passed(rt: HostRuntime) -
     let name = "rv_io_piece_test.txt";
     fs::write(&rt, name, "0123456789")?;
     let mut disk = Disk::new(&rt);
-    let mut into = [b'-'; 4];
-    for (from, wanted) in [
+    let cases = [
         (0, "0123"),
         (4, "4567"),
         (9, "9"),
         (10, ""),
         (2, "2345"),
         (20, ""),
-    ] {
-        let count = disk.piece(rt.alloc(), name, from, &mut into)?;
-        assert_eq!(rt; &into[..count], wanted.as_bytes(), "at {from}");
+    ];
+    for (from, wanted) in cases {
+        let mut into = [b'-'; 4];
+        let piece = disk.piece(rt.alloc(), name, from, &mut into);
+        assert!(rt; is_piece(piece, &into, Ok(wanted)), "at {from}");
     }
     fs::remove_file(&rt, name)?;
-    assert_eq!(rt;
-        disk.piece(rt.alloc(), name, 0, &mut into).err(),
-        Some(ReadError::NoFile)
-    );
+    let gone = disk.piece(rt.alloc(), name, 0, &mut [0; 4]);
+    assert!(rt; gone == Err(ReadError::NoFile));
     Ok(())
 }
 
 #[test]
 fn standard_output_takes_a_piece(rt: HostRuntime) -> Result<(), Fail> {
     let mut out = Stdout::new(&rt);
-    assert_eq!(rt; put_all(&mut out, b"rv_io: a piece\n"), Ok(()));
-    assert_eq!(rt; out.put(b""), Ok(0));
+    assert!(rt; put_all(&mut out, b"rv_io: a piece\n") == Ok(()) && out.put(b"") == Ok(0));
     Ok(())
 }

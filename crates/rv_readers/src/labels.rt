@@ -1,109 +1,47 @@
 //! Tables of labels over all letters of two atoms, and labels whose lists would be huge.
-ghost use Rattle.std.specs.Prelude.{◌<◌, IfOk};
+ghost use Rattle.std.specs.Prelude.{◌<◌, IfOk, IsTrue};
 ghost use Rattle.rv_model.specs.Formulas.{ltl};
 ghost use Rattle.rv_labels.specs.Labels.{IsLabel};
 
 use rv_labels::{Cube, Masks};
+use rv_ltl::read_ltl;
 use rv_model::Formula;
 use std::alloc::{AllocError, Global};
 use std::process::Abort;
 use std::test::Fail;
 
-fn atom(number: u8) -> Formula
-    requires { number < 32 }
-    ensures { IsLabel (ltl result) }
+/// Whether the formula is a label.
+fn is_label(formula: &Formula) -> bool
+    ensures { IsTrue result → IsLabel (ltl formula.now) }
 {
-    Formula::Atom(number)
-}
-
-fn not(alloc: Global, f: Formula) -> Result<Formula, AllocError>
-    requires { IsLabel (ltl f) }
-    ensures { IfOk result (λ made. IsLabel (ltl made)) }
-{
-    Ok(Formula::Not(Box::new(alloc, f)?))
-}
-
-fn and(alloc: Global, f: Formula, g: Formula) -> Result<Formula, AllocError>
-    requires left { IsLabel (ltl f) }
-    requires right { IsLabel (ltl g) }
-    ensures { IfOk result (λ made. IsLabel (ltl made)) }
-{
-    let left = Box::new(alloc, f)?;
-    Ok(Formula::And(left, Box::new(alloc, g)?))
-}
-
-fn or(alloc: Global, f: Formula, g: Formula) -> Result<Formula, AllocError>
-    requires left { IsLabel (ltl f) }
-    requires right { IsLabel (ltl g) }
-    ensures { IfOk result (λ made. IsLabel (ltl made)) }
-{
-    let left = Box::new(alloc, f)?;
-    Ok(Formula::Or(left, Box::new(alloc, g)?))
-}
-
-fn imply(alloc: Global, f: Formula, g: Formula) -> Result<Formula, AllocError>
-    requires left { IsLabel (ltl f) }
-    requires right { IsLabel (ltl g) }
-    ensures { IfOk result (λ made. IsLabel (ltl made)) }
-{
-    let left = Box::new(alloc, f)?;
-    Ok(Formula::Imply(left, Box::new(alloc, g)?))
-}
-
-fn equivalent(alloc: Global, f: Formula, g: Formula) -> Result<Formula, AllocError>
-    requires left { IsLabel (ltl f) }
-    requires right { IsLabel (ltl g) }
-    ensures { IfOk result (λ made. IsLabel (ltl made)) }
-{
-    let left = Box::new(alloc, f)?;
-    Ok(Formula::Equivalent(left, Box::new(alloc, g)?))
-}
-
-// A chain of `and` over so many disjunctions of two atoms.
-fn disjunctions(alloc: Global, times: u8) -> Result<Formula, AllocError>
-    ensures { IfOk result (λ made. IsLabel (ltl made)) }
-{
-    let mut made = or(alloc, atom(0), atom(1))?;
-    for _ in 1..times {
-        let more = or(alloc, atom(0), atom(1))?;
-        made = and(alloc, made, more)?;
+    match formula {
+        Formula::True | Formula::False => true,
+        Formula::Atom(atom) => *atom < 32,
+        Formula::Not(f) => is_label(f),
+        Formula::And(f, g) | Formula::Or(f, g) | Formula::Imply(f, g) | Formula::Equivalent(f, g) =>
+            { is_label(f) && is_label(g) }
+        Formula::Next(_)
+        | Formula::Always(_)
+        | Formula::Eventually(_)
+        | Formula::Until(_, _)
+        | Formula::Release(_, _)
+        | Formula::WeakUntil(_, _) => false,
     }
-    Ok(made)
 }
 
-// So many times equivalent to another label, before an atom.
-fn equivalents(alloc: Global, times: u16, with_atoms: bool) -> Result<Formula, AllocError>
-    ensures { IfOk result (λ made. IsLabel (ltl made)) }
-{
-    let mut made = atom(0);
-    for _ in 0..times {
-        let other = if with_atoms {
-            Formula::Atom(1)
-        } else {
-            Formula::True
-        };
-        made = equivalent(alloc, other, made)?;
-    }
-    Ok(made)
+/// The masks of the label that a text is.
+fn masks_of(rt: &impl Abort, alloc: Global, text: &[u8]) -> Result<Masks, Fail> {
+    let rule = read_ltl(alloc, text)?;
+    assert!(rt; is_label(&rule.formula));
+    Ok(Masks::new(alloc, &rule.formula)?)
 }
 
-// The label has these cubes, and is true on just these of the four letters of two atoms.
-fn check(
-    rt: &impl Abort,
-    name: &str,
-    masks: Result<Masks, AllocError>,
-    cubes: &[Cube],
-    letters: [bool; 4],
-) -> Result<(), AllocError> {
-    let masks = masks?;
-    match masks.cubes() {
-        Some(made) => assert!(rt; made == cubes, "the cubes of {name}"),
-        None => assert!(rt; false, "{name} has few cubes"),
-    }
-    for (letter, wanted) in letters.iter().enumerate() {
-        assert_eq!(rt; masks.holds(letter as u32), *wanted, "{name} on {letter}");
-    }
-    Ok(())
+/// Whether the masks hold on just these of the four letters of two atoms.
+fn holds_on(masks: &Masks, letters: [bool; 4]) -> bool {
+    masks.holds(0) == letters[0]
+        && masks.holds(1) == letters[1]
+        && masks.holds(2) == letters[2]
+        && masks.holds(3) == letters[3]
 }
 
 fn cube(need: u32, forbid: u32) -> Cube {
@@ -112,107 +50,112 @@ fn cube(need: u32, forbid: u32) -> Cube {
 
 #[test]
 fn small_labels_have_these_cubes(rt: HostRuntime) -> Result<(), Fail> {
-    let alloc = rt.alloc();
-    let all = Masks::new(alloc, &Formula::True);
-    check(&rt, "true", all, &[cube(0, 0)], [true, true, true, true])?;
-    let none = Masks::new(alloc, &Formula::False);
-    check(&rt, "false", none, &[], [false, false, false, false])?;
-    let label = imply(alloc, atom(0), not(alloc, atom(1))?)?;
-    let cubes = [cube(0, 1), cube(0, 2)];
-    let masks = Masks::new(alloc, &label);
-    check(
-        &rt,
-        "A imply not B",
-        masks,
-        &cubes,
-        [true, true, true, false],
-    )?;
-    let either = or(alloc, atom(0), atom(1))?;
-    let label = and(alloc, either, not(alloc, atom(0))?)?;
-    let masks = Masks::new(alloc, &label);
-    check(
-        &rt,
-        "(A or B) and not A",
-        masks,
-        &[cube(2, 1)],
-        [false, false, true, false],
-    )?;
-    Ok(())
-}
-
-#[test]
-fn an_equivalence_has_the_cubes_of_both_cases(rt: HostRuntime) -> Result<(), Fail> {
-    let alloc = rt.alloc();
-    let label = equivalent(alloc, atom(0), atom(1))?;
-    let masks = Masks::new(alloc, &label);
-    let cubes = [cube(3, 0), cube(0, 3)];
-    check(
-        &rt,
-        "A equivalent B",
-        masks,
-        &cubes,
-        [true, false, false, true],
-    )?;
-    let label = not(alloc, label)?;
-    let masks = Masks::new(alloc, &label);
-    let cubes = [cube(1, 2), cube(2, 1)];
-    check(
-        &rt,
-        "not (A equivalent B)",
-        masks,
-        &cubes,
-        [false, true, true, false],
-    )?;
-    Ok(())
-}
-
-#[test]
-fn sixty_four_cubes_are_kept_and_more_are_not(rt: HostRuntime) -> Result<(), Fail> {
-    let alloc = rt.alloc();
-    let most = Masks::new(alloc, &disjunctions(alloc, 6)?)?;
-    assert_eq!(rt; most.cubes().map(|cubes| cubes.len()), Some(64));
-    let more = Masks::new(alloc, &disjunctions(alloc, 7)?)?;
-    assert!(rt; more.cubes().is_none());
-    for masks in [most, more] {
-        for letter in 0..4 {
-            assert_eq!(rt; masks.holds(letter), letter != 0, "on {letter}");
-        }
+    let cases: [(&str, &[Cube], [bool; 4]); 6] = [
+        ("RULE = true", &[cube(0, 0)], [true, true, true, true]),
+        ("RULE = false", &[], [false, false, false, false]),
+        (
+            "RULE = A imply not B",
+            &[cube(0, 1), cube(0, 2)],
+            [true, true, true, false],
+        ),
+        (
+            "RULE = (A or B) and not A",
+            &[cube(2, 1)],
+            [false, false, true, false],
+        ),
+        (
+            "RULE = A equivalent B",
+            &[cube(3, 0), cube(0, 3)],
+            [true, false, false, true],
+        ),
+        (
+            "RULE = not (A equivalent B)",
+            &[cube(1, 2), cube(2, 1)],
+            [false, true, true, false],
+        ),
+    ];
+    for (text, cubes, letters) in cases {
+        let masks = masks_of(&rt, rt.alloc(), text.as_bytes())?;
+        assert!(rt;
+            masks.cubes() == Some(cubes) && holds_on(&masks, letters),
+            "at {text}"
+        );
     }
     Ok(())
 }
 
+/// A chain of `and` over so many disjunctions of two atoms, between two texts.
+fn disjunctions(
+    alloc: Global,
+    front: &[u8],
+    times: usize,
+    back: &[u8],
+) -> Result<Vec<u8>, AllocError> {
+    let mut text = Vec::new(alloc);
+    text.extend_from_slice(front)?;
+    text.extend_from_slice(b"(A or B)")?;
+    for _ in 1..times {
+        text.extend_from_slice(b" and (A or B)")?;
+    }
+    text.extend_from_slice(back)?;
+    Ok(text)
+}
+
+/// How many cubes there are, if they are kept.
+fn count_of(masks: &Masks) -> Option<usize> {
+    masks.cubes().map(|cubes| cubes.len())
+}
+
 #[test]
 fn what_is_joined_to_nothing_is_never_made(rt: HostRuntime) -> Result<(), Fail> {
-    let alloc = rt.alloc();
-    let label = and(alloc, disjunctions(alloc, 200)?, Formula::False)?;
-    check(
-        &rt,
-        "2 to the 200th, and false",
-        Masks::new(alloc, &label),
-        &[],
-        [false; 4],
-    )?;
-    let denied = not(alloc, disjunctions(alloc, 40)?)?;
-    let masks = Masks::new(alloc, &equivalent(alloc, denied, Formula::True)?)?;
-    assert_eq!(rt; masks.cubes().map(|cubes| cubes.len()), Some(40));
+    let some = [false, true, true, true];
+    let cases: [(&[u8], usize, &[u8], Option<usize>, [bool; 4]); 4] = [
+        (b"RULE = ", 6, b"", Some(64), some),
+        (b"RULE = ", 7, b"", None, some),
+        (b"RULE = ", 200, b" and false", Some(0), [false; 4]),
+        (
+            b"RULE = (not (",
+            40,
+            b")) equivalent true",
+            Some(40),
+            [true, false, false, false],
+        ),
+    ];
+    for (front, times, back, count, letters) in cases {
+        let text = disjunctions(rt.alloc(), front, times, back)?;
+        let masks = masks_of(&rt, rt.alloc(), &text)?;
+        assert!(rt;
+            count_of(&masks) == count && holds_on(&masks, letters),
+            "at {times}"
+        );
+    }
     Ok(())
+}
+
+// So many times equivalent to another label, before an atom.
+fn equivalents(alloc: Global, times: u16, with_atoms: bool) -> Result<Formula, AllocError>
+    ensures { IfOk result (λ made. IsLabel (ltl made)) }
+{
+    let mut made = Formula::Atom(0);
+    for _ in 0..times {
+        let other = if with_atoms {
+            Formula::Atom(1)
+        } else {
+            Formula::True
+        };
+        let left = Box::new(alloc, other)?;
+        made = Formula::Equivalent(left, Box::new(alloc, made)?);
+    }
+    Ok(made)
 }
 
 #[test]
 fn nested_equivalences_take_no_time(rt: HostRuntime) -> Result<(), Fail> {
-    let alloc = rt.alloc();
-    let plain = equivalents(alloc, 500, false)?;
-    let letters = [false, true, false, true];
-    check(
-        &rt,
-        "true, 500 times",
-        Masks::new(alloc, &plain),
-        &[cube(1, 0)],
-        letters,
-    )?;
-    let masks = Masks::new(alloc, &equivalents(alloc, 500, true)?)?;
-    assert!(rt; masks.cubes().is_none());
-    assert!(rt; masks.holds(1));
-    assert!(rt; !masks.holds(2));
+    let plain = Masks::new(rt.alloc(), &equivalents(rt.alloc(), 500, false)?)?;
+    assert!(rt;
+        plain.cubes() == Some([cube(1, 0)].as_slice()) && plain.holds(1) && !plain.holds(2)
+    );
+    let masks = Masks::new(rt.alloc(), &equivalents(rt.alloc(), 500, true)?)?;
+    assert!(rt; masks.cubes().is_none() && masks.holds(1) && !masks.holds(2));
     Ok(())
 }

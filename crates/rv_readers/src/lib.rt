@@ -1,8 +1,9 @@
-//! Refusals by their numbers, and the tests of what reads and writes text: what no clause says, with memory to spare.
+//! Canonical texts, and the tests of what reads and writes text: what no clause says, with memory to spare.
 #![tactic(auto)]
 
 #[cfg(test)]
 mod dot;
+mod drawing;
 #[cfg(test)]
 mod generating;
 #[cfg(test)]
@@ -15,12 +16,11 @@ mod labels;
 mod ltl;
 #[cfg(test)]
 mod nnf;
-mod numbers;
 #[cfg(test)]
-mod react;
+mod numbers;
 #[cfg(test)]
 mod text;
 #[cfg(test)]
 mod trace;
 
-pub use numbers::{NO_MEMORY, number_of};
+pub use drawing::redrawn;

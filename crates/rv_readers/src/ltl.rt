@@ -1,22 +1,10 @@
 //! Texts that are accepted and refused, at each limit.
 
-use crate::numbers::number_of;
+use crate::numbers::refusal_of;
 use rv_ltl::read_ltl;
 use rv_model::Formula;
-use rv_text::{CYCLE, DEFINED_TWICE, LTL_SYNTAX, NO_RULE, TOO_BIG, TOO_MANY_ATOMS};
 use std::alloc::{AllocError, Global};
 use std::test::Fail;
-
-/// The most bytes that a rule file may have.
-const MAX_BYTES: usize = 1_048_576;
-
-// The refusal's number, 0 for a rule, and 255 where memory ran out.
-fn answer(alloc: Global, text: &[u8]) -> u8 {
-    match read_ltl(alloc, text) {
-        Ok(_) => 0,
-        Err(fault) => number_of(fault),
-    }
-}
 
 fn put(text: &mut Vec<u8>, part: &[u8], times: usize) -> Result<(), AllocError> {
     for _ in 0..times {
@@ -83,19 +71,6 @@ fn opened(alloc: Global, marks: usize, operators: usize) -> Result<Vec<u8>, Allo
     Ok(text)
 }
 
-// Parentheses in one another, each first in a chain of 256 operands.
-fn leaning(alloc: Global, levels: usize) -> Result<Vec<u8>, AllocError> {
-    let mut text = Vec::new(alloc);
-    put(&mut text, b"RULE = ", 1)?;
-    put(&mut text, b"(", levels)?;
-    put(&mut text, b"A", 1)?;
-    for _ in 0..levels {
-        put(&mut text, b" and A", 255)?;
-        put(&mut text, b")", 1)?;
-    }
-    Ok(text)
-}
-
 // So many `weak_until` in one another, each on the right of the one around it.
 fn waiting(alloc: Global, levels: usize) -> Result<Vec<u8>, AllocError> {
     let mut text = Vec::new(alloc);
@@ -120,89 +95,117 @@ fn padded(alloc: Global, bytes: usize) -> Result<Vec<u8>, AllocError> {
 fn the_first_fault_of_a_text_is_its_refusal(rt: HostRuntime) -> Result<(), Fail> {
     let cases = [
         ("RULE = A", 0),
-        ("# a comment\nRULE\t=\r\nnot(A)or_", LTL_SYNTAX),
+        ("# a comment\nRULE\t=\r\nnot(A)or_", 9),
         ("RULE = not not A and B and always C", 0),
-        ("RULE = A and B or C", LTL_SYNTAX),
-        ("RULE = A until B until C", LTL_SYNTAX),
+        ("RULE = A and B or C", 9),
+        ("RULE = A until B until C", 9),
         ("RULE = (A until B) until C", 0),
         ("RULE = A release B", 0),
-        ("RULE = A release B until C", LTL_SYNTAX),
-        ("RULE = A release B release C", LTL_SYNTAX),
-        ("RULE = A weak_until B weak_until C", LTL_SYNTAX),
+        ("RULE = A release B until C", 9),
+        ("RULE = A release B release C", 9),
+        ("RULE = A weak_until B weak_until C", 9),
         ("RULE = A weak_until (B release C)", 0),
-        ("RULE = A weak until B", LTL_SYNTAX),
-        ("RULE = A Release B", LTL_SYNTAX),
+        ("RULE = A weak until B", 9),
+        ("RULE = A Release B", 9),
         ("RULE = RELEASE and WEAK_UNTIL", 0),
-        ("RULE = a", LTL_SYNTAX),
-        ("RULE = (A", LTL_SYNTAX),
-        ("RULE = A;", LTL_SYNTAX),
-        ("RULE", LTL_SYNTAX),
-        ("", NO_RULE),
-        ("RULES = A", NO_RULE),
-        ("X = A", NO_RULE),
-        ("B = A\nB = A", NO_RULE),
-        ("RULE = A\nRULE = B", DEFINED_TWICE),
-        ("RULE = A\nA = B\nA = B", DEFINED_TWICE),
-        ("RULE = A\nA = always B\nB = A", CYCLE),
-        ("RULE = A\nB = not C\nC = B", CYCLE),
-        ("RULE = RULE", CYCLE),
+        ("RULE = a", 9),
+        ("RULE = (A", 9),
+        ("RULE = A;", 9),
+        ("RULE", 9),
+        ("", 10),
+        ("RULES = A", 10),
+        ("X = A", 10),
+        ("B = A\nB = A", 10),
+        ("RULE = A\nRULE = B", 11),
+        ("RULE = A\nA = B\nA = B", 11),
+        ("RULE = A\nA = always B\nB = A", 12),
+        ("RULE = A\nB = not C\nC = B", 12),
+        ("RULE = RULE", 12),
     ];
     for (text, number) in cases {
-        assert_eq!(rt; answer(rt.alloc(), text.as_bytes()), number, "at {text}");
+        assert!(rt;
+            refusal_of(read_ltl(rt.alloc(), text.as_bytes())) == number,
+            "at {text}"
+        );
     }
     Ok(())
+}
+
+// What grows in a text.
+#[derive(Clone, Copy, Drop)]
+enum Grows {
+    Chain,
+    Parentheses,
+    Operators,
+    // One operator in so many parentheses.
+    Around,
+    Atoms,
+    Definitions,
+    // Each level weighs 3 more than twice the one in it.
+    Levels,
+    Bytes,
+}
+
+// The text with so many of them.
+fn grown(alloc: Global, grows: Grows, count: usize) -> Result<Vec<u8>, AllocError> {
+    match grows {
+        Grows::Chain => chain(alloc, count),
+        Grows::Parentheses => opened(alloc, count, 0),
+        Grows::Operators => opened(alloc, 0, count),
+        Grows::Around => opened(alloc, count, 1),
+        Grows::Atoms => distinct(alloc, count),
+        Grows::Definitions => doubled(alloc, count),
+        Grows::Levels => waiting(alloc, count),
+        Grows::Bytes => padded(alloc, count),
+    }
 }
 
 #[test]
 fn each_limit_is_the_last_that_is_accepted(rt: HostRuntime) -> Result<(), Fail> {
-    let alloc = rt.alloc();
-    assert_eq!(rt; answer(alloc, &chain(alloc, 256)?), 0);
-    assert_eq!(rt; answer(alloc, &chain(alloc, 257)?), LTL_SYNTAX);
-    assert_eq!(rt; answer(alloc, &opened(alloc, 256, 0)?), 0);
-    assert_eq!(rt; answer(alloc, &opened(alloc, 257, 0)?), LTL_SYNTAX);
-    assert_eq!(rt; answer(alloc, &opened(alloc, 0, 256)?), 0);
-    assert_eq!(rt; answer(alloc, &opened(alloc, 256, 1)?), LTL_SYNTAX);
-    assert_eq!(rt; answer(alloc, &distinct(alloc, 32)?), 0);
-    assert_eq!(rt; answer(alloc, &distinct(alloc, 33)?), TOO_MANY_ATOMS);
-    assert_eq!(rt; answer(alloc, &doubled(alloc, 9)?), 0);
-    assert_eq!(rt; answer(alloc, &doubled(alloc, 10)?), TOO_BIG);
-    assert_eq!(rt; answer(alloc, &doubled(alloc, 255)?), TOO_BIG);
-    assert_eq!(rt; answer(alloc, &doubled(alloc, 256)?), LTL_SYNTAX);
-    // each level weighs 3 more than twice the one in it
-    assert_eq!(rt; answer(alloc, &waiting(alloc, 8)?), 0);
-    assert_eq!(rt; answer(alloc, &waiting(alloc, 9)?), TOO_BIG);
-    assert_eq!(rt; answer(alloc, &padded(alloc, MAX_BYTES)?), 0);
-    assert_eq!(rt; answer(alloc, &padded(alloc, MAX_BYTES + 1)?), LTL_SYNTAX);
+    let cases = [
+        (Grows::Chain, 256, 0),
+        (Grows::Chain, 257, 9),
+        (Grows::Parentheses, 256, 0),
+        (Grows::Parentheses, 257, 9),
+        (Grows::Operators, 256, 0),
+        (Grows::Around, 256, 9),
+        (Grows::Atoms, 32, 0),
+        (Grows::Atoms, 33, 13),
+        (Grows::Definitions, 9, 0),
+        (Grows::Definitions, 10, 14),
+        (Grows::Definitions, 255, 14),
+        (Grows::Definitions, 256, 9),
+        (Grows::Levels, 8, 0),
+        (Grows::Levels, 9, 14),
+        (Grows::Bytes, 1_048_576, 0),
+        (Grows::Bytes, 1_048_577, 9),
+    ];
+    for (grows, count, number) in cases {
+        let text = grown(rt.alloc(), grows, count)?;
+        assert!(rt;
+            refusal_of(read_ltl(rt.alloc(), &text)) == number,
+            "at {count}"
+        );
+    }
     Ok(())
 }
 
-#[test]
-fn a_formula_that_leans_65000_deep_is_weighed(rt: HostRuntime) -> Result<(), Fail> {
-    let alloc = rt.alloc();
-    assert_eq!(rt; answer(alloc, &leaning(alloc, 255)?), TOO_BIG);
-    Ok(())
+// Whether it is `C or A or always B`, grouped from the left.
+fn groups_from_the_left(formula: &Formula) -> bool {
+    match formula {
+        Formula::Or(left, right) => match (&**left, &**right) {
+            (Formula::Or(first, second), Formula::Always(_)) => {
+                matches!(**first, Formula::Atom(2)) && matches!(**second, Formula::Atom(0))
+            }
+            _ => false,
+        },
+        _ => false,
+    }
 }
 
 #[test]
 fn atoms_ascend_and_chains_group_from_the_left(rt: HostRuntime) -> Result<(), Fail> {
-    match read_ltl(rt.alloc(), b"B2 = C\nRULE = B2 or A or always B") {
-        Ok(rule) => {
-            assert_eq!(rt; rule.atoms.len(), 3);
-            match &rule.formula {
-                Formula::Or(left, right) => {
-                    assert!(rt; matches!(**right, Formula::Always(_)));
-                    match &**left {
-                        Formula::Or(first, second) => {
-                            assert!(rt; matches!(**first, Formula::Atom(2)));
-                            assert!(rt; matches!(**second, Formula::Atom(0)));
-                        }
-                        _ => assert!(rt; false),
-                    }
-                }
-                _ => assert!(rt; false),
-            }
-        }
-        Err(_) => assert!(rt; false),
-    }
+    let rule = read_ltl(rt.alloc(), b"B2 = C\nRULE = B2 or A or always B")?;
+    assert!(rt; rule.atoms.len() == 3 && groups_from_the_left(&rule.formula));
     Ok(())
 }

@@ -1,20 +1,11 @@
-//! Refusals by their numbers, as tables of inputs have them.
-ghost use Rattle.std.specs.Prelude.{◌≡◌};
-ghost use Rattle.rv_text.specs.declared.refusals.Refusal.{Refusal};
-ghost use Rattle.rv_text.specs.declared.refusals.Refused.TheVariants.{Because, Memory};
-
+//! Answers by the numbers of their refusals, as tables of inputs have them.
 use rv_text::Refused;
 
-/// What stands for want of memory, which has no number.
-pub const NO_MEMORY: u8 = 255;
-
-/// The refusal's number.
-pub fn number_of(fault: Refused) -> u8
-    ensures because { (refusal : Refusal) → fault ≡ Because refusal → result ≡ refusal.number }
-    ensures memory { fault ≡ Memory → result ≡ NO_MEMORY }
-{
-    match fault {
-        Refused::Because(refusal) => refusal.number,
-        Refused::Memory => NO_MEMORY,
+/// The refusal's number, 0 for what is read, and 255 where memory ran out.
+pub(crate) fn refusal_of<T: Drop>(answer: Result<T, Refused>) -> u8 {
+    match answer {
+        Ok(_) => 0,
+        Err(Refused::Because(refusal)) => refusal.number,
+        Err(Refused::Memory) => 255,
     }
 }

@@ -1,7 +1,7 @@
 //! Lines of recorded traces and lines that come close to a limit. What they say was worked out apart from this code.
-use rv_text::{LOST_EVENTS, Refusal, Refused, TOO_LONG, TOO_MANY_CPUS, TRACE_SYNTAX};
+use rv_text::{Refusal, Refused};
 use rv_trace::{Lines, Span, TraceLine, field, read_line, read_trace};
-use std::alloc::{AllocError, Global};
+use std::alloc::Global;
 use std::process::Abort;
 use std::test::Fail;
 
@@ -19,29 +19,25 @@ fn is_refused(rt: &impl Abort, alloc: Global, text: &[u8], number: u8, line: u32
     }
 }
 
-/// A text of one byte, many times.
-fn filled(alloc: Global, byte: u8, count: usize) -> Result<Vec<u8>, AllocError> {
-    vec![in alloc; byte; count]
-}
-
-/// The text is one line that says the PID, the CPU and where the event's name stands.
-fn says(rt: &impl Abort, alloc: Global, row: (&str, u32, u8, u32, u32)) -> Result<(), Fail> {
-    let (text, pid, cpu, from, to) = row;
+/// The PID, the CPU and where the event's name stands, if the text is one line with all behind its name as its fields.
+fn told(
+    rt: &impl Abort,
+    alloc: Global,
+    text: &str,
+) -> Result<Option<(u32, u8, u32, u32)>, Refused> {
     let lines = read(rt, alloc, text.as_bytes())?;
-    assert_eq!(rt; lines.len(), 1, "at {text}");
-    let line = lines[0];
-    assert_eq!(rt; line.number, 1, "at {text}");
-    assert_eq!(rt; line.pid, pid, "at {text}");
-    assert_eq!(rt; line.cpu, cpu, "at {text}");
-    assert_eq!(rt; line.name.from, from, "at {text}");
-    assert_eq!(rt; line.name.to, to, "at {text}");
-    assert_eq!(rt; line.fields.from.wrapping_sub(to), 1, "at {text}");
-    assert_eq!(rt;
-        Some(line.fields.to),
-        u32::try_from(text.len()).ok(),
-        "at {text}"
-    );
-    Ok(())
+    Ok(match lines.as_slice() {
+        [line]
+            if line.number == 1
+                && line.fields.from.wrapping_sub(line.name.to) == 1
+                && line.fields.to as usize == text.len() => Some((
+            line.pid,
+            line.cpu,
+            line.name.from,
+            line.name.to,
+        )),
+        _ => None,
+    })
 }
 
 #[test]
@@ -162,8 +158,9 @@ fn a_line_says_its_task_its_cpu_and_its_event(rt: HostRuntime) -> Result<(), Fai
             33,
         ),
     ];
-    for row in cases {
-        says(&rt, rt.alloc(), row)?;
+    for (text, pid, cpu, from, to) in cases {
+        let wanted = Some((pid, cpu, from, to));
+        assert!(rt; told(&rt, rt.alloc(), text)? == wanted, "at {text}");
     }
     Ok(())
 }
@@ -171,73 +168,67 @@ fn a_line_says_its_task_its_cpu_and_its_event(rt: HostRuntime) -> Result<(), Fai
 #[test]
 fn the_first_fault_of_a_line_is_its_refusal(rt: HostRuntime) {
     let cases = [
-        ("t-1 [1] x-2 [2] 1.5: tick:", TRACE_SYNTAX),
-        ("CPU:0 [LOST 3 EVENTS]", LOST_EVENTS),
-        ("CPU:EVENTS]", LOST_EVENTS),
-        ("CPU:0 [LOST 3 EVENTS]\r", TRACE_SYNTAX),
-        ("CPU:EVENTS] ", TRACE_SYNTAX),
-        (" CPU:0 [LOST 3 EVENTS]", TRACE_SYNTAX),
-        ("\r", TRACE_SYNTAX),
-        (" #", TRACE_SYNTAX),
-        ("t-1 [000] 1.000001 tick:", TRACE_SYNTAX),
-        ("t-1 [000] 1.000001: tick", TRACE_SYNTAX),
-        ("t-1 [000] 1.000001: :", TRACE_SYNTAX),
-        ("t-1 [000] 1.000001:", TRACE_SYNTAX),
-        ("t-1 [000] 1.000001: tick:\r", TRACE_SYNTAX),
-        ("t-1 [000] a b 1.000001: tick:", TRACE_SYNTAX),
-        ("t-1 [000] 1.: tick:", TRACE_SYNTAX),
-        ("t-1 [000] .1: tick:", TRACE_SYNTAX),
-        ("t-1 [000] 1.2.3: tick:", TRACE_SYNTAX),
-        ("t-1[000] 1.000001: tick:", TRACE_SYNTAX),
-        ("t-1 [000]1.000001: tick:", TRACE_SYNTAX),
-        ("t-1 [000]", TRACE_SYNTAX),
-        ("t- 1 [000] 1.000001: tick:", TRACE_SYNTAX),
-        ("t-1 [] 1.000001: tick:", TRACE_SYNTAX),
-        ("t1 [000] 1.000001: tick:", TRACE_SYNTAX),
-        ("t-1 (-----) [000] 1.000001: tick:", TRACE_SYNTAX),
-        ("t-4294967296 [000] 1.5: tick:", TRACE_SYNTAX),
-        ("t-4294967296 [064] 1.5: tick:", TRACE_SYNTAX),
-        ("t-99999999999999999999999 [0] 1.5: tick:", TRACE_SYNTAX),
-        ("t-1 [064] 1.5: tick:", TOO_MANY_CPUS),
-        ("t-1 [99999999999999999999999] 1.5: tick:", TOO_MANY_CPUS),
-        ("t-1 [064] 1.5 tick:", TRACE_SYNTAX),
-        ("cpus=4", TRACE_SYNTAX),
+        ("t-1 [1] x-2 [2] 1.5: tick:", 24, 1),
+        ("CPU:0 [LOST 3 EVENTS]", 25, 1),
+        ("CPU:EVENTS]", 25, 1),
+        ("CPU:0 [LOST 3 EVENTS]\r", 24, 1),
+        ("CPU:EVENTS] ", 24, 1),
+        (" CPU:0 [LOST 3 EVENTS]", 24, 1),
+        ("\r", 24, 1),
+        (" #", 24, 1),
+        ("t-1 [000] 1.000001 tick:", 24, 1),
+        ("t-1 [000] 1.000001: tick", 24, 1),
+        ("t-1 [000] 1.000001: :", 24, 1),
+        ("t-1 [000] 1.000001:", 24, 1),
+        ("t-1 [000] 1.000001: tick:\r", 24, 1),
+        ("t-1 [000] a b 1.000001: tick:", 24, 1),
+        ("t-1 [000] 1.: tick:", 24, 1),
+        ("t-1 [000] .1: tick:", 24, 1),
+        ("t-1 [000] 1.2.3: tick:", 24, 1),
+        ("t-1[000] 1.000001: tick:", 24, 1),
+        ("t-1 [000]1.000001: tick:", 24, 1),
+        ("t-1 [000]", 24, 1),
+        ("t- 1 [000] 1.000001: tick:", 24, 1),
+        ("t-1 [] 1.000001: tick:", 24, 1),
+        ("t1 [000] 1.000001: tick:", 24, 1),
+        ("t-1 (-----) [000] 1.000001: tick:", 24, 1),
+        ("t-4294967296 [000] 1.5: tick:", 24, 1),
+        ("t-4294967296 [064] 1.5: tick:", 24, 1),
+        ("t-99999999999999999999999 [0] 1.5: tick:", 24, 1),
+        ("t-1 [064] 1.5: tick:", 26, 1),
+        ("t-1 [99999999999999999999999] 1.5: tick:", 26, 1),
+        ("t-1 [064] 1.5 tick:", 24, 1),
+        ("cpus=4", 24, 1),
+        (
+            "#\nt-1 [000] 1.5: tick:\nt-1 [064] 1.5: tick:\ncpus=4\n",
+            26,
+            3,
+        ),
     ];
-    for (text, number) in cases {
+    for (text, number, line) in cases {
         assert!(rt;
-            is_refused(&rt, rt.alloc(), text.as_bytes(), number, 1),
+            is_refused(&rt, rt.alloc(), text.as_bytes(), number, line),
             "at {text}"
         );
     }
+}
+
+/// The line of this number, with its name and its fields at these places.
+fn line_is(line: &TraceLine, number: u32, name: (u32, u32), fields: (u32, u32)) -> bool {
+    line.number == number
+        && (line.name.from, line.name.to) == name
+        && (line.fields.from, line.fields.to) == fields
 }
 
 #[test]
 fn a_skipped_line_is_counted(rt: HostRuntime) -> Result<(), Fail> {
     let text = b"# tracer: nop\n\n \t \nt-1 [000] 1.5: tick:\n#\n\nt-2 [001] 1.6: tock: a=1";
     let lines = read(&rt, rt.alloc(), text)?;
-    assert_eq!(rt; lines.len(), 2);
-    assert_eq!(rt; lines[0].number, 4);
-    assert_eq!(rt; lines[0].name, Span { from: 34, to: 38 });
-    assert_eq!(rt; lines[0].fields, Span { from: 39, to: 39 });
-    assert_eq!(rt; lines[1].number, 7);
-    assert_eq!(rt; lines[1].name, Span { from: 58, to: 62 });
-    assert_eq!(rt; lines[1].fields, Span { from: 63, to: 67 });
-    Ok(())
-}
-
-#[test]
-fn the_first_line_with_a_fault_decides(rt: HostRuntime) {
-    let text = b"#\nt-1 [000] 1.5: tick:\nt-1 [064] 1.5: tick:\ncpus=4\n";
-    assert!(rt; is_refused(&rt, rt.alloc(), text, TOO_MANY_CPUS, 3));
-}
-
-#[test]
-fn a_million_lines_are_read_and_no_more(rt: HostRuntime) -> Result<(), Fail> {
-    let text = filled(rt.alloc(), b'\n', 1_000_000)?;
-    let lines = read(&rt, rt.alloc(), &text)?;
-    assert_eq!(rt; lines.len(), 0);
-    let text = filled(rt.alloc(), b'\n', 1_000_001)?;
-    assert!(rt; is_refused(&rt, rt.alloc(), &text, TOO_LONG, 1_000_001));
+    assert!(rt;
+        lines.len() == 2
+            && line_is(&lines[0], 4, (34, 38), (39, 39))
+            && line_is(&lines[1], 7, (58, 62), (63, 67))
+    );
     Ok(())
 }
 
@@ -245,9 +236,7 @@ fn a_million_lines_are_read_and_no_more(rt: HostRuntime) -> Result<(), Fail> {
 fn a_line_is_read_where_it_stands(rt: HostRuntime) -> Result<(), Fail> {
     let text = b"#\nt-1 [002] 1.5: tick: a=1\n";
     let line = read_line(text, 2, 26, 2).ok().flatten().ok_or("no line")?;
-    assert_eq!(rt; line.cpu, 2);
-    assert_eq!(rt; line.name, Span { from: 17, to: 21 });
-    assert_eq!(rt; line.fields, Span { from: 22, to: 26 });
+    assert!(rt; line.cpu == 2 && line_is(&line, 2, (17, 21), (22, 26)));
     Ok(())
 }
 
@@ -285,7 +274,7 @@ fn a_field_is_found_at_the_beginning_or_behind_a_blank(rt: HostRuntime) {
         ("a b=3", "a b", Some((4, 5))),
     ];
     for (fields, name, want) in cases {
-        assert_eq!(rt; found(&rt, fields, name), want, "at {fields}, {name}");
+        assert!(rt; found(&rt, fields, name) == want, "at {fields}, {name}");
     }
 }
 
@@ -299,59 +288,76 @@ fn piece<'a>(rt: &impl Abort, text: &'a [u8], span: Span) -> &'a [u8] {
     &text[from..to]
 }
 
-/// Takes the lines that are left. True where none was refused.
-fn takes_all(
-    rt: &impl Abort,
-    lines: &mut Lines,
-    wanted: &[Told<'_>],
-    seen: &mut usize,
-    end: Option<Refusal>,
-) -> bool {
+/// Whether the next line is this one.
+fn is_told(rt: &impl Abort, lines: &Lines, line: &TraceLine, told: Option<&Told<'_>>) -> bool {
+    match told {
+        Some((number, name, fields)) => {
+            line.number == *number
+                && piece(rt, lines.text(), line.name) == name.as_bytes()
+                && piece(rt, lines.text(), line.fields) == fields.as_bytes()
+        }
+        None => false,
+    }
+}
+
+/// What taking the lines came to.
+#[derive(Clone, Copy, Drop, PartialEq, Eq)]
+enum Took {
+    /// All that were there.
+    All,
+    /// All up to a refusal, which stays.
+    Refused(Refusal),
+    /// One that is not wanted.
+    Other,
+}
+
+/// Takes the lines that are left, which are the wanted ones from `seen` on.
+fn takes_all(rt: &impl Abort, lines: &mut Lines, wanted: &[Told<'_>], seen: &mut usize) -> Took {
     for _ in 0..100 {
         match lines.take() {
             Ok(Some(line)) => {
-                let (number, name, fields) = *wanted.get(*seen).expect(rt, "a line more");
-                assert_eq!(rt; line.number, number);
-                assert!(rt; piece(rt, lines.text(), line.name) == name.as_bytes());
-                assert!(rt; piece(rt, lines.text(), line.fields) == fields.as_bytes());
+                if !is_told(rt, lines, &line, wanted.get(*seen)) {
+                    return Took::Other;
+                }
                 *seen = seen.wrapping_add(1);
             }
-            Ok(None) => return true,
+            Ok(None) => return Took::All,
             Err(refusal) => {
-                assert_eq!(rt; Some(refusal), end);
-                assert_eq!(rt; lines.take(), Err(refusal));
-                return false;
+                let stays = lines.take() == Err(refusal);
+                return if stays {
+                    Took::Refused(refusal)
+                } else {
+                    Took::Other
+                };
             }
         }
     }
-    true
+    Took::Other
 }
 
-/// Feeds the text in pieces of this size, and takes its lines.
-fn streams(
+/// Feeds the text in pieces of this size, and takes its lines: how many of the wanted ones came, and what ended them.
+fn streamed(
     rt: &impl Abort,
     alloc: Global,
-    row: (&str, &[Told<'_>], Option<Refusal>),
+    text: &str,
+    wanted: &[Told<'_>],
     size: usize,
-) -> Result<(), Fail> {
-    let (text, wanted, end) = row;
+) -> Result<(usize, Took), Fail> {
     let mut lines = Lines::new(alloc);
     let mut seen = 0;
     assert!(rt; size > 0);
     for piece in text.as_bytes().chunks(size) {
-        assert!(rt; lines.is_ready(), "at {text}");
+        assert!(rt; lines.is_ready());
         lines.feed(piece)?;
-        if !takes_all(rt, &mut lines, wanted, &mut seen, end) {
-            assert_eq!(rt; seen, wanted.len(), "at {text}");
-            return Ok(());
+        let took = takes_all(rt, &mut lines, wanted, &mut seen);
+        if took != Took::All {
+            return Ok((seen, took));
         }
     }
-    assert!(rt; lines.is_ready(), "at {text}");
+    assert!(rt; lines.is_ready());
     lines.finish();
-    let whole = takes_all(rt, &mut lines, wanted, &mut seen, end);
-    assert_eq!(rt; whole, end.is_none(), "at {text}");
-    assert_eq!(rt; seen, wanted.len(), "at {text}");
-    Ok(())
+    let took = takes_all(rt, &mut lines, wanted, &mut seen);
+    Ok((seen, took))
 }
 
 #[test]
@@ -373,23 +379,28 @@ fn a_stream_gives_the_lines_of_its_text_however_it_is_cut(rt: HostRuntime) -> Re
         (
             "#\nt-1 [000] 1.5: tick:\ncpus=4\nt-1 [000] 1.5: tock:\n",
             &[(2, "tick", "")],
-            Some(Refusal::at(TRACE_SYNTAX, 3)),
+            Some(Refusal::at(24, 3)),
         ),
         (
             "t-1 [000] 1.5: tick:\n\nCPU:0 [LOST 3 EVENTS]",
             &[(1, "tick", "")],
-            Some(Refusal::at(LOST_EVENTS, 3)),
+            Some(Refusal::at(25, 3)),
         ),
         (
             "t-1 [063] 1.5: tick:\nt-1 [064] 1.5: tick:",
             &[(1, "tick", "")],
-            Some(Refusal::at(TOO_MANY_CPUS, 2)),
+            Some(Refusal::at(26, 2)),
         ),
-        ("t-1 [000] 1.5:", &[], Some(Refusal::at(TRACE_SYNTAX, 1))),
+        ("t-1 [000] 1.5:", &[], Some(Refusal::at(24, 1))),
     ];
-    for row in cases {
+    for (text, wanted, end) in cases {
+        let whole = (
+            wanted.len(),
+            end.map_or(Took::All, |refusal| Took::Refused(refusal)),
+        );
         for size in [1, 2, 7, 30, 1000] {
-            streams(&rt, rt.alloc(), row, size)?;
+            let came = streamed(&rt, rt.alloc(), text, wanted, size)?;
+            assert!(rt; came == whole, "in pieces of {size}: {text}");
         }
     }
     Ok(())
@@ -400,31 +411,15 @@ fn a_line_is_given_once_its_end_was_fed(rt: HostRuntime) -> Result<(), Fail> {
     let mut lines = Lines::new(rt.alloc());
     assert!(rt; lines.is_ready());
     lines.feed(b"t-1 [000] 1.5: tick: a=1")?;
-    assert_eq!(rt; lines.take(), Ok(None));
+    assert!(rt; lines.take() == Ok(None));
     assert!(rt; lines.is_ready());
     lines.feed(b"\nt-1")?;
     assert!(rt; !lines.is_ready());
     let line = lines.take().ok().flatten().ok_or("no line")?;
-    assert_eq!(rt; line.name, Span { from: 15, to: 19 });
-    assert!(rt; lines.text() == b"t-1 [000] 1.5: tick: a=1".as_slice());
-    assert_eq!(rt; lines.take(), Ok(None));
-    Ok(())
-}
-
-#[test]
-fn a_stream_has_a_million_lines_and_no_more(rt: HostRuntime) -> Result<(), Fail> {
-    let piece = filled(rt.alloc(), b'\n', 500_000)?;
-    let mut lines = Lines::new(rt.alloc());
-    for _ in 0..2 {
-        assert!(rt; lines.is_ready());
-        lines.feed(&piece)?;
-        assert_eq!(rt; lines.take(), Ok(None));
-    }
-    assert!(rt; lines.is_ready());
-    lines.feed(b"t")?;
-    assert_eq!(rt; lines.take(), Ok(None));
-    assert!(rt; lines.is_ready());
-    lines.finish();
-    assert_eq!(rt; lines.take(), Err(Refusal::at(TOO_LONG, 1_000_001)));
+    assert!(rt;
+        line_is(&line, 1, (15, 19), (20, 24))
+            && lines.text() == b"t-1 [000] 1.5: tick: a=1".as_slice()
+    );
+    assert!(rt; lines.take() == Ok(None));
     Ok(())
 }

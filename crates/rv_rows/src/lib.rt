@@ -1,19 +1,15 @@
-//! What crosses crates: formulas as tables, and tests of tables, bindings, routing and control files.
+//! What crosses crates: formulas as tables, and tests of tables, the plain programs, routing and control files.
 #![tactic(auto)]
 
-#[cfg(test)]
-mod bind;
 #[cfg(test)]
 mod control;
 mod formulas;
 #[cfg(test)]
-mod machine;
+mod plain;
 #[cfg(test)]
 mod route;
 #[cfg(test)]
 mod slots;
-#[cfg(test)]
-mod tableau;
 #[cfg(test)]
 mod tables;
 

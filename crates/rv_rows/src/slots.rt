@@ -15,10 +15,13 @@ fn idle_tasks_are_one_for_each_cpu(rt: HostRuntime) -> Result<(), Fail> {
         (8, 1, 3),
     ];
     for (pid, cpu, number) in cases {
-        assert_eq!(rt; tasks.number(pid, cpu)?, number, "at {pid} on {cpu}");
-        assert_eq!(rt; tasks.find(pid, cpu), Some(number), "at {pid} on {cpu}");
+        let given = tasks.number(pid, cpu)?;
+        assert!(rt;
+            given == number && tasks.find(pid, cpu) == Some(number),
+            "at {pid} on {cpu}"
+        );
     }
-    assert_eq!(rt; tasks.len(), 4);
+    assert!(rt; tasks.len() == 4);
     Ok(())
 }
 
@@ -26,11 +29,9 @@ fn idle_tasks_are_one_for_each_cpu(rt: HostRuntime) -> Result<(), Fail> {
 fn slots_are_numbered_by_monitor_and_instance(rt: HostRuntime) -> Result<(), Fail> {
     let scopes = [Scope::Global, Scope::Task, Scope::Cpu];
     let shape = Shape::new(rt.alloc(), &scopes, 3)?;
-    assert_eq!(rt; shape.slots(), 68);
+    assert!(rt; shape.slots() == 68);
     for (slot, monitor, instance) in [(0, 0, 0), (3, 1, 2), (4, 2, 0), (67, 2, 63)] {
-        if slot < shape.slots() {
-            assert_eq!(rt; shape.place(slot), Place { monitor, instance }, "at {slot}");
-        }
+        assert!(rt; slot < shape.slots() && shape.place(slot) == Place { monitor, instance });
     }
     Ok(())
 }

@@ -1,7 +1,7 @@
 //! Histories of automata. The events of wip are preempt_disable 0, preempt_enable 1 and sched_waking 2;
 //! it begins in row 1, preemptive, and row 2 is non_preemptive.
-use crate::tests::given::Does::{Clear, End, Event, Start, StartRun, Stop};
-use crate::tests::given::{ROW_1, ROW_2, Step, WAITS, check_all, two_automata};
+use crate::plain::given::Does::{Clear, End, Event, Start, StartRun, Stop};
+use crate::plain::given::{ROW_1, ROW_2, Step, WAITS, check_all, two_automata};
 use rv_model::Answer;
 use std::test::Fail;
 

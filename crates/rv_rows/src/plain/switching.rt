@@ -1,6 +1,6 @@
 //! Histories of the switches, and what lies between an instance's events.
-use crate::tests::given::Does::{Event, Look, Lower, Raise, Start};
-use crate::tests::given::{OPENING, ROW_1, ROW_2, Step, check_all, two_automata};
+use crate::plain::given::Does::{Event, Look, Lower, Raise, Start};
+use crate::plain::given::{OPENING, ROW_1, ROW_2, Step, check_all, two_automata};
 use rv_model::Answer;
 use std::test::Fail;
 

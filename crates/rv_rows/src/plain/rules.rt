@@ -1,8 +1,8 @@
 //! Histories of rules. An atom's place is its letter's: A is 1, B is 2 in a set. A row's labels are its texts.
-use crate::plan::Plan;
-use crate::tests::given::Does::{Atoms, Clear, End, RunAtoms, Stop};
-use crate::tests::given::{ROW_1, ROW_2, ROW_3, Step, WAITS, check_all, one_rule, rows};
+use crate::plain::given::Does::{Atoms, Clear, End, RunAtoms, Stop};
+use crate::plain::given::{ROW_1, ROW_2, ROW_3, Step, WAITS, check_all, one_rule, rows};
 use rv_model::Answer;
+use rv_plain::Plan;
 use std::alloc::{AllocError, Global};
 use std::process::Abort;
 use std::test::Fail;

@@ -1,7 +1,7 @@
 //! Satisfaction of small formulas on short letters, and the rows that letters reach.
-use crate::satisfaction::{View, satisfies};
-use crate::tests::given::{formula, one_rule, rows};
+use crate::plain::given::{formula, one_rule, rows};
 use rv_model::Letter;
+use rv_plain::{View, satisfies};
 use std::alloc::{AllocError, Global};
 use std::process::Abort;
 use std::test::Fail;
@@ -80,16 +80,11 @@ fn formulas_hold_weakly_and_strongly_as_they_read(rt: HostRuntime) -> Result<(),
     for (text, word, weakly, strongly) in cases {
         let formula = formula(&rt, rt.alloc(), text)?;
         let word = letters(&rt, rt.alloc(), word)?;
-        assert_eq!(rt;
-            satisfies(&formula, View::Weak, word.as_slice()),
-            weakly,
-            "weakly {text}"
+        let holds = (
+            satisfies(&formula, View::Weak, &word),
+            satisfies(&formula, View::Strong, &word),
         );
-        assert_eq!(rt;
-            satisfies(&formula, View::Strong, word.as_slice()),
-            strongly,
-            "strongly {text}"
-        );
+        assert!(rt; holds == (weakly, strongly), "at {text}");
     }
     Ok(())
 }
@@ -121,7 +116,7 @@ fn the_sleep_rule_fails_where_its_rows_end(rt: HostRuntime) -> Result<(), Fail> 
     }
     let nodes = rows(&rt, rt.alloc(), list.as_slice())?;
     let plan = one_rule(&rt, rt.alloc(), "ABC!Du&E|>a", nodes, 0)?;
-    assert_eq!(rt; plan.monitors.len(), 1);
+    assert!(rt; plan.monitors.len() == 1);
     // the letters, and the rows that they reach; A is 1, B 2, C 4, D 8, E 16
     let cases: [(&[u32], u32); 9] = [
         (&[], 1),
@@ -139,16 +134,10 @@ fn the_sleep_rule_fails_where_its_rows_end(rt: HostRuntime) -> Result<(), Fail> 
         for set in sets {
             word.push(Letter::Atoms(*set))?;
         }
-        assert_eq!(rt;
-            plan.monitors[0].rows(word.as_slice()),
-            wanted,
-            "after {}",
-            sets.len()
-        );
-        let reached = wanted != 0;
-        assert_eq!(rt;
-            plan.monitors[0].is_good(word.as_slice()),
-            reached,
+        let reached = plan.monitors[0].rows(&word);
+        let good = plan.monitors[0].is_good(&word);
+        assert!(rt;
+            reached == wanted && good == (wanted != 0),
             "after {}",
             sets.len()
         );

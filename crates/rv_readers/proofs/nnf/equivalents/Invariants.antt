@@ -1,5 +1,0 @@
-use Rattle.rv_model.specs.Formulas.{ltl, HasAtomsBelow}
-use Rattle.rv_readers.proofs.nnf.equivalents.Given as goal
-
-abbrev pub invariant-loop : goal.invariant-loop
-invariant-loop l = HasAtomsBelow 32 (ltl l.made)

@@ -1,5 +1,0 @@
-use Rattle.rv_model.specs.Formulas.{ltl, HasAtomsBelow}
-use Rattle.rv_rows.proofs.tableau.forks.Given as goal
-
-abbrev pub invariant-loop : goal.invariant-loop
-invariant-loop l = HasAtomsBelow 32 (ltl l.f)
