@@ -78,10 +78,10 @@ sub is_sound {
     return $cpu < CPUS && $pid <= MAX_PID;
 }
 
-# A new file to write; what is there is replaced.
+# A new file to write; what is there is replaced. Where there can be none, the handler is told why.
 sub open_output {
-    my ($path) = @_;
-    open my $file, '>:raw', $path or stop(3, "cannot write $path: $!");
+    my ($path, $give_up) = @_;
+    open my $file, '>:raw', $path or ($give_up // \&stop)->(3, "cannot write $path: $!");
     return $file;
 }
 
