@@ -1,0 +1,78 @@
+"""What tests of tools with stored outputs share: each case is a command of the shell, and what it prints has to be what is stored.
+
+The commands run in a copy of the repository's top without its crates, where `rv` is the built program and the tools are on the PATH.
+"""
+import argparse
+import difflib
+import os
+import re
+import shutil
+import subprocess
+import sys
+import tempfile
+
+ROOT = os.path.dirname(os.path.dirname(os.path.dirname(os.path.realpath(__file__))))
+LATEST = 60  # seconds for a command
+
+
+def blocks_of(path):
+    """The stored outputs by their commands."""
+    try:
+        with open(path, encoding="utf-8", errors="surrogateescape", newline="\n") as file:
+            parts = re.split(r"^\$ (.*)\n", file.read(), flags=re.M)
+    except FileNotFoundError:
+        parts = [""]
+    return dict(zip(parts[1::2], parts[2::2]))
+
+
+def run(command, top, environment):
+    """What a command prints, standard error behind standard output, and its status."""
+    ran = subprocess.run(["bash", "-c", command], cwd=top, env=environment, stdin=subprocess.DEVNULL, capture_output=True, check=False, timeout=LATEST)
+    text = (ran.stdout + ran.stderr).decode("utf-8", "surrogateescape")
+    return text + ("" if text.endswith("\n") or not text else "\n") + f"status {ran.returncode}\n"
+
+
+def main(name, describe, commands, needs=(), files=()):
+    """Runs the commands; ends with 0 where all agree, 1 where one differs, 3 where the program or a tool is missing."""
+    parser = argparse.ArgumentParser(description=describe, formatter_class=argparse.RawDescriptionHelpFormatter)
+    parser.add_argument("--program", default=f"{ROOT}/crates/rv/out/rv", help="the built program (default: crates/rv/out/rv)")
+    parser.add_argument("--store", action="store_true", help="write the stored outputs anew")
+    given = parser.parse_args()
+    for missing in [it for it in needs if not shutil.which(it)]:
+        print(f"{name}: {missing} is missing")
+        return 3
+    if not os.access(given.program, os.X_OK):
+        print(f"{name}: {given.program} is not the built program; ./rv builds it")
+        return 3
+    path, outputs, differ = f"{ROOT}/tools/test/{name}.stored", [], 0
+    stored = blocks_of(path)
+    with tempfile.TemporaryDirectory() as room:
+        top = os.path.join(os.path.realpath(room), "top")
+        os.makedirs(f"{top}/crates/rv/out")
+        for it in ("docs", "tools"):
+            shutil.copytree(f"{ROOT}/{it}", f"{top}/{it}")
+        shutil.copytree(os.path.realpath(f"{ROOT}/examples"), f"{top}/examples")
+        os.symlink(os.path.abspath(given.program), f"{top}/crates/rv/out/rv")
+        for file, text in files:
+            with open(f"{top}/{file}", "w", encoding="utf-8", newline="\n") as to:
+                to.write(text)
+        environment = dict(os.environ, LC_ALL="C.UTF-8", PATH=f"{top}/tools:{top}/crates/rv/out:{os.environ['PATH']}")
+        for command in commands:
+            said = run(command, top, environment).replace(top, "TOP")
+            outputs.append(f"$ {command}\n{said}")
+            if said != stored.get(command):
+                differ += 1
+                if not given.store:
+                    changes = difflib.unified_diff(stored.get(command, "").splitlines(), said.splitlines(), "stored", "said", lineterm="")
+                    print(f"$ {command}", *changes, sep="\n    ")
+    if given.store:
+        with open(path, "w", encoding="utf-8", errors="surrogateescape", newline="\n") as file:
+            file.write("".join(outputs))
+        print(f"{name}: {len(outputs)} outputs stored, {differ} of them new")
+        return 0
+    print(f"{name}: {len(commands) - differ} of {len(commands)} commands agree")
+    return 1 if differ else 0
+
+
+def finish(*words, **more):
+    sys.exit(main(*words, **more))
