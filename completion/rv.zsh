@@ -1,0 +1,40 @@
+#compdef @PROGRAM@
+# zsh completion for @PROGRAM@
+
+# The shown names of the monitors of a bindings file.
+_@PROGRAM@_monitors() {
+    local -a monitors
+    monitors=(${(f)"$(awk '$1 == "monitor" { print ($6 == "in" ? $7 ":" : "") $2 }' ${(Q)words[3]} 2>/dev/null)"})
+    compadd -a monitors
+}
+
+_@PROGRAM@() {
+    local -a commands
+    commands=(
+        'replay:the report of a run in the order of the trace'
+        'feed:the report of a run with a thread for each CPU'
+        'watch:the same, and the words of one instance'
+        'journal:the history of such a run'
+        'check:whether a text is the journal of a legal history'
+        'control:commands on the control files, without a trace'
+        'load:feed on a generated input'
+        'table:the table of an automaton or of a rule'
+        'header:an automaton as C tables'
+    )
+    if ((CURRENT == 2)); then
+        _describe command commands
+        return
+    fi
+    case $CURRENT:$words[2] in
+    3:(replay|feed|watch|journal|check|control)) _files -g '*.rv' ;;
+    4:(replay|feed|watch|journal|check)) _files -g '*.txt' ;;
+    5:watch) _@PROGRAM@_monitors ;;
+    3:table) compadd da ltl ;;
+    4:table) if [[ $words[3] = ltl ]]; then _files -g '*.ltl'; else _files -g '*.dot'; fi ;;
+    4:header) _files -g '*.dot' ;;
+    # a script, a journal
+    4:control | 5:(feed|check)) _files ;;
+    esac
+}
+
+_@PROGRAM@ "$@"
