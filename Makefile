@@ -1,0 +1,88 @@
+# Installs rv with its tools, pages and monitors, and makes what is given to others. `make help` says how; docs/INSTALL.md has more.
+# Nothing is proved here but by ./rv, which tells what it does, and by the gate, which tools/release runs.
+
+PREFIX = /usr/local
+DESTDIR =
+# The name under which the program is installed, since Linux's tools/verification has a program rv too. The pages rv(1), rv-tools(7),
+# rv-bindings(5) and rv-trace(5), the completions and the folders below share follow it.
+PROGRAM = rv
+# A built program to install. Where none is given, it is that of this checkout, which ./rv builds where it is missing or old.
+BUILT =
+
+BINDIR = $(PREFIX)/bin
+DATADIR = $(PREFIX)/share/$(PROGRAM)
+DOCDIR = $(PREFIX)/share/doc/$(PROGRAM)
+MANDIR = $(PREFIX)/share/man
+BASHDIR = $(PREFIX)/share/bash-completion/completions
+ZSHDIR = $(PREFIX)/share/zsh/site-functions
+
+# The version stands once, in the first heading of the changes.
+VERSION := $(shell sed -n 's/^\#\# *//p' CHANGELOG.md | head -n 1)
+SHELL = /bin/sh
+
+# Tools keep their names, and those without the prefix have it below bin.
+TOOLS := $(notdir $(wildcard tools/rv-*))
+OTHER_TOOLS := record compare-kernel draw
+PAGES := README.md CHANGELOG.md CONTRIBUTING.md docs
+MANUALS := rv.1 rv-tools.7 rv-bindings.5 rv-trace.5
+
+fill = sed -e 's/@PROGRAM@/$(PROGRAM)/g' -e 's/@VERSION@/$(VERSION)/g' -e 's|@DATADIR@|$(DATADIR)|g'
+# rv-tools.7 becomes PROGRAM-tools.7
+manual = $(patsubst rv%,$(PROGRAM)%,$(1))
+section = $(subst .,,$(suffix $(1)))
+
+.PHONY: help install uninstall check-man dist deb
+.SILENT:
+
+help:
+	echo "make install     the program, the tools, the documents, the monitors, manual pages and completions, below PREFIX"
+	echo "make uninstall   takes away what install put there, with the same words"
+	echo "make check-man   looks whether man finds a fault in the manual pages"
+	echo "make dist        out/rv-$(VERSION)-x86_64-linux.tar.gz, after the gate passed; with TRIAL=1 a trial without the gate"
+	echo "make deb         the same as a package of Debian"
+	echo
+	echo "PREFIX=$(PREFIX) DESTDIR=$(DESTDIR) PROGRAM=$(PROGRAM)"
+
+# Copies the files of a folder, links followed, below share/PROGRAM.
+copy = find -L $(1) -name __pycache__ -prune -o -type f -exec sh -c \
+	'for file; do install -D -m 644 "$$file" "$$0/$$file" || exit; done' "$(DESTDIR)$(DATADIR)" {} +
+
+install:
+	case "$(PROGRAM)" in '' | *[!a-z0-9_-]*) echo "make: PROGRAM is a name of a-z, 0-9, _ and -" >&2; exit 2 ;; esac
+	[ -n "$(BUILT)" ] || { ./rv > /dev/null; [ $$? -eq 2 ]; }
+	install -D -m 755 "$(or $(BUILT),crates/rv/out/rv)" "$(DESTDIR)$(BINDIR)/$(PROGRAM)"
+	$(call copy,tools/lib $(PAGES) examples monitors)
+	for tool in $(TOOLS) $(OTHER_TOOLS); do \
+		install -D -m 755 "tools/$$tool" "$(DESTDIR)$(DATADIR)/tools/$$tool" && \
+		ln -sfn "../share/$(PROGRAM)/tools/$$tool" "$(DESTDIR)$(BINDIR)/rv-$${tool#rv-}" || exit; \
+	done
+	# share/PROGRAM is laid out as a checkout: there the tools find their program, by two links
+	mkdir -p "$(DESTDIR)$(DATADIR)/crates/rv/out" "$(DESTDIR)$(DOCDIR)"
+	ln -sfn "../../bin/$(PROGRAM)" "$(DESTDIR)$(DATADIR)/rv"
+	ln -sfn "../../../../../bin/$(PROGRAM)" "$(DESTDIR)$(DATADIR)/crates/rv/out/rv"
+	for page in $(PAGES) examples monitors; do ln -sfn "../../$(PROGRAM)/$$page" "$(DESTDIR)$(DOCDIR)/$$page" || exit; done
+	$(foreach page,$(MANUALS),mkdir -p "$(DESTDIR)$(MANDIR)/man$(call section,$(page))" && \
+		$(fill) man/$(page).in > "$(DESTDIR)$(MANDIR)/man$(call section,$(page))/$(call manual,$(page))" &&) :
+	mkdir -p "$(DESTDIR)$(BASHDIR)" "$(DESTDIR)$(ZSHDIR)"
+	$(fill) completion/rv.bash > "$(DESTDIR)$(BASHDIR)/$(PROGRAM)"
+	$(fill) completion/rv.zsh > "$(DESTDIR)$(ZSHDIR)/_$(PROGRAM)"
+
+uninstall:
+	case "$(PROGRAM)" in '' | *[!a-z0-9_-]*) echo "make: PROGRAM is a name of a-z, 0-9, _ and -" >&2; exit 2 ;; esac
+	rm -f "$(DESTDIR)$(BINDIR)/$(PROGRAM)" "$(DESTDIR)$(BASHDIR)/$(PROGRAM)" "$(DESTDIR)$(ZSHDIR)/_$(PROGRAM)"
+	for tool in $(TOOLS) $(OTHER_TOOLS); do \
+		link="$(DESTDIR)$(BINDIR)/rv-$${tool#rv-}"; \
+		[ "$$(readlink "$$link")" != "../share/$(PROGRAM)/tools/$$tool" ] || rm -f "$$link"; \
+	done
+	$(foreach page,$(MANUALS),rm -f "$(DESTDIR)$(MANDIR)/man$(call section,$(page))/$(call manual,$(page))";)
+	rm -rf "$(DESTDIR)$(DATADIR)" "$(DESTDIR)$(DOCDIR)"
+
+# (man says what it finds on standard error, and ends with 0)
+check-man:
+	for page in $(MANUALS); do \
+		said=$$($(fill) "man/$$page.in" | LC_ALL=C.UTF-8 MANROFFSEQ= MANWIDTH=80 man --warnings -E UTF-8 -l - 2>&1 > /dev/null); \
+		[ -z "$$said" ] || { echo "man/$$page.in: $$said" >&2; exit 1; }; \
+	done
+
+dist deb:
+	tools/release $(if $(TRIAL),--trial) $@
