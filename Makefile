@@ -15,6 +15,8 @@ DOCDIR = $(PREFIX)/share/doc/$(PROGRAM)
 MANDIR = $(PREFIX)/share/man
 BASHDIR = $(PREFIX)/share/bash-completion/completions
 ZSHDIR = $(PREFIX)/share/zsh/site-functions
+# How the manual pages name DATADIR.
+SHOWN_DATADIR = $(DATADIR)
 
 # The version stands once, in the first heading of the changes.
 VERSION := $(shell sed -n 's/^\#\# *//p' CHANGELOG.md | head -n 1)
@@ -26,7 +28,7 @@ OTHER_TOOLS := record compare-kernel draw
 PAGES := README.md CHANGELOG.md CONTRIBUTING.md docs
 MANUALS := rv.1 rv-tools.7 rv-bindings.5 rv-trace.5
 
-fill = sed -e 's/@PROGRAM@/$(PROGRAM)/g' -e 's/@VERSION@/$(VERSION)/g' -e 's|@DATADIR@|$(DATADIR)|g'
+fill = sed -e 's/@PROGRAM@/$(PROGRAM)/g' -e 's/@VERSION@/$(VERSION)/g' -e 's|@DATADIR@|$(SHOWN_DATADIR)|g'
 # rv-tools.7 becomes PROGRAM-tools.7
 manual = $(patsubst rv%,$(PROGRAM)%,$(1))
 section = $(subst .,,$(suffix $(1)))
@@ -54,7 +56,9 @@ install:
 	$(call copy,tools/lib $(PAGES) examples monitors)
 	for tool in $(TOOLS) $(OTHER_TOOLS); do \
 		install -D -m 755 "tools/$$tool" "$(DESTDIR)$(DATADIR)/tools/$$tool" && \
-		ln -sfn "../share/$(PROGRAM)/tools/$$tool" "$(DESTDIR)$(BINDIR)/rv-$${tool#rv-}" || exit; \
+		ln -sfn "../share/$(PROGRAM)/tools/$$tool" "$(DESTDIR)$(BINDIR)/rv-$${tool#rv-}" && \
+		mkdir -p "$(DESTDIR)$(MANDIR)/man1" && \
+		echo ".so man7/$(call manual,rv-tools.7)" > "$(DESTDIR)$(MANDIR)/man1/rv-$${tool#rv-}.1" || exit; \
 	done
 	# share/PROGRAM is laid out as a checkout: there the tools find their program, by two links
 	mkdir -p "$(DESTDIR)$(DATADIR)/crates/rv/out" "$(DESTDIR)$(DOCDIR)"
@@ -71,8 +75,9 @@ uninstall:
 	case "$(PROGRAM)" in '' | *[!a-z0-9_-]*) echo "make: PROGRAM is a name of a-z, 0-9, _ and -" >&2; exit 2 ;; esac
 	rm -f "$(DESTDIR)$(BINDIR)/$(PROGRAM)" "$(DESTDIR)$(BASHDIR)/$(PROGRAM)" "$(DESTDIR)$(ZSHDIR)/_$(PROGRAM)"
 	for tool in $(TOOLS) $(OTHER_TOOLS); do \
-		link="$(DESTDIR)$(BINDIR)/rv-$${tool#rv-}"; \
-		[ "$$(readlink "$$link")" != "../share/$(PROGRAM)/tools/$$tool" ] || rm -f "$$link"; \
+		name="rv-$${tool#rv-}"; \
+		[ "$$(readlink "$(DESTDIR)$(BINDIR)/$$name")" != "../share/$(PROGRAM)/tools/$$tool" ] || \
+			rm -f "$(DESTDIR)$(BINDIR)/$$name" "$(DESTDIR)$(MANDIR)/man1/$$name.1"; \
 	done
 	$(foreach page,$(MANUALS),rm -f "$(DESTDIR)$(MANDIR)/man$(call section,$(page))/$(call manual,$(page))";)
 	rm -rf "$(DESTDIR)$(DATADIR)" "$(DESTDIR)$(DOCDIR)"
