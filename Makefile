@@ -33,7 +33,7 @@ fill = sed -e 's/@PROGRAM@/$(PROGRAM)/g' -e 's/@VERSION@/$(VERSION)/g' -e 's|@DA
 manual = $(patsubst rv%,$(PROGRAM)%,$(1))
 section = $(subst .,,$(suffix $(1)))
 
-.PHONY: help install uninstall check-man dist deb
+.PHONY: help install name files uninstall check-man dist deb
 .SILENT:
 
 help:
@@ -45,17 +45,23 @@ help:
 	echo
 	echo "PREFIX=$(PREFIX) DESTDIR=$(DESTDIR) PROGRAM=$(PROGRAM)"
 
-# Copies the files of a folder, links followed, below share/PROGRAM.
-copy = find -L $(1) -name __pycache__ -prune -o -type f -exec sh -c \
-	'for file; do install -D -m 644 "$$file" "$$0/$$file" || exit; done' "$(DESTDIR)$(DATADIR)" {} +
+# Copies files and those of folders, links followed, below share/PROGRAM.
+copy = mkdir -p "$(DESTDIR)$(DATADIR)" && \
+	find -L $(1) -name __pycache__ -prune -o -type f -exec cp --parents -t "$(DESTDIR)$(DATADIR)" {} + && \
+	chmod -R u=rwX,go=rX "$(DESTDIR)$(DATADIR)"
 
-install:
+# (all may read what is installed, whoever installs it)
+install: name
+	umask 022; $(MAKE) --no-print-directory files
+
+name:
 	case "$(PROGRAM)" in '' | *[!a-z0-9_-]*) echo "make: PROGRAM is a name of a-z, 0-9, _ and -" >&2; exit 2 ;; esac
+
+files:
 	[ -n "$(BUILT)" ] || { ./rv > /dev/null; [ $$? -eq 2 ]; }
 	install -D -m 755 "$(or $(BUILT),crates/rv/out/rv)" "$(DESTDIR)$(BINDIR)/$(PROGRAM)"
-	$(call copy,tools/lib $(PAGES) examples monitors)
+	$(call copy,tools/lib $(addprefix tools/,$(TOOLS) $(OTHER_TOOLS)) $(PAGES) examples monitors)
 	for tool in $(TOOLS) $(OTHER_TOOLS); do \
-		install -D -m 755 "tools/$$tool" "$(DESTDIR)$(DATADIR)/tools/$$tool" && \
 		ln -sfn "../share/$(PROGRAM)/tools/$$tool" "$(DESTDIR)$(BINDIR)/rv-$${tool#rv-}" && \
 		mkdir -p "$(DESTDIR)$(MANDIR)/man1" && \
 		echo ".so man7/$(call manual,rv-tools.7)" > "$(DESTDIR)$(MANDIR)/man1/rv-$${tool#rv-}.1" || exit; \
@@ -71,13 +77,12 @@ install:
 	$(fill) completion/rv.bash > "$(DESTDIR)$(BASHDIR)/$(PROGRAM)"
 	$(fill) completion/rv.zsh > "$(DESTDIR)$(ZSHDIR)/_$(PROGRAM)"
 
-uninstall:
-	case "$(PROGRAM)" in '' | *[!a-z0-9_-]*) echo "make: PROGRAM is a name of a-z, 0-9, _ and -" >&2; exit 2 ;; esac
+uninstall: name
 	rm -f "$(DESTDIR)$(BINDIR)/$(PROGRAM)" "$(DESTDIR)$(BASHDIR)/$(PROGRAM)" "$(DESTDIR)$(ZSHDIR)/_$(PROGRAM)"
-	for tool in $(TOOLS) $(OTHER_TOOLS); do \
-		name="rv-$${tool#rv-}"; \
-		[ "$$(readlink "$(DESTDIR)$(BINDIR)/$$name")" != "../share/$(PROGRAM)/tools/$$tool" ] || \
-			rm -f "$(DESTDIR)$(BINDIR)/$$name" "$(DESTDIR)$(MANDIR)/man1/$$name.1"; \
+	for link in "$(DESTDIR)$(BINDIR)"/rv-*; do \
+		case $$(readlink "$$link") in \
+		"../share/$(PROGRAM)/tools/"*) rm -f "$$link" "$(DESTDIR)$(MANDIR)/man1/$${link##*/}.1" ;; \
+		esac; \
 	done
 	$(foreach page,$(MANUALS),rm -f "$(DESTDIR)$(MANDIR)/man$(call section,$(page))/$(call manual,$(page))";)
 	rm -rf "$(DESTDIR)$(DATADIR)" "$(DESTDIR)$(DOCDIR)"
