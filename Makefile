@@ -35,6 +35,7 @@ section = $(subst .,,$(suffix $(1)))
 
 .PHONY: help install name files uninstall check-man dist deb
 .SILENT:
+.NOTPARALLEL:
 
 help:
 	echo "make install     the program, the tools, the documents, the monitors, manual pages and completions, below PREFIX"
