@@ -3,7 +3,7 @@ package RvTrace;
 use strict;
 use warnings;
 use Exporter 'import';
-our @EXPORT_OK = qw($EVENT_LINE MAX_LINES MAX_BYTES stop read_bindings decimal field is_note is_sound open_output);
+our @EXPORT_OK = qw($EVENT_LINE MAX_LINES MAX_BYTES MAX_PID CPUS stop read_bindings decimal field is_note is_sound open_output);
 
 use constant MAX_LINES => 1_000_000;
 use constant MAX_BYTES => 134_217_728;
