@@ -2,7 +2,9 @@ pub mod ChainLemmas
 pub mod CountLemmas
 pub mod ExitLemmas
 pub mod FoundLemmas
+pub mod GrowingTexts
 pub mod PrintedLemmas
 pub mod StateLemmas
 pub mod SummaryLemmas
+pub mod TableauLemmas
 pub mod TallyLemmas

@@ -1,3 +1,5 @@
+pub mod AutomatonTexts
 pub mod Exit
+pub mod FormulaTexts
 pub mod Shown
 pub mod Tallies

@@ -1,23 +1,13 @@
 //! How monitors and their instances are called.
-ghost use Rattle.std.specs.Prelude.{◌≡◌, ◌++◌, [], OnOk, slice_index_or};
+ghost use Rattle.std.specs.Prelude.{◌≡◌, ◌++◌, OnOk};
 ghost use Rattle.rv_model.specs.Reports.{task_at, task_text, place_text};
 ghost use Rattle.rv_report.specs.Shown.{shown_by};
 
+use crate::names::put_name;
 use rv_model::{Name, Names, Scope, Task};
 use rv_slots::Tasks;
 use rv_text::Line;
 use std::alloc::AllocError;
-
-/// Appends the name at this place, where there is one.
-fn name_at(out: &mut Line, names: &Names, place: usize) -> Result<(), AllocError>
-    ensures { OnOk result (out.new ≡ out.old ++ slice_index_or names.now place []) }
-{
-    if place < names.len() {
-        out.text(names.get(place).bytes())
-    } else {
-        Ok(())
-    }
-}
 
 /// Appends a monitor's shown name.
 pub(crate) fn shown(
@@ -30,7 +20,7 @@ pub(crate) fn shown(
 {
     match container {
         Some(place) => {
-            name_at(out, containers, place as usize)?;
+            put_name(out, containers, place as usize)?;
             out.text(b":")?;
         }
         None => (),

@@ -1,13 +1,19 @@
-//! The report of a run, and its exit status.
+//! What is printed of a run and of a specification: the report, with its exit status, and tables.
 #![tactic(auto)]
 
+mod automaton_table;
 mod exit;
+mod formula_table;
 mod found;
 mod instances;
 mod lines;
+mod names;
 mod reactions;
+mod rows;
 mod summary;
 mod tally;
 
+pub use automaton_table::automaton_text;
 pub use exit::{lanes_status, status};
+pub use formula_table::nodes_text;
 pub use lines::{report, report_lanes};

@@ -1,24 +1,17 @@
 //! The lines of reactions.
 ghost use Rattle.std.specs.Prelude.{◌≡◌, ◌++◌, [], OnOk, IfOk, slice_get, slice_index_or};
-ghost use Rattle.rv_model.specs.Numbers.{has_bit};
 ghost use Rattle.rv_model.specs.Reports.{event_text, state_text, fault_text, instance_text, reaction_text, record_text};
 ghost use Rattle.rv_react.specs.Reactions.{shown_fault};
 ghost use Rattle.rv_report.specs.Shown.{failed_set, is_loud, is_printed, reported, reported_of};
 
 use crate::instances::{place, shown};
+use crate::rows::has_row;
 use rv_bind::{Bindings, Monitor};
 use rv_model::{Answer, Delivered, Name, Names, Reactor, Record, Spec, What};
 use rv_react::{Fault, reaction};
 use rv_slots::Tasks;
 use rv_text::Line;
 use std::alloc::{AllocError, Global};
-
-/// Whether the set has this row.
-fn has_row(set: u32, row: usize) -> bool
-    ensures { result ≡ has_bit set row }
-{
-    row < 32 && (set >> row) & 1 == 1
-}
 
 /// The name of the state whose row is in the set.
 fn state(alloc: Global, states: &Names, set: u32) -> Result<Name, AllocError>

@@ -6,7 +6,6 @@ pub mod ComesLemmas
 pub mod CpuLemmas
 pub mod FeedingLemmas
 pub mod FrontLemmas
-pub mod GrowingTexts
 pub mod JudgedLemmas
 pub mod NamedLemmas
 pub mod NumberLemmas

@@ -1,30 +1,14 @@
 -- From a specification's file to its printed table.
-use Rattle.std.proofs.Common.{◌≡◌, ℕ, List, ap, ◌∙◌, subst, arith}
+use Rattle.std.proofs.Common.{◌≡◌, ℕ, List, ap, ◌∙◌, arith}
 use Rattle.std.specs.Prelude.{Option, Some, Result, Ok, Err}
-use Rattle.rv_text.specs.declared.refusals.Refusal.{Refusal}
-use Rattle.rv_text.specs.Readings.{and_then}
-use Rattle.rv_model.specs.Table.{Table, of_labels}
 use Rattle.rv_io.specs.Files.{Files}
-use Rattle.rv_nnf.specs.Parts.{Piece}
-use Rattle.rv_tableau.specs.declared.pairs.Pair.{Pair}
-use Rattle.rv_tableau.specs.Nodes.{nodes_of}
-use Rattle.rv_tableau.specs.Rows.{rows_of, tableau_of}
 use Rattle.rv_bind.specs.declared.fault.BindFault.{BindFault}
 use Rattle.rv_bind.specs.declared.fault.BindFault.TheVariants as faults
 use Rattle.rv_bind.specs.Outcomes.{accepted, reading, of_file, of_name, Comes}
 use Rattle.rv_bind.proofs.OutcomeLemmas.{of_name-reading}
 use Rattle.rv_tool.specs.declared.words.Kind.{Kind}
 use Rattle.rv_tool.specs.Faults.{Tells}
-use Rattle.rv_tool.specs.FormulaTexts.{IsFormulaTable}
 use Rattle.rv_tool.specs.Tables.{table_text, table_in}
-
--- a tableau's table is a formula's
-pub tableau_is_formula : (parts : List Piece) (t : Table) → tableau_of parts ≡ Ok t → IsFormulaTable t
-tableau_is_formula parts t is = go (nodes_of parts) is
-  where
-    go : (nodes : Result (List Pair) Refusal) → and_then nodes (λ nodes. Ok (of_labels (rows_of parts nodes))) ≡ Ok t → IsFormulaTable t
-    go (Err refusal) is = cc
-    go (Ok nodes) is = let same : of_labels (rows_of parts nodes) ≡ t = cc in subst (λ (t : Table). IsFormulaTable t) same (λ row below. below)
 
 module _ (told : Option Files) (kind : Kind) (file text : List ℕ) (read : (files : Files) → told ≡ Some files → of_name files file accepted ≡ accepted text) where
   -- what the text comes to is what the file comes to

@@ -1,9 +1,7 @@
-pub mod AutomatonTexts
 pub mod Changes
 pub mod Checks
 pub mod Faults
 pub mod Feeding
-pub mod FormulaTexts
 pub mod HeaderFiles
 pub mod Headline
 pub mod Inputs

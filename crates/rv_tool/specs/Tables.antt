@@ -11,8 +11,8 @@ use Rattle.rv_tableau.specs.Rows.{tableau_of}
 use Rattle.rv_bind.specs.Outcomes.{Outcome, of_file, of_name}
 use Rattle.rv_tool.specs.declared.words.Kind.{Kind}
 use Rattle.rv_tool.specs.declared.words.Kind.TheVariants as kinds
-use Rattle.rv_tool.specs.AutomatonTexts.{automaton_text}
-use Rattle.rv_tool.specs.FormulaTexts.{nodes_text}
+use Rattle.rv_report.specs.AutomatonTexts.{automaton_text}
+use Rattle.rv_report.specs.FormulaTexts.{nodes_text}
 
 -- the printed table of a rule's normal form, or the first refusal
 abbrev pub rule_text : RuleValue → Result (List ℕ) Refusal

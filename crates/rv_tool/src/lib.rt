@@ -1,11 +1,9 @@
 //! The top call: from the command's words and the files that they name to a status, a text and a history.
 #![tactic(auto)]
 
-mod automaton_text;
 mod changes;
 mod checking;
 mod feeding;
-mod formula_text;
 mod headers;
 mod input;
 mod loading;

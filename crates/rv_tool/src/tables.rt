@@ -6,8 +6,6 @@ ghost use Rattle.rv_tool.specs.Faults.{Tells};
 ghost use Rattle.rv_tool.specs.SomeTexts.{IsOfSomeText};
 ghost use Rattle.rv_tool.specs.Tables.{rule_text, table_text, table_in};
 
-use crate::automaton_text::automaton_text;
-use crate::formula_text::nodes_text;
 use crate::trace_text::{read_text, refused};
 use crate::words::Kind;
 use rv_bind::BindFault;
@@ -16,6 +14,7 @@ use rv_io::Store;
 use rv_ltl::read_ltl;
 use rv_model::Rule;
 use rv_nnf::normal;
+use rv_report::{automaton_text, nodes_text};
 use rv_tableau::tableau;
 use rv_text::Refused;
 use std::alloc::Global;
@@ -29,6 +28,7 @@ fn da_text(alloc: Global, bytes: &[u8]) -> Result<Vec<u8>, Refused>
 }
 
 /// The table of a rule.
+#[tactic(auto, using(rv_report::proofs::TableauLemmas::tableau_is_formula))]
 fn rule_text(alloc: Global, rule: &Rule) -> Result<Vec<u8>, Refused>
     ensures { Gives (λ text. text.items) result (rule_text rule.now) }
 {

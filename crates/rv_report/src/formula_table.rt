@@ -1,26 +1,15 @@
 //! The printed table of a formula.
-ghost use Rattle.std.specs.Prelude.{◌≡◌, ◌++◌, ◌<◌, ◌-◌, [], length, IfOk, OnOk, codes, flat_map, slice_index_or};
-ghost use Rattle.rv_model.specs.Numbers.{has_bit};
+ghost use Rattle.std.specs.Prelude.{◌≡◌, ◌++◌, ◌<◌, ◌-◌, length, IfOk, OnOk, codes, flat_map};
 ghost use Rattle.rv_model.specs.Formulas.{ltl};
 ghost use Rattle.rv_table.specs.Rows.{HasNode, node_in};
-ghost use Rattle.rv_tool.specs.FormulaTexts.{is_single, open_text, close_text, operator_text, formula_text, labels_text, further_text, member_text, rows_text, row_labels, row_text, sizes_text, nodes_text, IsFormulaTable};
+ghost use Rattle.rv_report.specs.FormulaTexts.{is_single, open_text, close_text, operator_text, formula_text, labels_text, further_text, member_text, rows_text, row_labels, row_text, sizes_text, nodes_text, IsFormulaTable};
 
+use crate::names::put_name;
+use crate::rows::has_row;
 use rv_model::{Formula, Names};
 use rv_table::Table;
 use rv_text::Line;
 use std::alloc::{AllocError, Global};
-
-/// The atom's name, where it has one.
-fn put_atom(out: &mut Line, atoms: &Names, atom: u8) -> Result<(), AllocError>
-    ensures { OnOk result (out.new ≡ out.old ++ slice_index_or atoms.now atom []) }
-{
-    let place = atom as usize;
-    if place < atoms.len() {
-        out.text(atoms.get(place).bytes())
-    } else {
-        Ok(())
-    }
-}
 
 /// Whether it is a constant or a name.
 fn is_single(formula: &Formula) -> bool
@@ -78,7 +67,7 @@ fn put_formula(out: &mut Line, atoms: &Names, formula: &Formula) -> Result<(), A
     match formula {
         Formula::True => out.text(b"true"),
         Formula::False => out.text(b"false"),
-        Formula::Atom(atom) => put_atom(out, atoms, *atom),
+        Formula::Atom(atom) => put_name(out, atoms, *atom as usize),
         Formula::Not(f) | Formula::Next(f) | Formula::Always(f) | Formula::Eventually(f) => {
             out.text(operator(formula))?;
             put_open(out, f)?;
@@ -127,20 +116,12 @@ fn put_labels(out: &mut Line, atoms: &Names, table: &Table, row: u32) -> Result<
     Ok(())
 }
 
-/// Whether the set has this row.
-fn is_in(set: u32, row: u32) -> bool
-    requires { row < 32 }
-    ensures { result ≡ has_bit set row }
-{
-    (set >> row) & 1 == 1
-}
-
 /// A row, where it is in the set.
 fn put_member(out: &mut Line, set: u32, row: u32) -> Result<(), AllocError>
     requires { row < 32 }
     ensures { OnOk result (out.new ≡ out.old ++ member_text set row) }
 {
-    if is_in(set, row) {
+    if has_row(set, row as usize) {
         out.text(b" ")?;
         out.number(row as u64)
     } else {
@@ -210,8 +191,12 @@ fn put_nodes(out: &mut Line, atoms: &Names, table: &Table) -> Result<(), AllocEr
     Ok(())
 }
 
-/// The table of a formula.
-pub(crate) fn nodes_text(alloc: Global, atoms: &Names, table: &Table) -> Result<Vec<u8>, AllocError>
+/// The table of a rule with these atoms, for people to read: what `rv table ltl` prints.
+///
+/// The first line is as `nodes 3, atoms 2`, and the next as `0 -> 1 2`: row 0, where runs begin,
+/// and the rows that may come next, ascending. Then each node has a line as `2 [A; not B] -> 3`,
+/// with its labels in the brackets. An atom without a name is shown as no text.
+pub fn nodes_text(alloc: Global, atoms: &Names, table: &Table) -> Result<Vec<u8>, AllocError>
     requires { IsFormulaTable table.now }
     ensures { IfOk result (λ text. text.items ≡ nodes_text atoms.now table.now) }
 {

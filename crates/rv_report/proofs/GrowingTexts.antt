@@ -4,7 +4,7 @@ use Rattle.std.specs.Prelude.{slice_index_or}
 use Rattle.std.proofs.lemmas.List.{drop_more, flat_map_more, append-nil}
 use Rattle.rv_model.specs.Ltl.{Ltl, True}
 use Rattle.rv_model.specs.Numbers.{list_of}
-use Rattle.rv_tool.specs.FormulaTexts.{formula_text, further_text, labels_text}
+use Rattle.rv_report.specs.FormulaTexts.{formula_text, further_text, labels_text}
 
 -- none of the numbered pieces so far
 pub none_numbered : (f : ℕ → List ℕ) (o : List ℕ) → o ≡ o ++ flat_map f (list_of (λ i. i) 0)

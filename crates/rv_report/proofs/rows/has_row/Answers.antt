@@ -2,7 +2,7 @@
 use Rattle.std.proofs.Common.{◌≡◌, false, refl, arith}
 use Rattle.std.proofs.lemmas.Nat.Bits.{bit_at_above}
 use Rattle.rv_model.specs.Numbers.{has_bit}
-use Rattle.rv_report.proofs.reactions.has_row.Goals as goal
+use Rattle.rv_report.proofs.rows.has_row.Goals as goal
 
 pub returns-else-row-lt32 : goal.returns-else-row-lt32
 returns-else-row-lt32 c =

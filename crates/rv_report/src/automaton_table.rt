@@ -1,8 +1,9 @@
 //! The printed table of an automaton.
-ghost use Rattle.std.specs.Prelude.{◌≡◌, ◌++◌, ◌<◌, ◌+◌, [], length, IfOk, OnOk, flat_map, slice_index_or};
-ghost use Rattle.rv_model.specs.Numbers.{has_bit};
-ghost use Rattle.rv_tool.specs.AutomatonTexts.{counts_text, mark_text, state_line, edge_line, leaving_line, state_text, automaton_text};
+ghost use Rattle.std.specs.Prelude.{◌≡◌, ◌++◌, ◌<◌, length, IfOk, OnOk, flat_map};
+ghost use Rattle.rv_report.specs.AutomatonTexts.{counts_text, mark_text, state_line, edge_line, leaving_line, state_text, automaton_text};
 
+use crate::names::put_name;
+use crate::rows::has_row;
 use rv_model::{Automaton, Edge, Names};
 use rv_text::Line;
 use std::alloc::{AllocError, Global};
@@ -16,25 +17,6 @@ fn put_counts(out: &mut Line, states: usize, events: usize) -> Result<(), AllocE
     out.text(b", events ")?;
     out.number(events as u64)?;
     out.text(b"\n")
-}
-
-/// Whether the set has this state.
-fn is_in(set: u32, state: usize) -> bool
-    requires { state < 32 }
-    ensures { result ≡ has_bit set state }
-{
-    (set >> state) & 1 == 1
-}
-
-/// The name at this place, where there is one.
-fn put_name(out: &mut Line, names: &Names, place: usize) -> Result<(), AllocError>
-    ensures { OnOk result (out.new ≡ out.old ++ slice_index_or names.now place []) }
-{
-    if place < names.len() {
-        out.text(names.get(place).bytes())
-    } else {
-        Ok(())
-    }
 }
 
 /// Whether the state is marked.
@@ -56,7 +38,7 @@ fn put_state_line(out: &mut Line, automaton: &Automaton, state: usize) -> Result
     out.number((state + 1) as u64)?;
     out.text(b" ")?;
     put_name(out, &automaton.states, state)?;
-    put_mark(out, is_in(automaton.marked, state))?;
+    put_mark(out, has_row(automaton.marked, state))?;
     out.text(b"\n")
 }
 
@@ -118,8 +100,13 @@ fn put_automaton(out: &mut Line, automaton: &Automaton) -> Result<(), AllocError
     Ok(())
 }
 
-/// The table of the automaton.
-pub(crate) fn automaton_text(alloc: Global, automaton: &Automaton) -> Result<Vec<u8>, AllocError>
+/// The table of an automaton, for people to read: what `rv table da` prints.
+///
+/// The first line is as `states 2, events 3`. Each state, in order, has a line as
+/// `1 preemptive marked`: its row, its name, and whether it is marked. Below it each edge that
+/// leaves it has a line as `  preempt_disable 2`: the event, and the target's row. State k is row
+/// k + 1. A state or an event without a name is shown as no text.
+pub fn automaton_text(alloc: Global, automaton: &Automaton) -> Result<Vec<u8>, AllocError>
     ensures { IfOk result (λ text. text.items ≡ automaton_text automaton.now) }
 {
     let mut line = Line::new(alloc);
