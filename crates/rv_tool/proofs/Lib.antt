@@ -5,10 +5,12 @@ pub mod CheckLemmas
 pub mod ComesLemmas
 pub mod CpuLemmas
 pub mod FeedingLemmas
+pub mod FitLemmas
 pub mod FrontLemmas
 pub mod GrowingTexts
 pub mod JudgedLemmas
 pub mod NamedLemmas
+pub mod NarrowLemmas
 pub mod NumberLemmas
 pub mod NumberedLemmas
 pub mod OneLemmas
@@ -23,3 +25,4 @@ pub mod TableLemmas
 pub mod UntoldLemmas
 pub mod VerdictLemmas
 pub mod WatchLemmas
+pub mod WidthLemmas

@@ -9,6 +9,7 @@ mod formula_text;
 mod headers;
 mod input;
 mod loading;
+mod numbered;
 mod output;
 mod recording;
 mod replaying;
@@ -18,6 +19,7 @@ mod tables;
 mod top;
 mod trace_text;
 mod watching;
+mod widths;
 mod words;
 
 pub use top::{Finished, rv};
