@@ -1,16 +1,14 @@
 -- What is read can be recorded where its monitors are narrow and no rule ends an instance, and else the bindings are refused.
-use Rattle.std.proofs.Common.{◌≡◌, ℕ, Bool, true, false, List, [], refl, sym, ap, ◌∙◌, subst, arith}
-use Rattle.std.specs.Prelude.{◌&&◌, not, Option, Result, Ok, Err, if◌then◌else◌}
+use Rattle.std.proofs.Common.{◌≡◌, ℕ, Bool, true, false, List, [], refl, sym, ap, subst, arith}
+use Rattle.std.specs.Prelude.{not, Option, Result, Ok, Err, if◌then◌else◌}
 use Rattle.std.specs.List.{list_any}
 use Rattle.std.proofs.lemmas.Bool.{and_parts, not-true}
 use Rattle.rv_io.specs.Files.{Files}
-use Rattle.rv_model.specs.Table.{Table}
 use Rattle.rv_bind.specs.declared.bindings.Monitor.{Monitor}
 use Rattle.rv_text.specs.declared.refusals.Refusal.{Refusal}
 use Rattle.rv_text.specs.Readings.{refused_with}
 use Rattle.rv_bind.specs.declared.fault.BindFault.{BindFault}
 use Rattle.rv_bind.specs.declared.fault.BindFault.TheVariants as faults
-use Rattle.rv_bind.specs.Values.{OnValue}
 use Rattle.rv_bind.specs.Outcomes.{Names, of_file, refused, IsRefusal, IsFaultOf}
 use Rattle.rv_bind.proofs.ReachedLemmas.{step_named}
 use Rattle.rv_tool.specs.declared.input.Ready.{Ready}
@@ -28,29 +26,6 @@ refused_told : (bindings : List ℕ) (refusal : Refusal) (fault : BindFault) →
 refused_told bindings refusal faults.Memory numbered is = tt
 refused_told bindings refusal (faults.Refused named given) numbered is = (rw is.1 numbered, λ i. refused (sym is.0 i) (sym is.1 i))
 refused_told bindings refusal (faults.Unread named) numbered is = absurd is
-
-module _ (ready : Ready) (given : List Monitor) (had : List Table) (told : Bool) (rules : List OnValue) (ends : Bool)
-    (given_are : given ≡ ready.bindings.monitors.items) (had_are : had ≡ ready.setup.tables) (rules_are : rules ≡ ready.bindings.rules.items)
-    (told_is : told ≡ are_narrow given had) (ends_are : ends ≡ list_any ends_instances rules) where
-  -- whether a rule ends an instance is what is answered
-  ended : list_any ends_instances ready.bindings.rules.items ≡ ends
-  ended = ap (list_any ends_instances) (sym rules_are) ∙ sym ends_are
-
-  -- the test by what is answered of what is ready
-  pub test_is : can_record (ready_value ready) ≡ (told && not ends)
-  test_is =
-      let narrow : are_narrow ready.bindings.monitors.items ready.setup.tables ≡ told = (λ i. are_narrow (sym given_are i) (sym had_are i)) ∙ sym told_is in
-      λ i. narrow i && not (ended i)
-
--- where a rule ends an instance the test is false
-pub ends_off : (told ends : Bool) → ends ≡ true → (told && not ends) ≡ false
-ends_off true ends on = rw on refl
-ends_off false ends on = refl
-
--- where none does, it is what is told of the monitors
-pub ends_on : (told ends : Bool) → ends ≡ false → (told && not ends) ≡ told
-ends_on true ends off = rw off refl
-ends_on false ends off = refl
 
 module _ (ready : Ready) where
   -- what is ready where the test passes, and else the refusal of what cannot be recorded

@@ -1,8 +1,9 @@
 -- The bits of the monitors' words, by what accepted bindings keep.
-use Rattle.std.proofs.Common.{◌≡◌, ℕ, zero, suc, ◌+◌, ◌<◌, ◌≤◌, ◌^◌, true, List, [], ◌∷◌, ◌++◌, ◌⊎◌, inl, inr, length, map, get_or, refl, sym, ap, ◌∙◌, subst, arith, length-append}
+use Rattle.std.proofs.Common.{◌≡◌, ℕ, zero, suc, ◌+◌, ◌<◌, ◌≤◌, ◌^◌, true, List, [], ◌∷◌, ◌++◌, ◌⊎◌, inl, inr, length, map, get_or, sym, ap, ◌∙◌, subst, arith, length-append}
 use Rattle.std.specs.Prelude.{slice_index, slice_index_or}
 use Rattle.std.proofs.Math.ListN.{get_or-append}
 use Rattle.std.proofs.Math.Seq.{get_or-append_seam}
+use Rattle.std.proofs.lemmas.List.{get_or-map, get_or_read}
 use Rattle.rv_model.specs.declared.formula.Spec.{Spec}
 use Rattle.rv_model.specs.declared.formula.Spec.TheVariants as specs
 use Rattle.rv_model.specs.Numbers.{list_of}
@@ -19,6 +20,7 @@ use Rattle.rv_journal.specs.declared.words.Width.{Width}
 use Rattle.rv_journal.specs.CountedSeats.{IsWidth, AreWidths, no_width}
 use Rattle.rv_tool.specs.Numbered.{atom_count, HasState, is_narrow}
 use Rattle.rv_tool.proofs.NarrowLemmas.{narrow-room}
+use Rattle.rv_tool.proofs.ReadyLemmas.{tables_counted}
 
 -- the start row of a formula's table is one of its rows
 labels-begin : (nodes : List Node) → IsRows (of_labels nodes) → first_row (of_labels nodes) < row_count (of_labels nodes)
@@ -59,13 +61,6 @@ have-at (a ∷ monitors) [] n m t at_m at_t lt have = absurd have
 have-at (a ∷ monitors) (b ∷ tables) zero m t at_m at_t lt have = subst (λ (z : Monitor). HasTable (kind_of z) t) (sym at_m) (subst (λ (z : Table). HasTable (kind_of a) z) (sym at_t) have.0)
 have-at (a ∷ monitors) (b ∷ tables) (suc n) m t at_m at_t lt have = have-at monitors tables n m t at_m at_t (omega arith) have.1
 
--- there is a table for each
-pub have-many : (monitors : List Monitor) (tables : List Table) → HaveTables (kinds_of monitors) tables → length tables ≡ length monitors
-have-many [] [] have = refl
-have-many [] (t ∷ tables) have = absurd have
-have-many (m ∷ monitors) [] have = absurd have
-have-many (m ∷ monitors) (t ∷ tables) have = ap suc (have-many monitors tables have.1)
-
 -- the widths of the monitors so far
 pub record WidthsTo (n : ℕ) (tables : List Table) (starts : List ℕ) (widths : List Width) : Type 0 where
   pub many : length widths ≡ n
@@ -77,15 +72,7 @@ widths-none tables starts widths none = record { many = ap length none; each = �
 
 -- the starting value at a place is that of the monitor there
 start-at : (monitors : List Monitor) (n : ℕ) (m : Monitor) → m ≡ get_or monitors n m → n < length monitors → slice_index (map (λ (m : Monitor). m.starting) monitors) n ≡ m.starting
-start-at [] n m at lt = absurd (omega arith)
-start-at (a ∷ monitors) zero m at lt = ap (λ (z : Monitor). z.starting) (sym at)
-start-at (a ∷ monitors) (suc n) m at lt = start-at monitors n m at (omega arith)
-
--- the table at a place is the one there, whatever stands for a missing one
-table-at : (tables : List Table) (n : ℕ) (t d : Table) → t ≡ get_or tables n t → n < length tables → slice_index_or tables n d ≡ t
-table-at [] n t d at lt = absurd (omega arith)
-table-at (a ∷ tables) zero t d at lt = sym at
-table-at (a ∷ tables) (suc n) t d at lt = table-at tables n t d at (omega arith)
+start-at monitors n m at lt = get_or-map (λ (m : Monitor). m.starting) monitors n m 0 lt ∙ ap (λ (m : Monitor). m.starting) (sym at)
 
 -- what is below the next number is below this one, or is this one
 below-or-last : (k n : ℕ) → k < n + 1 → (k < n) ⊎ (k ≡ n)
@@ -107,13 +94,13 @@ widths-next monitors tables starts n m t widths more w starts_are at_m at_t lt l
         let at : k ≡ length widths = (let many = so_far.many in omega arith) in
         let first : slice_index_or (widths ++ w ∷ []) k no_width ≡ w = ap (λ (i : ℕ). get_or (widths ++ w ∷ []) i no_width) at ∙ get_or-append_seam widths w [] no_width in
         let start : slice_index starts k ≡ m.starting = ap (slice_index starts) last ∙ ap (λ (z : List ℕ). slice_index z n) starts_are ∙ start-at monitors n m at_m lt in
-        let table : slice_index_or tables k no_table ≡ t = ap (λ (i : ℕ). slice_index_or tables i no_table) last ∙ table-at tables n t no_table at_t lt' in
+        let table : slice_index_or tables k no_table ≡ t = ap (λ (i : ℕ). slice_index_or tables i no_table) last ∙ sym (get_or_read tables n t lt' at_t no_table) in
         subst (λ (z : Width). IsWidth (slice_index_or tables k no_table) (slice_index starts k) z) (sym first)
         (subst (λ (s : ℕ). IsWidth (slice_index_or tables k no_table) s w) (sym start) (subst (λ (u : Table). IsWidth u m.starting w) (sym table) is))
 
 -- all monitors
 pub widths-whole : (monitors : List Monitor) (s : Setup) (widths : List Width) (n : ℕ) → length monitors ≤ n → n ≤ length monitors → HaveTables (kinds_of monitors) s.tables → WidthsTo n s.tables s.starts widths → AreWidths s widths
 widths-whole monitors s widths n le ge have so_far =
-    let tables = have-many monitors s.tables have in
+    let tables = tables_counted monitors s.tables have in
     let widths = so_far.many in
     record { many = omega arith; each = λ m lt. so_far.each m (omega arith) }

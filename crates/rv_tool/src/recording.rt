@@ -42,9 +42,8 @@ fn can_record(ready: &Ready) -> bool
     ensures { result ≡ can_record (ready_value ready.now) }
 {
     let monitors = ready.bindings.monitors.as_slice();
-    let narrow = are_narrow(monitors, ready.setup.tables.as_slice());
-    let ends = end_instances(ready.bindings.rules.as_slice());
-    if ends { false } else { narrow }
+    are_narrow(monitors, ready.setup.tables.as_slice())
+        && !end_instances(ready.bindings.rules.as_slice())
 }
 
 /// What is ready, where it can be recorded.
