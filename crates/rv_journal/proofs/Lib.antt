@@ -1,4 +1,5 @@
 pub mod AddedLemmas
+pub mod AnswerLemmas
 pub mod CountLemmas
 pub mod CountedCallLemmas
 pub mod CountedDeliveryLemmas
@@ -14,6 +15,7 @@ pub mod CountedWordLemmas
 pub mod EntryFitLemmas
 pub mod EntryReadLemmas
 pub mod EntrySpelledLemmas
+pub mod ExitLemmas
 pub mod FinishLemmas
 pub mod FirstOpenLemmas
 pub mod GapLemmas
@@ -32,6 +34,7 @@ pub mod PlaceLemmas
 pub mod PlacedLemmas
 pub mod PlaysLemmas
 pub mod ProgressLemmas
+pub mod RangeLemmas
 pub mod RankLemmas
 pub mod ReadingLemmas
 pub mod ReadyLemmas
@@ -39,6 +42,8 @@ pub mod RecordedLemmas
 pub mod RunLemmas
 pub mod SeatWorkLemmas
 pub mod ServedLemmas
+pub mod ShownFitLemmas
+pub mod ShownLemmas
 pub mod SlotActLemmas
 pub mod SlotChangeLemmas
 pub mod StartLemmas

@@ -13,7 +13,7 @@ use Rattle.rv_journal.specs.MergeStates.{IsItemAct}
 use Rattle.rv_journal.specs.Merging.{FitsSetup, Serves, AllServed, HitFits}
 
 -- the slot of an instance is one of the setup's
-slot_of-lt : (shape : List ℕ) (monitor instance : ℕ) → monitor < length shape → instance < slice_index shape monitor → slot_of shape monitor instance < sum shape
+pub slot_of-lt : (shape : List ℕ) (monitor instance : ℕ) → monitor < length shape → instance < slice_index shape monitor → slot_of shape monitor instance < sum shape
 slot_of-lt [] monitor instance low in' = absurd (omega arith)
 slot_of-lt (count ∷ shape) zero instance low in' = let all = sum-cons count shape in omega arith
 slot_of-lt (count ∷ shape) (suc monitor) instance low in' =

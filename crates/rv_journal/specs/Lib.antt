@@ -13,3 +13,5 @@ pub mod Merging
 pub mod Openings
 pub mod Running
 pub mod PieceReadings
+pub mod Shown
+pub mod Whole

@@ -1,10 +1,12 @@
-//! Words with counts that threads share, and histories as texts: a line for each entry, printed and read back.
+//! Words with counts that threads share, what is shown of the works of a run on them, the status of its history, and
+//! histories as texts: a line for each entry, printed and read back.
 #![tactic(auto)]
 
 mod board;
 mod counted;
 mod delivery;
 mod entries;
+mod exit;
 mod feeding;
 mod lane;
 mod merging;
@@ -16,6 +18,7 @@ mod rule;
 mod running;
 mod seat;
 mod sharing;
+mod shown;
 mod steps;
 mod told;
 mod waits;
@@ -23,6 +26,7 @@ mod words;
 
 pub use board::{CountedBoard, CountedStart};
 pub use counted::Counted;
+pub use exit::exit_status;
 pub use feeding::{CountedFeeder, run_counted};
 pub use lane::CountedLane;
 pub use merging::merge;
@@ -30,4 +34,5 @@ pub use printing::journal_text;
 pub use reading::read_entry;
 pub use running::{Recorded, record_run};
 pub use seat::{CountedSeat, MAX_ENTRIES};
+pub use shown::shown_works;
 pub use words::Width;

@@ -5,9 +5,11 @@ pub mod CheckLemmas
 pub mod ComesLemmas
 pub mod CpuLemmas
 pub mod FeedingLemmas
+pub mod FitLemmas
 pub mod FrontLemmas
 pub mod JudgedLemmas
 pub mod NamedLemmas
+pub mod NarrowLemmas
 pub mod NumberLemmas
 pub mod NumberedLemmas
 pub mod OneLemmas
@@ -22,3 +24,4 @@ pub mod TableLemmas
 pub mod UntoldLemmas
 pub mod VerdictLemmas
 pub mod WatchLemmas
+pub mod WidthLemmas

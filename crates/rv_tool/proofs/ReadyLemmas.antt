@@ -17,10 +17,10 @@ use Rattle.rv_feed.specs.Lane.{LaneValue, IsNewLane, FitsDelivery, FitsLane, Fit
 use Rattle.rv_bind.specs.declared.bindings.Monitor.{Monitor}
 use Rattle.rv_bind.specs.Compiling.{IsTableOf}
 use Rattle.rv_bind.specs.WellFormed.{Kind, kind_of, kinds_of, HasTable, HaveTables}
-use Rattle.rv_shown.proofs.FitLemmas.{rule-fits}
 use Rattle.rv_route.specs.Fitting.{FitsKindOf, WorksFit}
 use Rattle.rv_verdicts.specs.Lone.{IsByCpu}
 use Rattle.rv_tool.specs.Inputs.{opened, HasCpus}
+use Rattle.rv_tool.proofs.FitLemmas.{rule-fits}
 
 -- ---- tables
 

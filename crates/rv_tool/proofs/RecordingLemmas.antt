@@ -22,10 +22,9 @@ use Rattle.rv_feed.specs.Lane.{works_of}
 use Rattle.rv_route.specs.Fitting.{IsDeliveryOf, FromRules}
 use Rattle.rv_journal.specs.EntryTexts.{journal_of, IsEntry}
 use Rattle.rv_journal.specs.Running.{FitsCountedWork, recorded_input, IsLegalBy}
-use Rattle.rv_shown.specs.Fitting.{IsOpened}
-use Rattle.rv_shown.specs.Shown.{IsShownWork, HaveNoEnds}
-use Rattle.rv_shown.specs.Whole.{IsWholeRun}
-use Rattle.rv_shown.proofs.FitLemmas.{shown_fit, shown_ascend, shown_of-works, numbered-calm}
+use Rattle.rv_journal.specs.Shown.{IsShownWork}
+use Rattle.rv_journal.specs.Whole.{IsWholeRun}
+use Rattle.rv_journal.proofs.ShownFitLemmas.{shown-ascends, shown-of-each}
 use Rattle.rv_verdicts.specs.Exits.{exit_of}
 use Rattle.rv_verdicts.specs.Shown.{IsShownOf}
 use Rattle.rv_verdicts.specs.Verdicts.{IsSteady}
@@ -35,6 +34,8 @@ use Rattle.rv_tool.specs.declared.input.Ready.{Ready}
 use Rattle.rv_tool.specs.Inputs.{run_of}
 use Rattle.rv_tool.specs.Journals.{ends_instances, IsJournalReport, IsToRecord}
 use Rattle.rv_tool.specs.Ready.{ready_value}
+use Rattle.rv_tool.proofs.FitLemmas.{IsOpened, HaveNoEnds, works-fit}
+use Rattle.rv_tool.proofs.NarrowLemmas.{all-calm}
 use Rattle.rv_tool.proofs.VerdictLemmas.{calm}
 
 -- no switch of those that a run opens with is past the two that react and monitor
@@ -67,12 +68,12 @@ module _ (ready : Ready) (is : IsToRecord ready) (shown : List Work) (are : AllZ
   -- what is shown can be recorded
   pub shown_fits : All (FitsCountedWork ready.setup) shown
   shown_fits =
-      shown_fit ready.bindings.monitors.items (length ready.tasks) ready.setup (works_of ready.lanes.items) shown opened_so is.numbered is.ready.routed
+      works-fit ready.bindings.monitors.items (length ready.tasks) ready.setup opened_so is.narrow (works_of ready.lanes.items) shown is.ready.routed
       (no-ends ready.bindings.rules.items (works_of ready.lanes.items) is.no_ends is.ready.rules) are
 
   -- what is shown ascends by CPU
   pub shown_ascends : AllPairs (λ (v w : Work). v.cpu < w.cpu) shown
-  shown_ascends = shown_ascend ready.setup.switches (works_of ready.lanes.items) shown is.ready.routed.cpus are
+  shown_ascends = shown-ascends ready.setup.switches (works_of ready.lanes.items) shown is.ready.routed.cpus are
 
   -- the run does not begin halted
   pub runs_on : has_bit ready.setup.switches 34 ≡ false
@@ -80,7 +81,7 @@ module _ (ready : Ready) (is : IsToRecord ready) (shown : List Work) (are : AllZ
 
   -- nothing changes beside the CPUs, and no reactor is panic
   steady : IsSteady (run_of (ready_value ready))
-  steady = record { no_changes = is.unchanged; no_panics = calm ready.bindings.monitors.items (numbered-calm ready.bindings.monitors.items ready.setup.tables is.numbered) }
+  steady = record { no_changes = is.unchanged; no_panics = calm ready.bindings.monitors.items (all-calm ready.bindings.monitors.items ready.setup.tables is.narrow) }
 
   -- the input of what is shown is the run's with these works
   input_is : recorded_input ready.setup (run_of (ready_value ready)).specs shown ≡ record (run_of (ready_value ready)) { works = shown }
@@ -91,7 +92,7 @@ module _ (ready : Ready) (is : IsToRecord ready) (shown : List Work) (are : AllZ
   whole_legal h legal =
       let low = low_switches ready.bindings.monitors.items in
       shown_is_enough (run_of (ready_value ready)) (judges_of ready.setup) shown h steady (omega arith)
-      (subst (λ (look : ℕ). AllZip (IsShownOf look) (works_of ready.lanes.items) shown) (ap (λ (s : Setup). s.switches) is.ready.setup) (shown_of-works ready.setup.switches (works_of ready.lanes.items) shown are))
+      (subst (λ (look : ℕ). AllZip (IsShownOf look) (works_of ready.lanes.items) shown) (ap (λ (s : Setup). s.switches) is.ready.setup) (shown-of-each ready.setup.switches (works_of ready.lanes.items) shown are))
       (subst (λ (x : Input). IsLegal x (judges_of ready.setup) h) input_is legal)
 
   -- the text and the status of what was recorded are those of a legal history of the run

@@ -1,6 +1,6 @@
 -- What `journal` prints of a run: the journal of a legal history of it.
 use Rattle.std.specs.List.{list_any}
-use Rattle.std.specs.Prelude.{◌≡◌, ℕ, ◌+◌, nat_le, Bool, true, false, ◌&&◌, not, List, [], ◌∷◌, All, Some, Result, Ok, if◌then◌else◌}
+use Rattle.std.specs.Prelude.{◌≡◌, ℕ, Bool, true, false, ◌&&◌, not, List, [], All, Result, Ok, if◌then◌else◌}
 use Rattle.rv_text.specs.declared.refusals.Refusal.{Refusal}
 use Rattle.rv_text.specs.Readings.{refused_with}
 use Rattle.rv_io.specs.Files.{Files}
@@ -9,32 +9,17 @@ use Rattle.rv_model.specs.Histories.{IsLegal, AreJudges}
 use Rattle.rv_model.specs.Judging.{Judge}
 use Rattle.rv_model.specs.Records.{records_of, status_of}
 use Rattle.rv_model.specs.Scripts.{is_end}
-use Rattle.rv_model.specs.Table.{Table}
-use Rattle.rv_table.specs.Rows.{row_count}
-use Rattle.rv_bind.specs.declared.bindings.Monitor.{Monitor}
 use Rattle.rv_bind.specs.Outcomes.{Outcome, reading, of_file}
 use Rattle.rv_bind.specs.Values.{OnValue}
-use Rattle.rv_feed.specs.Lane.{is_panic_reactor}
 use Rattle.rv_journal.specs.EntryTexts.{journal_of, IsEntry}
-use Rattle.rv_shown.specs.Numbered.{atom_count, IsNumbered}
 use Rattle.rv_tool.specs.declared.input.Ready.{Ready}
 use Rattle.rv_text.specs.declared.numbers.TheConstants.{NOT_NUMBERED}
 use Rattle.rv_tool.specs.Headline.{Ending, TellsOf}
 use Rattle.rv_tool.specs.Inputs.{InputValue, run_input, run_of}
+use Rattle.rv_tool.specs.Numbered.{are_narrow}
 use Rattle.rv_tool.specs.Ready.{IsReady}
 
 -- ---- which runs are recorded
-
--- the rows of the monitor's table, row 0 too, and its atoms are 32 together at most, and its reactor is not panic
-abbrev pub is_narrow : Monitor → Table → Bool
-is_narrow m t = nat_le (row_count t + atom_count m.spec) 32 && not (is_panic_reactor (Some m.reactor))
-
--- each monitor is so with its table, whether it is on or off
-abbrev pub are_narrow : List Monitor → List Table → Bool
-are_narrow [] [] = true
-are_narrow [] (t ∷ tables) = false
-are_narrow (m ∷ monitors) [] = false
-are_narrow (m ∷ monitors) (t ∷ tables) = is_narrow m t && are_narrow monitors tables
 
 -- the rule ends the instances of its monitor
 abbrev pub ends_instances : OnValue → Bool
@@ -73,5 +58,5 @@ Journals i = TellsOf (IsJournalReport i)
 pub record IsToRecord (r : Ready) : Type 0 where
   pub ready : IsReady r
   pub unchanged : r.changes.items ≡ []
-  pub numbered : IsNumbered r.bindings.monitors.items r.setup.tables
+  pub narrow : are_narrow r.bindings.monitors.items r.setup.tables ≡ true
   pub no_ends : list_any ends_instances r.bindings.rules.items ≡ false

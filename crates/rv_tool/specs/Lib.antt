@@ -9,6 +9,7 @@ pub mod JournalPieces
 pub mod Journals
 pub mod LaneReports
 pub mod Loaded
+pub mod Numbered
 pub mod Output
 pub mod Pieces
 pub mod Ready

@@ -7,6 +7,7 @@ mod feeding;
 mod headers;
 mod input;
 mod loading;
+mod numbered;
 mod output;
 mod recording;
 mod replaying;
@@ -16,6 +17,7 @@ mod tables;
 mod top;
 mod trace_text;
 mod watching;
+mod widths;
 mod words;
 
 pub use top::{Finished, rv};

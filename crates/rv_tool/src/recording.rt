@@ -8,12 +8,13 @@ ghost use Rattle.rv_tool.specs.Ready.{ready_value, IsReady};
 
 use crate::checking::works;
 use crate::input::{Ready, read_input};
+use crate::numbered::are_narrow;
 use crate::replaying::Done;
 use crate::trace_text::refused;
+use crate::widths::widths_of;
 use rv_bind::{BindFault, On};
 use rv_io::{Gate, Store};
-use rv_journal::{journal_text, record_run};
-use rv_shown::{exit_status, is_numbered, shown_works, widths_of};
+use rv_journal::{exit_status, journal_text, record_run, shown_works};
 use rv_text::{NOT_NUMBERED, Refusal, Refused};
 use std::alloc::{AllocError, Global};
 use std::thread::Threads;
@@ -41,9 +42,8 @@ fn can_record(ready: &Ready) -> bool
     ensures { result ≡ can_record (ready_value ready.now) }
 {
     let monitors = ready.bindings.monitors.as_slice();
-    let narrow = is_numbered(monitors, ready.setup.tables.as_slice());
-    let ends = end_instances(ready.bindings.rules.as_slice());
-    if ends { false } else { narrow }
+    are_narrow(monitors, ready.setup.tables.as_slice())
+        && !end_instances(ready.bindings.rules.as_slice())
 }
 
 /// What is ready, where it can be recorded.

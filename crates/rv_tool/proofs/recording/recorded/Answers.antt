@@ -3,8 +3,8 @@ use Rattle.std.specs.List.{AllZip}
 use Rattle.rv_model.specs.Works.{Work}
 use Rattle.rv_core.specs.Setup.{judges_of}
 use Rattle.rv_journal.specs.EntryTexts.{journal_of}
-use Rattle.rv_shown.specs.Shown.{IsShownWork}
-use Rattle.rv_shown.specs.Whole.{IsWholeRun}
+use Rattle.rv_journal.specs.Shown.{IsShownWork}
+use Rattle.rv_journal.specs.Whole.{IsWholeRun}
 use Rattle.rv_verdicts.specs.Exits.{exit_of}
 use Rattle.rv_tool.specs.Inputs.{run_of}
 use Rattle.rv_tool.specs.Ready.{ready_value}

@@ -1,0 +1,79 @@
+//! The status that a recorded history shows.
+ghost use Rattle.std.specs.Prelude.{◌≡◌, List};
+ghost use Rattle.std.specs.List.{list_any};
+ghost use Rattle.rv_model.specs.Setups.{Setup};
+ghost use Rattle.rv_model.specs.Works.{Work};
+ghost use Rattle.rv_core.specs.Setup.{judges_of};
+ghost use Rattle.rv_verdicts.specs.Exits.{exit_of, is_stop, has_stop};
+ghost use Rattle.rv_journal.specs.Whole.{is_failed_entry, shows_failure, IsWholeRun};
+
+use rv_model::{Act, Entry, Mode};
+use rv_word::set_of;
+
+/// Nothing failed, and no instance was stopped.
+const CLEAN: u8 = 0;
+
+/// A delivery failed.
+const FAILURE: u8 = 1;
+
+/// None failed, and an instance was stopped.
+const STOPPED_SOME: u8 = 6;
+
+/// Whether a hit of the mode, which found one word and left another, failed. A set with no row is stopped, row 0 alone
+/// waits.
+fn shows_failure(mode: Mode, before: u64, after: u64) -> bool
+    ensures { result ≡ shows_failure mode before after }
+{
+    if set_of(after) != 1 {
+        return false;
+    }
+    match set_of(before) {
+        0 => false,
+        1 => matches!(mode, Mode::StartRun),
+        _ => true,
+    }
+}
+
+/// Whether the entry is a delivery that failed.
+fn is_failed(entry: &Entry) -> bool
+    ensures { result ≡ is_failed_entry entry.now entry.now.act }
+{
+    match entry.act {
+        Act::Deliver { hit, .. } => shows_failure(hit.mode, entry.before, entry.after),
+        _ => false,
+    }
+}
+
+/// Whether the entry stopped an instance.
+fn is_stop(entry: &Entry) -> bool
+    ensures { result ≡ is_stop entry.now.act }
+{
+    matches!(entry.act, Act::Stop { .. })
+}
+
+/// Whether some entry is a delivery that failed.
+fn has_failed(entries: &[Entry]) -> bool
+    ensures { result ≡ list_any (λ e. is_failed_entry e e.act) entries.now }
+{
+    entries.iter().any(|entry| is_failed(entry))
+}
+
+/// Whether some entry stopped an instance.
+fn has_stop(entries: &[Entry]) -> bool
+    ensures { result ≡ has_stop entries.now }
+{
+    entries.iter().any(|entry| is_stop(entry))
+}
+
+/// The status of a whole history of a recorded run, without its works and their records.
+pub fn exit_status(entries: &[Entry]) -> u8
+    ensures { (s : Setup) (works : List Work) → IsWholeRun s works entries.now → result ≡ exit_of s (judges_of s) entries.now }
+{
+    if has_failed(entries) {
+        FAILURE
+    } else if has_stop(entries) {
+        STOPPED_SOME
+    } else {
+        CLEAN
+    }
+}

@@ -1,4 +1,0 @@
-pub mod Fitting
-pub mod Numbered
-pub mod Shown
-pub mod Whole
