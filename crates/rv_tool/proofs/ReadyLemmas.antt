@@ -1,7 +1,7 @@
 -- What is read makes a run ready: the setup has the bindings' tables, and the lanes fit it.
-use Rattle.std.proofs.Common.{◌≡◌, ◌≢◌, ℕ, zero, suc, ◌<◌, ◌≤◌, List, [], ◌∷◌, ◌++◌, ◌^◌, map, length, get_or, refl, sym, ap, ◌∙◌, subst, arith}
+use Rattle.std.proofs.Common.{◌≡◌, ◌≢◌, ℕ, zero, suc, ◌<◌, ◌≤◌, ◌+◌, List, [], ◌∷◌, ◌++◌, ◌^◌, map, length, get_or, take, refl, sym, ap, ◌∙◌, subst, arith}
 use Rattle.std.specs.Prelude.{All, AllPairs, Some, slice_get, slice_index, slice_index_or}
-use Rattle.std.proofs.lemmas.List.{append_assoc, length-map, map-append}
+use Rattle.std.proofs.lemmas.List.{append_assoc, length-map, map-append, map_more, take_all}
 use Rattle.std.proofs.lemmas.List.Elements.{All-push, All-nil, All-cons, All-head, All-tail, All-weaker}
 use Rattle.rv_model.specs.declared.work.Scope.{Scope}
 use Rattle.rv_model.specs.declared.work.Delivery.{Delivery}
@@ -126,6 +126,18 @@ module _ (monitors : List Monitor) (tables : List Table) (tasks : ℕ) (have : H
   lanes_fit works lanes fit is new =
       let f : WorksFit (kinds_of monitors) tasks (works_of lanes) = subst (WorksFit (kinds_of monitors) tasks) (sym is) fit in
       record { fit = each_fits lanes f new; cpus = lanes_apart lanes (pair_works lanes f.cpus); apart = f.apart }
+
+-- ---- lists that are made of the monitors
+
+-- with one monitor more, the list is still made of the monitors so far
+pub one_more : {Y : Type 0} (f : Monitor → Y) (monitors : List Monitor) (place : ℕ) (m : Monitor) (old new : List Y) → place < length monitors → m ≡ slice_index_or monitors place m → old ≡ map f (take place monitors) → new ≡ old ++ f m ∷ []
+    → new ≡ map f (take (place + 1) monitors)
+one_more {Y} f monitors place m old new within is so_far added =
+    added ∙ ap (λ (ys : List Y). ys ++ f m ∷ []) so_far ∙ ap (λ (n : Monitor). map f (take place monitors) ++ f n ∷ []) is ∙ sym (map_more f monitors place m within)
+
+-- at the end it is made of all of them
+pub all_made : {Y : Type 0} (f : Monitor → Y) (monitors : List Monitor) (place : ℕ) (made : List Y) → length monitors ≤ place → made ≡ map f (take place monitors) → made ≡ map f monitors
+all_made f monitors place made past so_far = so_far ∙ ap (map f) (take_all place monitors past)
 
 -- ---- lanes as they are made
 

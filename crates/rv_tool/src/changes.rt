@@ -135,6 +135,14 @@ pub(crate) fn read_beside<S: Store>(
     ensures named { Names (S.files store.old) result (λ files. input_beside files bindings.now trace.now script.now) }
 {
     let mut ready = read_input(alloc, store, bindings, trace)?;
-    ready.changes = read_changes(alloc, store, script, &ready.bindings)?;
-    Ok(ready)
+    match read_changes(alloc, store, script, &ready.bindings) {
+        Ok(changes) => {
+            ready.changes = changes;
+            Ok(ready)
+        }
+        Err(fault) => {
+            drop(ready);
+            Err(fault)
+        }
+    }
 }

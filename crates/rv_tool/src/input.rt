@@ -32,6 +32,14 @@ pub(crate) struct Ready {
     pub(crate) changes: Vec<Change>,
 }
 
+/// The parts of what is ready that are made of monitors, tables and works.
+#[derive(Drop)]
+struct Parts {
+    setup: Setup,
+    reactors: Vec<Reactor>,
+    lanes: Vec<Lane>,
+}
+
 /// Reads the bindings and the trace.
 #[tactic(auto, using(crate::proofs::NamedLemmas::input_named, crate::proofs::NamedLemmas::input_behind_named))]
 pub(crate) fn read_input<S: Store>(
@@ -65,9 +73,17 @@ fn prepare(alloc: Global, bound: Bound, routed: Routed) -> Result<Ready, AllocEr
 {
     let Bound { bindings, tables } = bound;
     let Routed { tasks, works } = routed;
-    let setup = opening(alloc, bindings.monitors.as_slice(), tasks.len(), tables)?;
-    let reactors = reactors(alloc, bindings.monitors.as_slice())?;
-    let lanes = lanes(alloc, works)?;
+    let Parts {
+        setup,
+        reactors,
+        lanes,
+    } = make_parts(
+        alloc,
+        bindings.monitors.as_slice(),
+        tasks.len(),
+        tables,
+        works,
+    )?;
     Ok(Ready {
         bindings,
         tasks,
@@ -75,6 +91,31 @@ fn prepare(alloc: Global, bound: Bound, routed: Routed) -> Result<Ready, AllocEr
         reactors,
         lanes,
         changes: Vec::new(alloc),
+    })
+}
+
+/// What the monitors make of their tables and of the works of so many tasks.
+fn make_parts(
+    alloc: Global,
+    monitors: &[Monitor],
+    tasks: u32,
+    tables: Vec<Table>,
+    works: Vec<CpuWork>,
+) -> Result<Parts, AllocError>
+    requires monitors { length monitors.now ≤ 32 }
+    requires tasks { tasks ≤ 65536 }
+    requires tables { HaveTables (kinds_of monitors.now) tables.items }
+    ensures setup { IfOk result (λ parts. parts.setup ≡ opened monitors.now tables.items tasks) }
+    ensures reactors { IfOk result (λ parts. parts.reactors.items ≡ map (λ m. m.reactor) monitors.now) }
+    ensures lanes { IfOk result (λ parts. (works_of parts.lanes.items ≡ works.items) × All (λ lane. IsNewLane lane.work lane) parts.lanes.items) }
+{
+    let lanes = lanes(alloc, works)?;
+    let reactors = reactors(alloc, monitors)?;
+    let setup = opening(alloc, monitors, tasks, tables)?;
+    Ok(Parts {
+        setup,
+        reactors,
+        lanes,
     })
 }
 

@@ -1,5 +1,5 @@
 //! The lines of a trace are routed as they are taken from its pieces, and none is kept.
-ghost use Rattle.std.specs.Prelude.{◌≡◌, ◌≤◌, ◌++◌, [], true, false, length, All, Err, IfErr, IfOk, OnOk};
+ghost use Rattle.std.specs.Prelude.{◌≡◌, ◌≤◌, ◌++◌, [], true, false, length, All, None, Err, IfErr, IfOk, OnOk};
 ghost use Rattle.rv_text.specs.Readings.{Gives, Refuses, and_then};
 ghost use Rattle.rv_trace.specs.Streams.{part_read};
 ghost use Rattle.rv_trace.specs.Traces.{trace_of};
@@ -47,6 +47,27 @@ fn route_taken(
     Ok(())
 }
 
+/// Routes the lines that are left at the end of the text. A refusal of a line comes before one of routing.
+fn route_rest(
+    mut lines: Lines,
+    router: &mut Router,
+    bindings: &Bindings,
+    mut late: Option<Refused>,
+) -> Result<(), Refused>
+    requires unended { lines.ended ≡ false }
+    requires idle { lines.idle ≡ true }
+    requires routed { IsRouted bindings.now (passed lines) router.old late }
+    ensures routed { OnOk result (IsRouted bindings.now lines.fed router.new None) }
+    ensures refused { IfErr result (λ fault. Refuses fault (and_then (trace_of lines.fed) (route_of bindings.now.monitors.items bindings.now.rules.items lines.fed))) }
+{
+    lines.finish();
+    route_taken(&mut lines, router, bindings, &mut late)?;
+    match late {
+        None => Ok(()),
+        Some(fault) => Err(fault),
+    }
+}
+
 impl Routing {
     /// No byte was read.
     pub(crate) fn new(alloc: Global, bindings: &Bindings) -> Result<Routing, AllocError>
@@ -73,7 +94,7 @@ impl Routing {
         Ok(())
     }
 
-    /// What the whole text is routed to. A refusal of a line comes before one of routing.
+    /// What the whole text is routed to.
     pub(crate) fn end(self, bindings: &Bindings) -> Result<Routed, Refused>
         requires { IsOpen bindings.now self }
         ensures value { Gives routed_value result (and_then (trace_of self.lines.fed) (route_of bindings.now.monitors.items bindings.now.rules.items self.lines.fed)) }
@@ -81,15 +102,11 @@ impl Routing {
         ensures rules { IfOk result (λ routed. FromRules bindings.now.rules.items routed.works.items) }
     {
         let Routing {
-            mut lines,
+            lines,
             mut router,
-            mut late,
+            late,
         } = self;
-        lines.finish();
-        route_taken(&mut lines, &mut router, bindings, &mut late)?;
-        match late {
-            None => Ok(router.end()),
-            Some(fault) => Err(fault),
-        }
+        route_rest(lines, &mut router, bindings, late)?;
+        Ok(router.end())
     }
 }

@@ -2,6 +2,7 @@
 ghost use Rattle.std.specs.Prelude.{◌≡◌, ◌≤◌, [], IfOk};
 ghost use Rattle.rv_bind.specs.Outcomes.{Comes, Names, of_file};
 ghost use Rattle.rv_tool.specs.Faults.{Tells};
+ghost use Rattle.rv_tool.specs.LaneReports.{watched_text, ReportsWatched};
 ghost use Rattle.rv_tool.specs.Ready.{ready_value, IsReady};
 ghost use Rattle.rv_tool.specs.Watched.{watched_slot, watched_by, watched_input};
 ghost use Rattle.rv_tool.specs.WatchReports.{IsWatchReport, watch_value, IsToWatch};
@@ -9,11 +10,12 @@ ghost use Rattle.rv_tool.specs.WatchReports.{IsWatchReport, watch_value, IsToWat
 use crate::input::{Ready, read_input};
 use crate::replaying::Done;
 use crate::trace_text::refused;
-use rv_bind::BindFault;
+use rv_bind::{BindFault, Bindings};
 use rv_io::{Gate, Store};
 use rv_report::{lanes_status, report_lanes};
+use rv_slots::Tasks;
 use rv_text::{NO_INSTANCE, Refusal, Refused};
-use rv_watch::{feed_watched, watch_lines, watched_slot};
+use rv_watch::{Watched, feed_watched, watch_lines, watched_slot};
 use std::alloc::{AllocError, Global};
 use std::thread::Threads;
 
@@ -46,7 +48,10 @@ fn find_slot(
     );
     match slot {
         Some(slot) => Ok(ToWatch { ready, slot }),
-        None => Err(refused(alloc, trace, Refused::Because(Refusal::whole(NO_INSTANCE)))),
+        None => {
+            drop(ready);
+            Err(refused(alloc, trace, Refused::Because(Refusal::whole(NO_INSTANCE))))
+        }
     }
 }
 
@@ -70,6 +75,39 @@ pub(crate) fn read_watched<S: Store>(
     find_slot(alloc, trace, ready, monitor, instance)
 }
 
+/// The report of a watched run, with a line for each word of the slot behind it.
+fn report_watched(
+    alloc: Global,
+    bindings: &Bindings,
+    tasks: &Tasks,
+    run: &Watched,
+) -> Result<Vec<u8>, AllocError>
+    ensures { IfOk result (λ text. text.items ≡ watched_text bindings.now tasks.now run.now) }
+{
+    let mut text = report_lanes(alloc, bindings, tasks, run.lanes.as_slice())?;
+    let lines = watch_lines(alloc, run.words.as_slice(), run.last)?;
+    text.extend_from_slice(lines.as_slice())?;
+    Ok(text)
+}
+
+/// What is told of a watched run, and its history.
+fn end_watched(
+    alloc: Global,
+    bindings: &Bindings,
+    tasks: &Tasks,
+    run: Watched,
+) -> Result<Done, AllocError>
+    ensures { IfOk result (ReportsWatched bindings.now tasks.now run) }
+{
+    let text = report_watched(alloc, bindings, tasks, &run)?;
+    let status = lanes_status(run.lanes.as_slice());
+    Ok(Done {
+        status,
+        text,
+        closed: run.closed,
+    })
+}
+
 /// The whole run, a thread for each CPU and one for the reader of the slot, its report, and the words that were read.
 pub(crate) fn watched<R: Threads + Sync, G: Gate + Send>(
     rt: &R,
@@ -91,13 +129,5 @@ pub(crate) fn watched<R: Threads + Sync, G: Gate + Send>(
     } = ready;
     drop(changes);
     let run = feed_watched(rt, alloc, setup, reactors.as_slice(), lanes, slot, gate)?;
-    let mut text = report_lanes(alloc, &bindings, &tasks, run.lanes.as_slice())?;
-    let lines = watch_lines(alloc, run.words.as_slice(), run.last)?;
-    text.extend_from_slice(lines.as_slice())?;
-    let status = lanes_status(run.lanes.as_slice());
-    Ok(Done {
-        status,
-        text,
-        closed: run.closed,
-    })
+    end_watched(alloc, &bindings, &tasks, run)
 }

@@ -8,7 +8,7 @@ use rv_header::is_header_name;
 use rv_text::decimal;
 
 /// The kinds of specifications.
-#[derive(Clone, Copy, Debug, Drop, PartialEq, Eq)]
+#[derive(Clone, Copy, Drop)]
 pub enum Kind {
     /// An automaton.
     Da,
@@ -17,7 +17,7 @@ pub enum Kind {
 }
 
 /// What the first word asks for.
-#[derive(Clone, Copy, Debug, Drop, PartialEq, Eq)]
+#[derive(Clone, Copy, Drop)]
 pub enum Verb {
     /// All scripts on one thread.
     Replay,
@@ -34,7 +34,7 @@ pub enum Verb {
 }
 
 /// A command, and the files that it names.
-#[derive(Clone, Copy, Debug, Drop)]
+#[derive(Clone, Copy, Drop)]
 pub(crate) enum Command<'a> {
     Replay {
         bindings: &'a str,
