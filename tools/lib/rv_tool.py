@@ -42,6 +42,17 @@ class Parser(argparse.ArgumentParser):
         raise Trouble(WRONG_USE, message)
 
 
+def number_from(least, most):
+    """The type of a word that is a number, in digits."""
+
+    def read(text):
+        if not re.fullmatch("[0-9]{1,18}", text) or not least <= int(text) <= most:
+            raise argparse.ArgumentTypeError(f"{text} is no number from {least} to {most}")
+        return int(text)
+
+    return read
+
+
 def say(text, name=NAME):
     """A line on standard error, where there is one that takes it."""
     try:
