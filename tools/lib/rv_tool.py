@@ -1,5 +1,6 @@
 """How a tool begins and ends: its words, its --help, its statuses, and outputs that cannot be written."""
 import argparse
+import contextlib
 import os
 import re
 import sys
@@ -21,11 +22,11 @@ class Parser(argparse.ArgumentParser):
     """The words of a tool, whose text is --help. Wrong words end with 2, the usage, and a line that says why."""
 
     def __init__(self, text):
-        """The text is a sentence, the lines `usage: TOOL WORDS`, and all else that --help prints behind them."""
+        """The text has a paragraph `usage: TOOL WORDS`, which --help prints first."""
         super().__init__(prog=NAME, add_help=False, allow_abbrev=False)
-        sentence, usage, rest = text.split("\n\n", 2)
+        usage = next(it for it in text.split("\n\n") if it.startswith("usage: "))
         self._usage = re.sub(rf"(?<![\w-]){re.escape(FILE)}(?![\w-])", NAME, usage) + "\n"
-        self._help = f"{self._usage}\n{sentence}\n\n{rest}"
+        self._help = f"{self._usage}\n" + text.replace(f"{usage}\n\n", "", 1)
         self.add_argument("-h", "--help", action="help")
 
     def format_usage(self):
@@ -55,10 +56,8 @@ def number_from(least, most):
 
 def say(text, name=NAME):
     """A line on standard error, where there is one that takes it."""
-    try:
+    with contextlib.suppress(OSError):
         print(f"{name}: {text}" if name else text, file=sys.stderr, flush=True)
-    except OSError:
-        pass
 
 
 def keep_bytes():
@@ -69,6 +68,12 @@ def keep_bytes():
         stream.reconfigure(encoding="utf-8", errors="surrogateescape", newline="\n")
     if sys.stderr is not None:
         sys.stderr.reconfigure(errors="backslashreplace")
+
+
+def drop_output():
+    """Drops what was not written, so that nothing is said of it once more."""
+    with contextlib.suppress(OSError):
+        os.dup2(os.open(os.devnull, os.O_WRONLY), sys.stdout.fileno())
 
 
 def status_of(main):
@@ -101,6 +106,5 @@ def run_tool(main):
     try:
         sys.stdout.flush()
     except OSError:
-        # what was not written is dropped, so that nothing is said of it once more
-        os.dup2(os.open(os.devnull, os.O_WRONLY), sys.stdout.fileno())
+        drop_output()
     sys.exit(status)

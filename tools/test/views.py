@@ -1,11 +1,14 @@
 """What the tests of rv-steps, rv-perfetto and rv-timeline share: the runs, the tools, and stored outputs."""
-import argparse
 import difflib
 import os
 import subprocess
 import sys
 
 ROOT = os.path.dirname(os.path.dirname(os.path.dirname(os.path.abspath(__file__))))
+sys.dont_write_bytecode = True
+sys.path.insert(0, f"{ROOT}/tools/lib")
+from rv_tool import Parser, run_tool  # noqa: E402
+
 STORED = os.path.join(ROOT, "tools", "test", "views")
 VIEWS = "tools/test/views"
 
@@ -27,9 +30,9 @@ class Test:
     """Counts cases, and prints each that differs."""
 
     def __init__(self, tool, text):
-        parser = argparse.ArgumentParser(description=text, formatter_class=argparse.RawDescriptionHelpFormatter)
-        parser.add_argument("--rv", metavar="PROGRAM", default=f"{ROOT}/crates/rv/out/rv", help="the built program (default: crates/rv/out/rv)")
-        parser.add_argument("--write", action="store_true", help="write the stored outputs anew")
+        parser = Parser(text)
+        parser.add_argument("--rv", metavar="PROGRAM", default=f"{ROOT}/crates/rv/out/rv")
+        parser.add_argument("--write", action="store_true")
         given = parser.parse_args()
         self.name, self.tool, self.rv, self._write = tool, f"{ROOT}/tools/{tool}", os.path.abspath(given.rv), given.write
         self.agree = self.differ = 0
