@@ -71,20 +71,20 @@ class Test:
         self.case(name, wanted == text, "\n".join(list(changes)[:20]))
 
     def wrong_uses(self, *rest):
-        """What every tool says of wrong words and of files that cannot be read; `rest` stands before the bindings."""
+        """What every tool says of wrong words and of files that cannot be read; `rest` stands behind the trace."""
         wip, trace = "examples/wip/wip.rv", "examples/wip/wip.txt"
         told = self.run("--help")
         self.case("--help", told[0] == 0 and told[1].startswith(f"usage: {self.name} ") and "Exit status: 0" in told[1], told)
         for words, status in [
-            ([*rest, wip], 2),
-            (["--no-such", *rest, wip, trace], 2),
-            ([*rest, "no/such.rv", trace], 3),
-            ([*rest, wip, "no/such.txt"], 3),
-            ([*rest, wip, "examples"], 3),
-            ([*rest, wip, "/dev/null"], 3),
-            ([*rest, trace, wip], 3),
-            ([*rest, wip, wip], 3),
-            (["--rv", "/no/such/program", *rest, wip, trace], 3),
+            ([wip, *rest], 2),
+            (["--no-such", wip, trace, *rest], 2),
+            (["no/such.rv", trace, *rest], 3),
+            ([wip, "no/such.txt", *rest], 3),
+            ([wip, "examples", *rest], 3),
+            ([wip, "/dev/null", *rest], 3),
+            ([trace, wip, *rest], 3),
+            ([wip, wip, *rest], 3),
+            (["--rv", "/no/such/program", wip, trace, *rest], 3),
         ]:
             came, out, err = self.run(*words)
             self.case(f"{' '.join(words)}", came == status and not out and err and "Traceback" not in err, f"status {came}, output {out[:80]!r}, errors {err[-300:]!r}")
