@@ -7,7 +7,7 @@ import sys
 ROOT = os.path.dirname(os.path.dirname(os.path.dirname(os.path.abspath(__file__))))
 sys.dont_write_bytecode = True
 sys.path.insert(0, f"{ROOT}/tools/lib")
-from rv_tool import Parser, run_tool  # noqa: E402
+from rv_tool import Parser, run_tool  # noqa: E402, F401 (the tests take run_tool from here)
 
 STORED = os.path.join(ROOT, "tools", "test", "views")
 VIEWS = "tools/test/views"
