@@ -2,8 +2,10 @@
 package RvTrace;
 use strict;
 use warnings;
+use Errno qw(EPIPE);
 use Exporter 'import';
-our @EXPORT_OK = qw($EVENT_LINE MAX_LINES MAX_BYTES MAX_PID CPUS stop read_bindings decimal field is_note is_sound open_output);
+use Getopt::Long qw(:config posix_default bundling);
+our @EXPORT_OK = qw($EVENT_LINE MAX_LINES MAX_BYTES MAX_PID CPUS take_words put end stop read_bindings decimal field is_note is_sound open_output);
 
 use constant MAX_LINES => 1_000_000;
 use constant MAX_BYTES => 134_217_728;
@@ -24,7 +26,44 @@ sub stop {
     my ($status, $why) = @_;
     my ($tool) = $0 =~ m{([^/]+)$};
     print STDERR "$tool: $why\n";
+    leave($status);
+}
+
+# Ends a tool; what was not written of its output is dropped, so that nothing is said of it once more.
+sub leave {
+    my ($status) = @_;
+    close STDOUT;
+    open STDOUT, '>', '/dev/null';
     exit $status;
+}
+
+# A write that fails ends a tool with 3, and quietly where a pipe was closed.
+sub cannot_write {
+    leave(3) if $! == EPIPE;
+    stop(3, "cannot write: $!");
+}
+
+# Puts texts out.
+sub put {
+    print STDOUT @_ or cannot_write();
+}
+
+# Ends a tool whose output is whole.
+sub end {
+    close STDOUT or cannot_write();
+    exit 0;
+}
+
+# Takes the options, of which each is given to Getopt::Long, and as many words as there may be. The usage is the text of --help; wrong
+# words end with 2, its first lines, and a line that says why.
+sub take_words {
+    my ($usage, $least, $most, @options) = @_;
+    $SIG{PIPE} = 'IGNORE';
+    my ($first) = $usage =~ /^(.*?\n)\n/s;
+    my $wrong = sub { chomp(my $why = lcfirst $_[0]); print STDERR $first; stop(2, $why) };
+    local $SIG{__WARN__} = $wrong;
+    GetOptions(@options, 'help|h' => sub { put($usage); end() });
+    $wrong->(@ARGV < $least ? 'a word is missing' : "a word too many: $ARGV[$most]") if @ARGV < $least || @ARGV > $most;
 }
 
 # A bindings file: its lines, its monitors by name and in order, and its rules in order. Lines of no

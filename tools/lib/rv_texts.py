@@ -1,32 +1,21 @@
-"""The texts that rv reads and prints, as docs/FORMATS.md has them: reports, lines of a trace, bindings, tables of numbers.
+"""The texts that rv reads and prints, as docs/FORMATS.md has them: reports, lines of a trace, bindings, journals, tables of numbers.
 
 Texts are read as bytes that stand in strings one for one where they are no UTF-8 (surrogateescape), so that nothing is lost.
+What rv refuses has no form here: a line of no form is left out, or none.
 """
-import os
+import collections
+import functools
 import re
 import sys
 
-DIGITS = "[0-9]+"
-HEAD = re.compile(r"-([0-9]+)[ \t]+\[([0-9]+)\][ \t]")
-STAMP = re.compile(r"[0-9]+(?:\.[0-9]+)?:")
-WORD = re.compile(r"[^ \t]+")
+from rv_tool import FINDINGS, UNREADABLE, Trouble
+
 HIGHEST_PID = 4294967295
 CPUS = 64
 MOST_BYTES, MOST_LINES = 134217728, 1000000
 
-VIOLATION = re.compile(
-    r"rv: (?P<panic>panic: )?monitor (?P<monitor>[a-z0-9_:]+)(?:\[cpu (?P<cpu>[0-9]+)\]|\[task (?P<task>[0-9]+)(?: cpu (?P<idle>[0-9]+))?\])?"
-    r"(?: does not allow event (?P<event>[^ ]+) on state (?P<state>[^ ]+)|: violation detected) \(line (?P<line>[0-9]+)\)"
-)
-SUMMARY = re.compile(r"([a-z0-9_:]+): instances ([0-9]+), deliveries ([0-9]+), failures ([0-9]+), stopped ([0-9]+)")
-REFUSAL = re.compile(r"rv: refused ([0-9]+)(?: in (.*?)(?: line ([0-9]+))?)?")
-UNREAD = re.compile(r"rv: cannot read (.*)")
 
-
-def stop(status, why):
-    """Ends the tool with a line on standard error."""
-    print(f"{os.path.basename(sys.argv[0])}: {why}", file=sys.stderr)
-    sys.exit(status)
+# ---- files
 
 
 def read_text(path):
@@ -35,33 +24,123 @@ def read_text(path):
         return file.read(MOST_BYTES + 1).decode("utf-8", "surrogateescape")
 
 
+def text_of(path):
+    """The same, or trouble."""
+    try:
+        return read_text(path)
+    except OSError as error:
+        raise Trouble(UNREADABLE, f"cannot read {path}: {error.strerror}") from error
+
+
 def lines_of(text):
     """The lines of a text, without their line ends."""
     lines = text.split("\n")
     return lines[:-1] if lines[-1] == "" else lines
 
 
+def read_lines(path):
+    """The lines of a file of any size, without their line ends, one after another."""
+    try:
+        with open(path, encoding="utf-8", errors="surrogateescape", newline="\n") as file:
+            for line in file:
+                yield line.removesuffix("\n")
+    except OSError as error:
+        raise Trouble(UNREADABLE, f"cannot read {path}: {error.strerror}") from error
+
+
+def input_lines():
+    """The lines of standard input, without their line ends, one after another."""
+    try:
+        for line in sys.stdin or ():
+            yield line.removesuffix("\n")
+    except OSError as error:
+        raise Trouble(UNREADABLE, f"cannot read standard input: {error.strerror}") from error
+
+
+WORD = re.compile(r"[^ \t]+")
+
+
 def words_of(line):
+    """The words of a line."""
+    return WORD.findall(line)
+
+
+def places_of(line):
     """The words of a line with their places: (start, end, word)."""
     return [(found.start(), found.end(), found[0]) for found in WORD.finditer(line)]
 
 
-def use_bytes():
-    """Standard input and output keep every byte, and a line ends at the byte 10 alone."""
-    for stream in (sys.stdin, sys.stdout):
-        stream.reconfigure(encoding="utf-8", errors="surrogateescape", newline="\n")
+# ---- reports
+
+VIOLATION = re.compile(
+    r"rv: (?P<panic>panic: )?monitor (?P<monitor>[a-z0-9_:]+)(?:\[cpu (?P<cpu>[0-9]+)\]|\[task (?P<task>[0-9]+)(?: cpu (?P<idle>[0-9]+))?\])?"
+    r"(?: does not allow event (?P<event>[^ ]+) on state (?P<state>[^ ]+)|: violation detected) \(line (?P<line>[0-9]+)\)"
+)
+SUMMARY = re.compile(r"(?P<monitor>[a-z0-9_:]+): instances (?P<instances>[0-9]+), deliveries (?P<deliveries>[0-9]+), failures (?P<failures>[0-9]+), stopped (?P<stopped>[0-9]+)")
+REFUSAL = re.compile(r"rv: refused ([0-9]+)(?: in (.*?)(?: line ([0-9]+))?)?")
+UNREAD = re.compile(r"rv: cannot read (.*)")
+
+
+def violations_of(path):
+    """The violations of a report, in its order; `-` is standard input."""
+    return [found for found in map(VIOLATION.fullmatch, input_lines() if path == "-" else read_lines(path)) if found]
+
+
+# ---- lines of a trace
+
+# The head ends at the first place that it can: no other head begins within one.
+HEAD = re.compile(r"-([0-9]+)[ \t]+\[([0-9]+)\][ \t]")
+STAMP = re.compile(r"[0-9]+(?:\.[0-9]+)?:")
+BODY = re.compile(rf"[ \t]*(?:({STAMP.pattern})|[^ \t]+[ \t]+({STAMP.pattern}))[ \t]+([^ \t]+):(?![^ \t])")
 
 
 class Event:
     """A line of a trace that has the form of an event."""
 
-    def __init__(self, comm, pid, cpu, stamp, name, fields):
-        self.comm, self.pid, self.cpu, self.stamp, self.name, self.fields = comm, pid, cpu, stamp, name, fields
+    __slots__ = ("number", "text", "pid", "cpu", "name", "_named", "_begun", "_stamped", "fields_at")
+
+    def __init__(self, number, text, head, body):
+        self.number, self.text, self.pid, self.cpu, self.name = number, text, int(head[1]), int(head[2]), body[3]
+        self._named = head.start()  # where the task's name ends
+        self._begun, colon = body.span(1 if body[1] else 2)
+        self._stamped = colon - 1
+        self.fields_at = body.end()  # where the fields begin
+
+    @property
+    def comm(self):
+        """The task's name, with blanks in front left out."""
+        return self.text[: self._named].lstrip(" \t")
+
+    @property
+    def stamp(self):
+        return self.text[self._begun : self._stamped]
+
+    @property
+    def time(self):
+        """The stamp in nanoseconds; one without a point counts microseconds, as other clocks than seconds do."""
+        whole, point, part = self.stamp.partition(".")
+        return int(whole) * 1_000_000_000 + int(part[:9].ljust(9, "0")) if point else int(whole) * 1_000
+
+    @property
+    def front(self):
+        """The line up to its stamp, without the colon behind it."""
+        return self.text[: self._stamped]
+
+    @property
+    def fields(self):
+        """What stands behind the event's name and its colon."""
+        return self.text[self.fields_at :]
 
     def value(self, field):
         """The value of a field, or None where the line has no such field."""
-        found = re.search(rf"(?:^|[ \t]){re.escape(field)}=([^ \t]*)", self.fields)
+        found = value_form(field).search(self.text, self.fields_at)
         return found[1] if found else None
+
+
+@functools.cache
+def value_form(field):
+    """What finds the value of a field: behind the first place where NAME= begins a word of the fields, which a blank stands before."""
+    return re.compile(rf"[ \t]{re.escape(field)}=([^ \t]*)")
 
 
 def is_skipped(line):
@@ -69,32 +148,40 @@ def is_skipped(line):
     return line.startswith("#") or not line.strip(" \t")
 
 
-def event_of(line):
-    """The event of a trace's line, else None: the line is skipped, or rv refuses it."""
-    head = None if is_skipped(line) or is_lost_note(line) else HEAD.search(line)
-    if head is None:
-        return None
-    words = words_of(line[head.end():])
-    at = 0 if words and STAMP.fullmatch(words[0][2]) else 1
-    if len(words) < at + 2 or not STAMP.fullmatch(words[at][2]):
-        return None
-    _, end, name = words[at + 1]
-    pid, cpu = int(head[1]), int(head[2])
-    if len(name) < 2 or not name.endswith(":") or pid > HIGHEST_PID or cpu >= CPUS:
-        return None
-    return Event(line[: head.start()].lstrip(" \t"), pid, cpu, words[at][2][:-1], name[:-1], line[head.end() + end:])
-
-
 def is_lost_note(line):
     return line.startswith("CPU:") and line.endswith("EVENTS]")
 
 
+def event_of(line, number=None):
+    """The event of a trace's line, else None: the line is skipped, or rv refuses it."""
+    head = None if is_skipped(line) or is_lost_note(line) else HEAD.search(line)
+    body = head and BODY.match(line, head.end())
+    if not body or int(head[1]) > HIGHEST_PID or int(head[2]) >= CPUS:
+        return None
+    return Event(number, line, head, body)
+
+
+def events_of(path):
+    """The events of a trace that rv accepts."""
+    for number, line in enumerate(read_lines(path), 1):
+        event = event_of(line, number)
+        if event is not None:
+            yield event
+        elif not is_skipped(line):
+            raise Trouble(UNREADABLE, f"{path} line {number} is not understood, though rv reads it")
+
+
 def decimal_pid(text):
     """The pid that a field's value is, or None."""
-    return int(text) if text is not None and re.fullmatch(DIGITS, text) and int(text) <= HIGHEST_PID else None
+    return int(text) if text is not None and re.fullmatch("[0-9]+", text) and int(text) <= HIGHEST_PID else None
+
+
+# ---- bindings
 
 
 class Monitor:
+    """A `monitor` line, with what `react`, `off` and `begin` say of it."""
+
     def __init__(self, line, name, scope, kind, file, container=None):
         self.line, self.name, self.scope, self.kind, self.file, self.container = line, name, scope, kind, file, container
         self.shown = f"{container}:{name}" if container else name
@@ -105,16 +192,20 @@ class Rule:
     """An `on` line: of which monitor, on which event, under which tests, whose, in which mode, and what it does."""
 
     def __init__(self, line, monitor, event, by, tests, mode, what):
-        self.line, self.monitor, self.event, self.by, self.tests, self.mode, self.what = line, monitor, event, by, tests, mode, what
+        self.line, self.monitor, self.event, self.by, self.mode, self.what = line, monitor, event, by, mode, what
+        self.tests = []
+        for test in tests:
+            field, other, value = re.fullmatch(r"(.+?)(!?)=(.*)", test, re.DOTALL).groups()
+            self.tests.append((value_form(field), not other, value))
 
     def fires(self, event):
-        return event.name == self.event and all(self.holds(test, event) for test in self.tests)
-
-    @staticmethod
-    def holds(test, event):
-        field, value = re.split("!?=", test, maxsplit=1)
-        found = event.value(field)
-        return found is not None and (found != value if test[len(field)] == "!" else found == value)
+        if event.name != self.event:
+            return False
+        for form, wanted, value in self.tests:
+            found = form.search(event.text, event.fields_at)
+            if not found or (found[1] == value) != wanted:
+                return False
+        return True
 
     def owner(self, event):
         """Whose instance it is: (), (cpu,), (pid,), or (0, cpu) of an idle task; None where rv refuses the line."""
@@ -133,7 +224,7 @@ class Bindings:
         self.lines = lines_of(text)
         self.monitors, self.containers, self.rules = {}, {}, []
         for number, line in enumerate(self.lines, 1):
-            words = [word for _, _, word in words_of(line)]
+            words = words_of(line)
             if words and not words[0].startswith("#"):
                 self.take(number, words)
 
@@ -170,6 +261,37 @@ class Bindings:
     def shown(self, name):
         """The monitor of a shown name, or None."""
         return next((monitor for monitor in self.monitors.values() if monitor.shown == name), None)
+
+
+# ---- journals
+
+NUMBER = r"(0|[1-9][0-9]*)"
+ENTRY = re.compile(
+    rf"{NUMBER} (?:deliver {NUMBER} (event|start|start_run) (?:da {NUMBER}|ltl {NUMBER} {NUMBER} {NUMBER})"
+    rf"|(look)|(raise|lower) {NUMBER}|(clear|end|stop) {NUMBER}) {NUMBER} {NUMBER}"
+)
+Entry = collections.namedtuple("Entry", "number seat act slot mode what bits before after")
+
+
+def entries_of(lines, path="the journal"):
+    """The entries of a journal's lines."""
+    for number, text in enumerate(lines, 1):
+        found = ENTRY.fullmatch(text)
+        if not found:
+            raise Trouble(FINDINGS, f"{path} line {number} is the line of no entry")
+        seat, at, mode, event, on, off, pulse, look, switch, bits, act, slot, before, after = found.groups()
+        seat, before, after = int(seat), int(before), int(after)
+        if look:
+            yield Entry(number, seat, look, None, None, None, None, before, after)
+        elif at:
+            yield Entry(number, seat, "deliver", int(at), mode, int(event) if event else (int(on), int(off), int(pulse)), None, before, after)
+        elif switch:
+            yield Entry(number, seat, switch, None, None, None, int(bits), before, after)
+        else:
+            yield Entry(number, seat, act, int(slot), None, None, None, before, after)
+
+
+# ---- pages
 
 
 def cells_of(row):

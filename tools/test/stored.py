@@ -2,7 +2,6 @@
 
 The commands run in a copy of the repository's top without its crates, where `rv` is the built program and the tools are on the PATH.
 """
-import argparse
 import difflib
 import os
 import re
@@ -12,6 +11,10 @@ import sys
 import tempfile
 
 ROOT = os.path.dirname(os.path.dirname(os.path.dirname(os.path.realpath(__file__))))
+sys.dont_write_bytecode = True
+sys.path.insert(0, f"{ROOT}/tools/lib")
+from rv_tool import Parser, run_tool  # noqa: E402
+
 LATEST = 60  # seconds for a command
 
 
@@ -34,15 +37,15 @@ def run(command, top, environment):
 
 def main(name, describe, commands, needs=(), files=()):
     """Runs the commands; ends with 0 where all agree, 1 where one differs, 3 where the program or a tool is missing."""
-    parser = argparse.ArgumentParser(description=describe, formatter_class=argparse.RawDescriptionHelpFormatter)
-    parser.add_argument("--program", default=f"{ROOT}/crates/rv/out/rv", help="the built program (default: crates/rv/out/rv)")
-    parser.add_argument("--store", action="store_true", help="write the stored outputs anew")
+    parser = Parser(describe)
+    parser.add_argument("--rv", metavar="PROGRAM", default=f"{ROOT}/crates/rv/out/rv")
+    parser.add_argument("--write", action="store_true")
     given = parser.parse_args()
     for missing in [it for it in needs if not shutil.which(it)]:
         print(f"{name}: {missing} is missing")
         return 3
-    if not os.access(given.program, os.X_OK):
-        print(f"{name}: {given.program} is not the built program; ./rv builds it")
+    if not os.access(given.rv, os.X_OK):
+        print(f"{name}: {given.rv} is not the built program; ./rv builds it")
         return 3
     path, outputs, differ = f"{ROOT}/tools/test/{name}.stored", [], 0
     stored = blocks_of(path)
@@ -52,7 +55,7 @@ def main(name, describe, commands, needs=(), files=()):
         for it in ("docs", "tools"):
             shutil.copytree(f"{ROOT}/{it}", f"{top}/{it}")
         shutil.copytree(os.path.realpath(f"{ROOT}/examples"), f"{top}/examples")
-        os.symlink(os.path.abspath(given.program), f"{top}/crates/rv/out/rv")
+        os.symlink(os.path.abspath(given.rv), f"{top}/crates/rv/out/rv")
         for file, text in files:
             with open(f"{top}/{file}", "w", encoding="utf-8", newline="\n") as to:
                 to.write(text)
@@ -62,10 +65,10 @@ def main(name, describe, commands, needs=(), files=()):
             outputs.append(f"$ {command}\n{said}")
             if said != stored.get(command):
                 differ += 1
-                if not given.store:
+                if not given.write:
                     changes = difflib.unified_diff(stored.get(command, "").splitlines(), said.splitlines(), "stored", "said", lineterm="")
                     print(f"$ {command}", *changes, sep="\n    ")
-    if given.store:
+    if given.write:
         with open(path, "w", encoding="utf-8", errors="surrogateescape", newline="\n") as file:
             file.write("".join(outputs))
         print(f"{name}: {len(outputs)} outputs stored, {differ} of them new")
@@ -75,4 +78,4 @@ def main(name, describe, commands, needs=(), files=()):
 
 
 def finish(*words, **more):
-    sys.exit(main(*words, **more))
+    run_tool(lambda: main(*words, **more))

@@ -1,11 +1,14 @@
 """What the tests of rv-steps, rv-perfetto and rv-timeline share: the runs, the tools, and stored outputs."""
-import argparse
 import difflib
 import os
 import subprocess
 import sys
 
 ROOT = os.path.dirname(os.path.dirname(os.path.dirname(os.path.abspath(__file__))))
+sys.dont_write_bytecode = True
+sys.path.insert(0, f"{ROOT}/tools/lib")
+from rv_tool import Parser, run_tool  # noqa: E402, F401 (the tests take run_tool from here)
+
 STORED = os.path.join(ROOT, "tools", "test", "views")
 VIEWS = "tools/test/views"
 
@@ -27,9 +30,9 @@ class Test:
     """Counts cases, and prints each that differs."""
 
     def __init__(self, tool, text):
-        parser = argparse.ArgumentParser(description=text, formatter_class=argparse.RawDescriptionHelpFormatter)
-        parser.add_argument("--rv", metavar="PROGRAM", default=f"{ROOT}/crates/rv/out/rv", help="the built program (default: crates/rv/out/rv)")
-        parser.add_argument("--write", action="store_true", help="write the stored outputs anew")
+        parser = Parser(text)
+        parser.add_argument("--rv", metavar="PROGRAM", default=f"{ROOT}/crates/rv/out/rv")
+        parser.add_argument("--write", action="store_true")
         given = parser.parse_args()
         self.name, self.tool, self.rv, self._write = tool, f"{ROOT}/tools/{tool}", os.path.abspath(given.rv), given.write
         self.agree = self.differ = 0
@@ -68,20 +71,20 @@ class Test:
         self.case(name, wanted == text, "\n".join(list(changes)[:20]))
 
     def wrong_uses(self, *rest):
-        """What every tool says of wrong words and of files that cannot be read; `rest` stands before the bindings."""
+        """What every tool says of wrong words and of files that cannot be read; `rest` stands behind the trace."""
         wip, trace = "examples/wip/wip.rv", "examples/wip/wip.txt"
         told = self.run("--help")
         self.case("--help", told[0] == 0 and told[1].startswith(f"usage: {self.name} ") and "Exit status: 0" in told[1], told)
         for words, status in [
-            ([*rest, wip], 2),
-            (["--no-such", *rest, wip, trace], 2),
-            ([*rest, "no/such.rv", trace], 3),
-            ([*rest, wip, "no/such.txt"], 3),
-            ([*rest, wip, "examples"], 3),
-            ([*rest, wip, "/dev/null"], 3),
-            ([*rest, trace, wip], 3),
-            ([*rest, wip, wip], 3),
-            (["--rv", "/no/such/program", *rest, wip, trace], 3),
+            ([wip, *rest], 2),
+            (["--no-such", wip, trace, *rest], 2),
+            (["no/such.rv", trace, *rest], 3),
+            ([wip, "no/such.txt", *rest], 3),
+            ([wip, "examples", *rest], 3),
+            ([wip, "/dev/null", *rest], 3),
+            ([trace, wip, *rest], 3),
+            ([wip, wip, *rest], 3),
+            (["--rv", "/no/such/program", wip, trace, *rest], 3),
         ]:
             came, out, err = self.run(*words)
             self.case(f"{' '.join(words)}", came == status and not out and err and "Traceback" not in err, f"status {came}, output {out[:80]!r}, errors {err[-300:]!r}")

@@ -306,7 +306,7 @@ LINES = {"container": container_line, "monitor": monitor_line, "on": on_line, "r
 
 def syntax(line, context):
     """What is wrong with a line that has none of the forms, and the form that it comes nearest to."""
-    words = rv_texts.words_of(line)
+    words = rv_texts.places_of(line)
     if not words:
         raise Wrong((0, 1, ""), "the line has no word", "it is skipped")
     kind = words[0][2]
@@ -335,7 +335,7 @@ def finding_of(number, path, text, line_number):
     if not 1 <= line_number <= len(lines):
         return None, None
     line, context = lines[line_number - 1], Context(text, line_number)
-    words = rv_texts.words_of(line)
+    words = rv_texts.places_of(line)
     before = context.before
     if number == 18:
         end = len("\n".join(lines[:line_number]).encode("utf-8", "surrogateescape")) + 1

@@ -1,7 +1,7 @@
 """Refusals 9 to 17 of a rule file: a reader of the same grammar that says where it stops, and why."""
 import re
 
-from . import Finding, did_you_mean, foreign, nearest, size_of
+from . import Finding, foreign, nearest, size_of
 
 LARGEST, MOST_DEFINITIONS, LONGEST_CHAIN, DEEPEST, MOST_ATOMS, HEAVIEST = 1048576, 256, 256, 256, 32, 1024
 UNARY = ("always", "eventually", "next", "not")

@@ -29,7 +29,7 @@ def finding_of(number, path, text, line_number, bindings, is_beside):
     lines = rv_texts.lines_of(text)
     if not 1 <= line_number <= len(lines):
         return None
-    words = rv_texts.words_of(lines[line_number - 1])
+    words = rv_texts.places_of(lines[line_number - 1])
     if not words:
         return None
     if number == 31:

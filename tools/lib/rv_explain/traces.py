@@ -76,7 +76,7 @@ def no_event(lines, line_number, line, text):
         return headless(lines, line_number, line, is_last and not text.endswith("\n"))
     if int(head[1]) > rv_texts.HIGHEST_PID:
         return Finding(f"the PID {head[1]} is over {rv_texts.HIGHEST_PID}", "a task's name may hold such text, and the head ends at the first place that can: rename the task, or leave its lines out", line_number, *head.span(1))
-    words = rv_texts.words_of(line[head.end():])
+    words = rv_texts.places_of(line[head.end():])
     stamp = next((word for word in words[:2] if rv_texts.STAMP.fullmatch(word[2])), None)
     if stamp is None:
         return stampless(line_number, line, head, words, is_last)

@@ -82,7 +82,7 @@ def not_numbered(path, text):
     """Of 34: the monitor that `rv journal` cannot count."""
     bindings = rv_texts.Bindings(text)
     for number, line in enumerate(bindings.lines, 1):
-        words = rv_texts.words_of(line)
+        words = rv_texts.places_of(line)
         if len(words) == 3 and words[0][2] == "react" and words[2][2] == "panic" and bindings.monitors.get(words[1][2]) and bindings.monitors[words[1][2]].reactor == "panic":
             return Finding("the reactor `panic` halts the run, and a journal has no line for that", "write `printk` for it; `rv replay` and `rv feed` take panic", number, words[2][0], words[2][1])
     for rule in bindings.rules:

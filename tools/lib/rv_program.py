@@ -1,0 +1,39 @@
+"""The program rv: where it is found, and what it prints."""
+import os
+import shutil
+import subprocess
+
+from rv_tool import UNREADABLE, Trouble
+
+ROOT = os.path.dirname(os.path.dirname(os.path.dirname(os.path.realpath(__file__))))
+BUILT = os.path.join(ROOT, "crates", "rv", "out", "rv")
+
+
+class Program:
+    """The program to run: the given one, the one that this checkout built, or the one on the PATH."""
+
+    def __init__(self, given=None):
+        for it in [given] if given else [BUILT, shutil.which("rv")]:
+            if it and (os.path.isfile(it) or shutil.which(it)):
+                self.path = os.path.abspath(it) if os.path.isfile(it) else shutil.which(it)
+                return
+        raise Trouble(UNREADABLE, f"no program {given or 'rv: build it by ./rv, or name it by --rv'}")
+
+    def run(self, *words, folder=None):
+        """The status and the text of a command. What is said on standard error, as where a script builds it first, goes to the user."""
+        try:
+            done = subprocess.run([self.path, *words], cwd=folder, stdin=subprocess.DEVNULL, stdout=subprocess.PIPE, check=False)
+        except OSError as error:
+            raise Trouble(UNREADABLE, f"cannot run {self.path}: {error.strerror}") from error
+        return done.returncode, done.stdout.decode("utf-8", "surrogateescape")
+
+    def text(self, *words, statuses=(0,), folder=None):
+        """The text of a command that has to end with one of the statuses."""
+        status, text = self.run(*words, folder=folder)
+        if status not in statuses:
+            raise Trouble(UNREADABLE, text.strip() or f"rv {' '.join(words)} ended with {status}")
+        return text
+
+
+def add_rv_option(parser):
+    parser.add_argument("--rv", metavar="PROGRAM")

@@ -1,0 +1,110 @@
+"""How a tool begins and ends: its words, its --help, its statuses, and outputs that cannot be written."""
+import argparse
+import contextlib
+import os
+import re
+import sys
+
+NAME = os.path.basename(sys.argv[0])
+FILE = os.path.basename(os.path.realpath(sys.argv[0]))  # an installed tool may have another name than its file
+FINDINGS, WRONG_USE, UNREADABLE, INTERRUPTED = 1, 2, 3, 130
+
+
+class Trouble(Exception):
+    """What ends a tool: the exit status, and why."""
+
+    def __init__(self, status, why):
+        super().__init__(why)
+        self.status = status
+
+
+class Parser(argparse.ArgumentParser):
+    """The words of a tool, whose text is --help. Wrong words end with 2, the usage, and a line that says why."""
+
+    def __init__(self, text):
+        """The text has a paragraph `usage: TOOL WORDS`, which --help prints first."""
+        super().__init__(prog=NAME, add_help=False, allow_abbrev=False)
+        usage = next(it for it in text.split("\n\n") if it.startswith("usage: "))
+        self._usage = re.sub(rf"(?<![\w-]){re.escape(FILE)}(?![\w-])", NAME, usage) + "\n"
+        self._help = f"{self._usage}\n" + text.replace(f"{usage}\n\n", "", 1)
+        self.add_argument("-h", "--help", action="help")
+
+    def format_usage(self):
+        return self._usage
+
+    def format_help(self):
+        return self._help
+
+    def print_help(self, file=None):
+        print(self._help, end="", file=file)
+
+    def error(self, message):
+        say(self._usage.rstrip("\n"), name="")
+        raise Trouble(WRONG_USE, message)
+
+
+def number_from(least, most):
+    """The type of a word that is a number, in digits."""
+
+    def read(text):
+        if not re.fullmatch("[0-9]{1,18}", text) or not least <= int(text) <= most:
+            raise argparse.ArgumentTypeError(f"{text} is no number from {least} to {most}")
+        return int(text)
+
+    return read
+
+
+def say(text, name=NAME):
+    """A line on standard error, where there is one that takes it."""
+    with contextlib.suppress(OSError):
+        print(f"{name}: {text}" if name else text, file=sys.stderr, flush=True)
+
+
+def keep_bytes():
+    """Standard input and output keep every byte, and a line ends at the byte 10 alone. A closed output fails at the first write."""
+    if sys.stdout is None:
+        sys.stdout = open(os.open(os.devnull, os.O_RDONLY), "w")
+    for stream in filter(None, (sys.stdin, sys.stdout)):
+        stream.reconfigure(encoding="utf-8", errors="surrogateescape", newline="\n")
+    if sys.stderr is not None:
+        sys.stderr.reconfigure(errors="backslashreplace")
+
+
+def drop_output():
+    """Drops what was not written, so that nothing is said of it once more."""
+    with contextlib.suppress(OSError):
+        os.dup2(os.open(os.devnull, os.O_WRONLY), sys.stdout.fileno())
+
+
+def status_of(main):
+    """What main returns, and what there is to say. A write that fails ends with 3, and quietly where a pipe was closed."""
+    try:
+        try:
+            return main(), None
+        finally:
+            sys.stdout.flush()
+    except SystemExit as ended:
+        return ended.code, None
+    except Trouble as trouble:
+        return trouble.status, str(trouble)
+    except KeyboardInterrupt:
+        return INTERRUPTED, None
+    except BrokenPipeError:
+        return UNREADABLE, None
+    except OSError as error:
+        # (what is read says itself what cannot be read: what has no name is standard output)
+        return UNREADABLE, f"cannot write: {error.strerror}" if error.filename is None else f"{error.filename}: {error.strerror}"
+
+
+def run_tool(main):
+    """Ends the process with what main returns; trouble has one line on standard error."""
+    sys.set_int_max_str_digits(0)  # a pid may have any number of zeros in front
+    keep_bytes()
+    status, why = status_of(main)
+    if why is not None:
+        say(why)
+    try:
+        sys.stdout.flush()
+    except OSError:
+        drop_output()
+    sys.exit(status)
