@@ -1,15 +1,32 @@
 //! A run on several threads.
 ghost use Rattle.std.specs.Prelude.{IfOk};
 ghost use Rattle.rv_model.specs.Histories.{IsLegal};
+ghost use Rattle.rv_feed.specs.One.{lane_records};
 ghost use Rattle.rv_tool.specs.Headline.{IsReported};
+ghost use Rattle.rv_tool.specs.LaneReports.{ReportsLanes};
 ghost use Rattle.rv_tool.specs.Ready.{ready_value, IsReady};
 
 use crate::input::Ready;
 use crate::replaying::{Done, report};
-use rv_feed::feed;
+use rv_bind::Bindings;
+use rv_feed::{Fed, feed};
 use rv_io::Gate;
+use rv_slots::Tasks;
 use std::alloc::{AllocError, Global};
 use std::thread::Threads;
+
+/// The report of the lanes of a run at once, and its history.
+fn report_fed(
+    alloc: Global,
+    bindings: &Bindings,
+    tasks: &Tasks,
+    run: Fed,
+) -> Result<Done, AllocError>
+    ensures { IfOk result (ReportsLanes bindings.now tasks.now (lane_records run.lanes.items) run.closed) }
+{
+    let closed = run.closed;
+    report(alloc, bindings, tasks, run.lanes.as_slice(), closed)
+}
 
 /// The whole run, a thread for each CPU and one for its changes, and its report.
 pub(crate) fn fed<R: Threads + Sync, G: Gate + Send>(
@@ -30,6 +47,5 @@ pub(crate) fn fed<R: Threads + Sync, G: Gate + Send>(
         changes,
     } = ready;
     let run = feed(rt, alloc, setup, reactors.as_slice(), lanes, changes, gate)?;
-    let closed = run.closed;
-    report(alloc, &bindings, &tasks, run.lanes.as_slice(), closed)
+    report_fed(alloc, &bindings, &tasks, run)
 }

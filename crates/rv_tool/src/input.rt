@@ -41,7 +41,7 @@ struct Parts {
 }
 
 /// Reads the bindings and the trace.
-#[tactic(auto, using(crate::proofs::NamedLemmas::input_named, crate::proofs::NamedLemmas::input_behind_named))]
+#[tactic(auto, using(crate::proofs::NamedLemmas::input_named))]
 pub(crate) fn read_input<S: Store>(
     alloc: Global,
     store: &mut S,

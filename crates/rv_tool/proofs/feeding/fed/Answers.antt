@@ -1,11 +1,7 @@
-use Rattle.std.proofs.Common.{List, refl, ap, ◌∙◌}
+use Rattle.std.proofs.Common.{refl, ◌∙◌}
 use Rattle.std.proofs.lemmas.Result.{IfOk-weaker}
 use Rattle.rv_model.specs.Histories.{IsLegal}
-use Rattle.rv_model.specs.Records.{sort_records, status_of}
-use Rattle.rv_model.specs.Reports.{report_text}
-use Rattle.rv_feed.specs.Lane.{LaneValue}
 use Rattle.rv_feed.specs.One.{lane_records}
-use Rattle.rv_report.specs.Shown.{reported_of}
 use Rattle.rv_tool.specs.declared.replaying.Done.{Done}
 use Rattle.rv_tool.specs.Headline.{IsReported}
 use Rattle.rv_tool.specs.LaneReports.{ReportsLanes}
@@ -17,11 +13,9 @@ pub returns : goal.returns
 returns g c =
     let ready = c.args.ready in
     let run = c.in_ok-run.run' in
-    IfOk-weaker c.report.result (ReportsLanes ready.bindings ready.tasks (lane_records c.as_slice-2.result.now) run.closed)
+    IfOk-weaker c.report_fed.result (ReportsLanes ready.bindings ready.tasks (lane_records run.lanes.items) run.closed)
     (λ (done : Done). IsReported IsLegal (ready_value ready) done.closed done.text.items done.status)
     (λ (done : Done) is.
     reported_is IsLegal (ready_value ready) ready.setup c.as_slice.result.now ready.lanes.items ready.changes.items c.requires.setup (c.as_slice.ensures.value ∙ c.requires.reactors) refl refl
-    (lane_records run.lanes.items) done.closed done.text.items done.status (rw is.history_is (c.in_ok-run.ensures.legal _ c.requires.mean))
-    (is.text_is ∙ ap (λ (ls : List LaneValue). report_text (reported_of ready.bindings) ready.tasks (sort_records (lane_records ls))) c.as_slice-2.ensures.value)
-    (is.status_is ∙ ap (λ (ls : List LaneValue). status_of (lane_records ls)) c.as_slice-2.ensures.value))
-    c.report.ensures
+    (lane_records run.lanes.items) done.closed done.text.items done.status (rw is.history_is (c.in_ok-run.ensures.legal _ c.requires.mean)) is.text_is is.status_is)
+    c.report_fed.ensures
