@@ -259,7 +259,7 @@ class Bindings:
         return by, tests
 
     def shown(self, name):
-        """The monitor of a shown name, or None."""
+        """The monitor of a display name, or None."""
         return next((monitor for monitor in self.monitors.values() if monitor.shown == name), None)
 
 

@@ -14,14 +14,14 @@ use Rattle.rv_bind.specs.LineReads.{after}
 use Rattle.rv_bind.specs.LineWords.{Words}
 use Rattle.rv_bind.specs.Changes.{allows_hit, brought, atom_bit}
 use Rattle.rv_bind.specs.Bound.{monitor_named}
-use Rattle.rv_bind.specs.MonitorLines.{allows_by, rule_bound, changed, change_bound, beginning, begin_bound}
+use Rattle.rv_bind.specs.MonitorLines.{allows_by, rule_bound, monitors_with, change_bound, beginning, begin_bound}
 
 -- a monitor is changed where it stands
-pub changed-set : (change : Monitor → Monitor) (monitors : List Monitor) (place : ℕ) (m : Monitor) → place < length monitors → get_or monitors place m ≡ m
-    → changed change monitors place ≡ set monitors place (change m)
-changed-set change [] place m lt is = absurd (omega arith)
-changed-set change (x ∷ monitors) zero m lt is = ap (λ (y : Monitor). change y ∷ monitors) is
-changed-set change (x ∷ monitors) (suc place) m lt is = ap (λ ms. x ∷ ms) (changed-set change monitors place m (omega arith) is)
+pub monitors_with-set : (change : Monitor → Monitor) (monitors : List Monitor) (place : ℕ) (m : Monitor) → place < length monitors → get_or monitors place m ≡ m
+    → monitors_with change monitors place ≡ set monitors place (change m)
+monitors_with-set change [] place m lt is = absurd (omega arith)
+monitors_with-set change (x ∷ monitors) zero m lt is = ap (λ (y : Monitor). change y ∷ monitors) is
+monitors_with-set change (x ∷ monitors) (suc place) m lt is = ap (λ ms. x ∷ ms) (monitors_with-set change monitors place m (omega arith) is)
 
 -- ---- a name in a list, with none at a lower place
 module _ (names : List (List ℕ)) (name : List ℕ) where
@@ -59,7 +59,7 @@ module _ (b : BoundValue) (name : List ℕ) (place : ℕ) (named : monitor_named
   pub change_added : (change : Monitor → Monitor) (m : Monitor) (after : List Monitor) → place < length b.monitors → get_or b.monitors place m ≡ m → after ≡ set b.monitors place (change m)
       → change_bound b (monitor_named b name) change ≡ Ok (record b { monitors = after })
   change_added change m after lt is added =
-      ap (λ (p : Option ℕ). change_bound b p change) named ∙ ap (λ (ms : List Monitor). Ok (record b { monitors = ms })) (changed-set change b.monitors place m lt is ∙ sym added)
+      ap (λ (p : Option ℕ). change_bound b p change) named ∙ ap (λ (ms : List Monitor). Ok (record b { monitors = ms })) (monitors_with-set change b.monitors place m lt is ∙ sym added)
 
   -- an atom of the monitor of this name that starts true
   pub begin_added : (atom : List ℕ) (bit : ℕ) (m : Monitor) (after : List Monitor) → slice_get b.monitors place ≡ Some m → atom_bit m.spec atom ≡ Ok bit → after ≡ set b.monitors place (beginning bit m)
@@ -67,7 +67,7 @@ module _ (b : BoundValue) (name : List ℕ) (place : ℕ) (named : monitor_named
   begin_added atom bit m after there found added =
       let lt : place < length b.monitors = slice_get_within b.monitors place m there in
       let is : get_or b.monitors place m ≡ m = get_or_from_slice_get b.monitors place m m there in
-      rw (named, there, found) (ap (λ (ms : List Monitor). Ok (record b { monitors = ms })) (changed-set (beginning bit) b.monitors place m lt is ∙ sym added))
+      rw (named, there, found) (ap (λ (ms : List Monitor). Ok (record b { monitors = ms })) (monitors_with-set (beginning bit) b.monitors place m lt is ∙ sym added))
 
   -- a rule of the monitor of this name
   pub rule_added : (m : Monitor) (event : List ℕ) (by : Option (List ℕ)) (tests : List Test) (mode : Mode) (words : Words) (what : What) (after : List OnValue)

@@ -18,9 +18,9 @@ use Rattle.rv_model.proofs.NumberLemmas.{number_of-lt}
 use Rattle.rv_text.specs.declared.numbers.TheConstants.{UNKNOWN_ATOM}
 use Rattle.rv_ltl.specs.Texts.{texts}
 use Rattle.rv_bind.specs.declared.fault.LineFault.{LineFault}
-use Rattle.rv_bind.specs.LineReads.{Reads}
+use Rattle.rv_bind.specs.LineReads.{ReadsValue}
 use Rattle.rv_bind.specs.LineWords.{Words}
-use Rattle.rv_bind.specs.Changes.{runs_its_event, is_change, stands_twice, allows_what, may_end, allows_hit, place_named, signed, are_known, event_at, event_of, what_of, brought, bit_at_place, atom_bit}
+use Rattle.rv_bind.specs.Changes.{runs_its_event, is_change, stands_twice, allows_what, may_end, allows_hit, place_named, atoms_signed, are_known, event_what, event_of, what_of, brought, bit_at_place, atom_bit}
 use Rattle.rv_bind.specs.WellFormed.{FitsEvents, FitsAtoms, FitsSpec, FitsRule, StartsIn}
 
 -- ---- a set, place by place
@@ -42,23 +42,23 @@ number_below has place set is = subst (λ n. n < 2 ^ place) (sym is) (number_of-
 -- ---- what is brought
 
 -- an event that is found by its name is one of the events
-event_at-fits : (events : List (List ℕ)) (name : List ℕ) (what : What) (p : Option ℕ) → place_named events name ≡ p → event_at p ≡ Ok what → FitsEvents (length events) what
-event_at-fits events name what None found e = cc
-event_at-fits events name what (Some place) found e =
+event_what-fits : (events : List (List ℕ)) (name : List ℕ) (what : What) (p : Option ℕ) → place_named events name ≡ p → event_what p ≡ Ok what → FitsEvents (length events) what
+event_what-fits events name what None found e = cc
+event_what-fits events name what (Some place) found e =
     let same : whats.Da place ≡ what = cc in
     subst (FitsEvents (length events)) same (position-Some (λ other. bytes_eq other name) events place [] found).0
 
 -- the one event of the words is one of the events
 event-fits : (events : List (List ℕ)) (words : Words) (what : What) → event_of events words ≡ Ok what → FitsEvents (length events) what
 event-fits events [] what e = cc
-event-fits events (word ∷ []) what e = event_at-fits events word what (place_named events word) refl e
+event-fits events (word ∷ []) what e = event_what-fits events word what (place_named events word) refl e
 event-fits events (word ∷ next ∷ words) what e = cc
 
 -- the changes of known atoms are sets of the rule's atoms
 change-fits : (atoms : List (List ℕ)) (words : Words) (what : What) (known : Bool)
-    → (if known then Ok (whats.Ltl (signed 43 atoms words) (signed 45 atoms words) (signed 42 atoms words)) else Err UNKNOWN_ATOM) ≡ Ok what → FitsAtoms (length atoms) what
+    → (if known then Ok (whats.Ltl (atoms_signed 43 atoms words) (atoms_signed 45 atoms words) (atoms_signed 42 atoms words)) else Err UNKNOWN_ATOM) ≡ Ok what → FitsAtoms (length atoms) what
 change-fits atoms words what true e =
-    let same : whats.Ltl (signed 43 atoms words) (signed 45 atoms words) (signed 42 atoms words) ≡ what = cc in
+    let same : whats.Ltl (atoms_signed 43 atoms words) (atoms_signed 45 atoms words) (atoms_signed 42 atoms words) ≡ what = cc in
     subst (FitsAtoms (length atoms)) same (number_of-lt _ (length atoms), number_of-lt _ (length atoms), number_of-lt _ (length atoms))
 change-fits atoms words what false e = cc
 
@@ -70,15 +70,15 @@ mode-fits modes.StartRun rest e same = cc
 mode-fits modes.End rest e same = cc
 
 -- the event of one word
-event_of-one : (events : List (List ℕ)) (words : List (Bor (List ℕ))) (d : Bor (List ℕ)) → 1 ≤ length words → length words < 2 → event_of events (texts words) ≡ event_at (place_named events (get_or words 0 d).now)
+event_of-one : (events : List (List ℕ)) (words : List (Bor (List ℕ))) (d : Bor (List ℕ)) → 1 ≤ length words → length words < 2 → event_of events (texts words) ≡ event_what (place_named events (get_or words 0 d).now)
 event_of-one events [] d le lt = absurd (omega arith)
 event_of-one events (word ∷ []) d le lt = refl
 event_of-one events (word ∷ next ∷ words) d le lt = absurd (omega arith)
 
 -- what is read of one word is read of the words
 pub event_of-reads : (events : List (List ℕ)) (words : List (Bor (List ℕ))) (d : Bor (List ℕ)) (r : Result What LineFault) → 1 ≤ length words → length words < 2
-    → Reads (λ (what : What). what) r (event_at (place_named events (get_or words 0 d).now)) → Reads (λ (what : What). what) r (event_of events (texts words))
-event_of-reads events words d r le lt reads = subst (λ (e : Result What ℕ). Reads (λ (what : What). what) r e) (sym (event_of-one events words d le lt)) reads
+    → ReadsValue (λ (what : What). what) r (event_what (place_named events (get_or words 0 d).now)) → ReadsValue (λ (what : What). what) r (event_of events (texts words))
+event_of-reads events words d r le lt reads = subst (λ (e : Result What ℕ). ReadsValue (λ (what : What). what) r e) (sym (event_of-one events words d le lt)) reads
 
 -- what an allowed line brings fits
 what_fits : (spec : Spec) (mode : Mode) (words : Words) (what : What) → allows_what spec mode words ≡ true → what_of spec words ≡ Ok what → FitsSpec spec (record { mode = mode; what = what })

@@ -10,55 +10,55 @@ use Rattle.rv_bind.specs.declared.bindings.Item.TheVariants as items
 use Rattle.rv_bind.specs.LineReads.{after}
 use Rattle.rv_bind.specs.Values.{OnValue, BoundValue}
 use Rattle.rv_bind.specs.Changes.{atom_bit}
-use Rattle.rv_bind.specs.MonitorLines.{allows_by, changed, with_change, change_bound, beginning, begin_at, begin_bound}
-use Rattle.rv_bind.specs.WellFormed.{Kind, kind_of, kinds_of, FitsRule, HaveTables, FitsKind, IsWellFormed}
+use Rattle.rv_bind.specs.MonitorLines.{allows_by, monitors_with, bindings_with, change_bound, beginning, begin_at, begin_bound}
+use Rattle.rv_bind.specs.WellFormed.{MonitorKind, kind_of, kinds_of, FitsRule, HaveTables, FitsKind, IsWellFormed}
 use Rattle.rv_bind.proofs.ChangeLemmas.{starts_more}
 
 -- ---- a change of a monitor
 
 -- a change that keeps what is seen of each monitor keeps what is seen of the list
-changed-map : {X : Type 0} (change : Monitor → Monitor) (f : Monitor → X) → ((m : Monitor) → f (change m) ≡ f m) → (monitors : List Monitor) (place : ℕ) → map f (changed change monitors place) ≡ map f monitors
-changed-map change f same [] place = refl
-changed-map change f same (m ∷ monitors) zero = ap (λ x. x ∷ map f monitors) (same m)
-changed-map change f same (m ∷ monitors) (suc place) = ap (λ xs. f m ∷ xs) (changed-map change f same monitors place)
+monitors_with-map : {X : Type 0} (change : Monitor → Monitor) (f : Monitor → X) → ((m : Monitor) → f (change m) ≡ f m) → (monitors : List Monitor) (place : ℕ) → map f (monitors_with change monitors place) ≡ map f monitors
+monitors_with-map change f same [] place = refl
+monitors_with-map change f same (m ∷ monitors) zero = ap (λ x. x ∷ map f monitors) (same m)
+monitors_with-map change f same (m ∷ monitors) (suc place) = ap (λ xs. f m ∷ xs) (monitors_with-map change f same monitors place)
 
 -- a change of one monitor keeps their number
-changed-length : (change : Monitor → Monitor) (monitors : List Monitor) (place : ℕ) → length (changed change monitors place) ≡ length monitors
-changed-length change [] place = refl
-changed-length change (m ∷ monitors) zero = refl
-changed-length change (m ∷ monitors) (suc place) = ap (λ n. suc n) (changed-length change monitors place)
+monitors_with-length : (change : Monitor → Monitor) (monitors : List Monitor) (place : ℕ) → length (monitors_with change monitors place) ≡ length monitors
+monitors_with-length change [] place = refl
+monitors_with-length change (m ∷ monitors) zero = refl
+monitors_with-length change (m ∷ monitors) (suc place) = ap (λ n. suc n) (monitors_with-length change monitors place)
 
 -- a change that leaves what tables and rules go by
 pub change_formed : (b after : BoundValue) (place : Option ℕ) (change : Monitor → Monitor) → ((m : Monitor) → kind_of (change m) ≡ kind_of m) → ((m : Monitor) → (change m).container ≡ m.container)
     → IsWellFormed b → change_bound b place change ≡ Ok after → IsWellFormed after
 change_formed b after None change kind holder w e = cc
 change_formed b after (Some place) change kind holder w e =
-    let is : with_change b change place ≡ after = cc in
+    let is : bindings_with b change place ≡ after = cc in
     subst IsWellFormed is (record {
       few_containers = w.few_containers;
-      few_monitors = rw (changed-length change b.monitors place) w.few_monitors;
+      few_monitors = rw (monitors_with-length change b.monitors place) w.few_monitors;
       few_rules = w.few_rules;
-      tables = rw (changed-map change kind_of kind b.monitors place) w.tables;
-      rules = rw (changed-map change kind_of kind b.monitors place) w.rules;
-      holders = rw (changed-map change (λ m. m.container) holder b.monitors place) w.holders;
-      items = rw (changed-length change b.monitors place) w.items;
+      tables = rw (monitors_with-map change kind_of kind b.monitors place) w.tables;
+      rules = rw (monitors_with-map change kind_of kind b.monitors place) w.rules;
+      holders = rw (monitors_with-map change (λ m. m.container) holder b.monitors place) w.holders;
+      items = rw (monitors_with-length change b.monitors place) w.items;
     })
 
 -- ---- an atom that starts true
 
 -- a kind that differs in its starting value alone
-record Began (kinds : List Kind) (i : ℕ) (kind : Kind) : Type 0 where
-  other : Kind
+record Began (kinds : List MonitorKind) (i : ℕ) (kind : MonitorKind) : Type 0 where
+  other : MonitorKind
   there : slice_get kinds i ≡ Some other
   scope : other.scope ≡ kind.scope
   spec : other.spec ≡ kind.spec
 
 -- where an atom starts true, each kind differs at most in its starting value
-kinds-began : (bit : ℕ) (monitors : List Monitor) (place i : ℕ) (kind : Kind) → slice_get (kinds_of monitors) i ≡ Some kind → Began (kinds_of (changed (beginning bit) monitors place)) i kind
+kinds-began : (bit : ℕ) (monitors : List Monitor) (place i : ℕ) (kind : MonitorKind) → slice_get (kinds_of monitors) i ≡ Some kind → Began (kinds_of (monitors_with (beginning bit) monitors place)) i kind
 kinds-began bit [] place i kind e = cc
 kinds-began bit (m ∷ monitors) zero zero kind e =
     let same : kind_of m ≡ kind = cc in
-    record { other = kind_of (beginning bit m); there = refl; scope = ap (λ (k : Kind). k.scope) same; spec = ap (λ (k : Kind). k.spec) same }
+    record { other = kind_of (beginning bit m); there = refl; scope = ap (λ (k : MonitorKind). k.scope) same; spec = ap (λ (k : MonitorKind). k.spec) same }
 kinds-began bit (m ∷ monitors) zero (suc i) kind e = record { other = kind; there = e; scope = refl; spec = refl }
 kinds-began bit (m ∷ monitors) (suc place) zero kind e = record { other = kind; there = e; scope = refl; spec = refl }
 kinds-began bit (m ∷ monitors) (suc place) (suc i) kind e =
@@ -66,7 +66,7 @@ kinds-began bit (m ∷ monitors) (suc place) (suc i) kind e =
     record { other = later.other; there = later.there; scope = later.scope; spec = later.spec }
 
 -- a rule that fits the monitors fits them where an atom starts true
-fits-began : (bit : ℕ) (monitors : List Monitor) (place : ℕ) (r : OnValue) → FitsKind (kinds_of monitors) r → FitsKind (kinds_of (changed (beginning bit) monitors place)) r
+fits-began : (bit : ℕ) (monitors : List Monitor) (place : ℕ) (r : OnValue) → FitsKind (kinds_of monitors) r → FitsKind (kinds_of (monitors_with (beginning bit) monitors place)) r
 fits-began bit monitors place r f =
     let began = kinds-began bit monitors place r.monitor f.kind f.there in
     record {
@@ -78,7 +78,7 @@ fits-began bit monitors place r f =
 
 module _ (atom : List ℕ) (bit : ℕ) (m : Monitor) (found : atom_bit m.spec atom ≡ Ok bit) where
   -- where an atom starts true, the monitors still have their tables
-  tables-began : (monitors : List Monitor) (tables : List Table) (place : ℕ) → slice_get monitors place ≡ Some m → HaveTables (kinds_of monitors) tables → HaveTables (kinds_of (changed (beginning bit) monitors place)) tables
+  tables-began : (monitors : List Monitor) (tables : List Table) (place : ℕ) → slice_get monitors place ≡ Some m → HaveTables (kinds_of monitors) tables → HaveTables (kinds_of (monitors_with (beginning bit) monitors place)) tables
   tables-began [] tables place e h = cc
   tables-began (x ∷ monitors) [] place e h = absurd h
   tables-began (x ∷ monitors) (t ∷ tables) zero e h =
@@ -87,15 +87,15 @@ module _ (atom : List ℕ) (bit : ℕ) (m : Monitor) (found : atom_bit m.spec at
   tables-began (x ∷ monitors) (t ∷ tables) (suc place) e h = (h.0, tables-began monitors tables place e h.1)
 
   -- bindings in which an atom starts true too stay well formed
-  began_formed : (b : BoundValue) (place : ℕ) → slice_get b.monitors place ≡ Some m → IsWellFormed b → IsWellFormed (with_change b (beginning bit) place)
+  began_formed : (b : BoundValue) (place : ℕ) → slice_get b.monitors place ≡ Some m → IsWellFormed b → IsWellFormed (bindings_with b (beginning bit) place)
   began_formed b place there w = record {
     few_containers = w.few_containers;
-    few_monitors = rw (changed-length (beginning bit) b.monitors place) w.few_monitors;
+    few_monitors = rw (monitors_with-length (beginning bit) b.monitors place) w.few_monitors;
     few_rules = w.few_rules;
     tables = tables-began b.monitors b.tables place there w.tables;
-    rules = All-weaker (FitsKind (kinds_of b.monitors)) (FitsKind (kinds_of (changed (beginning bit) b.monitors place))) (fits-began bit b.monitors place) b.rules w.rules;
-    holders = rw (changed-map (beginning bit) (λ m. m.container) (λ m. refl) b.monitors place) w.holders;
-    items = rw (changed-length (beginning bit) b.monitors place) w.items;
+    rules = All-weaker (FitsKind (kinds_of b.monitors)) (FitsKind (kinds_of (monitors_with (beginning bit) b.monitors place))) (fits-began bit b.monitors place) b.rules w.rules;
+    holders = rw (monitors_with-map (beginning bit) (λ m. m.container) (λ m. refl) b.monitors place) w.holders;
+    items = rw (monitors_with-length (beginning bit) b.monitors place) w.items;
   }
 
 -- an atom that starts true at the monitor of a place keeps bindings well formed
@@ -103,9 +103,9 @@ begin_at_formed : (b done : BoundValue) (place : ℕ) (atom : List ℕ) → IsWe
 begin_at_formed b done place atom w None there e = cc
 begin_at_formed b done place atom w (Some m) there e = go (atom_bit m.spec atom) refl e
   where
-    go : (bit : Result ℕ ℕ) → atom_bit m.spec atom ≡ bit → after bit (λ bit. Ok (with_change b (beginning bit) place)) ≡ Ok done → IsWellFormed done
+    go : (bit : Result ℕ ℕ) → atom_bit m.spec atom ≡ bit → after bit (λ bit. Ok (bindings_with b (beginning bit) place)) ≡ Ok done → IsWellFormed done
     go (Err number) found e = cc
-    go (Ok bit) found e = let is : with_change b (beginning bit) place ≡ done = cc in subst IsWellFormed is (began_formed atom bit m found b place there w)
+    go (Ok bit) found e = let is : bindings_with b (beginning bit) place ≡ done = cc in subst IsWellFormed is (began_formed atom bit m found b place there w)
 
 -- a line by which an atom starts true keeps bindings well formed
 pub begin_formed : (b done : BoundValue) (place : Option ℕ) (atom : List ℕ) → IsWellFormed b → begin_bound b place atom ≡ Ok done → IsWellFormed done

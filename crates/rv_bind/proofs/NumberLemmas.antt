@@ -13,10 +13,10 @@ use Rattle.rv_dot.specs.Text.{said_by}
 use Rattle.rv_dot.specs.Dot.{dot_of, machine_said, machine_of, initial_of, with_initial}
 use Rattle.rv_ltl.specs.File.{Def}
 use Rattle.rv_ltl.specs.RuleFile.{ltl_of, rule_in, formula_of}
-use Rattle.rv_nnf.specs.Parts.{Piece}
+use Rattle.rv_nnf.specs.Parts.{PartValue}
 use Rattle.rv_nnf.specs.NormalForm.{normal_of}
 use Rattle.rv_tableau.specs.declared.pairs.Pair.{Pair}
-use Rattle.rv_tableau.specs.Nodes.{whole, nodes_of, nodes_from}
+use Rattle.rv_tableau.specs.Nodes.{whole_set, nodes_of, nodes_from}
 use Rattle.rv_tableau.specs.Rows.{tableau_of}
 use Rattle.rv_bind.specs.declared.bindings.Monitor.{Monitor}
 use Rattle.rv_bind.specs.declared.bindings.Test.{Test}
@@ -32,7 +32,7 @@ use Rattle.rv_bind.specs.MonitorLines.{rule_bound, change_bound, begin_bound}
 use Rattle.rv_bind.specs.Compiling.{compiled_of}
 use Rattle.rv_bind.specs.Bound.{compiled_in, form_in, place_for, container_bound}
 use Rattle.rv_bind.specs.LineReads.{after}
-use Rattle.rv_bind.specs.Outcomes.{IsNumber, IsRefusal, IsFaultOf, Comes, accepted, reading, of_file, of_name}
+use Rattle.rv_bind.specs.Outcomes.{IsNumber, IsRefusal, IsFaultOf, Refines, accepted, reading, of_file, of_name}
 use Rattle.rv_bind.proofs.OutcomeLemmas.{of_name-reading}
 
 -- ---- specifications
@@ -83,18 +83,18 @@ pub normal_numbered : (f : Ltl) → IfErr (normal_of f) IsRefusal
 normal_numbered f = grind arith
 
 -- the nodes from a place on
-nodes_numbered : (ps : List Piece) (n i : ℕ) (sets : List ℕ) (nodes : List Pair) → IfErr (nodes_from ps n i sets nodes) IsRefusal
+nodes_numbered : (ps : List PartValue) (n i : ℕ) (sets : List ℕ) (nodes : List Pair) → IfErr (nodes_from ps n i sets nodes) IsRefusal
 unfolding nodes_from
 nodes_numbered ps zero i sets nodes = tt
 nodes_numbered ps (suc n) i sets nodes = grind (arith, nodes_numbered ps n)
 
 -- all the nodes
-all_nodes_numbered : (ps : List Piece) → IfErr (nodes_of ps) IsRefusal
+all_nodes_numbered : (ps : List PartValue) → IfErr (nodes_of ps) IsRefusal
 unfolding nodes_of
-all_nodes_numbered ps = nodes_numbered ps 33 0 (whole ps ∷ []) []
+all_nodes_numbered ps = nodes_numbered ps 33 0 (whole_set ps ∷ []) []
 
 -- the table of the parts
-pub tableau_numbered : (ps : List Piece) → IfErr (tableau_of ps) IsRefusal
+pub tableau_numbered : (ps : List PartValue) → IfErr (tableau_of ps) IsRefusal
 tableau_numbered ps = grind (arith, all_nodes_numbered ps)
 
 -- the specification of a text
@@ -104,7 +104,7 @@ compiled_numbered kinds.Ltl text = then_numbered (ltl_of text) _ (ltl_numbered t
 
 -- what came of a file's specification that is refused
 pub spec_comes : (told : Option Files) (before now : ℕ) (kind : SpecKind) (file text : List ℕ) (refusal : Refusal) (fault : BindFault) → IsFaultOf fault file refusal → compiled_of kind text ≡ Err refusal
-    → ((files : Files) → told ≡ Some files → of_name files file accepted ≡ accepted text) → Comes (λ (compiled : Compiled). compiled) told before now (Err fault) (λ files. compiled_in files kind file)
+    → ((files : Files) → told ≡ Some files → of_name files file accepted ≡ accepted text) → Refines (λ (compiled : Compiled). compiled) told before now (Err fault) (λ files. compiled_in files kind file)
 spec_comes told before now kind file text refusal faults.Memory is refused read = tt
 spec_comes told before now kind file text refusal (faults.Unread named) is refused read = absurd is
 spec_comes told before now kind file text refusal (faults.Refused named given) is refused read = (

@@ -6,9 +6,9 @@ use Rattle.rv_bind.specs.declared.fault.LineFault.{LineFault}
 use Rattle.rv_bind.specs.declared.fault.LineFault.TheVariants as lines
 use Rattle.rv_bind.specs.declared.fault.BindFault.{BindFault}
 use Rattle.rv_bind.specs.declared.fault.BindFault.TheVariants as faults
-use Rattle.rv_bind.specs.LineReads.{Faults, Reads}
+use Rattle.rv_bind.specs.LineReads.{Faults, ReadsValue}
 use Rattle.rv_bind.specs.Values.{BoundValue}
-use Rattle.rv_bind.specs.Outcomes.{Outcome, accepted, reading, of_line, of_text, of_name, IsNumber, Comes, IsFaultOf, InLine}
+use Rattle.rv_bind.specs.Outcomes.{Outcome, accepted, reading, of_line, of_text, of_name, IsNumber, Refines, IsFaultOf, InLine}
 
 -- the number of a reading that is refused
 in_range : {X : Type 0} (read : Result X ℕ) (number : ℕ) → read ≡ Err number → IfErr read IsNumber → IsNumber number
@@ -17,32 +17,32 @@ in_range {X} read number is numbered = subst (λ (r : Result X ℕ). IfErr r IsN
 module _ (file : List ℕ) (line : ℕ) (new : BoundValue) (told : Option Files) (before now : ℕ) (result : Result Unit BindFault) where
   -- a line's fault is the whole's, whatever comes behind it
   pub line_fault : {X : Type 0} (read : Result X ℕ) (next : Files → X → Outcome BoundValue) (fault : LineFault) → IfErr read IsNumber → InLine file line (Err fault) result → Faults fault read
-      → Comes (λ (_ : Unit). new) told before now result (λ files. reading (of_line file line read) (next files))
+      → Refines (λ (_ : Unit). new) told before now result (λ files. reading (of_line file line read) (next files))
   line_fault read next lines.Memory numbered is fault = rw is tt
   line_fault {X} read next (lines.Number number) numbered is fault = go result is
     where
-      go : (r : Result Unit BindFault) → IsErrAnd r (λ fault. IsFaultOf fault file (record { number = number; line = line })) → Comes (λ (_ : Unit). new) told before now r (λ files. reading (of_line file line read) (next files))
+      go : (r : Result Unit BindFault) → IsErrAnd r (λ fault. IsFaultOf fault file (record { number = number; line = line })) → Refines (λ (_ : Unit). new) told before now r (λ files. reading (of_line file line read) (next files))
       go (Ok done) h = absurd h
       go (Err faults.Memory) h = tt
       go (Err (faults.Unread named)) h = absurd h
       go (Err (faults.Refused named given)) h = (rw h.1 (in_range read number fault numbered), λ files is. rw (fault, h.0, h.1) refl)
 
   -- what came of a line alone
-  pub line_comes : (done : Result Unit LineFault) (read : Result BoundValue ℕ) → IfErr read IsNumber → InLine file line done result → Reads (λ (_ : Unit). new) done read
-      → Comes (λ (_ : Unit). new) told before now result (λ files. of_line file line read)
+  pub line_comes : (done : Result Unit LineFault) (read : Result BoundValue ℕ) → IfErr read IsNumber → InLine file line done result → ReadsValue (λ (_ : Unit). new) done read
+      → Refines (λ (_ : Unit). new) told before now result (λ files. of_line file line read)
   line_comes (Ok done) read numbered is reads = rw (is, reads) (λ files told. refl)
   line_comes (Err lines.Memory) read numbered is reads = rw is tt
   line_comes (Err (lines.Number number)) read numbered is fault = go result is
     where
-      go : (r : Result Unit BindFault) → IsErrAnd r (λ fault. IsFaultOf fault file (record { number = number; line = line })) → Comes (λ (_ : Unit). new) told before now r (λ files. of_line file line read)
+      go : (r : Result Unit BindFault) → IsErrAnd r (λ fault. IsFaultOf fault file (record { number = number; line = line })) → Refines (λ (_ : Unit). new) told before now r (λ files. of_line file line read)
       go (Ok done) h = absurd h
       go (Err faults.Memory) h = tt
       go (Err (faults.Unread named)) h = absurd h
       go (Err (faults.Refused named given)) h = (rw h.1 (in_range read number fault numbered), λ files is. rw (fault, h.0, h.1) refl)
 
   -- where a line was read, the whole is what comes behind it
-  pub line_goes_on : {X : Type 0} (read : Result X ℕ) (x : X) (next : Files → X → Outcome BoundValue) → read ≡ Ok x → Comes (λ (_ : Unit). new) told before now result (λ files. next files x)
-      → Comes (λ (_ : Unit). new) told before now result (λ files. reading (of_line file line read) (next files))
+  pub line_goes_on : {X : Type 0} (read : Result X ℕ) (x : X) (next : Files → X → Outcome BoundValue) → read ≡ Ok x → Refines (λ (_ : Unit). new) told before now result (λ files. next files x)
+      → Refines (λ (_ : Unit). new) told before now result (λ files. reading (of_line file line read) (next files))
   line_goes_on read x next is comes = rw is comes
 
 -- a line that is done was read
@@ -62,7 +62,7 @@ Rose-wider before mid now le (inr end) = inr end
 
 -- a step's fault is the whole's
 pub step_fault : {X Y Z W : Type 0} (told : Option Files) (before mid now : ℕ) (fault : BindFault) (view : X → Y) (whole_view : Z → W) (step : Files → Outcome Y) (next : Files → Y → Outcome W) (whole : Files → Outcome W)
-    → before ≤ mid → ((files : Files) → told ≡ Some files → whole files ≡ reading (step files) (next files)) → Comes view told mid now (Err fault) step → Comes whole_view told before now (Err fault) whole
+    → before ≤ mid → ((files : Files) → told ≡ Some files → whole files ≡ reading (step files) (next files)) → Refines view told mid now (Err fault) step → Refines whole_view told before now (Err fault) whole
 step_fault told before mid now faults.Memory view whole_view step next whole le is comes = tt
 step_fault told before mid now (faults.Refused file refusal) view whole_view step next whole le is comes = (comes.0, λ files known. is files known ∙ ap (λ o. reading o (next files)) (comes.1 files known))
 step_fault told before mid now (faults.Unread file) view whole_view step next whole le is (inl lacks) = inl (lacks.0, lacks.1, is lacks.0 lacks.1 ∙ ap (λ o. reading o (next lacks.0)) lacks.2)

@@ -15,30 +15,30 @@ use Rattle.rv_bind.specs.Values.{BoundValue}
 use Rattle.rv_bind.specs.Forms.{FormValue, skipped, container, monitor, on, react, off, begin}
 use Rattle.rv_bind.specs.Compiling.{compiled_of}
 use Rattle.rv_bind.specs.Bound.{nothing_bound, place_for, with_monitor, compiled_in, monitor_bound, form_bound, form_in, line_bound, lines_bound, bound_of}
-use Rattle.rv_bind.specs.Outcomes.{Outcome, accepted, refused, missing, reading, of_file, of_line, of_text, of_name, without, IsReached, Names, IsFaultOf, InLine}
+use Rattle.rv_bind.specs.Outcomes.{Outcome, accepted, refused, missing, reading, of_file, of_line, of_text, of_name, files_without, IsReached, BlamesReached, IsFaultOf, InLine}
 use Rattle.rv_bind.proofs.OutcomeLemmas.{of_name-reading}
 
 -- ---- an outcome without a file is that it is missing, or what it is with the file
 
 -- without a file the outcome comes to that file, or stays what it is
 abbrev pub IsLocal : {Y : Type 0} → (Files → Outcome Y) → Type 0
-IsLocal outcome = (files : Files) → (file : List ℕ) → IsReached outcome files file ⊎ (outcome (without file files) ≡ outcome files)
+IsLocal outcome = (files : Files) → (file : List ℕ) → IsReached outcome files file ⊎ (outcome (files_without file files) ≡ outcome files)
 
 -- where this holds of a step and of what is read on from it, it holds of both together
 pub reading-local : {X Y : Type 0} (step : Files → Outcome X) (next : Files → X → Outcome Y) → IsLocal step → ((x : X) → IsLocal (λ files. next files x)) → IsLocal (λ files. reading (step files) (next files))
 reading-local {X} {Y} step next step_is next_is files file = go (step_is files file)
   where
     Whole : Outcome X → Outcome X → Type 0
-    Whole less all = (reading less (next (without file files)) ≡ missing file) ⊎ (reading less (next (without file files)) ≡ reading all (next files))
+    Whole less all = (reading less (next (files_without file files)) ≡ missing file) ⊎ (reading less (next (files_without file files)) ≡ reading all (next files))
 
     same : (o less : Outcome X) → less ≡ o → Whole less o
     same (accepted x) less is = rw is (next_is x files file)
     same (refused name refusal) less is = rw is (inr refl)
     same (missing name) less is = rw is (inr refl)
 
-    go : IsReached step files file ⊎ (step (without file files) ≡ step files) → Whole (step (without file files)) (step files)
-    go (inl reached) = inl (ap (λ o. reading o (next (without file files))) reached)
-    go (inr is) = same (step files) (step (without file files)) is
+    go : IsReached step files file ⊎ (step (files_without file files) ≡ step files) → Whole (step (files_without file files)) (step files)
+    go (inl reached) = inl (ap (λ o. reading o (next (files_without file files))) reached)
+    go (inr is) = same (step files) (step (files_without file files)) is
 
 -- where this holds of what is read of each text, it holds of what is read of a file
 pub of_name-local : {X : Type 0} (name : List ℕ) (read : Files → List ℕ → Outcome X) → ((text : List ℕ) → IsLocal (λ files. read files text)) → IsLocal (λ files. of_name files name (read files))
@@ -46,8 +46,8 @@ of_name-local {X} name read each files file = go (bytes_eq name file) refl
   where
     Whole : Option (List ℕ) → Option (List ℕ) → Type 0
     Whole less all =
-        (of_text name (option_map front_read less) (read (without file files)) ≡ missing file)
-        ⊎ (of_text name (option_map front_read less) (read (without file files)) ≡ of_text name (option_map front_read all) (read files))
+        (of_text name (option_map front_read less) (read (files_without file files)) ≡ missing file)
+        ⊎ (of_text name (option_map front_read less) (read (files_without file files)) ≡ of_text name (option_map front_read all) (read files))
 
     same : (text : Option (List ℕ)) → Whole text text
     same None = inr refl
@@ -97,63 +97,63 @@ bound-local here = of_name-local here (λ files text. lines_bound files here not
 
 -- a step's unread file is the whole's
 pub step_named : {Y W : Type 0} (X Z : Type 0) (told : Option Files) (fault : BindFault) (step : Files → Outcome Y) (next : Files → Y → Outcome W) (whole : Files → Outcome W)
-    → ((files : Files) → whole files ≡ reading (step files) (next files)) → Names {X = X} told (Err fault) step → Names {X = Z} told (Err fault) whole
+    → ((files : Files) → whole files ≡ reading (step files) (next files)) → BlamesReached {X = X} told (Err fault) step → BlamesReached {X = Z} told (Err fault) whole
 step_named X Z told faults.Memory step next whole is named = tt
 step_named X Z told (faults.Refused file refusal) step next whole is named = tt
-step_named X Z told (faults.Unread file) step next whole is named = λ files known. is (without file files) ∙ ap (λ o. reading o (next (without file files))) (named files known)
+step_named X Z told (faults.Unread file) step next whole is named = λ files known. is (files_without file files) ∙ ap (λ o. reading o (next (files_without file files))) (named files known)
 
 -- where a step was read, an unread file behind it is the whole's
 pub behind_named : {Y W : Type 0} (X Z : Type 0) (told : Option Files) (fault : BindFault) (step : Files → Outcome Y) (y : Y) (next : Files → Y → Outcome W) → IsLocal step → ((files : Files) → told ≡ Some files → step files ≡ accepted y)
-    → Names {X = X} told (Err fault) (λ files. next files y) → Names {X = Z} told (Err fault) (λ files. reading (step files) (next files))
+    → BlamesReached {X = X} told (Err fault) (λ files. next files y) → BlamesReached {X = Z} told (Err fault) (λ files. reading (step files) (next files))
 behind_named X Z told faults.Memory step y next is read named = tt
 behind_named X Z told (faults.Refused file refusal) step y next is read named = tt
 behind_named X Z told (faults.Unread file) step y next is read named = λ files known. elim (is files file) [
-  | inl reached ↦ ap (λ o. reading o (next (without file files))) reached
-  | inr same ↦ ap (λ o. reading o (next (without file files))) (same ∙ read files known) ∙ named files known
+  | inl reached ↦ ap (λ o. reading o (next (files_without file files))) reached
+  | inr same ↦ ap (λ o. reading o (next (files_without file files))) (same ∙ read files known) ∙ named files known
 ]
 
 module _ (told : Option Files) where
   -- the file itself
-  pub unread_named : (X : Type 0) (name : List ℕ) (fault : BindFault) → (fault ≡ faults.Unread name) ⊎ (fault ≡ faults.Memory) → Names {X = X} told (Err fault) (λ files. of_name files name accepted)
+  pub unread_named : (X : Type 0) (name : List ℕ) (fault : BindFault) → (fault ≡ faults.Unread name) ⊎ (fault ≡ faults.Memory) → BlamesReached {X = X} told (Err fault) (λ files. of_name files name accepted)
   unread_named X name fault (inl is) = rw is (λ files known. reached files)
     where
-      reached : (files : Files) → of_name (without name files) name accepted ≡ missing name
+      reached : (files : Files) → of_name (files_without name files) name accepted ≡ missing name
       reached files = let same : bytes_eq name name ≡ true = (bytes_eq-Decides name name).1 refl in rw same refl
   unread_named X name fault (inr is) = rw is tt
 
   -- a refusal names no unread file
-  pub refused_named : {Y : Type 0} (X : Type 0) (file : List ℕ) (refusal : Refusal) (fault : BindFault) (outcome : Files → Outcome Y) → IsFaultOf fault file refusal → Names {X = X} told (Err fault) outcome
+  pub refused_named : {Y : Type 0} (X : Type 0) (file : List ℕ) (refusal : Refusal) (fault : BindFault) (outcome : Files → Outcome Y) → IsFaultOf fault file refusal → BlamesReached {X = X} told (Err fault) outcome
   refused_named X file refusal faults.Memory outcome is = tt
   refused_named X file refusal (faults.Refused named given) outcome is = tt
   refused_named X file refusal (faults.Unread named) outcome is = absurd is
 
   -- nor does a line's fault
-  pub line_named : {Y : Type 0} (file : List ℕ) (line : ℕ) (done : Result Unit LineFault) (result : Result Unit BindFault) (outcome : Files → Outcome Y) → InLine file line done result → Names told result outcome
+  pub line_named : {Y : Type 0} (file : List ℕ) (line : ℕ) (done : Result Unit LineFault) (result : Result Unit BindFault) (outcome : Files → Outcome Y) → InLine file line done result → BlamesReached told result outcome
   line_named file line (Ok done) result outcome is = rw is tt
   line_named file line (Err lines.Memory) result outcome is = rw is tt
   line_named {Y} file line (Err (lines.Number number)) result outcome is = go result is
     where
-      go : (r : Result Unit BindFault) → IsErrAnd r (λ fault. IsFaultOf fault file (record { number = number; line = line })) → Names told r outcome
+      go : (r : Result Unit BindFault) → IsErrAnd r (λ fault. IsFaultOf fault file (record { number = number; line = line })) → BlamesReached told r outcome
       go (Ok done) h = absurd h
       go (Err fault) h = refused_named Unit file (record { number = number; line = line }) fault outcome h
 
   -- an unread specification is read by its file
-  pub spec_named : (X Z : Type 0) (kind : SpecKind) (file : List ℕ) (fault : BindFault) → Names {X = X} told (Err fault) (λ files. of_name files file accepted) → Names {X = Z} told (Err fault) (λ files. compiled_in files kind file)
+  pub spec_named : (X Z : Type 0) (kind : SpecKind) (file : List ℕ) (fault : BindFault) → BlamesReached {X = X} told (Err fault) (λ files. of_name files file accepted) → BlamesReached {X = Z} told (Err fault) (λ files. compiled_in files kind file)
   spec_named X Z kind file fault = step_named X Z told fault (λ files. of_name files file accepted) (λ files text. of_file file (compiled_of kind text)) (λ files. compiled_in files kind file) (λ files. of_name-reading files file (λ text. of_file file (compiled_of kind text)))
 
   -- a monitor's specification is reached where there is room for the monitor
   pub monitor_named : (X Z : Type 0) (here : List ℕ) (line : ℕ) (bound : BoundValue) (name : List ℕ) (scope : Scope) (kind : SpecKind) (file : List ℕ) (holder : Option (List ℕ)) (place : Option ℕ) (fault : BindFault)
-      → place_for bound name holder ≡ Ok place → Names {X = X} told (Err fault) (λ files. compiled_in files kind file) → Names {X = Z} told (Err fault) (λ files. monitor_bound files here line bound name scope kind file holder)
+      → place_for bound name holder ≡ Ok place → BlamesReached {X = X} told (Err fault) (λ files. compiled_in files kind file) → BlamesReached {X = Z} told (Err fault) (λ files. monitor_bound files here line bound name scope kind file holder)
   monitor_named X Z here line bound name scope kind file holder place fault is named =
       rw is (step_named X Z told fault (λ files. compiled_in files kind file) (λ files compiled. accepted (with_monitor bound name place scope file compiled)) (λ files. reading (compiled_in files kind file) (λ compiled. accepted (with_monitor bound name place scope file compiled))) (λ files. refl) named)
 
   -- where a line's form was read, the whole names what it names
-  pub goes_on_named : {X Y Z : Type 0} (file : List ℕ) (line : ℕ) (result : Result Z BindFault) (read : Result X ℕ) (x : X) (next : Files → X → Outcome Y) → read ≡ Ok x → Names told result (λ files. next files x)
-      → Names told result (λ files. reading (of_line file line read) (next files))
+  pub goes_on_named : {X Y Z : Type 0} (file : List ℕ) (line : ℕ) (result : Result Z BindFault) (read : Result X ℕ) (x : X) (next : Files → X → Outcome Y) → read ≡ Ok x → BlamesReached told result (λ files. next files x)
+      → BlamesReached told result (λ files. reading (of_line file line read) (next files))
   goes_on_named file line result read x next is named = rw is named
 
   -- unread bindings
-  pub bindings_named : (X Z : Type 0) (here : List ℕ) (fault : BindFault) → Names {X = X} told (Err fault) (λ files. of_name files here accepted) → Names {X = Z} told (Err fault) (λ files. bound_of files here)
+  pub bindings_named : (X Z : Type 0) (here : List ℕ) (fault : BindFault) → BlamesReached {X = X} told (Err fault) (λ files. of_name files here accepted) → BlamesReached {X = Z} told (Err fault) (λ files. bound_of files here)
   bindings_named X Z here fault =
       step_named X Z told fault (λ files. of_name files here accepted) (λ files text. lines_bound files here nothing_bound (lines_of text)) (λ files. bound_of files here) (λ files. of_name-reading files here (λ text. lines_bound files here nothing_bound (lines_of text)))
 
@@ -161,7 +161,7 @@ module _ (told : Option Files) where
 
   -- without any file the whole comes to that file, or goes on at these lines
   abbrev pub Leads : List ℕ → BoundValue → List LineText → Type 0
-  Leads here bound lines = (files : Files) → (file : List ℕ) → told ≡ Some files → IsReached (λ files. bound_of files here) files file ⊎ (bound_of (without file files) here ≡ lines_bound (without file files) here bound lines)
+  Leads here bound lines = (files : Files) → (file : List ℕ) → told ≡ Some files → IsReached (λ files. bound_of files here) files file ⊎ (bound_of (files_without file files) here ≡ lines_bound (files_without file files) here bound lines)
 
   -- the bindings that were read lead to all their lines
   pub lines_begin : (here text : List ℕ) → ((files : Files) → told ≡ Some files → of_name files here accepted ≡ accepted text) → Leads here nothing_bound (lines_of text)
@@ -171,10 +171,10 @@ module _ (told : Option Files) where
   ]
     where
       next : List ℕ → Outcome BoundValue
-      next text = lines_bound (without file files) here nothing_bound (lines_of text)
+      next text = lines_bound (files_without file files) here nothing_bound (lines_of text)
 
-      whole : bound_of (without file files) here ≡ reading (of_name (without file files) here accepted) next
-      whole = of_name-reading (without file files) here next
+      whole : bound_of (files_without file files) here ≡ reading (of_name (files_without file files) here accepted) next
+      whole = of_name-reading (files_without file files) here next
 
   module _ (here : List ℕ) (bound : BoundValue) (line : LineText) (rest : List LineText) (leads : Leads here bound (line ∷ rest)) where
     -- where a line was read, they lead to the lines behind it
@@ -188,13 +188,13 @@ module _ (told : Option Files) where
     ]
       where
         next : BoundValue → Outcome BoundValue
-        next b = lines_bound (without file files) here b rest
+        next b = lines_bound (files_without file files) here b rest
 
     -- what the line names, the whole names
-    pub rest_named : (X Z : Type 0) (fault : BindFault) → Names {X = X} told (Err fault) (λ files. line_bound files here bound line) → Names {X = Z} told (Err fault) (λ files. bound_of files here)
+    pub rest_named : (X Z : Type 0) (fault : BindFault) → BlamesReached {X = X} told (Err fault) (λ files. line_bound files here bound line) → BlamesReached {X = Z} told (Err fault) (λ files. bound_of files here)
     rest_named X Z faults.Memory named = tt
     rest_named X Z (faults.Refused file refusal) named = tt
     rest_named X Z (faults.Unread file) named = λ files known. elim (leads files file known) [
       | inl reached ↦ reached
-      | inr goes ↦ goes ∙ ap (λ o. reading o (λ b. lines_bound (without file files) here b rest)) (named files known)
+      | inr goes ↦ goes ∙ ap (λ o. reading o (λ b. lines_bound (files_without file files) here b rest)) (named files known)
     ]

@@ -20,7 +20,7 @@ use Rattle.rv_bind.specs.Changes.{allows_hit, brought}
 use Rattle.rv_bind.specs.Compiling.{Compiles}
 use Rattle.rv_bind.specs.Bound.{nothing_bound, is_taken, container_bound, items_of, with_monitor}
 use Rattle.rv_bind.specs.MonitorLines.{allows_by, with_rule, rule_at, rule_bound}
-use Rattle.rv_bind.specs.WellFormed.{Kind, kind_of, kinds_of, HasTable, HaveTables, FitsKind, holders_of, IsHolder, IsItem, IsWellFormed}
+use Rattle.rv_bind.specs.WellFormed.{MonitorKind, kind_of, kinds_of, HasTable, HaveTables, FitsKind, holders_of, IsHolder, IsItem, IsWellFormed}
 use Rattle.rv_bind.proofs.ChangeLemmas.{hit_fits, starts_at_first}
 
 -- bindings of nothing are well formed
@@ -135,7 +135,7 @@ module _ (b : BoundValue) (name : List ℕ) (w : IsWellFormed b) where
 -- ---- a monitor
 
 -- with one more kind and its table, all kinds have their tables
-HaveTables-push : (kinds : List Kind) (tables : List Table) (kind : Kind) (t : Table) → HaveTables kinds tables → HasTable kind t → HaveTables (kinds ++ kind ∷ []) (tables ++ t ∷ [])
+HaveTables-push : (kinds : List MonitorKind) (tables : List Table) (kind : MonitorKind) (t : Table) → HaveTables kinds tables → HasTable kind t → HaveTables (kinds ++ kind ∷ []) (tables ++ t ∷ [])
 HaveTables-push [] [] kind t h has = (has, tt)
 HaveTables-push [] (u ∷ tables) kind t h has = absurd h
 HaveTables-push (k ∷ kinds) [] kind t h has = absurd h
@@ -148,7 +148,7 @@ slice_get-front (z ∷ zs) ys zero x e = e
 slice_get-front (z ∷ zs) ys (suc i) x e = slice_get-front zs ys i x e
 
 -- a rule that fits some kinds fits them when more follow
-FitsKind-more : (kinds more : List Kind) (r : OnValue) → FitsKind kinds r → FitsKind (kinds ++ more) r
+FitsKind-more : (kinds more : List MonitorKind) (r : OnValue) → FitsKind kinds r → FitsKind (kinds ++ more) r
 FitsKind-more kinds more r f = record { kind = f.kind; there = slice_get-front kinds more r.monitor f.kind f.there; hit = f.hit; by = f.by }
 
 -- a monitor outside containers is one more item
@@ -167,7 +167,7 @@ pub monitor_formed : (b : BoundValue) (name : List ℕ) (container : Option ℕ)
     → IsWellFormed b → length b.monitors < 32 → IsHolder (length b.containers) container → Compiles compiled.spec compiled.table → IsWellFormed (with_monitor b name container scope file compiled)
 monitor_formed b name container scope file compiled w room holder compiles =
     let done : BoundValue = with_monitor b name container scope file compiled in
-    let kind : Kind = record { scope = scope; spec = compiled.spec; starting = 0 } in
+    let kind : MonitorKind = record { scope = scope; spec = compiled.spec; starting = 0 } in
     let more : length done.monitors ≡ length b.monitors + 1 = rw length-append refl in
     let same : kinds_of done.monitors ≡ kinds_of b.monitors ++ kind ∷ [] = map-append kind_of b.monitors _ in
     let held : holders_of done.monitors ≡ holders_of b.monitors ++ container ∷ [] = map-append (λ m. m.container) b.monitors _ in

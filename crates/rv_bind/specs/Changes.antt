@@ -32,9 +32,9 @@ atom_in [] = []
 atom_in (sign ∷ name) = name
 
 -- this sign, and the atom's name
-abbrev pub says : ℕ → List ℕ → List ℕ → Bool
-says sign atom [] = false
-says sign atom (first ∷ name) = first == sign && bytes_eq name atom
+abbrev pub is_signed_name : ℕ → List ℕ → List ℕ → Bool
+is_signed_name sign atom [] = false
+is_signed_name sign atom (first ∷ name) = first == sign && bytes_eq name atom
 
 -- ---- the words of a line
 
@@ -78,33 +78,33 @@ abbrev pub place_named : List (List ℕ) → List ℕ → Option ℕ
 place_named names name = position (λ other. bytes_eq other name) names
 
 -- the set of the atoms that stand behind this sign
-abbrev pub signed : ℕ → List (List ℕ) → Words → ℕ
-signed sign atoms words = number_of (λ place. list_any (says sign (slice_index_or atoms place [])) words) (length atoms)
+abbrev pub atoms_signed : ℕ → List (List ℕ) → Words → ℕ
+atoms_signed sign atoms words = number_of (λ place. list_any (is_signed_name sign (slice_index_or atoms place [])) words) (length atoms)
 
 -- each word names an atom
 abbrev pub are_known : List (List ℕ) → Words → Bool
 are_known atoms words = list_all (λ word. is_some (place_named atoms (atom_in word))) words
 
 -- the atoms that go on, go off, and are true for the event alone
-abbrev pub change_of : List (List ℕ) → Words → Result What ℕ
-change_of atoms words =
-    if are_known atoms words then Ok (whats.Ltl (signed 43 atoms words) (signed 45 atoms words) (signed 42 atoms words)) else Err UNKNOWN_ATOM
+abbrev pub atoms_change : List (List ℕ) → Words → Result What ℕ
+atoms_change atoms words =
+    if are_known atoms words then Ok (whats.Ltl (atoms_signed 43 atoms words) (atoms_signed 45 atoms words) (atoms_signed 42 atoms words)) else Err UNKNOWN_ATOM
 
 -- an automaton's event by its place, where its name was found
-abbrev pub event_at : Option ℕ → Result What ℕ
-event_at None = Err UNKNOWN_EVENT
-event_at (Some place) = Ok (whats.Da place)
+abbrev pub event_what : Option ℕ → Result What ℕ
+event_what None = Err UNKNOWN_EVENT
+event_what (Some place) = Ok (whats.Da place)
 
 -- the one event of the words
 abbrev pub event_of : List (List ℕ) → Words → Result What ℕ
 event_of events [] = Err BIND_SYNTAX
-event_of events (word ∷ []) = event_at (place_named events word)
+event_of events (word ∷ []) = event_what (place_named events word)
 event_of events (word ∷ next ∷ words) = Err BIND_SYNTAX
 
 -- an automaton is brought the event of the words, and a rule their changes of atoms
 abbrev pub what_of : Spec → Words → Result What ℕ
 what_of (specs.Da automaton) words = event_of automaton.events words
-what_of (specs.Ltl rule) words = change_of rule.atoms words
+what_of (specs.Ltl rule) words = atoms_change rule.atoms words
 
 -- what a hit brings: an end nothing, and any other what its words say
 abbrev pub brought : Spec → Mode → Words → Result What ℕ

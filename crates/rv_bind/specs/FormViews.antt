@@ -1,4 +1,4 @@
--- The reader's forms as plain values.
+-- Private: the reader's forms as plain values.
 use Rattle.std.specs.Option.{option_copied}
 use Rattle.rv_ltl.specs.Texts.{texts}
 use Rattle.rv_bind.specs.declared.forms.Form.{Form}

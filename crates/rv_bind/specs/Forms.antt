@@ -9,7 +9,7 @@ use Rattle.rv_model.specs.declared.reactor.Reactor.{Reactor}
 use Rattle.rv_bind.specs.declared.bindings.Test.{Test}
 use Rattle.rv_bind.specs.declared.forms.SpecKind.{SpecKind}
 use Rattle.rv_bind.specs.LineReads.{after}
-use Rattle.rv_bind.specs.LineWords.{Read, Words, ended, is_field, is_name, kind_named, mode_named, or_syntax, reactor_named, scope_named, test_of, when, word_at}
+use Rattle.rv_bind.specs.LineWords.{Read, Words, no_word_left, is_field, is_name, kind_named, mode_named, or_syntax, reactor_named, scope_named, test_of, when, word_at}
 
 -- a line by its form
 pub data FormValue : Type 0 where
@@ -32,7 +32,7 @@ abbrev pub container_form : Words → Result FormValue ℕ
 container_form words =
     after (word_at words) (λ name.
     after (when (is_name name.0) name.0) (λ called.
-    after (ended name.1) (λ done.
+    after (no_word_left name.1) (λ done.
     Ok (container called))))
 
 -- [in CONTAINER]
@@ -41,7 +41,7 @@ holder_at [] = Ok None
 holder_at (word ∷ words) =
     after (when (bytes_eq word (codes "in")) word) (λ sign.
     after (word_at words) (λ name.
-    after (ended name.1) (λ done.
+    after (no_word_left name.1) (λ done.
     Ok (Some name.0))))
 
 -- NAME SCOPE KIND FILE [in CONTAINER]
@@ -64,19 +64,19 @@ react_form words =
     after (word_at words) (λ name.
     after (word_at name.1) (λ reactor.
     after (or_syntax (reactor_named reactor.0)) (λ chosen.
-    after (ended reactor.1) (λ done.
+    after (no_word_left reactor.1) (λ done.
     Ok (react name.0 chosen)))))
 
 -- MONITOR
 abbrev pub off_form : Words → Result FormValue ℕ
-off_form words = after (word_at words) (λ name. after (ended name.1) (λ done. Ok (off name.0)))
+off_form words = after (word_at words) (λ name. after (no_word_left name.1) (λ done. Ok (off name.0)))
 
 -- MONITOR ATOM
 abbrev pub begin_form : Words → Result FormValue ℕ
 begin_form words =
     after (word_at words) (λ name.
     after (word_at name.1) (λ atom.
-    after (ended atom.1) (λ done.
+    after (no_word_left atom.1) (λ done.
     Ok (begin name.0 atom.0))))
 
 -- [by FIELD]

@@ -1,4 +1,4 @@
--- The forms of a line with one word read ahead, as the reader goes.
+-- Private: the forms of a line with one word read ahead, as the reader goes.
 use Rattle.std.specs.Prelude.{ℕ, not, List, ◌∷◌, ◌++◌, codes, bytes_eq, Result, Ok, Err}
 use Rattle.rv_bind.specs.declared.bindings.Test.{Test}
 use Rattle.rv_bind.specs.LineReads.{after}

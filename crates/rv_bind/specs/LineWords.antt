@@ -37,9 +37,9 @@ word_at [] = Err BIND_SYNTAX
 word_at (word ∷ words) = Ok (word, words)
 
 -- no word is left
-abbrev pub ended : Words → Result Unit ℕ
-ended [] = Ok tt
-ended (word ∷ words) = Err BIND_SYNTAX
+abbrev pub no_word_left : Words → Result Unit ℕ
+no_word_left [] = Ok tt
+no_word_left (word ∷ words) = Err BIND_SYNTAX
 
 -- ---- single words
 

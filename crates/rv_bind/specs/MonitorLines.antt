@@ -42,14 +42,14 @@ rule_bound bound None event by tests mode words = Err BIND_SYNTAX
 rule_bound bound (Some place) event by tests mode words = rule_at bound place (slice_get bound.monitors place) event by tests mode words
 
 -- the monitor at this place is changed, and the others stay what they are
-abbrev pub changed : (Monitor → Monitor) → List Monitor → ℕ → List Monitor
-changed change [] place = []
-changed change (m ∷ monitors) zero = change m ∷ monitors
-changed change (m ∷ monitors) (suc place) = m ∷ changed change monitors place
+abbrev pub monitors_with : (Monitor → Monitor) → List Monitor → ℕ → List Monitor
+monitors_with change [] place = []
+monitors_with change (m ∷ monitors) zero = change m ∷ monitors
+monitors_with change (m ∷ monitors) (suc place) = m ∷ monitors_with change monitors place
 
 -- the bindings with the monitor at this place changed
-abbrev pub with_change : BoundValue → (Monitor → Monitor) → ℕ → BoundValue
-with_change bound change place = record bound { monitors = changed change bound.monitors place }
+abbrev pub bindings_with : BoundValue → (Monitor → Monitor) → ℕ → BoundValue
+bindings_with bound change place = record bound { monitors = monitors_with change bound.monitors place }
 
 -- it has this reactor
 abbrev pub reacting : Reactor → Monitor → Monitor
@@ -66,12 +66,12 @@ beginning bits m = record m { starting = bit_or m.starting bits }
 -- the monitor that was named is changed, where there is one
 abbrev pub change_bound : BoundValue → Option ℕ → (Monitor → Monitor) → Result BoundValue ℕ
 change_bound bound None change = Err BIND_SYNTAX
-change_bound bound (Some place) change = Ok (with_change bound change place)
+change_bound bound (Some place) change = Ok (bindings_with bound change place)
 
 -- an atom of the monitor at a place starts true
 abbrev pub begin_at : BoundValue → ℕ → Option Monitor → List ℕ → Result BoundValue ℕ
 begin_at bound place None atom = Err BIND_SYNTAX
-begin_at bound place (Some m) atom = after (atom_bit m.spec atom) (λ bit. Ok (with_change bound (beginning bit) place))
+begin_at bound place (Some m) atom = after (atom_bit m.spec atom) (λ bit. Ok (bindings_with bound (beginning bit) place))
 
 -- an atom of the monitor that was named starts true, where there is one
 abbrev pub begin_bound : BoundValue → Option ℕ → List ℕ → Result BoundValue ℕ

@@ -50,28 +50,28 @@ abbrev pub IsRefusal : Refusal → Type 0
 IsRefusal refusal = IsNumber refusal.number
 
 -- what a reader answered is the outcome on what the store tells, and a refusal has one of the numbers on any store. Where its count of faults rose it may say that a file is unread
-abbrev pub Comes : {X Y : Type 0} → (X → Y) → Option Files → ℕ → ℕ → Result X BindFault → (Files → Outcome Y) → Type 0
-Comes view told before now (Ok x) outcome = (files : Files) → told ≡ Some files → outcome files ≡ accepted (view x)
-Comes view told before now (Err faults.Memory) outcome = Unit {0}
-Comes view told before now (Err (faults.Refused file refusal)) outcome = IsRefusal refusal × ((files : Files) → told ≡ Some files → outcome files ≡ refused file refusal)
-Comes view told before now (Err (faults.Unread file)) outcome = ((files : Files) × (told ≡ Some files) × (outcome files ≡ missing file)) ⊎ Rose before now
+abbrev pub Refines : {X Y : Type 0} → (X → Y) → Option Files → ℕ → ℕ → Result X BindFault → (Files → Outcome Y) → Type 0
+Refines view told before now (Ok x) outcome = (files : Files) → told ≡ Some files → outcome files ≡ accepted (view x)
+Refines view told before now (Err faults.Memory) outcome = Unit {0}
+Refines view told before now (Err (faults.Refused file refusal)) outcome = IsRefusal refusal × ((files : Files) → told ≡ Some files → outcome files ≡ refused file refusal)
+Refines view told before now (Err (faults.Unread file)) outcome = ((files : Files) × (told ≡ Some files) × (outcome files ≡ missing file)) ⊎ Rose before now
 
 -- ---- which file is named
 
 -- the files without this one
-abbrev pub without : List ℕ → Files → Files
-without file files name = if bytes_eq name file then None else files name
+abbrev pub files_without : List ℕ → Files → Files
+files_without file files name = if bytes_eq name file then None else files name
 
 -- the order of the reading comes to this file, with no refusal and no missing file before it: of the files without it, it is what is missing
 abbrev pub IsReached : {Y : Type 0} → (Files → Outcome Y) → Files → List ℕ → Type 0
-IsReached outcome files file = outcome (without file files) ≡ missing file
+IsReached outcome files file = outcome (files_without file files) ≡ missing file
 
 -- a file that is said to be unread is reached on what the store tells
-abbrev pub Names : {X Y : Type 0} → Option Files → Result X BindFault → (Files → Outcome Y) → Type 0
-Names told (Ok x) outcome = Unit {0}
-Names told (Err faults.Memory) outcome = Unit {0}
-Names told (Err (faults.Refused file refusal)) outcome = Unit {0}
-Names told (Err (faults.Unread file)) outcome = (files : Files) → told ≡ Some files → IsReached outcome files file
+abbrev pub BlamesReached : {X Y : Type 0} → Option Files → Result X BindFault → (Files → Outcome Y) → Type 0
+BlamesReached told (Ok x) outcome = Unit {0}
+BlamesReached told (Err faults.Memory) outcome = Unit {0}
+BlamesReached told (Err (faults.Refused file refusal)) outcome = Unit {0}
+BlamesReached told (Err (faults.Unread file)) outcome = (files : Files) → told ≡ Some files → IsReached outcome files file
 
 -- ---- the faults of a line
 

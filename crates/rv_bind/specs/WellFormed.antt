@@ -17,17 +17,17 @@ use Rattle.rv_bind.specs.Compiling.{Compiles}
 use Rattle.rv_bind.specs.MonitorLines.{allows_by}
 
 -- what a monitor's table and rules go by
-pub record Kind : Type 0 where
+pub record MonitorKind : Type 0 where
   pub scope : Scope
   pub spec : Spec
   pub starting : ℕ
 
 -- the scope, the specification and the starting value of a monitor
-abbrev pub kind_of : Monitor → Kind
+abbrev pub kind_of : Monitor → MonitorKind
 kind_of m = record { scope = m.scope; spec = m.spec; starting = m.starting }
 
 -- the kinds of all monitors, in order
-abbrev pub kinds_of : List Monitor → List Kind
+abbrev pub kinds_of : List Monitor → List MonitorKind
 kinds_of monitors = map kind_of monitors
 
 -- it is an event, and one of so many
@@ -57,20 +57,20 @@ StartsIn (specs.Da automaton) starting = starting ≡ 0
 StartsIn (specs.Ltl rule) starting = starting < 2 ^ length rule.atoms
 
 -- the table is the specification's and means it, and the starting value fits it
-pub record HasTable (kind : Kind) (t : Table) : Type 0 where
+pub record HasTable (kind : MonitorKind) (t : Table) : Type 0 where
   pub compiles : Compiles kind.spec t
   pub starting : StartsIn kind.spec kind.starting
 
 -- in order, each kind has its table, and there is no table more
-abbrev pub HaveTables : List Kind → List Table → Type 0
+abbrev pub HaveTables : List MonitorKind → List Table → Type 0
 HaveTables [] [] = Unit {0}
 HaveTables [] (t ∷ tables) = ⊥
 HaveTables (kind ∷ kinds) [] = ⊥
 HaveTables (kind ∷ kinds) (t ∷ tables) = HasTable kind t × HaveTables kinds tables
 
 -- the rule is of a monitor that there is, whose specification its hit fits where it is no end
-pub record FitsKind (kinds : List Kind) (r : OnValue) : Type 0 where
-  pub kind : Kind
+pub record FitsKind (kinds : List MonitorKind) (r : OnValue) : Type 0 where
+  pub kind : MonitorKind
   pub there : slice_get kinds r.monitor ≡ Some kind
   pub hit : FitsRule kind.spec r.hit
   pub by : allows_by kind.scope r.by ≡ true

@@ -2,7 +2,7 @@
 ghost use Rattle.std.specs.Prelude.{◌≡◌, ◌≤◌, ◌<◌, ◌++◌, ℕ, List, Option, Some, None, Bool, length, position, bytes_eq, option_copied, IfOk, IfSome, OnOk};
 ghost use Rattle.std.specs.List.{position_or_len};
 ghost use Rattle.rv_ltl.specs.Texts.{texts};
-ghost use Rattle.rv_bind.specs.LineReads.{Reads};
+ghost use Rattle.rv_bind.specs.LineReads.{ReadsValue};
 ghost use Rattle.rv_bind.specs.Compiling.{Compiles};
 ghost use Rattle.rv_bind.specs.Bound.{nothing_bound, is_called, is_taken, monitor_named, holder_named, room_for, place_for, new_monitor, with_monitor, items_of, container_bound};
 ghost use Rattle.rv_bind.specs.MonitorLines.{allows_by, rule_bound, change_bound, reacting, disabled, begin_bound};
@@ -139,7 +139,7 @@ impl Bound {
     pub(crate) fn add_container(&mut self, alloc: Global, name: &[u8]) -> Result<(), LineFault>
         requires { IsWellFormed (bound_value self.old) }
         ensures formed { OnOk result (IsWellFormed (bound_value self.new)) }
-        ensures container { Reads (λ done. bound_value self.new) result (container_bound (bound_value self.old) name.now) }
+        ensures container { ReadsValue (λ done. bound_value self.new) result (container_bound (bound_value self.old) name.now) }
     {
         let place = self.bindings.containers.len();
         if place >= MAX_CONTAINERS {
@@ -164,7 +164,7 @@ impl Bound {
 
     /// Whether the name is free, and there is room for one more monitor.
     fn room_for(&self, name: &[u8]) -> Result<(), LineFault>
-        ensures { Reads (λ done. tt) result (room_for (bound_value self.now) name.now) }
+        ensures { ReadsValue (λ done. tt) result (room_for (bound_value self.now) name.now) }
     {
         if self.is_taken(name) {
             Err(LineFault::Number(NAME_TWICE))
@@ -178,7 +178,7 @@ impl Bound {
     /// The place of the container, where one is named.
     fn holder(&self, holder: Option<&[u8]>) -> Result<Option<u8>, LineFault>
         requires { length (bound_value self.now).containers ≤ 32 }
-        ensures place { Reads (λ place. place) result (holder_named (bound_value self.now).containers (option_copied holder.entry)) }
+        ensures place { ReadsValue (λ place. place) result (holder_named (bound_value self.now).containers (option_copied holder.entry)) }
         ensures within { IfOk result (IsHolder (length (bound_value self.now).containers)) }
     {
         let Some(name) = holder else {
@@ -197,7 +197,7 @@ impl Bound {
         holder: Option<&[u8]>,
     ) -> Result<Option<u8>, LineFault>
         requires { IsWellFormed (bound_value self.now) }
-        ensures place { Reads (λ place. place) result (place_for (bound_value self.now) name.now (option_copied holder.entry)) }
+        ensures place { ReadsValue (λ place. place) result (place_for (bound_value self.now) name.now (option_copied holder.entry)) }
         ensures within { IfOk result (IsHolder (length (bound_value self.now).containers)) }
         ensures room { OnOk result (length (bound_value self.now).monitors < MAX_MONITORS) }
     {
@@ -234,7 +234,7 @@ impl Bound {
     pub(crate) fn add_rule(&mut self, alloc: Global, on: OnForm<'_>) -> Result<(), LineFault>
         requires { IsWellFormed (bound_value self.old) }
         ensures formed { OnOk result (IsWellFormed (bound_value self.new)) }
-        ensures rule { Reads (λ done. bound_value self.new) result (rule_bound (bound_value self.old) (monitor_named (bound_value self.old) on.entry.monitor.now) on.entry.event.now (option_copied on.entry.by) on.entry.tests.items on.entry.mode (texts on.entry.words.items)) }
+        ensures rule { ReadsValue (λ done. bound_value self.new) result (rule_bound (bound_value self.old) (monitor_named (bound_value self.old) on.entry.monitor.now) on.entry.event.now (option_copied on.entry.by) on.entry.tests.items on.entry.mode (texts on.entry.words.items)) }
     {
         let Some(place) = place_of(self.bindings.monitors.as_slice(), on.monitor) else {
             return Err(SYNTAX);
@@ -270,7 +270,7 @@ impl Bound {
     pub(crate) fn choose(&mut self, monitor: &[u8], reactor: Reactor) -> Result<(), LineFault>
         requires { IsWellFormed (bound_value self.old) }
         ensures formed { OnOk result (IsWellFormed (bound_value self.new)) }
-        ensures reactor { Reads (λ done. bound_value self.new) result (change_bound (bound_value self.old) (monitor_named (bound_value self.old) monitor.now) (reacting reactor)) }
+        ensures reactor { ReadsValue (λ done. bound_value self.new) result (change_bound (bound_value self.old) (monitor_named (bound_value self.old) monitor.now) (reacting reactor)) }
     {
         let Some(place) = place_of(self.bindings.monitors.as_slice(), monitor) else {
             return Err(SYNTAX);
@@ -283,7 +283,7 @@ impl Bound {
     pub(crate) fn disable(&mut self, monitor: &[u8]) -> Result<(), LineFault>
         requires { IsWellFormed (bound_value self.old) }
         ensures formed { OnOk result (IsWellFormed (bound_value self.new)) }
-        ensures disabled { Reads (λ done. bound_value self.new) result (change_bound (bound_value self.old) (monitor_named (bound_value self.old) monitor.now) disabled) }
+        ensures disabled { ReadsValue (λ done. bound_value self.new) result (change_bound (bound_value self.old) (monitor_named (bound_value self.old) monitor.now) disabled) }
     {
         let Some(place) = place_of(self.bindings.monitors.as_slice(), monitor) else {
             return Err(SYNTAX);
@@ -296,7 +296,7 @@ impl Bound {
     pub(crate) fn begin(&mut self, monitor: &[u8], atom: &[u8]) -> Result<(), LineFault>
         requires { IsWellFormed (bound_value self.old) }
         ensures formed { OnOk result (IsWellFormed (bound_value self.new)) }
-        ensures starting { Reads (λ done. bound_value self.new) result (begin_bound (bound_value self.old) (monitor_named (bound_value self.old) monitor.now) atom.now) }
+        ensures starting { ReadsValue (λ done. bound_value self.new) result (begin_bound (bound_value self.old) (monitor_named (bound_value self.old) monitor.now) atom.now) }
     {
         let Some(place) = place_of(self.bindings.monitors.as_slice(), monitor) else {
             return Err(SYNTAX);

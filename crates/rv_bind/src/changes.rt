@@ -2,8 +2,8 @@
 ghost use Rattle.std.specs.Prelude.{◌≡◌, ◌≤◌, ◌<◌, ◌+◌, ◌*◌, ◌^◌, ◌||◌, ℕ, List, length, if◌then◌else◌, IfOk, is_some};
 ghost use Rattle.std.specs.List.{list_all, list_any};
 ghost use Rattle.rv_ltl.specs.Texts.{texts};
-ghost use Rattle.rv_bind.specs.LineReads.{Reads};
-ghost use Rattle.rv_bind.specs.Changes.{is_sign, is_change, atom_in, says, stands_twice, runs_its_event, is_one, allows_what, may_end, allows_hit, signed, are_known, change_of, event_at, event_of, what_of, brought, place_named, bit_at_place, atom_bit};
+ghost use Rattle.rv_bind.specs.LineReads.{ReadsValue};
+ghost use Rattle.rv_bind.specs.Changes.{is_sign, is_change, atom_in, is_signed_name, stands_twice, runs_its_event, is_one, allows_what, may_end, allows_hit, atoms_signed, are_known, atoms_change, event_what, event_of, what_of, brought, place_named, bit_at_place, atom_bit};
 
 use crate::bound::place_in;
 use crate::fault::LineFault;
@@ -39,8 +39,8 @@ fn atom_in(word: &[u8]) -> &[u8]
 }
 
 /// Whether the word is this sign and the atom's name.
-fn says(sign: u8, atom: &[u8], word: &[u8]) -> bool
-    ensures { result ≡ says sign atom.now word.now }
+fn is_signed_name(sign: u8, atom: &[u8], word: &[u8]) -> bool
+    ensures { result ≡ is_signed_name sign atom.now word.now }
 {
     match word {
         [first, name @ ..] => *first == sign && name == atom,
@@ -146,11 +146,11 @@ fn bit(place: usize) -> u32
 
 /// Whether a word is this sign and the atom's name.
 fn any_says(sign: u8, atom: &[u8], words: &[&[u8]]) -> bool
-    ensures { result ≡ list_any (says sign atom.now) (texts words.now) }
+    ensures { result ≡ list_any (is_signed_name sign atom.now) (texts words.now) }
 {
     let mut rest = words;
     while let [word, others @ ..] = rest {
-        if says(sign, atom, word) {
+        if is_signed_name(sign, atom, word) {
             return true;
         }
         rest = others;
@@ -168,9 +168,9 @@ fn with_place(set: u32, place: usize, is_in: bool) -> u32
 }
 
 /// The set of the atoms that stand behind this sign.
-fn signed(sign: u8, atoms: &Names, words: &[&[u8]]) -> u32
+fn atoms_signed(sign: u8, atoms: &Names, words: &[&[u8]]) -> u32
     requires { length atoms.now ≤ 32 }
-    ensures { result ≡ signed sign atoms.now (texts words.now) }
+    ensures { result ≡ atoms_signed sign atoms.now (texts words.now) }
 {
     let mut set = 0;
     for place in 0..atoms.len() {
@@ -202,23 +202,23 @@ fn are_known(atoms: &Names, words: &[&[u8]]) -> bool
 }
 
 /// What becomes of the atoms.
-fn change_of(rule: &Rule, words: &[&[u8]]) -> Result<What, LineFault>
-    ensures { Reads (λ what. what) result (change_of rule.now.atoms (texts words.now)) }
+fn atoms_change(rule: &Rule, words: &[&[u8]]) -> Result<What, LineFault>
+    ensures { ReadsValue (λ what. what) result (atoms_change rule.now.atoms (texts words.now)) }
 {
     let atoms = &rule.atoms;
     if !are_known(atoms, words) {
         return Err(LineFault::Number(UNKNOWN_ATOM));
     }
     Ok(What::Ltl {
-        on: signed(b'+', atoms, words),
-        off: signed(b'-', atoms, words),
-        pulse: signed(b'*', atoms, words),
+        on: atoms_signed(b'+', atoms, words),
+        off: atoms_signed(b'-', atoms, words),
+        pulse: atoms_signed(b'*', atoms, words),
     })
 }
 
 /// The event of this name.
 fn event_named(automaton: &Automaton, name: &[u8]) -> Result<What, LineFault>
-    ensures { Reads (λ what. what) result (event_at (place_named automaton.now.events name.now)) }
+    ensures { ReadsValue (λ what. what) result (event_what (place_named automaton.now.events name.now)) }
 {
     match place_in(&automaton.events, name) {
         Some(place) => Ok(What::Da { event: place as u8 }),
@@ -228,7 +228,7 @@ fn event_named(automaton: &Automaton, name: &[u8]) -> Result<What, LineFault>
 
 /// The one event of the words.
 fn event_of(automaton: &Automaton, words: &[&[u8]]) -> Result<What, LineFault>
-    ensures { Reads (λ what. what) result (event_of automaton.now.events (texts words.now)) }
+    ensures { ReadsValue (λ what. what) result (event_of automaton.now.events (texts words.now)) }
 {
     match words {
         [word] => event_named(automaton, word),
@@ -238,17 +238,17 @@ fn event_of(automaton: &Automaton, words: &[&[u8]]) -> Result<What, LineFault>
 
 /// What the words bring, where the mode is no end.
 fn what_of(spec: &Spec, words: &[&[u8]]) -> Result<What, LineFault>
-    ensures { Reads (λ what. what) result (what_of spec.now (texts words.now)) }
+    ensures { ReadsValue (λ what. what) result (what_of spec.now (texts words.now)) }
 {
     match spec {
         Spec::Da(automaton) => event_of(automaton, words),
-        Spec::Ltl(rule) => change_of(rule, words),
+        Spec::Ltl(rule) => atoms_change(rule, words),
     }
 }
 
 /// What the hit brings.
 pub(crate) fn brought(spec: &Spec, mode: Mode, words: &[&[u8]]) -> Result<What, LineFault>
-    ensures { Reads (λ what. what) result (brought spec.now mode (texts words.now)) }
+    ensures { ReadsValue (λ what. what) result (brought spec.now mode (texts words.now)) }
 {
     if mode.is_end() {
         return Ok(What::Nothing);
@@ -258,7 +258,7 @@ pub(crate) fn brought(spec: &Spec, mode: Mode, words: &[&[u8]]) -> Result<What, 
 
 /// The set of one atom of a rule.
 fn bit_of(rule: &Rule, atom: &[u8]) -> Result<u32, LineFault>
-    ensures { Reads (λ bit. bit) result (bit_at_place (place_named rule.now.atoms atom.now)) }
+    ensures { ReadsValue (λ bit. bit) result (bit_at_place (place_named rule.now.atoms atom.now)) }
 {
     match place_in(&rule.atoms, atom) {
         Some(place) => Ok(bit(place)),
@@ -268,7 +268,7 @@ fn bit_of(rule: &Rule, atom: &[u8]) -> Result<u32, LineFault>
 
 /// The set of the atom of this name, where the specification is a rule.
 pub(crate) fn atom_bit(spec: &Spec, atom: &[u8]) -> Result<u32, LineFault>
-    ensures { Reads (λ bit. bit) result (atom_bit spec.now atom.now) }
+    ensures { ReadsValue (λ bit. bit) result (atom_bit spec.now atom.now) }
 {
     match spec {
         Spec::Da(_) => Err(SYNTAX),

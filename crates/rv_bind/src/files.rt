@@ -1,6 +1,6 @@
 //! The files that bindings name, and the faults that name a file.
 ghost use Rattle.std.specs.Prelude.{◌≡◌, ◌≤◌, ◌⊎◌, ℕ, Option, Result, IfOk};
-ghost use Rattle.rv_bind.specs.Outcomes.{Comes, Names, IsFaultOf, InLine, accepted, of_name};
+ghost use Rattle.rv_bind.specs.Outcomes.{Refines, BlamesReached, IsFaultOf, InLine, accepted, of_name};
 ghost use Rattle.rv_bind.specs.Bound.{compiled_in};
 ghost use Rattle.rv_bind.specs.Compiling.{Compiles};
 ghost use Rattle.rv_bind.specs.declared.fault.BindFault.TheVariants as faults;
@@ -22,8 +22,8 @@ pub(crate) fn read_file<S: Store>(
 ) -> Result<Vec<u8>, BindFault>
     ensures kept { S.files store.new ≡ S.files store.old }
     ensures later { S.faults store.old ≤ S.faults store.new }
-    ensures text { Comes (λ text. text.items) (S.files store.old) (S.faults store.old) (S.faults store.new) result (λ files. of_name files name.now accepted) }
-    ensures named { Names (S.files store.old) result (λ files. of_name files name.now accepted) }
+    ensures text { Refines (λ text. text.items) (S.files store.old) (S.faults store.old) (S.faults store.new) result (λ files. of_name files name.now accepted) }
+    ensures named { BlamesReached (S.files store.old) result (λ files. of_name files name.now accepted) }
 {
     match store.read(alloc, name) {
         Ok(text) => Ok(text),
@@ -78,8 +78,8 @@ pub(crate) fn read_spec<S: Store>(
 ) -> Result<Compiled, BindFault>
     ensures kept { S.files store.new ≡ S.files store.old }
     ensures later { S.faults store.old ≤ S.faults store.new }
-    ensures compiled { Comes (λ compiled. compiled) (S.files store.old) (S.faults store.old) (S.faults store.new) result (λ files. compiled_in files kind file.now) }
-    ensures named { Names (S.files store.old) result (λ files. compiled_in files kind file.now) }
+    ensures compiled { Refines (λ compiled. compiled) (S.files store.old) (S.faults store.old) (S.faults store.new) result (λ files. compiled_in files kind file.now) }
+    ensures named { BlamesReached (S.files store.old) result (λ files. compiled_in files kind file.now) }
     ensures compiles { IfOk result (λ compiled. Compiles compiled.spec compiled.table) }
 {
     let text = read_file(alloc, store, file)?;

@@ -2,7 +2,7 @@
 ghost use Rattle.std.specs.Prelude.{◌≡◌, ◌∷◌, option_copied, IfOk};
 ghost use Rattle.rv_ltl.specs.Texts.{texts};
 ghost use Rattle.rv_text.specs.Words.{words_of};
-ghost use Rattle.rv_bind.specs.LineReads.{Reads, Takes};
+ghost use Rattle.rv_bind.specs.LineReads.{ReadsValue, ReadsOn};
 ghost use Rattle.rv_bind.specs.Forms.{container_form, monitor_form, holder_at, react_form, off_form, begin_form, by_at, tests_at, form_of};
 ghost use Rattle.rv_bind.specs.FormsAhead.{on_read, with_next, test_next};
 ghost use Rattle.rv_bind.specs.FormViews.{form_value};
@@ -63,7 +63,7 @@ pub(crate) struct OnForm<'a> {
 /// The form of a line.
 #[tactic(auto, using(crate::proofs::FormLemmas::on_read_is_form))]
 pub(crate) fn read_form<'a>(alloc: Global, line: &'a [u8]) -> Result<Form<'a>, LineFault>
-    ensures { Reads form_value result (form_of (words_of line.now)) }
+    ensures { ReadsValue form_value result (form_of (words_of line.now)) }
 {
     let mut words = Words::new(line);
     let Some(first) = words.next_word() else {
@@ -89,7 +89,7 @@ pub(crate) fn read_form<'a>(alloc: Global, line: &'a [u8]) -> Result<Form<'a>, L
 }
 
 fn container_line<'a>(words: &mut Words<'a>) -> Result<Form<'a>, LineFault>
-    ensures { Reads form_value result (container_form words.old) }
+    ensures { ReadsValue form_value result (container_form words.old) }
 {
     let name = word(words)?;
     let name = allowed(name, is_name(name))?;
@@ -98,7 +98,7 @@ fn container_line<'a>(words: &mut Words<'a>) -> Result<Form<'a>, LineFault>
 }
 
 fn off_line<'a>(words: &mut Words<'a>) -> Result<Form<'a>, LineFault>
-    ensures { Reads form_value result (off_form words.old) }
+    ensures { ReadsValue form_value result (off_form words.old) }
 {
     let monitor = word(words)?;
     end(words)?;
@@ -106,7 +106,7 @@ fn off_line<'a>(words: &mut Words<'a>) -> Result<Form<'a>, LineFault>
 }
 
 fn begin_line<'a>(words: &mut Words<'a>) -> Result<Form<'a>, LineFault>
-    ensures { Reads form_value result (begin_form words.old) }
+    ensures { ReadsValue form_value result (begin_form words.old) }
 {
     let monitor = word(words)?;
     let atom = word(words)?;
@@ -116,7 +116,7 @@ fn begin_line<'a>(words: &mut Words<'a>) -> Result<Form<'a>, LineFault>
 
 /// The container's name, where one is named at the line's end.
 fn holder<'a>(words: &mut Words<'a>) -> Result<Option<&'a [u8]>, LineFault>
-    ensures { Reads option_copied result (holder_at words.old) }
+    ensures { ReadsValue option_copied result (holder_at words.old) }
 {
     let Some(sign) = words.next_word() else {
         return Ok(None);
@@ -128,7 +128,7 @@ fn holder<'a>(words: &mut Words<'a>) -> Result<Option<&'a [u8]>, LineFault>
 }
 
 fn monitor_line<'a>(words: &mut Words<'a>) -> Result<Form<'a>, LineFault>
-    ensures { Reads form_value result (monitor_form words.old) }
+    ensures { ReadsValue form_value result (monitor_form words.old) }
 {
     let name = word(words)?;
     let name = allowed(name, is_name(name))?;
@@ -146,7 +146,7 @@ fn monitor_line<'a>(words: &mut Words<'a>) -> Result<Form<'a>, LineFault>
 }
 
 fn react_line<'a>(words: &mut Words<'a>) -> Result<Form<'a>, LineFault>
-    ensures { Reads form_value result (react_form words.old) }
+    ensures { ReadsValue form_value result (react_form words.old) }
 {
     let monitor = word(words)?;
     let reactor = reactor(word(words)?)?;
@@ -155,7 +155,7 @@ fn react_line<'a>(words: &mut Words<'a>) -> Result<Form<'a>, LineFault>
 }
 
 fn on_line<'a>(alloc: Global, words: &mut Words<'a>) -> Result<Form<'a>, LineFault>
-    ensures { Reads form_value result (on_read words.old) }
+    ensures { ReadsValue form_value result (on_read words.old) }
 {
     let monitor = word(words)?;
     let event = word(words)?;
@@ -189,7 +189,7 @@ fn rest<'a>(alloc: Global, words: &mut Words<'a>) -> Result<Vec<&'a [u8]>, Alloc
 
 /// The field that has the pid, where one is named, and the word behind.
 fn by_field<'a>(words: &mut Words<'a>) -> Result<(Option<&'a [u8]>, &'a [u8]), LineFault>
-    ensures { Takes (λ by. (option_copied by.0, by.1.now)) result words.new (with_next (by_at words.old)) }
+    ensures { ReadsOn (λ by. (option_copied by.0, by.1.now)) result words.new (with_next (by_at words.old)) }
 {
     let next = word(words)?;
     if !is(next, "by") {
@@ -202,7 +202,7 @@ fn by_field<'a>(words: &mut Words<'a>) -> Result<(Option<&'a [u8]>, &'a [u8]), L
 
 /// A test, and the word behind it.
 fn one_test<'a>(alloc: Global, words: &mut Words<'a>) -> Result<(Test, &'a [u8]), LineFault>
-    ensures { Takes (λ test. (test.0, test.1.now)) result words.new (test_next words.old) }
+    ensures { ReadsOn (λ test. (test.0, test.1.now)) result words.new (test_next words.old) }
 {
     let made = test(alloc, word(words)?)?;
     Ok((made, word(words)?))
@@ -215,7 +215,7 @@ fn tests<'a>(
     words: &mut Words<'a>,
     next: &'a [u8],
 ) -> Result<(Vec<Test>, &'a [u8]), LineFault>
-    ensures { Takes (λ tests. (tests.0.items, tests.1.now)) result words.new (with_next (tests_at (next.now ∷ words.old))) }
+    ensures { ReadsOn (λ tests. (tests.0.items, tests.1.now)) result words.new (with_next (tests_at (next.now ∷ words.old))) }
 {
     let mut tests = Vec::new(alloc);
     let mut next = next;

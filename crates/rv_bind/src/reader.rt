@@ -1,8 +1,8 @@
 //! From a bindings file, and the files that it names, to bindings.
 ghost use Rattle.std.specs.Prelude.{◌≡◌, ◌≤◌, IfOk, OnOk, option_copied};
 ghost use Rattle.rv_text.specs.TextLines.{line_text};
-ghost use Rattle.rv_bind.specs.LineReads.{Reads};
-ghost use Rattle.rv_bind.specs.Outcomes.{Comes, Names};
+ghost use Rattle.rv_bind.specs.LineReads.{ReadsValue};
+ghost use Rattle.rv_bind.specs.Outcomes.{Refines, BlamesReached};
 ghost use Rattle.rv_bind.specs.Bound.{bound_of, line_bound, form_in, form_bound, monitor_bound};
 ghost use Rattle.rv_bind.specs.BoundViews.{bound_value};
 ghost use Rattle.rv_bind.specs.FormViews.{form_value};
@@ -24,8 +24,8 @@ pub fn read_bindings<S: Store>(alloc: Global, store: &mut S, name: &str) -> Resu
     ensures kept { S.files store.new ≡ S.files store.old }
     ensures later { S.faults store.old ≤ S.faults store.new }
     ensures formed { IfOk result (λ bound. IsWellFormed (bound_value bound)) }
-    ensures bound { Comes bound_value (S.files store.old) (S.faults store.old) (S.faults store.new) result (λ files. bound_of files name.now) }
-    ensures named { Names (S.files store.old) result (λ files. bound_of files name.now) }
+    ensures bound { Refines bound_value (S.files store.old) (S.faults store.old) (S.faults store.new) result (λ files. bound_of files name.now) }
+    ensures named { BlamesReached (S.files store.old) result (λ files. bound_of files name.now) }
 {
     let text = read_file(alloc, store, name)?;
     let mut bound = Bound::new(alloc);
@@ -38,7 +38,7 @@ pub fn read_bindings<S: Store>(alloc: Global, store: &mut S, name: &str) -> Resu
 
 /// The form of a line that ends in time.
 fn form_in<'a>(alloc: Global, line: &TextLine<'a>) -> Result<Form<'a>, LineFault>
-    ensures { Reads form_value result (form_in (line_text line.now)) }
+    ensures { ReadsValue form_value result (form_in (line_text line.now)) }
 {
     if line.end > TEXT_LIMIT {
         return Err(SYNTAX);
@@ -59,8 +59,8 @@ fn bind_line<S: Store>(
     ensures formed { OnOk result (IsWellFormed (bound_value bound.new)) }
     ensures kept { S.files store.new ≡ S.files store.old }
     ensures later { S.faults store.old ≤ S.faults store.new }
-    ensures bound { Comes (λ done. bound_value bound.new) (S.files store.old) (S.faults store.old) (S.faults store.new) result (λ files. line_bound files here.now (bound_value bound.old) (line_text line.now)) }
-    ensures named { Names (S.files store.old) result (λ files. line_bound files here.now (bound_value bound.old) (line_text line.now)) }
+    ensures bound { Refines (λ done. bound_value bound.new) (S.files store.old) (S.faults store.old) (S.faults store.new) result (λ files. line_bound files here.now (bound_value bound.old) (line_text line.now)) }
+    ensures named { BlamesReached (S.files store.old) result (λ files. line_bound files here.now (bound_value bound.old) (line_text line.now)) }
 {
     match form_in(alloc, line) {
         Ok(form) => bind_form(alloc, store, here, line.number, bound, form),
@@ -82,8 +82,8 @@ fn bind_form<S: Store>(
     ensures formed { OnOk result (IsWellFormed (bound_value bound.new)) }
     ensures kept { S.files store.new ≡ S.files store.old }
     ensures later { S.faults store.old ≤ S.faults store.new }
-    ensures bound { Comes (λ done. bound_value bound.new) (S.files store.old) (S.faults store.old) (S.faults store.new) result (λ files. form_bound files here.now line (bound_value bound.old) (form_value form.entry)) }
-    ensures named { Names (S.files store.old) result (λ files. form_bound files here.now line (bound_value bound.old) (form_value form.entry)) }
+    ensures bound { Refines (λ done. bound_value bound.new) (S.files store.old) (S.faults store.old) (S.faults store.new) result (λ files. form_bound files here.now line (bound_value bound.old) (form_value form.entry)) }
+    ensures named { BlamesReached (S.files store.old) result (λ files. form_bound files here.now line (bound_value bound.old) (form_value form.entry)) }
 {
     match form {
         Form::Skipped => Ok(()),
@@ -115,8 +115,8 @@ fn bind_monitor<S: Store>(
     ensures formed { OnOk result (IsWellFormed (bound_value bound.new)) }
     ensures kept { S.files store.new ≡ S.files store.old }
     ensures later { S.faults store.old ≤ S.faults store.new }
-    ensures bound { Comes (λ done. bound_value bound.new) (S.files store.old) (S.faults store.old) (S.faults store.new) result (λ files. monitor_bound files here.now line (bound_value bound.old) form.entry.name.now form.entry.scope form.entry.kind form.entry.file.now (option_copied form.entry.holder)) }
-    ensures named { Names (S.files store.old) result (λ files. monitor_bound files here.now line (bound_value bound.old) form.entry.name.now form.entry.scope form.entry.kind form.entry.file.now (option_copied form.entry.holder)) }
+    ensures bound { Refines (λ done. bound_value bound.new) (S.files store.old) (S.faults store.old) (S.faults store.new) result (λ files. monitor_bound files here.now line (bound_value bound.old) form.entry.name.now form.entry.scope form.entry.kind form.entry.file.now (option_copied form.entry.holder)) }
+    ensures named { BlamesReached (S.files store.old) result (λ files. monitor_bound files here.now line (bound_value bound.old) form.entry.name.now form.entry.scope form.entry.kind form.entry.file.now (option_copied form.entry.holder)) }
 {
     let container = match bound.place_for(form.name, form.holder) {
         Ok(container) => container,

@@ -1,8 +1,8 @@
 //! The words of a bindings line, taken from the left.
 ghost use Rattle.std.specs.Prelude.{◌≡◌, ◌≤◌, ℕ, List, Option, Some, None, not, bytes_eq, position, codes, length, IfSome, IfOk, MatchOption, IsTrue};
 ghost use Rattle.std.specs.List.{list_all};
-ghost use Rattle.rv_bind.specs.LineReads.{Faults, Reads, Takes};
-ghost use Rattle.rv_bind.specs.LineWords.{word_at, ended, is_name, is_name_byte, is_field, is_field_byte, scope_named, kind_named, mode_named, reactor_named, test_of, test_behind, or_syntax, when};
+ghost use Rattle.rv_bind.specs.LineReads.{Faults, ReadsValue, ReadsOn};
+ghost use Rattle.rv_bind.specs.LineWords.{word_at, no_word_left, is_name, is_name_byte, is_field, is_field_byte, scope_named, kind_named, mode_named, reactor_named, test_of, test_behind, or_syntax, when};
 ghost use Rattle.std.specs.Str.{is_utf8};
 
 use crate::bindings::Test;
@@ -24,7 +24,7 @@ pub(crate) fn is(word: &[u8], said: &str) -> bool
 
 /// The next word.
 pub(crate) fn word<'a>(words: &mut Words<'a>) -> Result<&'a [u8], LineFault>
-    ensures { Takes (λ word. word.now) result words.new (word_at words.old) }
+    ensures { ReadsOn (λ word. word.now) result words.new (word_at words.old) }
 {
     match words.next_word() {
         Some(word) => Ok(word),
@@ -34,7 +34,7 @@ pub(crate) fn word<'a>(words: &mut Words<'a>) -> Result<&'a [u8], LineFault>
 
 /// No word is left.
 pub(crate) fn end(words: &mut Words<'_>) -> Result<(), LineFault>
-    ensures { Reads (λ done. tt) result (ended words.old) }
+    ensures { ReadsValue (λ done. tt) result (no_word_left words.old) }
 {
     match words.next_word() {
         Some(_) => Err(SYNTAX),
@@ -76,13 +76,13 @@ pub(crate) fn is_field(word: &[u8]) -> bool
 
 /// The word, if it passes.
 pub(crate) fn allowed(word: &[u8], passes: bool) -> Result<&[u8], LineFault>
-    ensures { Reads (λ word. word.now) result (when passes word.now) }
+    ensures { ReadsValue (λ word. word.now) result (when passes word.now) }
 {
     if passes { Ok(word) } else { Err(SYNTAX) }
 }
 
 pub(crate) fn scope(word: &[u8]) -> Result<Scope, LineFault>
-    ensures { Reads (λ scope. scope) result (or_syntax (scope_named word.now)) }
+    ensures { ReadsValue (λ scope. scope) result (or_syntax (scope_named word.now)) }
 {
     if is(word, "global") {
         Ok(Scope::Global)
@@ -96,7 +96,7 @@ pub(crate) fn scope(word: &[u8]) -> Result<Scope, LineFault>
 }
 
 pub(crate) fn kind(word: &[u8]) -> Result<SpecKind, LineFault>
-    ensures { Reads (λ kind. kind) result (or_syntax (kind_named word.now)) }
+    ensures { ReadsValue (λ kind. kind) result (or_syntax (kind_named word.now)) }
 {
     if is(word, "da") {
         Ok(SpecKind::Da)
@@ -108,7 +108,7 @@ pub(crate) fn kind(word: &[u8]) -> Result<SpecKind, LineFault>
 }
 
 pub(crate) fn mode(word: &[u8]) -> Result<Mode, LineFault>
-    ensures { Reads (λ mode. mode) result (or_syntax (mode_named word.now)) }
+    ensures { ReadsValue (λ mode. mode) result (or_syntax (mode_named word.now)) }
 {
     if is(word, "event") {
         Ok(Mode::Event)
@@ -124,7 +124,7 @@ pub(crate) fn mode(word: &[u8]) -> Result<Mode, LineFault>
 }
 
 pub(crate) fn reactor(word: &[u8]) -> Result<Reactor, LineFault>
-    ensures { Reads (λ reactor. reactor) result (or_syntax (reactor_named word.now)) }
+    ensures { ReadsValue (λ reactor. reactor) result (or_syntax (reactor_named word.now)) }
 {
     if is(word, "nop") {
         Ok(Reactor::Nop)
@@ -139,7 +139,7 @@ pub(crate) fn reactor(word: &[u8]) -> Result<Reactor, LineFault>
 
 /// The word as text.
 pub(crate) fn text(word: &[u8]) -> Result<&str, LineFault>
-    ensures { Reads (λ text. text.now) result (when (is_utf8 word.now) word.now) }
+    ensures { ReadsValue (λ text. text.now) result (when (is_utf8 word.now) word.now) }
 {
     match std::str::from_utf8(word) {
         Ok(text) => Ok(text),
@@ -157,7 +157,7 @@ fn field_end(word: &[u8]) -> Option<usize>
 
 /// `=` and a value, or `!=` and a value.
 fn test_behind(alloc: Global, field: &[u8], rest: &[u8]) -> Result<Test, LineFault>
-    ensures { Reads (λ test. test) result (or_syntax (test_behind field.now rest.now)) }
+    ensures { ReadsValue (λ test. test) result (or_syntax (test_behind field.now rest.now)) }
 {
     match rest {
         [b'=', value @ ..] if !value.is_empty() => Ok(Test::Is {
@@ -174,7 +174,7 @@ fn test_behind(alloc: Global, field: &[u8], rest: &[u8]) -> Result<Test, LineFau
 
 /// A test: `F=W` or `F!=W`.
 pub(crate) fn test(alloc: Global, word: &[u8]) -> Result<Test, LineFault>
-    ensures { Reads (λ test. test) result (or_syntax (test_of word.now)) }
+    ensures { ReadsValue (λ test. test) result (or_syntax (test_of word.now)) }
 {
     match field_end(word) {
         None | Some(0) => Err(SYNTAX),

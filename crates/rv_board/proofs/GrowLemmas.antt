@@ -10,18 +10,18 @@ use Rattle.rv_model.specs.Seats.{known_of, entries_of}
 use Rattle.rv_core.specs.Setup.{judges_of}
 use Rattle.rv_board.specs.Known.{known_by, blank, numbers}
 use Rattle.rv_board.specs.Rule.{view, no_setup}
-use Rattle.rv_board.specs.Seats.{BoardId, SeatValue, SeatGrows, Follows, Joins}
+use Rattle.rv_board.specs.Seats.{BoardId, SeatValue, SeatGrows, ExtendsSeen, Joins}
 use Rattle.rv_board.proofs.Knowing.{knows_own, known_is}
 use Rattle.rv_board.proofs.NumberLemmas.{joined_left, joined_right}
 
 -- a call leaves what its seat knows
 pub same_known : (a b : SeatValue) (own : List Entry) → SeatGrows a b own → known_of b.part ≡ known_of a.part
-same_known a b own g = known_is b.part ∙ ((λ i. known_by (g.grows.number i) (g.grows.end i) (g.grows.gone i)) ∙ sym (known_is a.part))
+same_known a b own g = known_is b.part ∙ ((λ i. known_by (g.grows.number i) (g.grows.end i) (g.grows.joined_in i)) ∙ sym (known_is a.part))
 
 -- no call adds nothing
 pub grows_none : (a : SeatValue) → IsSound a.board.setup (judges_of a.board.setup) a.part.seen → SeatGrows a a []
 grows_none a sound = record {
-  grows = record { rest = []; list = sym (append-nil a.part.seen); known = refl; seats = All-nil (λ (e : Entry). e.seat ≡ a.part.number); ends = inl refl; sound = sound; number = refl; end = refl; gone = refl };
+  grows = record { rest = []; list = sym (append-nil a.part.seen); known = refl; seats = All-nil (λ (e : Entry). e.seat ≡ a.part.number); ends = inl refl; sound = sound; number = refl; end = refl; joined_in = refl };
   board = refl;
 }
 
@@ -42,7 +42,7 @@ grows_then a b c xs ys y g h =
         sound = subst (λ (z : BoardId). IsSound z.setup (judges_of z.setup) c.part.seen) g.board q.sound;
         number = q.number ∙ p.number;
         end = q.end ∙ p.end;
-        gone = q.gone ∙ p.gone;
+        joined_in = q.joined_in ∙ p.joined_in;
       };
       board = h.board ∙ g.board;
     }
@@ -67,10 +67,10 @@ entries_all seat (x ∷ xs) all =
     rw same (ap (λ l. x ∷ l) (entries_all seat xs (All-tail (λ (e : Entry). e.seat ≡ seat) x xs all)))
 
 -- what a seat has added that had seen nothing is all that a later history has by its number
-pub own_entries : (old new : SeatValue) (own h : List Entry) → old.part.seen ≡ [] → old.part.number < old.part.end → SeatGrows old new own → Follows h new.part → entries_of (λ n. n == old.part.number) h ≡ own
+pub own_entries : (old new : SeatValue) (own h : List Entry) → old.part.seen ≡ [] → old.part.number < old.part.end → SeatGrows old new own → ExtendsSeen h new.part → entries_of (λ n. n == old.part.number) h ≡ own
 own_entries old new own h fresh has g f =
     let p = g.grows in
-    let mine : known_of old.part old.part.number ≡ true = (λ i. known_is old.part i old.part.number) ∙ knows_own old.part.number old.part.end old.part.gone has in
+    let mine : known_of old.part old.part.number ≡ true = (λ i. known_is old.part i old.part.number) ∙ knows_own old.part.number old.part.end old.part.joined_in has in
     let all : h ≡ p.rest ++ f.rest = f.list ∙ (ap (λ l. l ++ f.rest) p.list ∙ ap (λ l. (l ++ p.rest) ++ f.rest) fresh) in
     let none-later : entries_of (known_of old.part) f.rest ≡ [] = subst (λ (t : ℕ → Bool). entries_of t f.rest ≡ []) (same_known old new own g) f.none in
     let known : entries_of (known_of old.part) h ≡ own = ap (entries_of (known_of old.part)) all
@@ -79,8 +79,8 @@ own_entries old new own h fresh has g f =
     ∙ (ap (entries_of (λ n. n == old.part.number)) known ∙ entries_all old.part.number own p.seats)
 
 -- after a join the seat knows the numbers of both
-joined-knows : (old from new : SeatValue) → Joins old from new → (n : ℕ) → known_by old.part.number old.part.end (old.part.gone ++ numbers from.part) n ≡ true → known_of new.part n ≡ true
-joined-knows old from new j n t = (λ i. known_is new.part i n) ∙ ((λ i. known_by (j.number i) (j.end i) (j.gone i) n) ∙ t)
+joined-knows : (old from new : SeatValue) → Joins old from new → (n : ℕ) → known_by old.part.number old.part.end (old.part.joined_in ++ numbers from.part) n ≡ true → known_of new.part n ≡ true
+joined-knows old from new j n t = (λ i. known_is new.part i n) ∙ ((λ i. known_by (j.number i) (j.end i) (j.joined_in i) n) ∙ t)
 
 -- those of its own
 pub own_within : (old from new : SeatValue) → Joins old from new → (n : ℕ) → known_of old.part n ≡ true → known_of new.part n ≡ true

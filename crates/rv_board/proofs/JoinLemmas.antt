@@ -7,7 +7,7 @@ use Rattle.atomic_table.specs.Table.{Joins}
 use Rattle.atomic_table.proofs.Lists.{set_else}
 use Rattle.rv_model.specs.declared.entry.Entry.{Entry}
 use Rattle.rv_model.specs.Setups.{Setup}
-use Rattle.rv_model.specs.Seats.{is_in, is_among, entries_of}
+use Rattle.rv_model.specs.Seats.{is_within, is_among, entries_of}
 use Rattle.rv_board.specs.declared.view.View.{View}
 use Rattle.rv_board.specs.Known.{knows, Begun, numbers, blank}
 use Rattle.rv_board.specs.Rule.{word_at, nothing_else, Fits, Kept, KeptPlainly, spent_view, joined}
@@ -75,13 +75,13 @@ joins_with code also steady k id v other w s r e ne there = record {
     fw = r.fits other w at_other
 
     blank_fits : Fits r.history spent_view
-    blank_fits = record { begun = begun_blank r.history; left = begun_blank r.history; right = begun_blank r.history; left_within = blank_within blank; right_within = blank_within blank; distinct = λ n _. none_among n; unused = none_of (knows blank) (is_in 1 0) r.history (λ n t. in_range 0 0 [] n (range_right 0 1 0 n (omega arith) t)) (none_blank r.history) }
+    blank_fits = record { begun = begun_blank r.history; left = begun_blank r.history; right = begun_blank r.history; left_within = blank_within blank; right_within = blank_within blank; distinct = λ n _. none_among n; unused = none_of (knows blank) (is_within 1 0) r.history (λ n t. in_range 0 0 [] n (range_right 0 1 0 n (omega arith) t)) (none_blank r.history) }
 
-    distinct : (n : ℕ) → is_in v.part.number v.part.end n ≡ true → is_among (v.part.gone ++ numbers w.part) n ≡ false
-    distinct n t = not_true (is_among (v.part.gone ++ numbers w.part) n)
+    distinct : (n : ℕ) → is_within v.part.number v.part.end n ≡ true → is_among (v.part.joined_in ++ numbers w.part) n ≡ false
+    distinct n t = not_true (is_among (v.part.joined_in ++ numbers w.part) n)
         (λ h. ⊎_elim (λ a. true≢false (sym a ∙ fv.distinct n t))
-        (λ a. r.apart id other v w e at_other (λ same. ne (sym same)) n (in_range v.part.number v.part.end v.part.gone n t) (numbers_known w.part n a))
-        (or_cases (is_among v.part.gone n) (is_among (numbers w.part) n) (sym (among_append v.part.gone (numbers w.part) n) ∙ h)))
+        (λ a. r.apart id other v w e at_other (λ same. ne (sym same)) n (in_range v.part.number v.part.end v.part.joined_in n t) (numbers_known w.part n a))
+        (or_cases (is_among v.part.joined_in n) (is_among (numbers w.part) n) (sym (among_append v.part.joined_in (numbers w.part) n) ∙ h)))
 
     both_fits : Fits r.history (joined v w)
     both_fits = record { begun = longer_begun r.history v w fv.begun fw.begun; left = fv.begun; right = fw.begun; left_within = joined_left v w; right_within = joined_right v w; distinct = distinct; unused = fv.unused }

@@ -12,10 +12,10 @@ use Rattle.rv_model.specs.declared.entry.Act.TheVariants.{Deliver, Stop, Look, R
 use Rattle.rv_model.specs.declared.entry.Entry.{Entry}
 use Rattle.rv_model.specs.Setups.{Setup}
 use Rattle.rv_model.specs.SharedWords.{answer_at}
-use Rattle.rv_model.specs.Histories.{LostThrice, IsEarnedBy, IsHeldBy, IsSound}
-use Rattle.rv_model.specs.Seats.{Seat, is_in, entries_of}
+use Rattle.rv_model.specs.Histories.{LostThrice, IsJustifiedBy, IsPermittedTo, IsSound}
+use Rattle.rv_model.specs.Seats.{Seat, is_within, entries_of}
 use Rattle.rv_core.specs.Advance.{acted}
-use Rattle.rv_core.specs.Setup.{FitsAct, ActFits, place_of, table_of_act, start_of_act, judges_of}
+use Rattle.rv_core.specs.Setup.{FitsAct, ActFits, word_index, table_of_act, start_of_act, judges_of}
 use Rattle.rv_board.specs.declared.view.View.{View}
 use Rattle.rv_board.specs.Known.{knows, Begun}
 use Rattle.rv_board.specs.Rule.{width, word_at, IsMachine, Fits, Kept, with_seen}
@@ -36,7 +36,7 @@ raced_longer p seat slot history rest own quiet t = record {
 }
 
 -- what an act has earned it keeps, whatever others added since
-earned_longer : (p : ℕ → Bool) (seat : ℕ) (act : Act) (history rest : List Entry) → p seat ≡ true → entries_of p rest ≡ [] → IsEarnedBy act seat history → IsEarnedBy act seat (history ++ rest)
+earned_longer : (p : ℕ → Bool) (seat : ℕ) (act : Act) (history rest : List Entry) → p seat ≡ true → entries_of p rest ≡ [] → IsJustifiedBy act seat history → IsJustifiedBy act seat (history ++ rest)
 earned_longer p seat (Stop slot) history rest own quiet t = raced_longer p seat slot history rest own quiet t
 earned_longer p seat (Deliver slot hit) history rest own quiet t = tt
 earned_longer p seat Look history rest own quiet t = tt
@@ -52,8 +52,8 @@ pub record CanMake (s : Setup) (v : View) (act : Act) : Type 0 where
   pub small : v.part.end ≤ 67
   pub fits : FitsAct s act
   pub bits : ActFits s act
-  pub held : IsHeldBy act v.part.number
-  pub earned : IsEarnedBy act v.part.number v.part.seen
+  pub permitted : IsPermittedTo act v.part.number
+  pub justified : IsJustifiedBy act v.part.number v.part.seen
 
 module _ (code : Setup → List Entry → ℕ → ℕ) (also : List Entry → List View → Type 0) where
   -- the words and the history after a step, and the view that has seen it all
@@ -79,7 +79,7 @@ module _ (code : Setup → List Entry → ℕ → ℕ) (also : List Entry → Li
       w = with_seen v history
 
       own : knows v.part v.part.number ≡ true
-      own = knows_own v.part.number v.part.end v.part.gone has
+      own = knows_own v.part.number v.part.end v.part.joined_in has
 
       mine : Fits history w
       mine = record {
@@ -89,7 +89,7 @@ module _ (code : Setup → List Entry → ℕ → ℕ) (also : List Entry → Li
         left_within = blank_within v.part;
         right_within = blank_within v.part;
         distinct = (r.fits id v at).distinct;
-        unused = subst (λ l. entries_of (is_in (suc v.part.number) v.part.end) l ≡ []) (sym is) (none_append (is_in (suc v.part.number) v.part.end) r.history new (r.fits id v at).unused (theirs (is_in (suc v.part.number) v.part.end) (range_not_own v.part.number v.part.end)));
+        unused = subst (λ l. entries_of (is_within (suc v.part.number) v.part.end) l ≡ []) (sym is) (none_append (is_within (suc v.part.number) v.part.end) r.history new (r.fits id v at).unused (theirs (is_within (suc v.part.number) v.part.end) (range_not_own v.part.number v.part.end)));
       }
 
       others : (j : ℕ) (u : View) → j ≢ id → get_elem? s.views j ≡ some u → Fits history u
@@ -98,7 +98,7 @@ module _ (code : Setup → List Entry → ℕ → ℕ) (also : List Entry → Li
           let alone : knows u.part v.part.number ≡ false = not_true (knows u.part v.part.number) (λ t. r.apart j id u v e at ne v.part.number t own) in
           let quiet : (p : ℕ → Bool) → ((m : ℕ) → p m ≡ true → knows u.part m ≡ true) → entries_of p new ≡ [] = λ p within. theirs p (not_true (p v.part.number) (λ t. true≢false (sym (within v.part.number t) ∙ alone))) in
           let more : (p : Seat) → Begun r.history p → ((m : ℕ) → knows p m ≡ true → knows u.part m ≡ true) → Begun history p = λ p b within. subst (λ l. Begun l p) (sym is) (begun_longer r.history new p b (quiet (knows p) within)) in
-          let free : ℕ → Bool = is_in (suc u.part.number) u.part.end in
+          let free : ℕ → Bool = is_within (suc u.part.number) u.part.end in
           record {
             begun = more u.part f.begun (λ m t. t);
             left = more u.left f.left f.left_within;
@@ -106,7 +106,7 @@ module _ (code : Setup → List Entry → ℕ → ℕ) (also : List Entry → Li
             left_within = f.left_within;
             right_within = f.right_within;
             distinct = f.distinct;
-            unused = subst (λ l. entries_of free l ≡ []) (sym is) (none_append free r.history new f.unused (quiet free (λ m t. range_within u.part.number u.part.end u.part.gone m t)));
+            unused = subst (λ l. entries_of free l ≡ []) (sym is) (none_append free r.history new f.unused (quiet free (λ m t. range_within u.part.number u.part.end u.part.joined_in m t)));
           }
 
   -- a word that is written with its own value
@@ -136,41 +136,41 @@ module _ (code : Setup → List Entry → ℕ → ℕ) (also : List Entry → Li
       )
 
   -- the words after an act
-  acted_words : (k : Setup) (s : St) (r : Kept code also k s) (act : Act) (x : Entry) (n : ℕ) → place_of act < width k → n ≡ code k (r.history ++ x ∷ []) (place_of act)
-      → ((j : ℕ) → j < width k → j ≢ place_of act → code k (r.history ++ x ∷ []) j ≡ code k r.history j)
-      → (j : ℕ) → j < width k → get_or (set s.words (place_of act) n) j 0 ≡ code k (r.history ++ x ∷ []) j
-  acted_words k s r act x n inside is others j low = dite (ℕ_discrete j (place_of act))
-      (λ e. let lt : place_of act < length s.words = subst (λ (z : ℕ). place_of act < z) (sym r.wide) inside in
-      subst (λ (z : ℕ). get_or (set s.words (place_of act) n) z 0 ≡ code k (r.history ++ x ∷ []) z) (sym e) (get_or-set_same s.words (place_of act) n 0 lt ∙ is))
-      (λ ne. get_or-set_other s.words (place_of act) j n 0 ne ∙ (r.words j low ∙ sym (others j low ne)))
+  acted_words : (k : Setup) (s : St) (r : Kept code also k s) (act : Act) (x : Entry) (n : ℕ) → word_index act < width k → n ≡ code k (r.history ++ x ∷ []) (word_index act)
+      → ((j : ℕ) → j < width k → j ≢ word_index act → code k (r.history ++ x ∷ []) j ≡ code k r.history j)
+      → (j : ℕ) → j < width k → get_or (set s.words (word_index act) n) j 0 ≡ code k (r.history ++ x ∷ []) j
+  acted_words k s r act x n inside is others j low = dite (ℕ_discrete j (word_index act))
+      (λ e. let lt : word_index act < length s.words = subst (λ (z : ℕ). word_index act < z) (sym r.wide) inside in
+      subst (λ (z : ℕ). get_or (set s.words (word_index act) n) z 0 ≡ code k (r.history ++ x ∷ []) z) (sym e) (get_or-set_same s.words (word_index act) n 0 lt ∙ is))
+      (λ ne. get_or-set_other s.words (word_index act) j n 0 ne ∙ (r.words j low ∙ sym (others j low ne)))
 
   -- a step that makes an entry
   pub makes_with : (k : Setup) (id : ℕ) (me : Ours) (act : Act) (n : ℕ) → CanMake k me.0 act → (s : St) (r : Kept code also k s) → get_elem? s.views id ≡ some me.0
       → Acted k r.history me.0.part.number act
-      → n ≡ code k (r.history ++ made_after k me.0.part.number act r.history ∷ []) (place_of act)
-      → ((j : ℕ) → j < width k → j ≢ place_of act → code k (r.history ++ made_after k me.0.part.number act r.history ∷ []) j ≡ code k r.history j)
+      → n ≡ code k (r.history ++ made_after k me.0.part.number act r.history ∷ []) (word_index act)
+      → ((j : ℕ) → j < width k → j ≢ word_index act → code k (r.history ++ made_after k me.0.part.number act r.history ∷ []) j ≡ code k r.history j)
       → also (r.history ++ made_after k me.0.part.number act r.history ∷ []) (set s.views id (with_seen me.0 (r.history ++ made_after k me.0.part.number act r.history ∷ [])))
-      → Kept code also k (stepped s (place_of act) n id me.1 (with_seen me.0 (r.history ++ made_after k me.0.part.number act r.history ∷ [])) keeps)
-      × Made code me.0 (with_seen me.0 (r.history ++ made_after k me.0.part.number act r.history ∷ [])) act (slice_index s.words (place_of act))
+      → Kept code also k (stepped s (word_index act) n id me.1 (with_seen me.0 (r.history ++ made_after k me.0.part.number act r.history ∷ [])) keeps)
+      × Made code me.0 (with_seen me.0 (r.history ++ made_after k me.0.part.number act r.history ∷ [])) act (slice_index s.words (word_index act))
   makes_with k id me act n can s r at does is others further =
       let v : View = me.0 in
       let x : Entry = made_after k v.part.number act r.history in
       let f = r.fits id v at in
-      let own : knows v.part v.part.number ≡ true = knows_own v.part.number v.part.end v.part.gone can.has in
+      let own : knows v.part v.part.number ≡ true = knows_own v.part.number v.part.end v.part.joined_in can.has in
       let has = can.has in
       let small = can.small in
-      let earned : IsEarnedBy act v.part.number r.history = subst (IsEarnedBy act v.part.number) (sym f.begun.whole) (earned_longer (knows v.part) v.part.number act v.part.seen f.begun.rest own f.begun.none can.earned) in
-      let sound : IsSound k (judges_of k) (r.history ++ x ∷ []) = sound-snoc k (judges_of k) r.history x r.sound does.fits earned (omega arith) can.held in
+      let justified : IsJustifiedBy act v.part.number r.history = subst (IsJustifiedBy act v.part.number) (sym f.begun.whole) (earned_longer (knows v.part) v.part.number act v.part.seen f.begun.rest own f.begun.none can.justified) in
+      let sound : IsSound k (judges_of k) (r.history ++ x ∷ []) = sound-snoc k (judges_of k) r.history x r.sound does.fits justified (omega arith) can.permitted in
       let all : r.history ≡ v.part.seen ++ f.begun.rest = f.begun.whole in
-      let inside : place_of act < width k = place-within k act can.fits in (
-        moved k s r id me.1 v at (place_of act) n (x ∷ []) (r.history ++ x ∷ []) refl does.machine sound (acted_words k s r act x n inside is others) (λ p not. rw not refl) has further,
+      let inside : word_index act < width k = place-within k act can.fits in (
+        moved k s r id me.1 v at (word_index act) n (x ∷ []) (r.history ++ x ∷ []) refl does.machine sound (acted_words k s r act x n inside is others) (λ p not. rw not refl) has further,
         record {
           same = refl;
           rest = f.begun.rest;
           list = λ i. all i ++ made_after (sym can.setup i) v.part.number act (all i) ∷ [];
           none = f.begun.none;
-          word = subst (λ (z : Setup × List Entry). slice_index s.words (place_of act) ≡ code z.0 z.1 (place_of act)) (λ i. (sym can.setup i, all i)) (r.words (place_of act) inside);
+          word = subst (λ (z : Setup × List Entry). slice_index s.words (word_index act) ≡ code z.0 z.1 (word_index act)) (λ i. (sym can.setup i, all i)) (r.words (word_index act) inside);
           sound = subst (λ (z : Setup). IsSound z (judges_of z) (r.history ++ x ∷ [])) (sym can.setup) sound;
-          answer = subst (λ (z : Setup × List Entry). (acted (table_of_act z.0 act) (start_of_act z.0 act) (word_at z.0 z.1 (place_of act)) act).0 ≡ answer_at z.0 (judges_of z.0) (reverse z.1) (made_after z.0 v.part.number act z.1) act) (λ i. (sym can.setup i, all i)) does.answer;
+          answer = subst (λ (z : Setup × List Entry). (acted (table_of_act z.0 act) (start_of_act z.0 act) (word_at z.0 z.1 (word_index act)) act).0 ≡ answer_at z.0 (judges_of z.0) (reverse z.1) (made_after z.0 v.part.number act z.1) act) (λ i. (sym can.setup i, all i)) does.answer;
         },
       )

@@ -4,7 +4,7 @@ use Rattle.std.proofs.lemmas.Bool.Decides.{nat_tests}
 use Rattle.std.proofs.lemmas.List.Elements.{filter-append}
 use Rattle.rv_model.specs.declared.entry.Entry.{Entry}
 use Rattle.rv_model.specs.Histories.{NoneOf}
-use Rattle.rv_model.specs.Seats.{Seat, is_in, is_among, known_of, entries_of}
+use Rattle.rv_model.specs.Seats.{Seat, is_within, is_among, known_of, entries_of}
 use Rattle.rv_board.specs.Known.{known_by, knows, blank, Begun}
 
 -- what is not true is false
@@ -65,7 +65,7 @@ none_either p q r xs split e f = none_of (λ n. p n || q n) r xs (λ n t. either
 
 -- the blank seat knows no number
 pub knows_blank : (n : ℕ) → knows blank n ≡ true → ⊥
-unfolding known_by is_in is_among
+unfolding known_by is_within is_among
 knows_blank n t = absurd (grind (arith, nat_tests))
 
 -- so it has no entry
@@ -78,19 +78,19 @@ pub begun_blank : (history : List Entry) → Begun history blank
 begun_blank history = record { rest = history; whole = refl; none = none_blank history }
 
 -- a seat knows its own number
-pub knows_own : (number end : ℕ) (gone : List ℕ) → number < end → known_by number end gone number ≡ true
-unfolding known_by is_in is_among
-knows_own number end gone h = grind (arith, nat_tests)
+pub knows_own : (number end : ℕ) (joined_in : List ℕ) → number < end → known_by number end joined_in number ≡ true
+unfolding known_by is_within is_among
+knows_own number end joined_in h = grind (arith, nat_tests)
 
 -- the parts of a cut range
-pub cut_left_within : (number at end : ℕ) (gone : List ℕ) (n : ℕ) → at ≤ end → known_by number at gone n ≡ true → known_by number end gone n ≡ true
-unfolding known_by is_in is_among
-cut_left_within number at end gone n h t = grind (arith, nat_tests)
+pub cut_left_within : (number at end : ℕ) (joined_in : List ℕ) (n : ℕ) → at ≤ end → known_by number at joined_in n ≡ true → known_by number end joined_in n ≡ true
+unfolding known_by is_within is_among
+cut_left_within number at end joined_in n h t = grind (arith, nat_tests)
 
 -- the other side of the cut
-pub cut_right_within : (number at end : ℕ) (gone : List ℕ) (n : ℕ) → number ≤ at → known_by at end [] n ≡ true → known_by number end gone n ≡ true
-unfolding known_by is_in is_among
-cut_right_within number at end gone n h t = grind (arith, nat_tests)
+pub cut_right_within : (number at end : ℕ) (joined_in : List ℕ) (n : ℕ) → number ≤ at → known_by at end [] n ≡ true → known_by number end joined_in n ≡ true
+unfolding known_by is_within is_among
+cut_right_within number at end joined_in n h t = grind (arith, nat_tests)
 
 -- a seat whose number is known has no entry either
 pub none_is : (p : ℕ → Bool) (seat : ℕ) (xs : List Entry) → p seat ≡ true → entries_of p xs ≡ [] → NoneOf seat xs

@@ -3,7 +3,7 @@ use Rattle.std.proofs.Common.{◌≡◌, ◌≢◌, ◌⊎◌, inl, inr, ⊎_eli
 use Rattle.std.specs.List.{list_any}
 use Rattle.std.proofs.lemmas.Bool.Decides.{nat_tests}
 use Rattle.std.proofs.lemmas.List.Folds.{list_any-append}
-use Rattle.rv_model.specs.Seats.{Seat, is_in, is_among}
+use Rattle.rv_model.specs.Seats.{Seat, is_within, is_among}
 use Rattle.rv_board.specs.declared.view.View.{View}
 use Rattle.rv_board.specs.Known.{known_by, knows, count_from, numbers}
 use Rattle.rv_board.specs.Rule.{joined}
@@ -14,52 +14,52 @@ unfolding is_among
 none_among n = refl
 
 -- what is below the cut is in the whole range
-pub range_left : (number at end : ℕ) (n : ℕ) → at ≤ end → is_in number at n ≡ true → is_in number end n ≡ true
-unfolding is_in
+pub range_left : (number at end : ℕ) (n : ℕ) → at ≤ end → is_within number at n ≡ true → is_within number end n ≡ true
+unfolding is_within
 range_left number at end n h t = grind (arith, nat_tests)
 
 -- so is what is above
-pub range_right : (number at end : ℕ) (n : ℕ) → number ≤ at → is_in at end n ≡ true → is_in number end n ≡ true
-unfolding is_in
+pub range_right : (number at end : ℕ) (n : ℕ) → number ≤ at → is_within at end n ≡ true → is_within number end n ≡ true
+unfolding is_within
 range_right number at end n h t = grind (arith, nat_tests)
 
 -- nothing is on both sides
-is_in_apart : (number at end n : ℕ) → is_in number at n ≡ true → is_in at end n ≡ true → ⊥
-unfolding is_in
-is_in_apart number at end n s t = absurd (grind (arith, nat_tests))
+is_within_apart : (number at end n : ℕ) → is_within number at n ≡ true → is_within at end n ≡ true → ⊥
+unfolding is_within
+is_within_apart number at end n s t = absurd (grind (arith, nat_tests))
 
 -- a known number is in the range or was joined in
-known_cases : (number end : ℕ) (gone : List ℕ) (n : ℕ) → known_by number end gone n ≡ true → (is_in number end n ≡ true) ⊎ (is_among gone n ≡ true)
+known_cases : (number end : ℕ) (joined_in : List ℕ) (n : ℕ) → known_by number end joined_in n ≡ true → (is_within number end n ≡ true) ⊎ (is_among joined_in n ≡ true)
 unfolding known_by
-known_cases number end gone n t = cases (is_in number end n) (is_among gone n) t
+known_cases number end joined_in n t = cases (is_within number end n) (is_among joined_in n) t
   where
     cases : (a b : Bool) → (a || b) ≡ true → (a ≡ true) ⊎ (b ≡ true)
     cases true b e = inl refl
     cases false b e = inr e
 
 -- what is in the range is known
-pub in_range : (number end : ℕ) (gone : List ℕ) (n : ℕ) → is_in number end n ≡ true → known_by number end gone n ≡ true
+pub in_range : (number end : ℕ) (joined_in : List ℕ) (n : ℕ) → is_within number end n ≡ true → known_by number end joined_in n ≡ true
 unfolding known_by
-in_range number end gone n t = rw t refl
+in_range number end joined_in n t = rw t refl
 
 -- what was joined in is known
-in_gone : (number end : ℕ) (gone : List ℕ) (n : ℕ) → is_among gone n ≡ true → known_by number end gone n ≡ true
+in_gone : (number end : ℕ) (joined_in : List ℕ) (n : ℕ) → is_among joined_in n ≡ true → known_by number end joined_in n ≡ true
 unfolding known_by
-in_gone number end gone n t = cases (is_in number end n) (is_among gone n) t
+in_gone number end joined_in n t = cases (is_within number end n) (is_among joined_in n) t
   where
     cases : (a b : Bool) → b ≡ true → (a || b) ≡ true
     cases true b e = refl
     cases false b e = e
 
 -- of a seat that took in none only the range is known
-known_right : (at end n : ℕ) → known_by at end [] n ≡ true → is_in at end n ≡ true
+known_right : (at end n : ℕ) → known_by at end [] n ≡ true → is_within at end n ≡ true
 known_right at end n t = ⊎_elim (λ h. h) (λ h. absurd (true≢false (sym h ∙ none_among n))) (known_cases at end [] n t)
 
 -- the two sides of a cut know no number in common
-pub cut_apart : (number at end : ℕ) (gone : List ℕ) (n : ℕ) → number ≤ at → ((m : ℕ) → is_in number end m ≡ true → is_among gone m ≡ false) → known_by number at gone n ≡ true → known_by at end [] n ≡ true → ⊥
-cut_apart number at end gone n le distinct s t =
-    let r : is_in at end n ≡ true = known_right at end n t in
-    ⊎_elim (λ h. is_in_apart number at end n h r) (λ h. true≢false (sym h ∙ distinct n (range_right number at end n le r))) (known_cases number at gone n s)
+pub cut_apart : (number at end : ℕ) (joined_in : List ℕ) (n : ℕ) → number ≤ at → ((m : ℕ) → is_within number end m ≡ true → is_among joined_in m ≡ false) → known_by number at joined_in n ≡ true → known_by at end [] n ≡ true → ⊥
+cut_apart number at end joined_in n le distinct s t =
+    let r : is_within at end n ≡ true = known_right at end n t in
+    ⊎_elim (λ h. is_within_apart number at end n h r) (λ h. true≢false (sym h ∙ distinct n (range_right number at end n le r))) (known_cases number at joined_in n s)
 
 -- what is counted from a number on is in range
 counted : (a c n : ℕ) → list_any (λ m. m == n) (count_from a c) ≡ true → (a ≤ n) × (n < a + c)
@@ -100,39 +100,39 @@ unfolding is_among
 among_append xs ys n = list_any-append (λ (m : ℕ). m == n) xs ys
 
 -- the list of a range has its numbers alone
-among_range : (number end n : ℕ) → is_among (count_from number (end - number)) n ≡ true → is_in number end n ≡ true
-unfolding is_among is_in
+among_range : (number end n : ℕ) → is_among (count_from number (end - number)) n ≡ true → is_within number end n ≡ true
+unfolding is_among is_within
 among_range number end n t = let m = counted number (end - number) n t in let a : number ≤ n = m.0 in let b : n < end = omega (arith, m.1) in grind (arith, nat_tests)
 
 -- and all of them
-range_among : (number end n : ℕ) → is_in number end n ≡ true → is_among (count_from number (end - number)) n ≡ true
-unfolding is_among is_in
+range_among : (number end n : ℕ) → is_within number end n ≡ true → is_among (count_from number (end - number)) n ≡ true
+unfolding is_among is_within
 range_among number end n t = let a : number ≤ n = grind (arith, nat_tests) in let b : n < end = grind (arith, nat_tests) in counts number (end - number) n a (omega arith)
 
 -- the numbers of a part are those that it knows
 pub numbers_known : (p : Seat) (n : ℕ) → is_among (numbers p) n ≡ true → knows p n ≡ true
-numbers_known p n t = ⊎_elim (λ h. in_range p.number p.end p.gone n (among_range p.number p.end n h)) (λ h. in_gone p.number p.end p.gone n h)
-    (or_cases (is_among (count_from p.number (p.end - p.number)) n) (is_among p.gone n) (sym (among_append (count_from p.number (p.end - p.number)) p.gone n) ∙ t))
+numbers_known p n t = ⊎_elim (λ h. in_range p.number p.end p.joined_in n (among_range p.number p.end n h)) (λ h. in_gone p.number p.end p.joined_in n h)
+    (or_cases (is_among (count_from p.number (p.end - p.number)) n) (is_among p.joined_in n) (sym (among_append (count_from p.number (p.end - p.number)) p.joined_in n) ∙ t))
 
 -- all that a seat knows is in the list of its numbers
 known_numbers : (p : Seat) (n : ℕ) → knows p n ≡ true → is_among (numbers p) n ≡ true
-known_numbers p n t = among_append (count_from p.number (p.end - p.number)) p.gone n ∙
-    ⊎_elim (λ h. or_left (is_among (count_from p.number (p.end - p.number)) n) (is_among p.gone n) (range_among p.number p.end n h)) (λ h. or_right (is_among (count_from p.number (p.end - p.number)) n) (is_among p.gone n) h) (known_cases p.number p.end p.gone n t)
+known_numbers p n t = among_append (count_from p.number (p.end - p.number)) p.joined_in n ∙
+    ⊎_elim (λ h. or_left (is_among (count_from p.number (p.end - p.number)) n) (is_among p.joined_in n) (range_among p.number p.end n h)) (λ h. or_right (is_among (count_from p.number (p.end - p.number)) n) (is_among p.joined_in n) h) (known_cases p.number p.end p.joined_in n t)
 
 -- what is known after a join was known to one of the two
 pub joined_cases : (v w : View) (n : ℕ) → knows (joined v w).part n ≡ true → (knows v.part n ≡ true) ⊎ (knows w.part n ≡ true)
 joined_cases v w n t = ⊎_elim
-    (λ h. inl (in_range v.part.number v.part.end v.part.gone n h))
-    (λ h. ⊎_elim (λ a. inl (in_gone v.part.number v.part.end v.part.gone n a)) (λ a. inr (numbers_known w.part n a)) (or_cases (is_among v.part.gone n) (is_among (numbers w.part) n) (sym (among_append v.part.gone (numbers w.part) n) ∙ h)))
-    (known_cases v.part.number v.part.end (v.part.gone ++ numbers w.part) n t)
+    (λ h. inl (in_range v.part.number v.part.end v.part.joined_in n h))
+    (λ h. ⊎_elim (λ a. inl (in_gone v.part.number v.part.end v.part.joined_in n a)) (λ a. inr (numbers_known w.part n a)) (or_cases (is_among v.part.joined_in n) (is_among (numbers w.part) n) (sym (among_append v.part.joined_in (numbers w.part) n) ∙ h)))
+    (known_cases v.part.number v.part.end (v.part.joined_in ++ numbers w.part) n t)
 
 -- what the first knew is known
 pub joined_left : (v w : View) (n : ℕ) → knows v.part n ≡ true → knows (joined v w).part n ≡ true
-joined_left v w n t = let all : List ℕ = v.part.gone ++ numbers w.part in ⊎_elim
+joined_left v w n t = let all : List ℕ = v.part.joined_in ++ numbers w.part in ⊎_elim
     (λ h. in_range v.part.number v.part.end all n h)
-    (λ h. in_gone v.part.number v.part.end all n (among_append v.part.gone (numbers w.part) n ∙ or_left (is_among v.part.gone n) (is_among (numbers w.part) n) h))
-    (known_cases v.part.number v.part.end v.part.gone n t)
+    (λ h. in_gone v.part.number v.part.end all n (among_append v.part.joined_in (numbers w.part) n ∙ or_left (is_among v.part.joined_in n) (is_among (numbers w.part) n) h))
+    (known_cases v.part.number v.part.end v.part.joined_in n t)
 
 -- what the second knew is known
 pub joined_right : (v w : View) (n : ℕ) → knows w.part n ≡ true → knows (joined v w).part n ≡ true
-joined_right v w n t = in_gone v.part.number v.part.end (v.part.gone ++ numbers w.part) n (among_append v.part.gone (numbers w.part) n ∙ or_right (is_among v.part.gone n) (is_among (numbers w.part) n) (known_numbers w.part n t))
+joined_right v w n t = in_gone v.part.number v.part.end (v.part.joined_in ++ numbers w.part) n (among_append v.part.joined_in (numbers w.part) n ∙ or_right (is_among v.part.joined_in n) (is_among (numbers w.part) n) (known_numbers w.part n t))

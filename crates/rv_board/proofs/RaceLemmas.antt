@@ -13,7 +13,7 @@ use Rattle.rv_model.specs.SharedWords.{word_of, answer_at}
 use Rattle.rv_model.specs.Histories.{LostThrice, IsSound, changed}
 use Rattle.rv_model.specs.Seats.{entries_of}
 use Rattle.rv_core.specs.Advance.{acted, advanced}
-use Rattle.rv_core.specs.Setup.{place_of, table_at, table_of_act, start_of_act, judges_of}
+use Rattle.rv_core.specs.Setup.{word_index, table_at, table_of_act, start_of_act, judges_of}
 use Rattle.rv_board.specs.declared.view.View.{View}
 use Rattle.rv_board.specs.Deliveries.{IsMade, IsGivenUp}
 use Rattle.rv_board.specs.Known.{knows, blank}
@@ -71,7 +71,7 @@ pub raced : (v w : View) (slot lost word : ℕ) → v.part.number < v.part.end �
 raced v w slot lost word has three l =
     let count = l.count in
     let number : w.part.number ≡ v.part.number = ap (λ (z : View). z.part.number) l.same in
-    let own : knows v.part v.part.number ≡ true = knows_own v.part.number v.part.end v.part.gone has in
+    let own : knows v.part v.part.number ≡ true = knows_own v.part.number v.part.end v.part.joined_in has in
     subst (λ (n : ℕ). LostThrice slot n w.part.seen) (sym number) record {
       until = v.part.seen;
       since = l.rest;
@@ -84,9 +84,9 @@ raced v w slot lost word has three l =
 abbrev Tells : View → Act → ℕ → Setup × ℕ × List Entry → Type 0
 Tells x act found z =
     (x.part.seen ≡ z.2 ++ made_after z.0 z.1 act z.2 ∷ [])
-    × (found ≡ word_at z.0 z.2 (place_of act))
+    × (found ≡ word_at z.0 z.2 (word_index act))
     × IsSound z.0 (judges_of z.0) x.part.seen
-    × ((acted (table_of_act z.0 act) (start_of_act z.0 act) (word_at z.0 z.2 (place_of act)) act).0 ≡ answer_at z.0 (judges_of z.0) (reverse z.2) (made_after z.0 z.1 act z.2) act)
+    × ((acted (table_of_act z.0 act) (start_of_act z.0 act) (word_at z.0 z.2 (word_index act)) act).0 ≡ answer_at z.0 (judges_of z.0) (reverse z.2) (made_after z.0 z.1 act z.2) act)
 
 -- an act that is made at last, seen from the view before all tries
 pub lost_made : (v w x : View) (slot lost word : ℕ) (act : Act) (found : ℕ) → Lost v w slot lost word → Made word_at w x act found → (m : Made word_at v x act found) × (lost ≤ length (filter (changed slot) m.rest))

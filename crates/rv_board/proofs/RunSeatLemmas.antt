@@ -4,10 +4,10 @@ use Rattle.std.specs.Prelude.{All, nat_lt}
 use Rattle.std.proofs.lemmas.Bool.Decides.{nat_tests}
 use Rattle.std.proofs.lemmas.List.Elements.{filter-append}
 use Rattle.rv_model.specs.declared.entry.Entry.{Entry}
-use Rattle.rv_model.specs.Seats.{is_in, is_among, known_of, entries_of}
+use Rattle.rv_model.specs.Seats.{is_within, is_among, known_of, entries_of}
 use Rattle.rv_board.specs.Known.{known_by, part}
-use Rattle.rv_board.specs.RunSeats.{Holds}
-use Rattle.rv_board.specs.Seats.{SeatValue, SeatGrows, Follows, Joins}
+use Rattle.rv_board.specs.RunSeats.{HasTakenIn}
+use Rattle.rv_board.specs.Seats.{SeatValue, SeatGrows, ExtendsSeen, Joins}
 use Rattle.rv_board.proofs.GrowLemmas.{own_within, other_within, same_known}
 use Rattle.rv_board.proofs.Knowing.{known_is, none_of, none_append}
 use Rattle.rv_board.proofs.ListLemmas.{kept-holds}
@@ -15,28 +15,28 @@ use Rattle.rv_board.proofs.ListLemmas.{kept-holds}
 -- ---- split
 
 -- what is known is on one of the two sides of a cut
-cut_known : (number at end : ℕ) (gone : List ℕ) (n : ℕ) → known_by number end gone n ≡ true → (known_by number at gone n ≡ true) ⊎ (known_by at end [] n ≡ true)
-unfolding known_by is_in is_among
-cut_known number at end gone n t = go (is_among gone n) (nat_lt n at) refl refl
+cut_known : (number at end : ℕ) (joined_in : List ℕ) (n : ℕ) → known_by number end joined_in n ≡ true → (known_by number at joined_in n ≡ true) ⊎ (known_by at end [] n ≡ true)
+unfolding known_by is_within is_among
+cut_known number at end joined_in n t = go (is_among joined_in n) (nat_lt n at) refl refl
   where
-    go : (a b : Bool) → is_among gone n ≡ a → nat_lt n at ≡ b → (known_by number at gone n ≡ true) ⊎ (known_by at end [] n ≡ true)
+    go : (a b : Bool) → is_among joined_in n ≡ a → nat_lt n at ≡ b → (known_by number at joined_in n ≡ true) ⊎ (known_by at end [] n ≡ true)
     go true b ga lt = inl (grind (arith, nat_tests))
     go false true ga lt = inl (grind (arith, nat_tests))
     go false false ga lt = inr (grind (arith, nat_tests))
 
 -- of seats
-pub split_known : (old left right : SeatValue) (at n : ℕ) → left.part ≡ part old.part.number at old.part.gone old.part.seen → right.part ≡ part at old.part.end [] old.part.seen
+pub split_known : (old left right : SeatValue) (at n : ℕ) → left.part ≡ part old.part.number at old.part.joined_in old.part.seen → right.part ≡ part at old.part.end [] old.part.seen
     → known_of old.part n ≡ true → (known_of left.part n ≡ true) ⊎ (known_of right.part n ≡ true)
 split_known old left right at n l r t =
-    elim (cut_known old.part.number at old.part.end old.part.gone n ((λ i. sym (known_is old.part) i n) ∙ t)) [
-      | inl a ↦ inl ((λ i. known_of (l i) n) ∙ (λ i. known_is (part old.part.number at old.part.gone old.part.seen) i n) ∙ a)
+    elim (cut_known old.part.number at old.part.end old.part.joined_in n ((λ i. sym (known_is old.part) i n) ∙ t)) [
+      | inl a ↦ inl ((λ i. known_of (l i) n) ∙ (λ i. known_is (part old.part.number at old.part.joined_in old.part.seen) i n) ∙ a)
       | inr b ↦ inr ((λ i. known_of (r i) n) ∙ (λ i. known_is (part at old.part.end [] old.part.seen) i n) ∙ b)
     ]
 
 -- ---- joined
 
 -- a later list follows what the one before follows
-pub follows-then : (into seat : SeatValue) (h : List Entry) → Holds into seat → Follows h into.part → Follows h seat.part
+pub follows-then : (into seat : SeatValue) (h : List Entry) → HasTakenIn into seat → ExtendsSeen h into.part → ExtendsSeen h seat.part
 follows-then into seat h holds later =
     let first = holds.follows in
     record {
@@ -46,22 +46,22 @@ follows-then into seat h holds later =
     }
 
 -- a seat holds itself
-pub holds-itself : (seat : SeatValue) → Holds seat seat
+pub holds-itself : (seat : SeatValue) → HasTakenIn seat seat
 holds-itself seat = record { follows = record { rest = []; list = sym (append-nil seat.part.seen); none = refl }; within = λ n t. t }
 
 module _ (old from new : SeatValue) (joins : Joins old from new) where
   -- what the seat held
-  pub holds-still : (seat : SeatValue) → Holds old seat → Holds new seat
+  pub holds-still : (seat : SeatValue) → HasTakenIn old seat → HasTakenIn new seat
   holds-still seat holds = record { follows = follows-then old seat new.part.seen holds joins.own; within = λ n t. own_within old from new joins n (holds.within n t) }
 
   -- what is joined in
-  pub holds-joined : Holds new from
+  pub holds-joined : HasTakenIn new from
   holds-joined = record { follows = joins.other; within = other_within old from new joins }
 
 -- ---- in a later history
 
 -- of the numbers that a seat knew, which had seen nothing, only its own has entries
-pub later-own : (old new : SeatValue) (h : List Entry) → old.part.seen ≡ [] → Follows h new.part → (own : List Entry) → SeatGrows old new own → (before : List Entry) (e : Entry) (after : List Entry) → h ≡ before ++ e ∷ after → known_of old.part e.seat ≡ true → e.seat ≡ old.part.number
+pub later-own : (old new : SeatValue) (h : List Entry) → old.part.seen ≡ [] → ExtendsSeen h new.part → (own : List Entry) → SeatGrows old new own → (before : List Entry) (e : Entry) (after : List Entry) → h ≡ before ++ e ∷ after → known_of old.part e.seat ≡ true → e.seat ≡ old.part.number
 later-own old new h fresh later own g before e after cut knows =
     let p = g.grows in
     let known : ℕ → Bool = known_of old.part in

@@ -12,9 +12,9 @@ use Rattle.rv_model.specs.Setups.{Setup, judge_of, start_of}
 use Rattle.rv_model.specs.Phases.{level, phase_of}
 use Rattle.rv_model.specs.Judging.{Judge}
 use Rattle.rv_model.specs.SharedWords.{word_of, word_on}
-use Rattle.rv_model.specs.Histories.{FitsWords, IsEarnedBy, IsHeldBy, IsSound, is_on, changed}
+use Rattle.rv_model.specs.Histories.{FitsWords, IsJustifiedBy, IsPermittedTo, IsSound, is_on, changed}
 use Rattle.rv_model.proofs.CutLemmas.{at_each-nil, at_each-snoc, at_each-front}
-use Rattle.rv_core.specs.Setup.{place_of}
+use Rattle.rv_core.specs.Setup.{word_index}
 use Rattle.rv_core.proofs.WordLemmas.{packed-other}
 
 module _ (s : Setup) (js : List Judge) where
@@ -22,28 +22,28 @@ module _ (s : Setup) (js : List Judge) where
   pub sound-empty : IsSound s js []
   sound-empty = record {
     replays = at_each-nil (FitsWords s js);
-    earned = at_each-nil (λ before e. IsEarnedBy e.act e.seat before);
-    held = at_each-nil (λ before e. (e.seat < 67) × IsHeldBy e.act e.seat);
+    justified = at_each-nil (λ before e. IsJustifiedBy e.act e.seat before);
+    permitted = at_each-nil (λ before e. (e.seat < 67) × IsPermittedTo e.act e.seat);
   }
 
   -- the history so far was sound at each earlier time
   pub sound-front : (history more : List Entry) → IsSound s js (history ++ more) → IsSound s js history
   sound-front history more sound = record {
     replays = at_each-front (FitsWords s js) history more sound.replays;
-    earned = at_each-front (λ before e. IsEarnedBy e.act e.seat before) history more sound.earned;
-    held = at_each-front (λ before e. (e.seat < 67) × IsHeldBy e.act e.seat) history more sound.held;
+    justified = at_each-front (λ before e. IsJustifiedBy e.act e.seat before) history more sound.justified;
+    permitted = at_each-front (λ before e. (e.seat < 67) × IsPermittedTo e.act e.seat) history more sound.permitted;
   }
 
   -- an entry that tells what its act did may come next
-  pub sound-snoc : (history : List Entry) (e : Entry) → IsSound s js history → FitsWords s js history e → IsEarnedBy e.act e.seat history → e.seat < 67 → IsHeldBy e.act e.seat → IsSound s js (history ++ e ∷ [])
-  sound-snoc history e sound fits earned low held = record {
+  pub sound-snoc : (history : List Entry) (e : Entry) → IsSound s js history → FitsWords s js history e → IsJustifiedBy e.act e.seat history → e.seat < 67 → IsPermittedTo e.act e.seat → IsSound s js (history ++ e ∷ [])
+  sound-snoc history e sound fits justified low held = record {
     replays = at_each-snoc (FitsWords s js) history e sound.replays fits;
-    earned = at_each-snoc (λ before x. IsEarnedBy x.act x.seat before) history e sound.earned earned;
-    held = at_each-snoc (λ before x. (x.seat < 67) × IsHeldBy x.act x.seat) history e sound.held (low, held);
+    justified = at_each-snoc (λ before x. IsJustifiedBy x.act x.seat before) history e sound.justified justified;
+    permitted = at_each-snoc (λ before x. (x.seat < 67) × IsPermittedTo x.act x.seat) history e sound.permitted (low, held);
   }
 
   -- an act that is not on the slot has another word
-  elsewhere : (slot : ℕ) (act : Act) → is_on slot act ≡ false → place_of act ≢ slot + 1
+  elsewhere : (slot : ℕ) (act : Act) → is_on slot act ≡ false → word_index act ≢ slot + 1
   elsewhere slot (Deliver other hit) out = λ e. let same : other ≡ slot = omega arith in let equal : (other == slot) ≡ true = grind (arith, nat_tests) in cc
   elsewhere slot (Stop other) out = λ e. let same : other ≡ slot = omega arith in let equal : (other == slot) ≡ true = grind (arith, nat_tests) in cc
   elsewhere slot (Clear other) out = λ e. let same : other ≡ slot = omega arith in let equal : (other == slot) ≡ true = grind (arith, nat_tests) in cc

@@ -7,7 +7,7 @@ use Rattle.atomic_table.specs.Table.{opening, Splits}
 use Rattle.atomic_table.proofs.Lists.{at_snoc}
 use Rattle.rv_model.specs.declared.entry.Entry.{Entry}
 use Rattle.rv_model.specs.Setups.{Setup}
-use Rattle.rv_model.specs.Seats.{Seat, is_in}
+use Rattle.rv_model.specs.Seats.{Seat, is_within}
 use Rattle.rv_core.specs.Setup.{IsSetup, judges_of}
 use Rattle.rv_board.specs.declared.view.View.{View}
 use Rattle.rv_board.specs.Known.{knows, Begun, part}
@@ -74,7 +74,7 @@ splits_with code also steady k id v at low high s r e = record {
   sound = r.sound;
   further = steady r.history s.views (views ++ cut_right at v ∷ []) r.further;
   fits = each_snoc (λ j u. Fits r.history u) views (cut_right at v) (each_set (λ j u. Fits r.history u) s.views id (cut_left at v) left (λ j u _ x. r.fits j u x)) (λ _. right);
-  apart = apart_snoc views (cut_right at v) (apart_set s.views id (cut_left at v) r.apart (λ j u ne x n s' t. r.apart id j v u e x (λ h. ne (sym h)) n (cut_left_within v.part.number at v.part.end v.part.gone n high s') t)) old_new;
+  apart = apart_snoc views (cut_right at v) (apart_set s.views id (cut_left at v) r.apart (λ j u ne x n s' t. r.apart id j v u e x (λ h. ne (sym h)) n (cut_left_within v.part.number at v.part.end v.part.joined_in n high s') t)) old_new;
 }
   where
     views : List View
@@ -85,30 +85,30 @@ splits_with code also steady k id v at low high s r e = record {
 
     left : Fits r.history (cut_left at v)
     left = record {
-      begun = begun_fewer r.history v.part (part v.part.number at v.part.gone v.part.seen) f.begun (λ n t. cut_left_within v.part.number at v.part.end v.part.gone n high t) refl;
+      begun = begun_fewer r.history v.part (part v.part.number at v.part.joined_in v.part.seen) f.begun (λ n t. cut_left_within v.part.number at v.part.end v.part.joined_in n high t) refl;
       left = begun_blank r.history;
       right = begun_blank r.history;
-      left_within = blank_within (part v.part.number at v.part.gone v.part.seen);
-      right_within = blank_within (part v.part.number at v.part.gone v.part.seen);
+      left_within = blank_within (part v.part.number at v.part.joined_in v.part.seen);
+      right_within = blank_within (part v.part.number at v.part.joined_in v.part.seen);
       distinct = λ n t. f.distinct n (range_left v.part.number at v.part.end n high t);
-      unused = none_of (is_in (suc v.part.number) v.part.end) (is_in (suc v.part.number) at) r.history (λ n t. range_left (suc v.part.number) at v.part.end n high t) f.unused;
+      unused = none_of (is_within (suc v.part.number) v.part.end) (is_within (suc v.part.number) at) r.history (λ n t. range_left (suc v.part.number) at v.part.end n high t) f.unused;
     }
 
     right : Fits r.history (cut_right at v)
     right = record {
-      begun = begun_fewer r.history v.part (part at v.part.end [] v.part.seen) f.begun (λ n t. cut_right_within v.part.number at v.part.end v.part.gone n low t) refl;
+      begun = begun_fewer r.history v.part (part at v.part.end [] v.part.seen) f.begun (λ n t. cut_right_within v.part.number at v.part.end v.part.joined_in n low t) refl;
       left = begun_blank r.history;
       right = begun_blank r.history;
       left_within = blank_within (part at v.part.end [] v.part.seen);
       right_within = blank_within (part at v.part.end [] v.part.seen);
       distinct = λ n _. none_among n;
-      unused = none_of (is_in (suc v.part.number) v.part.end) (is_in (suc at) v.part.end) r.history (λ n t. range_right (suc v.part.number) (suc at) v.part.end n (omega arith) t) f.unused;
+      unused = none_of (is_within (suc v.part.number) v.part.end) (is_within (suc at) v.part.end) r.history (λ n t. range_right (suc v.part.number) (suc at) v.part.end n (omega arith) t) f.unused;
     }
 
     old_new : (i : ℕ) (x : View) → get_elem? views i ≡ some x → (n : ℕ) → knows x.part n ≡ true → knows (part at v.part.end [] v.part.seen) n ≡ true → ⊥
     old_new i x ex n = each_set (λ j u. knows u.part n ≡ true → knows (part at v.part.end [] v.part.seen) n ≡ true → ⊥) s.views id (cut_left at v)
-        (λ s' t. cut_apart v.part.number at v.part.end v.part.gone n low f.distinct s' t)
-        (λ j u other eu s' t. r.apart j id u v eu e other n s' (cut_right_within v.part.number at v.part.end v.part.gone n low t)) i x ex
+        (λ s' t. cut_apart v.part.number at v.part.end v.part.joined_in n low f.distinct s' t)
+        (λ j u other eu s' t. r.apart j id u v eu e other n s' (cut_right_within v.part.number at v.part.end v.part.joined_in n low t)) i x ex
 
 -- a view of a board is cut
 pub splits : (k : Setup) (id : ℕ) (v : View) (at : ℕ) → v.part.number ≤ at → at ≤ v.part.end → Splits (KeptPlainly k) id v (cut_left at v) (cut_right at v)

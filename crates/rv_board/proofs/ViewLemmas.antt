@@ -8,7 +8,7 @@ use Rattle.atomic_table.specs.Table.{State}
 use Rattle.atomic_table.proofs.Lists.{at_set}
 use Rattle.rv_model.specs.declared.entry.Act.{Act}
 use Rattle.rv_model.specs.declared.entry.Entry.{Entry}
-use Rattle.rv_model.specs.Seats.{Seat, is_in, entries_of}
+use Rattle.rv_model.specs.Seats.{Seat, is_within, entries_of}
 use Rattle.rv_board.specs.declared.view.View.{View}
 use Rattle.rv_board.specs.Known.{known_by, knows, Begun, blank, with_list}
 use Rattle.rv_board.proofs.Knowing.{none_append, knows_blank}
@@ -75,11 +75,11 @@ pub blank_within : (p : Seat) (n : ℕ) → knows blank n ≡ true → knows p n
 blank_within p n t = absurd (knows_blank n t)
 
 -- the numbers that may be handed on are known
-pub range_within : (number end : ℕ) (gone : List ℕ) (m : ℕ) → is_in (suc number) end m ≡ true → known_by number end gone m ≡ true
-unfolding is_in known_by
-range_within number end gone m t = grind (arith, nat_tests)
+pub range_within : (number end : ℕ) (joined_in : List ℕ) (m : ℕ) → is_within (suc number) end m ≡ true → known_by number end joined_in m ≡ true
+unfolding is_within known_by
+range_within number end joined_in m t = grind (arith, nat_tests)
 
 -- the own number is none of them
-pub range_not_own : (number end : ℕ) → is_in (suc number) end number ≡ false
-unfolding is_in
+pub range_not_own : (number end : ℕ) → is_within (suc number) end number ≡ false
+unfolding is_within
 range_not_own number end = grind (arith, nat_tests)

@@ -9,7 +9,7 @@ use Rattle.rv_model.specs.SharedWords.{answer_at}
 use Rattle.rv_model.specs.Histories.{FitsWords, Replays}
 use Rattle.rv_model.proofs.FoundLemmas.{length-list_of, get_or-list_of}
 use Rattle.rv_core.specs.Advance.{acted}
-use Rattle.rv_core.specs.Setup.{FitsAct, ActFits, place_of, table_of_act, start_of_act, judges_of}
+use Rattle.rv_core.specs.Setup.{FitsAct, ActFits, word_index, table_of_act, start_of_act, judges_of}
 use Rattle.rv_core.specs.Core.{IsCore}
 use Rattle.rv_core.proofs.CoreLemmas.{core-after, core-answer, fits-words}
 use Rattle.rv_core.specs.Setup.{IsSetup}
@@ -46,7 +46,7 @@ core-word s words history c zero low = c.switches_are
 core-word s words history c (suc i) low = let one : suc i ≡ i + 1 = sym (add-one i) in ap (λ (n : ℕ). get_or words n 0) one ∙ c.words_are i (omega arith)
 
 -- an act's word is one of the words
-pub place-within : (s : Setup) (act : Act) → FitsAct s act → place_of act < width s
+pub place-within : (s : Setup) (act : Act) → FitsAct s act → word_index act < width s
 place-within s (Deliver slot hit) f = let l = f.0 in omega arith
 place-within s (Stop slot) f = omega arith
 place-within s (Clear slot) f = omega arith
@@ -59,9 +59,9 @@ place-within s (Lower _) f = omega arith
 pub record Acted (s : Setup) (history : List Entry) (seat : ℕ) (act : Act) : Type 0 where
   pub machine : IsMachine s (history ++ made_after s seat act history ∷ [])
   pub fits : FitsWords s (judges_of s) history (made_after s seat act history)
-  pub here : word_at s (history ++ made_after s seat act history ∷ []) (place_of act) ≡ (made_after s seat act history).after
-  pub others : (i : ℕ) → i < width s → i ≢ place_of act → word_at s (history ++ made_after s seat act history ∷ []) i ≡ word_at s history i
-  pub answer : (acted (table_of_act s act) (start_of_act s act) (word_at s history (place_of act)) act).0 ≡ answer_at s (judges_of s) (reverse history) (made_after s seat act history) act
+  pub here : word_at s (history ++ made_after s seat act history ∷ []) (word_index act) ≡ (made_after s seat act history).after
+  pub others : (i : ℕ) → i < width s → i ≢ word_index act → word_at s (history ++ made_after s seat act history ∷ []) i ≡ word_at s history i
+  pub answer : (acted (table_of_act s act) (start_of_act s act) (word_at s history (word_index act)) act).0 ≡ answer_at s (judges_of s) (reverse history) (made_after s seat act history) act
 
 -- the act of a seat does just that
 pub acts : (s : Setup) (history : List Entry) (seat : ℕ) (act : Act) → IsMachine s history → Replays s (judges_of s) history → FitsAct s act → ActFits s act → (made_after s seat act history).after < 2 ^ 64 → Acted s history seat act
@@ -74,7 +74,7 @@ acts s history seat act m replays fits bits fit = record {
 }
   where
     place : ℕ
-    place = place_of act
+    place = word_index act
 
     x : Entry
     x = made_after s seat act history

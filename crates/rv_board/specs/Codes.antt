@@ -9,4 +9,4 @@ use Rattle.rv_model.specs.Seats.{Seat}
 abbrev pub coded_part : Coded Entry → Coded Seat
 coded_part entry =
     code_by (ℕ × (ℕ × (List ℕ × List Entry))) (coded× coded_ℕ (coded× coded_ℕ (coded× (coded_list coded_ℕ) (coded_list entry))))
-    (λ s. (s.number, (s.end, (s.gone, s.seen)))) (λ p. record { number = p.0; end = p.1.0; gone = p.1.1.0; seen = p.1.1.1 }) (λ _. refl)
+    (λ s. (s.number, (s.end, (s.joined_in, s.seen)))) (λ p. record { number = p.0; end = p.1.0; joined_in = p.1.1.0; seen = p.1.1.1 }) (λ _. refl)

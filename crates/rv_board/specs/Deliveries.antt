@@ -30,6 +30,6 @@ pub record IsGivenUp (old new : SeatValue) (slot : ℕ) : Type 0 where
   pub three : 3 ≤ length (filter (changed slot) added)
 
 -- the delivery was made, or the slot was stopped
-abbrev pub Delivers : SeatValue → SeatValue → ℕ → Hit → Delivered → Type 0
-Delivers old new slot hit (Done answer) = IsMade old new slot hit answer
-Delivers old new slot hit Racing = IsGivenUp old new slot
+abbrev pub DeliversOrStops : SeatValue → SeatValue → ℕ → Hit → Delivered → Type 0
+DeliversOrStops old new slot hit (Done answer) = IsMade old new slot hit answer
+DeliversOrStops old new slot hit Racing = IsGivenUp old new slot

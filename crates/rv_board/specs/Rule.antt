@@ -9,7 +9,7 @@ use Rattle.rv_model.specs.Setups.{Setup}
 use Rattle.rv_model.specs.SharedWords.{switches_of, word_of}
 use Rattle.rv_model.specs.Histories.{IsSound}
 use Rattle.rv_model.specs.Stepping.{table_judge}
-use Rattle.rv_model.specs.Seats.{Seat, is_in, is_among, entries_of}
+use Rattle.rv_model.specs.Seats.{Seat, is_within, is_among, entries_of}
 use Rattle.rv_core.specs.Setup.{IsSetup, judges_of, table_at}
 use Rattle.rv_core.specs.Core.{IsLive, slot_phase}
 use Rattle.rv_board.specs.declared.view.View.{View}
@@ -44,9 +44,9 @@ pub record Fits (history : List Entry) (v : View) : Type 0 where
   pub left_within : (n : ℕ) → knows v.left n ≡ true → knows v.part n ≡ true
   pub right_within : (n : ℕ) → knows v.right n ≡ true → knows v.part n ≡ true
   -- no number that may still be handed out was joined in
-  pub distinct : (n : ℕ) → is_in v.part.number v.part.end n ≡ true → is_among v.part.gone n ≡ false
+  pub distinct : (n : ℕ) → is_within v.part.number v.part.end n ≡ true → is_among v.part.joined_in n ≡ false
   -- nor has it an entry
-  pub unused : entries_of (is_in (suc v.part.number) v.part.end) history ≡ []
+  pub unused : entries_of (is_within (suc v.part.number) v.part.end) history ≡ []
 
 -- There is one sound history, which gives the words, and each seat has seen a beginning of it. No two seats know one number.
 -- `code` is which word stands for a history, and `also` what else is to hold.
@@ -92,7 +92,7 @@ with_seen v history = view (with_list v.part history) blank blank v.setup
 
 -- how a view is cut at a number
 abbrev pub cut_left : ℕ → View → View
-cut_left at v = view (part v.part.number at v.part.gone v.part.seen) blank blank v.setup
+cut_left at v = view (part v.part.number at v.part.joined_in v.part.seen) blank blank v.setup
 
 -- what the new seat knows
 abbrev pub cut_right : ℕ → View → View
@@ -104,4 +104,4 @@ longer xs ys = if nat_lt (length xs) (length ys) then ys else xs
 
 -- a view that takes in another, of which both are kept until the next load
 abbrev pub joined : View → View → View
-joined v w = view (part v.part.number v.part.end (v.part.gone ++ numbers w.part) (longer v.part.seen w.part.seen)) v.part w.part v.setup
+joined v w = view (part v.part.number v.part.end (v.part.joined_in ++ numbers w.part) (longer v.part.seen w.part.seen)) v.part w.part v.setup

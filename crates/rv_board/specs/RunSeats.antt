@@ -1,7 +1,7 @@
 -- The seats of a run: the first one, which splits off the others, and what is joined into a seat.
 use Rattle.std.specs.Prelude.{◌≡◌, ℕ, ◌<◌, true, []}
 use Rattle.rv_model.specs.Seats.{known_of}
-use Rattle.rv_board.specs.Seats.{BoardId, SeatValue, Follows}
+use Rattle.rv_board.specs.Seats.{BoardId, SeatValue, ExtendsSeen}
 
 -- the seat has seen nothing
 pub record IsFresh (s : SeatValue) : Type 0 where
@@ -9,8 +9,8 @@ pub record IsFresh (s : SeatValue) : Type 0 where
   pub seen : s.part.seen ≡ []
 
 -- the list begins with what the other seat had seen and goes on without its numbers, and all of them are known
-pub record Holds (into seat : SeatValue) : Type 0 where
-  pub follows : Follows into.part.seen seat.part
+pub record HasTakenIn (into seat : SeatValue) : Type 0 where
+  pub follows : ExtendsSeen into.part.seen seat.part
   pub within : (n : ℕ) → known_of seat.part n ≡ true → known_of into.part n ≡ true
 
 -- the first seat of this board, which has handed on numbers above 1 and has seen nothing

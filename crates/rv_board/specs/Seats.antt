@@ -73,23 +73,23 @@ pub record Looks (old new : SeatValue) (word : ℕ) : Type 0 where
   pub found : entry.after ≡ word
 
 -- the list begins with what the seat had seen, and goes on without its numbers
-pub record Follows (h : List Entry) (seat : Seat) : Type 0 where
+pub record ExtendsSeen (h : List Entry) (seat : Seat) : Type 0 where
   pub rest : List Entry
   pub list : h ≡ seat.seen ++ rest
   pub none : entries_of (known_of seat) rest ≡ []
 
 -- the list begins with both lists, goes on without the numbers of either, and is sound; the numbers of the other were joined in
 pub record Joins (old from new : SeatValue) : Type 0 where
-  pub own : Follows new.part.seen old.part
-  pub other : Follows new.part.seen from.part
+  pub own : ExtendsSeen new.part.seen old.part
+  pub other : ExtendsSeen new.part.seen from.part
   pub sound : IsSound old.board.setup (judges_of old.board.setup) new.part.seen
-  pub gone : new.part.gone ≡ old.part.gone ++ numbers from.part
+  pub joined_in : new.part.joined_in ≡ old.part.joined_in ++ numbers from.part
   pub number : new.part.number ≡ old.part.number
   pub end : new.part.end ≡ old.part.end
   pub board : new.board ≡ old.board
 
 -- the whole history, which is sound, and of which the seat had seen the beginning
 pub record Closes (seat : SeatValue) (h : List Entry) : Type 0 where
-  pub list : Follows h seat.part
+  pub list : ExtendsSeen h seat.part
   pub sound : IsSound seat.board.setup (judges_of seat.board.setup) h
   pub whole : ((n : ℕ) → n < 67 → known_of seat.part n ≡ true) → h ≡ seat.part.seen

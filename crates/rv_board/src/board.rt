@@ -7,7 +7,7 @@ ghost use Rattle.rv_board.specs.Known.{part};
 ghost use Rattle.rv_board.specs.Rule.{IsOpening};
 ghost use Rattle.rv_board.specs.Seats.{seat_value, SeatGrows, Looks, Does};
 
-use crate::rule::{Clearing, Ending, Law, Looking, Lowering, Raising, Seeing};
+use crate::rule::{ClearStep, EndStep, Law, LoadStep, LookStep, LowerStep, RaiseStep};
 use crate::seat::{SEATS, Seat};
 use crate::view::View;
 use atomic_table::Table;
@@ -52,7 +52,7 @@ pub struct BoardStart {
 fn opening_words(alloc: Global, setup: &Setup) -> Result<Vec<u64>, AllocError>
     ensures { IfOk result (λ words. IsOpening setup.now words.items) }
 {
-    setup.known();
+    setup.assert_invariant();
     let slots = setup.shape.slots();
     let mut words = Vec::new(alloc);
     words.push(setup.switches)?;
@@ -92,7 +92,7 @@ impl Board {
         requires { seat.old.board ≡ self.now }
         ensures { Looks seat.old seat.new result }
     {
-        self.table.shared.load::<Looking>(&mut seat.token, 0)
+        self.table.shared.load::<LookStep>(&mut seat.token, 0)
     }
 
     /// The halted switch goes on.
@@ -102,7 +102,7 @@ impl Board {
     {
         self.table
             .shared
-            .fetch_or::<Raising>(&mut seat.token, 0, HALTED);
+            .fetch_or::<RaiseStep>(&mut seat.token, 0, HALTED);
     }
 
     /// These switches go on. Only the control actor calls it, and it does not halt.
@@ -114,7 +114,7 @@ impl Board {
     {
         self.table
             .shared
-            .fetch_or::<Raising>(&mut seat.token, 0, bits);
+            .fetch_or::<RaiseStep>(&mut seat.token, 0, bits);
     }
 
     /// These switches go off. Only the control actor calls it, and a run that is halted stays so.
@@ -126,7 +126,7 @@ impl Board {
     {
         self.table
             .shared
-            .fetch_and::<Lowering>(&mut seat.token, 0, !bits);
+            .fetch_and::<LowerStep>(&mut seat.token, 0, !bits);
     }
 
     /// The slot waits again, with its starting levels. Only the control actor calls it.
@@ -139,7 +139,7 @@ impl Board {
         let opening = self.setup.opening(slot);
         self.table
             .shared
-            .swap::<Clearing>(&mut seat.token, slot as usize + 1, opening);
+            .swap::<ClearStep>(&mut seat.token, slot as usize + 1, opening);
     }
 
     /// The slot's instance ends: it waits again, with its starting levels, also where it was stopped.
@@ -151,7 +151,7 @@ impl Board {
         let opening = self.setup.opening(slot);
         self.table
             .shared
-            .swap::<Ending>(&mut seat.token, slot as usize + 1, opening);
+            .swap::<EndStep>(&mut seat.token, slot as usize + 1, opening);
     }
 
     /// The word of a slot, as the history that the seat has then seen gives it.
@@ -163,6 +163,6 @@ impl Board {
     {
         self.table
             .shared
-            .load::<Seeing>(&mut seat.token, slot as usize + 1)
+            .load::<LoadStep>(&mut seat.token, slot as usize + 1)
     }
 }

@@ -2,10 +2,10 @@
 ghost use Rattle.std.specs.Prelude.{◌≡◌, ◌<◌, sum};
 ghost use Rattle.rv_core.specs.Advance.{FitsTable};
 ghost use Rattle.rv_core.specs.Setup.{table_at};
-ghost use Rattle.rv_board.specs.Deliveries.{Delivers};
+ghost use Rattle.rv_board.specs.Deliveries.{DeliversOrStops};
 
 use crate::board::Board;
-use crate::rule::{Seeing, Stopping, Trying};
+use crate::rule::{ExchangeStep, LoadStep, StopStep};
 use crate::seat::Seat;
 use rv_core::advance;
 use rv_io::Gate;
@@ -30,17 +30,17 @@ impl Board {
         requires board { seat.old.board ≡ self.now }
         requires slot { slot < sum self.now.setup.shape }
         requires hit { FitsTable (table_at self.now.setup slot) hit.now }
-        ensures { Delivers seat.old seat.new slot hit.now result }
+        ensures { DeliversOrStops seat.old seat.new slot hit.now result }
     {
         let act = Act::Deliver { slot, hit: *hit };
         let place = slot as usize + 1;
         let shared = &self.table.shared;
         let table = self.setup.table(slot);
-        let mut word = shared.load::<Seeing>(&mut seat.token, place);
+        let mut word = shared.load::<LoadStep>(&mut seat.token, place);
         for lost in 0..TRIES {
             let next = advance(table, word, hit);
             gate.between(cpu, lost);
-            let found = shared.compare_exchange_with::<Trying>(
+            let found = shared.compare_exchange_with::<ExchangeStep>(
                 &mut seat.token,
                 place,
                 word,
@@ -52,7 +52,7 @@ impl Board {
             }
             word = found;
         }
-        shared.swap::<Stopping>(&mut seat.token, place, STOPPED);
+        shared.swap::<StopStep>(&mut seat.token, place, STOPPED);
         Delivered::Racing
     }
 }

@@ -18,75 +18,75 @@ impl TableRule<Act, View, Setup> for Law {
 }
 
 /// A load that makes no entry.
-pub(crate) struct Seeing;
+pub(crate) struct LoadStep;
 
-impl Play<Act, View> for Seeing {
-    ghost use Rattle.rv_board.specs.Steps.{Sees};
+impl Play<Act, View> for LoadStep {
+    ghost use Rattle.rv_board.specs.Steps.{IsLoadStep};
 
-    ghost then = { Sees };
+    ghost then = { IsLoadStep };
 }
 
 /// A compare-exchange, which makes the act that it is told where it wins.
-pub(crate) struct Trying;
+pub(crate) struct ExchangeStep;
 
-impl Play<Act, View> for Trying {
-    ghost use Rattle.rv_board.specs.Steps.{Tries};
+impl Play<Act, View> for ExchangeStep {
+    ghost use Rattle.rv_board.specs.Steps.{IsExchangeStep};
 
-    ghost then = { Tries };
+    ghost then = { IsExchangeStep };
 }
 
 /// A swap of 0 into a slot's word.
-pub(crate) struct Stopping;
+pub(crate) struct StopStep;
 
-impl Play<Act, View> for Stopping {
-    ghost use Rattle.rv_board.specs.Steps.{Stops};
+impl Play<Act, View> for StopStep {
+    ghost use Rattle.rv_board.specs.Steps.{IsStopStep};
 
-    ghost then = { Stops };
+    ghost then = { IsStopStep };
 }
 
 /// A load of the switches.
-pub(crate) struct Looking;
+pub(crate) struct LookStep;
 
-impl Play<Act, View> for Looking {
-    ghost use Rattle.rv_board.specs.Steps.{Looks};
+impl Play<Act, View> for LookStep {
+    ghost use Rattle.rv_board.specs.Steps.{IsLookStep};
 
-    ghost then = { Looks };
+    ghost then = { IsLookStep };
 }
 
 /// Switches that go on.
-pub(crate) struct Raising;
+pub(crate) struct RaiseStep;
 
-impl Play<Act, View> for Raising {
-    ghost use Rattle.rv_board.specs.Steps.{Raises};
+impl Play<Act, View> for RaiseStep {
+    ghost use Rattle.rv_board.specs.Steps.{IsRaiseStep};
 
-    ghost then = { Raises };
+    ghost then = { IsRaiseStep };
 }
 
 /// Switches that go off.
-pub(crate) struct Lowering;
+pub(crate) struct LowerStep;
 
-impl Play<Act, View> for Lowering {
-    ghost use Rattle.rv_board.specs.Steps.{Lowers};
+impl Play<Act, View> for LowerStep {
+    ghost use Rattle.rv_board.specs.Steps.{IsLowerStep};
 
-    ghost then = { Lowers };
+    ghost then = { IsLowerStep };
 }
 
 /// A swap of the opening word into a slot's word.
-pub(crate) struct Clearing;
+pub(crate) struct ClearStep;
 
-impl Play<Act, View> for Clearing {
-    ghost use Rattle.rv_board.specs.Steps.{Clears};
+impl Play<Act, View> for ClearStep {
+    ghost use Rattle.rv_board.specs.Steps.{IsClearStep};
 
-    ghost then = { Clears };
+    ghost then = { IsClearStep };
 }
 
 /// A swap of the opening word into the word of a slot whose instance ends.
-pub(crate) struct Ending;
+pub(crate) struct EndStep;
 
-impl Play<Act, View> for Ending {
-    ghost use Rattle.rv_board.specs.Steps.{Ends};
+impl Play<Act, View> for EndStep {
+    ghost use Rattle.rv_board.specs.Steps.{IsEndStep};
 
-    ghost then = { Ends };
+    ghost then = { IsEndStep };
 }
 
 /// The number at which a view is cut. Each call picks it.

@@ -5,7 +5,7 @@ ghost use Rattle.rv_board.specs.Rule.{cut_left, cut_right};
 ghost use Rattle.rv_board.specs.Seats.{seat_value, Joins, Closes};
 
 use crate::board::Board;
-use crate::rule::{Cut, Cutting, Joining, Law, Seeing};
+use crate::rule::{Cut, Cutting, Joining, Law, LoadStep};
 use crate::seat::Seat;
 use crate::view::View;
 use atomic_table::{Seat as Token, Shared};
@@ -33,7 +33,7 @@ impl Board {
     pub fn split(&self, seat: &mut Seat, number: u32) -> Seat
         requires board { seat.old.board ≡ self.now }
         requires range { (seat.old.part.number < number) × (number < seat.old.part.end) }
-        ensures old { seat.new ≡ seat_value (part seat.old.part.number number seat.old.part.gone seat.old.part.seen) seat.old.board }
+        ensures old { seat.new ≡ seat_value (part seat.old.part.number number seat.old.part.joined_in seat.old.part.seen) seat.old.board }
         ensures new { result ≡ seat_value (part number seat.old.part.end [] seat.old.part.seen) seat.old.board }
     {
         let end = seat.end;
@@ -55,7 +55,7 @@ impl Board {
         } = from;
         let shared = &self.table.shared;
         shared.join_seat::<Joining>(&mut into.token, token);
-        shared.load::<Seeing>(&mut into.token, 0);
+        shared.load::<LoadStep>(&mut into.token, 0);
     }
 
     /// The history, of which the seat had seen the beginning. It is whole where the seat knows all numbers.
@@ -63,7 +63,7 @@ impl Board {
         requires { seat.board ≡ self }
         ensures { Closes seat result }
     {
-        self.table.shared.load::<Seeing>(&mut seat.token, 0);
+        self.table.shared.load::<LoadStep>(&mut seat.token, 0);
         Closed::of(&seat)
     }
 }

@@ -9,7 +9,7 @@ use std::marker::Model;
 pub struct Part {
     number: u32,
     end: u32,
-    gone: LinkedList<u32>,
+    joined_in: LinkedList<u32>,
     seen: LinkedList<Entry>,
 }
 
@@ -22,7 +22,7 @@ impl Model for Part {
 
     ghost coded = { coded_part entry.the_row.coded };
 
-    ghost view = { λ p. record { number = p.number; end = p.end; gone = p.gone; seen = p.seen } };
+    ghost view = { λ p. record { number = p.number; end = p.end; joined_in = p.joined_in; seen = p.seen } };
 }
 
 /// What one seat knows. Between the two loads of a join, `left` and `right` are what the two seats knew.

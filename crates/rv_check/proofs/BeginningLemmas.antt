@@ -6,7 +6,7 @@ use Rattle.rv_model.specs.declared.entry.Answer.{Answer}
 use Rattle.rv_model.specs.declared.entry.Entry.{Entry}
 use Rattle.rv_model.specs.declared.formula.Spec.{Spec}
 use Rattle.rv_model.specs.Cuts.{AtEach}
-use Rattle.rv_model.specs.Histories.{FitsWords, IsEarnedBy, IsHeldBy, acts_of, IsLegal}
+use Rattle.rv_model.specs.Histories.{FitsWords, IsJustifiedBy, IsPermittedTo, acts_of, IsLegal}
 use Rattle.rv_model.specs.Judging.{Judge}
 use Rattle.rv_model.specs.Scripts.{Played, played, Plays}
 use Rattle.rv_model.specs.Setups.{Setup}
@@ -50,8 +50,8 @@ module _ (s : Setup) (js : List Judge) (panics : ℕ → Bool) (works : List Wor
   begins-front h e b = record {
     sound = record {
       replays = at_each-front (FitsWords s js) h (e ∷ []) b.sound.replays;
-      earned = at_each-front (λ before f. IsEarnedBy f.act f.seat before) h (e ∷ []) b.sound.earned;
-      held = at_each-front (λ before f. (f.seat < 67) × IsHeldBy f.act f.seat) h (e ∷ []) b.sound.held;
+      justified = at_each-front (λ before f. IsJustifiedBy f.act f.seat before) h (e ∷ []) b.sound.justified;
+      permitted = at_each-front (λ before f. (f.seat < 67) × IsPermittedTo f.act f.seat) h (e ∷ []) b.sound.permitted;
     };
     cpus = λ k d lt. begun-front (get_or works k d) h e (b.cpus k d lt);
     nobody_else = at_each-front (λ before f. Any (λ w. f.seat ≡ 2 + w.cpu) works) h (e ∷ []) b.nobody_else;

@@ -6,7 +6,7 @@ use Rattle.rv_model.specs.declared.entry.Act.{Act}
 use Rattle.rv_model.specs.declared.entry.Act.TheVariants.{Deliver, Stop, Look, Raise, Lower, Clear, End}
 use Rattle.rv_model.specs.declared.entry.Answer.{Answer}
 use Rattle.rv_model.specs.declared.entry.Entry.{Entry}
-use Rattle.rv_model.specs.Histories.{FitsWords, LostThrice, IsEarnedBy}
+use Rattle.rv_model.specs.Histories.{FitsWords, LostThrice, IsJustifiedBy}
 use Rattle.rv_model.specs.Judging.{Judge}
 use Rattle.rv_model.specs.Numbers.{has_bit}
 use Rattle.rv_model.specs.Scripts.{played, Plays}
@@ -15,14 +15,14 @@ use Rattle.rv_model.specs.SharedWords.{word_on, answer_at}
 use Rattle.rv_model.specs.Works.{Work}
 use Rattle.rv_model.proofs.CutLemmas.{at_each-last}
 use Rattle.rv_core.specs.Advance.{acted}
-use Rattle.rv_core.specs.Setup.{ActFits, FitsAct, place_of, table_of_act, start_of_act, judges_of}
+use Rattle.rv_core.specs.Setup.{ActFits, FitsAct, word_index, table_of_act, start_of_act, judges_of}
 use Rattle.rv_core.proofs.CoreLemmas.{word_on-is, fits-words}
 use Rattle.rv_core.proofs.ActLemmas.{place-below}
 use Rattle.rv_check.specs.declared.next.Due.{Due}
 use Rattle.rv_check.specs.declared.next.Next.{Next}
 use Rattle.rv_check.specs.declared.next.Next.TheVariants as next
 use Rattle.rv_check.specs.Beginnings.{HasBegun, IsBeginning}
-use Rattle.rv_check.specs.Nexts.{Allows, lost_of, CountsTo, IsCounted}
+use Rattle.rv_check.specs.Nexts.{Allows, lost_of, CountsTo, CountsLostTries}
 use Rattle.rv_check.specs.Run.{Stands, IsRun}
 use Rattle.rv_check.proofs.BeginningLemmas.{played-more}
 use Rattle.rv_check.proofs.LostLemmas.{thrice-counted}
@@ -40,7 +40,7 @@ word-same s js past e f same (Raise bits) = ap (λ (x : Act). word_on s js (reco
 word-same s js past e f same (Lower bits) = ap (λ (x : Act). word_on s js (record { seat = 0; act = x; before = 0; after = 0 } ∷ past) (Lower bits)) same
 
 -- an act's word is one of the words
-pub place-in : (s : Setup) (words : List ℕ) (act : Act) → length words ≡ sum s.shape + 1 → FitsAct s act → place_of act < length words
+pub place-in : (s : Setup) (words : List ℕ) (act : Act) → length words ≡ sum s.shape + 1 → FitsAct s act → word_index act < length words
 place-in s words act count f = let low = place-below s act f in omega arith
 
 -- a count that stays at 3 is 3 where the number is 3 or more
@@ -87,10 +87,10 @@ module _ (s : Setup) (panics : ℕ) (works : List Work) (words : List ℕ) (next
   -- the tries that a stop needs
   begun-lost : Begins (h ++ e ∷ []) → (due : Due) → n ≡ next.Deliver due → e.act ≡ Stop due.slot → 3 ≤ due.lost
   begun-lost b due is act =
-      let earned : IsEarnedBy e.act e.seat h = at_each-last (λ before e. IsEarnedBy e.act e.seat before) h e b.sound.earned in
-      let lost : LostThrice due.slot e.seat h = subst (λ (x : Act). IsEarnedBy x e.seat h) act earned in
+      let justified : IsJustifiedBy e.act e.seat h = at_each-last (λ before e. IsJustifiedBy e.act e.seat before) h e b.sound.justified in
+      let lost : LostThrice due.slot e.seat h = subst (λ (x : Act). IsJustifiedBy x e.seat h) act justified in
       let three : 3 ≤ lost_of due.slot seat past = subst (λ (m : ℕ). 3 ≤ lost_of due.slot m past) (sym mine) (thrice-counted due.slot e.seat h lost) in
-      let counts : CountsTo due.lost (lost_of due.slot seat past) = subst (IsCounted seat past) is stand.counted in
+      let counts : CountsTo due.lost (lost_of due.slot seat past) = subst (CountsLostTries seat past) is stand.counted in
       at-least due.lost (lost_of due.slot seat past) counts three
 
   -- the act of a longer beginning is allowed
@@ -102,13 +102,13 @@ module _ (s : Setup) (panics : ℕ) (works : List Work) (words : List ℕ) (next
       may-allowed s halts w n e a begun.0 stand.is_next (begun-lost b) may
 
   -- the word before it is the machine's
-  pub begun-before : Begins (h ++ e ∷ []) → FitsAct s e.act → e.before ≡ get_or words (place_of e.act) 0
+  pub begun-before : Begins (h ++ e ∷ []) → FitsAct s e.act → e.before ≡ get_or words (word_index e.act) 0
   begun-before b fits =
       let told : FitsWords s js h e = at_each-last (FitsWords s js) h e b.sound.replays in
       told.found ∙ sym (word_on-is s run.core.is_setup words past run.core.switches_are run.core.words_are e.act fits)
 
   -- and so is the word after it
-  pub begun-after : Begins (h ++ e ∷ []) → (after : ℕ) → FitsAct s e.act → ActFits s e.act → e.before ≡ get_or words (place_of e.act) e.before
+  pub begun-after : Begins (h ++ e ∷ []) → (after : ℕ) → FitsAct s e.act → ActFits s e.act → e.before ≡ get_or words (word_index e.act) e.before
       → after ≡ (acted (table_of_act s e.act) (start_of_act s e.act) e.before e.act).1 → after < 2 ^ 64 → e.after ≡ after
   begun-after b after fits bits read is range =
       let told : FitsWords s js h e = at_each-last (FitsWords s js) h e b.sound.replays in

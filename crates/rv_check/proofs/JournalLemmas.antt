@@ -7,7 +7,7 @@ use Rattle.rv_model.specs.declared.formula.Spec.{Spec}
 use Rattle.rv_model.specs.Numbers.{has_bit}
 use Rattle.rv_core.specs.Setup.{judges_of}
 use Rattle.rv_journal.specs.EntryTexts.{entry_text, IsEntry}
-use Rattle.rv_check.specs.Checker.{IsJournalOf, CheckerValue, IsBegun, IsWhole, IsGood, IsBad, IsChecker}
+use Rattle.rv_check.specs.Checker.{IsJournalOf, CheckerValue, IsBegun, IsWhole, IsGoodJournal, IsBad, IsChecker}
 use Rattle.rv_check.specs.Run.{RunValue, BeginsRun, AllPlayed}
 use Rattle.rv_check.proofs.BeginningLemmas.{begins-front, begins-legal, legal-begins}
 
@@ -58,7 +58,7 @@ module _ (r : RunValue) (lines : List (List ℕ)) (line : List ℕ) where
   pub bad-line : ((e : Entry) → IsEntry e → entry_text e ≡ line → ⊥) → IsBad r (lines ++ line ∷ [])
   bad-line none h j b = let l = last-line lines line h j.entries j.texts in none l.entry l.fits l.text
 
-  module _ (good : IsGood r lines) (e : Entry) (every : (f : Entry) → IsEntry f → entry_text f ≡ line → f ≡ e) where
+  module _ (good : IsGoodJournal r lines) (e : Entry) (every : (f : Entry) → IsEntry f → entry_text f ≡ line → f ≡ e) where
     -- every journal goes on with this entry
     goes-on : (h : List Entry) → IsJournalOf (lines ++ line ∷ []) h → h ≡ r.history ++ e ∷ []
     goes-on h j =
@@ -70,11 +70,11 @@ module _ (r : RunValue) (lines : List (List ℕ)) (line : List ℕ) where
     bad-entry no-more h j b = no-more (subst (BeginsRun r) (goes-on h j) b)
 
     -- it does
-    pub good-entry : IsEntry e → entry_text e ≡ line → BeginsRun r (r.history ++ e ∷ []) → IsGood (record r { history = r.history ++ e ∷ [] }) (lines ++ line ∷ [])
+    pub good-entry : IsEntry e → entry_text e ≡ line → BeginsRun r (r.history ++ e ∷ []) → IsGoodJournal (record r { history = r.history ++ e ∷ [] }) (lines ++ line ∷ [])
     good-entry fits text b = record { journal = journal-more lines line r.history e good.journal fits text; only = goes-on; begins = b }
 
 -- no line yet
-pub good-none : (r : RunValue) → r.history ≡ [] → BeginsRun r r.history → IsGood r []
+pub good-none : (r : RunValue) → r.history ≡ [] → BeginsRun r r.history → IsGoodJournal r []
 good-none r none b = record {
   journal = record { entries = subst (All IsEntry) (sym none) (λ k d lt. absurd (omega arith)); texts = ap (map entry_text) none };
   only = λ h j. nothing h j.texts ∙ sym none;
@@ -102,7 +102,7 @@ module _ (r : RunValue) (lines : List (List ℕ)) where
   begun-checker false k (h, j, b) = absurd (k h j b)
 
   -- where it is good and all scripts are played, its lines are whole
-  pub checker-whole : (specs : List Spec) → IsGood r lines → AllPlayed r → IsWhole value specs
+  pub checker-whole : (specs : List Spec) → IsGoodJournal r lines → AllPlayed r → IsWhole value specs
   checker-whole specs k all = (r.history, k.journal, begins-legal r.setup (judges_of r.setup) (has_bit r.panics) r.works specs r.history k.begins all)
 
   -- where its lines are whole, it is good
@@ -110,7 +110,7 @@ module _ (r : RunValue) (lines : List (List ℕ)) where
   whole-good specs good k (h, j, l) = begun-checker good k (h, j, legal-begins r.setup (judges_of r.setup) (has_bit r.panics) r.works specs h l)
 
   -- where its lines are good and whole, all scripts are played
-  pub whole-played : (specs : List Spec) → IsGood r lines → IsWhole value specs → AllPlayed r
+  pub whole-played : (specs : List Spec) → IsGoodJournal r lines → IsWhole value specs → AllPlayed r
   whole-played specs k (h, j, l) = subst (λ (z : List Entry). AllPlayed (record r { history = z })) (k.only h j) l.cpus
 
 -- a checker that has begun had begun before its last line

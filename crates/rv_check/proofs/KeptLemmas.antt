@@ -2,12 +2,12 @@
 use Rattle.std.proofs.Common.{◌≡◌, inl, inr, ℕ, suc, Bool, true, false, not, cond, ◌+◌, List, [], ◌∷◌, ◌++◌, length, refl, sym, ap, ◌∙◌, subst, arith, append_assoc, append-nil, length-append}
 use Rattle.std.proofs.lemmas.Grind.{flat_map-append}
 use Rattle.rv_check.specs.Checker.{CheckerValue, IsBegun}
-use Rattle.rv_check.specs.Readings.{joined, journal_by, has_no_end, ended, IsStopped, IsOpen, IsReader, SameMaking, Takes, one_more}
+use Rattle.rv_check.specs.Readings.{pieces_joined, journal_by, has_no_end, with_line_ends, IsStopped, IsOpen, IsReader, SameMaking, TakesJournalLine, one_more}
 use Rattle.rv_check.proofs.ReaderLemmas.{stop-more, stop-long, stop-bad, open-next}
 
 -- pieces and one more
-pub joined-more : (pieces : List (List ℕ)) (piece : List ℕ) → joined (pieces ++ piece ∷ []) ≡ joined pieces ++ piece
-joined-more pieces piece = flat_map-append (λ (p : List ℕ). p) pieces (piece ∷ []) ∙ ap (λ (t : List ℕ). joined pieces ++ t) (append-nil piece)
+pub pieces_joined-more : (pieces : List (List ℕ)) (piece : List ℕ) → pieces_joined (pieces ++ piece ∷ []) ≡ pieces_joined pieces ++ piece
+pieces_joined-more pieces piece = flat_map-append (λ (p : List ℕ). p) pieces (piece ∷ []) ∙ ap (λ (t : List ℕ). pieces_joined pieces ++ t) (append-nil piece)
 
 -- it goes on
 pub reader-open : (c new : CheckerValue) (tail now : List ℕ) (line : ℕ) (stopped : Bool) (text later : List ℕ) → new ≡ c → now ≡ tail → stopped ≡ false → later ≡ text → IsOpen c tail line text → IsReader new now line stopped later
@@ -36,14 +36,14 @@ stopped-of c tail line stopped text over r = subst (λ (b : Bool). IsReader c ta
 pub open-none : (c : CheckerValue) → c.lines ≡ [] → IsBegun (record c { lines = [] }) → IsOpen c [] 1 []
 open-none c none begun = record {
   begun = subst (λ (lines : List (List ℕ)). IsBegun (record c { lines = lines })) (sym none) begun;
-  text_is = sym (ap (λ (lines : List (List ℕ)). ended lines ++ []) none);
+  text_is = sym (ap (λ (lines : List (List ℕ)). with_line_ends lines ++ []) none);
   count = sym (ap (λ (lines : List (List ℕ)). suc (length lines)) none);
   unended = refl;
   short = omega arith;
 }
 
 -- a line has ended
-pub reader-ended : (c new : CheckerValue) (tail now : List ℕ) (line next number : ℕ) (good : Bool) (text later part : List ℕ) → IsOpen c tail line text → has_no_end part ≡ true → Takes c (tail ++ part) good new now → next ≡ line + 1 → number ≡ cond good next line → later ≡ text ++ (part ++ 10 ∷ []) → IsReader new now number (not good) later
+pub reader-ended : (c new : CheckerValue) (tail now : List ℕ) (line next number : ℕ) (good : Bool) (text later part : List ℕ) → IsOpen c tail line text → has_no_end part ≡ true → TakesJournalLine c (tail ++ part) good new now → next ≡ line + 1 → number ≡ cond good next line → later ≡ text ++ (part ++ 10 ∷ []) → IsReader new now number (not good) later
 reader-ended c new tail now line next number true text later part o unended takes next_is number_is is_text =
     reader-open (one_more c (tail ++ part)) new [] now number false (text ++ (part ++ 10 ∷ [])) later takes.1.0 takes.1.2 refl is_text
     (subst (λ (n : ℕ). IsOpen (one_more c (tail ++ part)) [] n (text ++ (part ++ 10 ∷ []))) (sym (number_is ∙ next_is))

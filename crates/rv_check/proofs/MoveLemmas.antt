@@ -9,14 +9,14 @@ use Rattle.rv_model.specs.declared.entry.Entry.{Entry}
 use Rattle.rv_model.specs.declared.work.Delivery.{Delivery}
 use Rattle.rv_model.specs.declared.work.Turn.{Turn}
 use Rattle.rv_model.specs.Numbers.{has_bit}
-use Rattle.rv_model.specs.Scripts.{Played, is_shown, Delivers, PlaysTurns, turns_of}
+use Rattle.rv_model.specs.Scripts.{Played, is_enabled_by, Delivers, PlaysTurns, turns_of}
 use Rattle.rv_model.specs.Setups.{Setup}
 use Rattle.rv_model.specs.Works.{Work}
 use Rattle.rv_model.proofs.AgreeLemmas.{match-one}
 use Rattle.rv_check.specs.declared.next.Due.{Due}
 use Rattle.rv_check.specs.declared.next.Next.{Next}
 use Rattle.rv_check.specs.declared.next.Next.TheVariants as next
-use Rattle.rv_check.specs.Nexts.{turn_in, May, IsDue, IsNext, IsFresh, Serves, IsLook, IsHalt, Allows, Settles, ends_by, Moves}
+use Rattle.rv_check.specs.Nexts.{turn_in, May, IsDue, IsNext, HasNoLostTry, ServesDue, IsLook, IsHalt, Allows, Settles, ends_by, Moves}
 use Rattle.rv_check.proofs.SettleLemmas.{shown_in}
 use Rattle.rv_check.proofs.ServeLemmas.{look-is, halt-is, serves-makes, makes-serves, begins-due}
 use Rattle.rv_check.proofs.TurnLemmas.{turns-first, plays-look}
@@ -44,7 +44,7 @@ module _ (s : Setup) (panics : ℕ → Bool) (w : Work) where
     Continues n m = (May s panics w n ((e, a) ∷ ps) → May s panics w m ps) × (May s panics w m ps → May s panics w n ((e, a) ∷ ps))
 
     -- behind a look
-    module _ (turn : ℕ) (lt : turn < length w.turns) (act : e.act ≡ Look) (shown : a ≡ Looked word) where
+    module _ (turn : ℕ) (lt : turn < length w.turns) (act : e.act ≡ Look) (enabled : a ≡ Looked word) where
       abbrev t : Turn
       t = turn_in w turn
 
@@ -58,12 +58,12 @@ module _ (s : Setup) (panics : ℕ → Bool) (w : Work) where
       look-back h = subst (λ (z : List (List Delivery)). PlaysTurns s panics z ((e, a) ∷ ps)) (sym (turns-first w turn lt)) h
 
       abbrev AfterLook : ℕ → Bool → Type 0
-      AfterLook look b = MatchBool b (ps ≡ []) (Delivers s panics look (filter (is_shown look) (slice_range w.deliveries t.from t.to)) (PlaysTurns s panics (drop (turn + 1) (turns_of w))) ps)
+      AfterLook look b = MatchBool b (ps ≡ []) (Delivers s panics look (filter (is_enabled_by look) (slice_range w.deliveries t.from t.to)) (PlaysTurns s panics (drop (turn + 1) (turns_of w))) ps)
 
       -- by the word that it shows
       told : PlaysTurns s panics ts ((e, a) ∷ ps) → AfterLook word (has_bit word 34)
       told (look, is, answer, h) =
-          let same : look ≡ word = (let l : Looked look ≡ Looked word = sym answer ∙ shown in cc) in
+          let same : look ≡ word = (let l : Looked look ≡ Looked word = sym answer ∙ enabled in cc) in
           subst (λ (n : ℕ). AfterLook n (has_bit n 34)) same h
 
       look-after : (n : Next) → Moves s panics w (next.Look turn) word a n → Continues (next.Look turn) n
@@ -73,16 +73,16 @@ module _ (s : Setup) (panics : ℕ → Bool) (w : Work) where
           on true y =
               let over : n ≡ next.Over = subst (λ (b : Bool). MatchBool b (n ≡ next.Over) (Settles s w word t.from t.to (turn + 1) n)) y moves in (
                 λ h. subst (λ (m : Next). May s panics w m ps) (sym over) (subst (AfterLook word) y (told (look-here h))),
-                λ h. look-back (word, act, shown, subst (AfterLook word) (sym y) (subst (λ (m : Next). May s panics w m ps) over h)),
+                λ h. look-back (word, act, enabled, subst (AfterLook word) (sym y) (subst (λ (m : Next). May s panics w m ps) over h)),
               )
           on false y =
               let set : Settles s w word t.from t.to (turn + 1) n = subst (λ (b : Bool). MatchBool b (n ≡ next.Over) (Settles s w word t.from t.to (turn + 1) n)) y moves in (
                 λ h. set.may panics ps (subst (AfterLook word) y (told (look-here h))),
-                λ h. look-back (word, act, shown, subst (AfterLook word) (sym y) (set.only panics ps h)),
+                λ h. look-back (word, act, enabled, subst (AfterLook word) (sym y) (set.only panics ps h)),
               )
 
     -- behind a delivery or its stop
-    module _ (due : Due) (is : IsDue s w due) (serves : Serves w due e.act) where
+    module _ (due : Due) (is : IsDue s w due) (serves : ServesDue w due e.act) where
       abbrev after : List Played → Type 0
       after = PlaysTurns s panics (drop due.turn (turns_of w))
 
@@ -112,17 +112,17 @@ module _ (s : Setup) (panics : ℕ → Bool) (w : Work) where
 
     -- behind an act that may be the next one: exactly what may follow then goes on with it
     pub may-after : (n m : Next) → IsNext s w n → Allows w n e.act → (IsLook e.act → a ≡ Looked word) → Moves s panics w n word a m → Continues n m
-    may-after (next.Look turn) m is allowed shown moves = look-after turn allowed.1 (look-is e.act allowed.0) (shown allowed.0) m moves
-    may-after (next.Deliver due) m is allowed shown moves = delivery-after due is allowed m moves
-    may-after next.Raise m is allowed shown moves = (
+    may-after (next.Look turn) m is allowed enabled moves = look-after turn allowed.1 (look-is e.act allowed.0) (enabled allowed.0) m moves
+    may-after (next.Deliver due) m is allowed enabled moves = delivery-after due is allowed m moves
+    may-after next.Raise m is allowed enabled moves = (
       λ h. subst (λ (z : Next). May s panics w z ps) (sym moves) (let one : (e, a) ∷ ps ≡ h.0 ∷ [] = h.1 in cc),
       λ h. let none : ps ≡ [] = subst (λ (z : Next). May s panics w z ps) moves h in ((e, a), ap (λ (z : List Played). (e, a) ∷ z) none, halt-is e.act allowed),
     )
-    may-after next.Over m is allowed shown moves = absurd allowed
+    may-after next.Over m is allowed enabled moves = absurd allowed
 
   -- what is next behind an act is new
-  pub moves-on : (n m : Next) (word : ℕ) (a : Answer) → Moves s panics w n word a m → IsNext s w m × IsFresh m
-  moves-on (next.Look turn) m word a moves = match-one (has_bit word 34) _ _ (IsNext s w m × IsFresh m) moves (λ over. subst (λ (x : Next). IsNext s w x × IsFresh x) (sym over) (tt, tt)) (λ set. (set.is_next, set.fresh))
-  moves-on (next.Deliver due) m word a moves = match-one (ends_by panics w due a) _ _ (IsNext s w m × IsFresh m) moves (λ raise. subst (λ (x : Next). IsNext s w x × IsFresh x) (sym raise) (tt, tt)) (λ set. (set.is_next, set.fresh))
-  moves-on next.Raise m word a moves = subst (λ (x : Next). IsNext s w x × IsFresh x) (sym moves) (tt, tt)
-  moves-on next.Over m word a moves = subst (λ (x : Next). IsNext s w x × IsFresh x) (sym moves) (tt, tt)
+  pub moves-on : (n m : Next) (word : ℕ) (a : Answer) → Moves s panics w n word a m → IsNext s w m × HasNoLostTry m
+  moves-on (next.Look turn) m word a moves = match-one (has_bit word 34) _ _ (IsNext s w m × HasNoLostTry m) moves (λ over. subst (λ (x : Next). IsNext s w x × HasNoLostTry x) (sym over) (tt, tt)) (λ set. (set.is_next, set.fresh))
+  moves-on (next.Deliver due) m word a moves = match-one (ends_by panics w due a) _ _ (IsNext s w m × HasNoLostTry m) moves (λ raise. subst (λ (x : Next). IsNext s w x × HasNoLostTry x) (sym raise) (tt, tt)) (λ set. (set.is_next, set.fresh))
+  moves-on next.Raise m word a moves = subst (λ (x : Next). IsNext s w x × HasNoLostTry x) (sym moves) (tt, tt)
+  moves-on next.Over m word a moves = subst (λ (x : Next). IsNext s w x × HasNoLostTry x) (sym moves) (tt, tt)

@@ -7,19 +7,19 @@ use Rattle.rv_model.specs.declared.entry.Entry.{Entry}
 use Rattle.rv_model.specs.declared.formula.Spec.{Spec}
 use Rattle.rv_journal.specs.EntryTexts.{entry_text, journal_of}
 use Rattle.rv_check.specs.Checker.{IsJournalOf, CheckerValue, IsBegun, IsWhole}
-use Rattle.rv_check.specs.Readings.{journal_by, longer, has_no_end, ended, IsStopped, IsOpen, one_more}
+use Rattle.rv_check.specs.Readings.{journal_by, with_more_text, has_no_end, with_line_ends, IsStopped, IsOpen, one_more}
 use Rattle.rv_check.specs.Verdicts.{Journal, Begins, IsYes, IsStuck, IsNo}
 use Rattle.rv_check.proofs.JournalLemmas.{journal-more}
 use Rattle.rv_check.proofs.LineEndLemmas.{no_end-append, end-in, one-line, long-line}
 use Rattle.rv_check.proofs.TextLemmas.{entry-unended, entry-short}
 
 -- lines and one more
-ended-more : (lines : List (List ℕ)) (line : List ℕ) → ended (lines ++ line ∷ []) ≡ ended lines ++ (line ++ 10 ∷ [])
-ended-more lines line = flat_map-append (λ (l : List ℕ). l ++ 10 ∷ []) lines (line ∷ []) ∙ ap (λ (t : List ℕ). ended lines ++ t) (append-nil (line ++ 10 ∷ []))
+with_line_ends-more : (lines : List (List ℕ)) (line : List ℕ) → with_line_ends (lines ++ line ∷ []) ≡ with_line_ends lines ++ (line ++ 10 ∷ [])
+with_line_ends-more lines line = flat_map-append (λ (l : List ℕ). l ++ 10 ∷ []) lines (line ∷ []) ∙ ap (λ (t : List ℕ). with_line_ends lines ++ t) (append-nil (line ++ 10 ∷ []))
 
 -- the lines of a journal are its text
-ended-journal : (lines : List (List ℕ)) (h : List Entry) → IsJournalOf lines h → ended lines ≡ journal_of h
-ended-journal lines h j = ap ended (sym j.texts) ∙ flat_map-map (λ (l : List ℕ). l ++ 10 ∷ []) entry_text h
+with_line_ends-journal : (lines : List (List ℕ)) (h : List Entry) → IsJournalOf lines h → with_line_ends lines ≡ journal_of h
+with_line_ends-journal lines h j = ap with_line_ends (sym j.texts) ∙ flat_map-map (λ (l : List ℕ). l ++ 10 ∷ []) entry_text h
 
 -- and are as many as its entries
 lines-count : (lines : List (List ℕ)) (h : List Entry) → IsJournalOf lines h → length lines ≡ length h
@@ -35,7 +35,7 @@ end-some [] b is = absurd (let same : 10 ∷ b ≡ [] = is in cc)
 end-some (c ∷ a) b is = absurd (let same : c ∷ (a ++ 10 ∷ b) ≡ [] = is in cc)
 
 -- one that has stopped stays so
-pub stop-more : (j : Journal) (line : ℕ) (more : List ℕ) → IsStopped j line → IsStopped (longer j more) line
+pub stop-more : (j : Journal) (line : ℕ) (more : List ℕ) → IsStopped j line → IsStopped (with_more_text j more) line
 stop-more j line more s = record {
   front = s.front;
   back = s.back ++ more;
@@ -62,7 +62,7 @@ module _ (c : CheckerValue) (tail : List ℕ) (line : ℕ) (text : List ℕ) (op
         front = h;
         back = tail ++ more;
         entries = j.entries;
-        text = ap (λ (t : List ℕ). t ++ more) open_here.text_is ∙ append_assoc (ended c.lines) tail more ∙ ap (λ (t : List ℕ). t ++ (tail ++ more)) (ended-journal c.lines h j);
+        text = ap (λ (t : List ℕ). t ++ more) open_here.text_is ∙ append_assoc (with_line_ends c.lines) tail more ∙ ap (λ (t : List ℕ). t ++ (tail ++ more)) (with_line_ends-journal c.lines h j);
         begins = b;
         count = open_here.count ∙ ap suc (lines-count c.lines h j);
         some = some;
@@ -92,10 +92,10 @@ module _ (c : CheckerValue) (tail : List ℕ) (line : ℕ) (text : List ℕ) (op
     begun = begun;
     text_is =
         ap (λ (t : List ℕ). t ++ (part ++ 10 ∷ [])) open_here.text_is
-        ∙ append_assoc (ended c.lines) tail (part ++ 10 ∷ [])
-        ∙ ap (λ (t : List ℕ). ended c.lines ++ t) (sym (append_assoc tail part (10 ∷ [])))
-        ∙ sym (ended-more c.lines (tail ++ part))
-        ∙ sym (append-nil (ended (c.lines ++ (tail ++ part) ∷ [])));
+        ∙ append_assoc (with_line_ends c.lines) tail (part ++ 10 ∷ [])
+        ∙ ap (λ (t : List ℕ). with_line_ends c.lines ++ t) (sym (append_assoc tail part (10 ∷ [])))
+        ∙ sym (with_line_ends-more c.lines (tail ++ part))
+        ∙ sym (append-nil (with_line_ends (c.lines ++ (tail ++ part) ∷ [])));
     count = (let was = open_here.count in let more = length-append c.lines ((tail ++ part) ∷ []) in omega arith);
     unended = refl;
     short = omega arith;
@@ -105,7 +105,7 @@ module _ (c : CheckerValue) (tail : List ℕ) (line : ℕ) (text : List ℕ) (op
   pub open-keep : (part : List ℕ) → has_no_end part ≡ true → length tail + length part ≤ 200 → IsOpen c (tail ++ part) line (text ++ part)
   open-keep part unended short = record {
     begun = open_here.begun;
-    text_is = ap (λ (t : List ℕ). t ++ part) open_here.text_is ∙ append_assoc (ended c.lines) tail part;
+    text_is = ap (λ (t : List ℕ). t ++ part) open_here.text_is ∙ append_assoc (with_line_ends c.lines) tail part;
     count = open_here.count;
     unended = no_end-append tail part open_here.unended unended;
     short = omega (arith, length-append tail part);
@@ -123,7 +123,7 @@ module _ (c : CheckerValue) (tail : List ℕ) (line : ℕ) (text : List ℕ) (op
         front = h;
         back = tail;
         entries = j.entries;
-        text = open_here.text_is ∙ ap (λ (t : List ℕ). t ++ tail) (ended-journal c.lines h j);
+        text = open_here.text_is ∙ ap (λ (t : List ℕ). t ++ tail) (with_line_ends-journal c.lines h j);
         begins = b;
         count = open_here.count ∙ ap suc (lines-count c.lines h j);
         why = inr (some, λ e rest is_e is begins. end-in (entry_text e) rest (subst (λ (t : List ℕ). has_no_end t ≡ true) is open_here.unended));
@@ -139,7 +139,7 @@ module _ (c : CheckerValue) (tail : List ℕ) (line : ℕ) (text : List ℕ) (op
         front = h;
         back = tail;
         entries = j.entries;
-        text = open_here.text_is ∙ ap (λ (t : List ℕ). t ++ tail) (ended-journal c.lines h j);
+        text = open_here.text_is ∙ ap (λ (t : List ℕ). t ++ tail) (with_line_ends-journal c.lines h j);
         begins = b;
         count = open_here.count ∙ ap suc (lines-count c.lines h j);
         why = inl (none, λ legal. bad (h, j, legal));
@@ -150,7 +150,7 @@ module _ (c : CheckerValue) (tail : List ℕ) (line : ℕ) (text : List ℕ) (op
   yes-whole specs none (h, j, legal) = record {
     history = h;
     entries = j.entries;
-    text = open_here.text_is ∙ ap (λ (t : List ℕ). ended c.lines ++ t) none ∙ append-nil (ended c.lines) ∙ ended-journal c.lines h j;
+    text = open_here.text_is ∙ ap (λ (t : List ℕ). with_line_ends c.lines ++ t) none ∙ append-nil (with_line_ends c.lines) ∙ with_line_ends-journal c.lines h j;
     legal = legal;
   }
 

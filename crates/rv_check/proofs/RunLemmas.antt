@@ -4,7 +4,7 @@ use Rattle.std.specs.Prelude.{Any, replicate}
 use Rattle.std.proofs.lemmas.List.{get_or_default, length-replicate, get_or-replicate}
 use Rattle.std.proofs.lemmas.List.Elements.{All-get_or, All-from_get_or}
 use Rattle.rv_model.specs.declared.entry.Entry.{Entry}
-use Rattle.rv_model.specs.Histories.{IsEarnedBy, IsHeldBy}
+use Rattle.rv_model.specs.Histories.{IsJustifiedBy, IsPermittedTo}
 use Rattle.rv_model.specs.Judging.{Judge}
 use Rattle.rv_model.specs.Numbers.{has_bit}
 use Rattle.rv_model.specs.Scripts.{played, Plays}
@@ -97,8 +97,8 @@ run-opens s panics works words core fit = record {
       (record { is_next = tt; counted = tt; may = λ ps h. h; only = λ ps h. h });
   sound = record {
     replays = core.replays;
-    earned = at_each-nil (λ before e. IsEarnedBy e.act e.seat before);
-    held = at_each-nil (λ before e. (e.seat < 67) × IsHeldBy e.act e.seat);
+    justified = at_each-nil (λ before e. IsJustifiedBy e.act e.seat before);
+    permitted = at_each-nil (λ before e. (e.seat < 67) × IsPermittedTo e.act e.seat);
   };
   nobody_else = at_each-nil (λ before e. Any (λ w. e.seat ≡ 2 + w.cpu) works);
 }

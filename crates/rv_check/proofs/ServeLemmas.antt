@@ -9,7 +9,7 @@ use Rattle.rv_model.specs.Scripts.{hit_act, Makes}
 use Rattle.rv_model.specs.Setups.{Setup, slot_of}
 use Rattle.rv_model.specs.Works.{Work}
 use Rattle.rv_check.specs.declared.next.Due.{Due}
-use Rattle.rv_check.specs.Nexts.{delivery_in, IsDue, is_ending, Serves, IsLook, IsHalt}
+use Rattle.rv_check.specs.Nexts.{work_delivery, IsDue, is_ending, ServesDue, IsLook, IsHalt}
 use Rattle.rv_check.proofs.SettleLemmas.{shown_in, shown-first}
 
 -- a look is the look
@@ -35,14 +35,14 @@ halt-is (End _) x = absurd x
 module _ (s : Setup) (w : Work) (due : Due) (is : IsDue s w due) where
   -- the delivery that is due
   abbrev d : Delivery
-  d = delivery_in w due.place
+  d = work_delivery w due.place
 
   -- its slot
   abbrev at : ℕ
   at = slot_of s.shape d.monitor d.instance
 
   -- what serves makes the delivery
-  pub serves-makes : (act : Act) → Serves w due act → (e : Entry) (a : Answer) → e.act ≡ act → Makes s d (e, a)
+  pub serves-makes : (act : Act) → ServesDue w due act → (e : Entry) (a : Answer) → e.act ≡ act → Makes s d (e, a)
   serves-makes (Deliver slot hit) (goes, here, brings) e a same =
       let act : hit_act at d.hit ≡ Deliver at d.hit = ap (λ (b : Bool). cond b (End at) (Deliver at d.hit)) goes in
       inl (same ∙ ap (λ (n : ℕ). Deliver n hit) (here ∙ is.slot_is) ∙ ap (Deliver at) brings ∙ sym act)
@@ -56,20 +56,20 @@ module _ (s : Setup) (w : Work) (due : Due) (is : IsDue s w due) where
       inl (same ∙ ap End (here ∙ is.slot_is) ∙ sym act)
 
   -- the act of its hit serves
-  hit-serves : Serves w due (hit_act due.slot d.hit)
+  hit-serves : ServesDue w due (hit_act due.slot d.hit)
   hit-serves = go (is_ending w due) refl
     where
-      go : (b : Bool) → is_ending w due ≡ b → Serves w due (cond b (End due.slot) (Deliver due.slot d.hit))
+      go : (b : Bool) → is_ending w due ≡ b → ServesDue w due (cond b (End due.slot) (Deliver due.slot d.hit))
       go true ends = (ends, refl)
       go false goes = (goes, refl, refl)
 
   -- what makes the delivery serves, where a stop was lost three times
-  pub makes-serves : (e : Entry) (a : Answer) → (e.act ≡ Stop due.slot → 3 ≤ due.lost) → Makes s d (e, a) → Serves w due e.act
-  makes-serves e a lost (inl act) = subst (Serves w due) (sym (act ∙ ap (λ (n : ℕ). hit_act n d.hit) (sym is.slot_is))) hit-serves
+  pub makes-serves : (e : Entry) (a : Answer) → (e.act ≡ Stop due.slot → 3 ≤ due.lost) → Makes s d (e, a) → ServesDue w due e.act
+  makes-serves e a lost (inl act) = subst (ServesDue w due) (sym (act ∙ ap (λ (n : ℕ). hit_act n d.hit) (sym is.slot_is))) hit-serves
   makes-serves e a lost (inr (goes, act)) =
       let stops : e.act ≡ Stop due.slot = act ∙ ap Stop (sym is.slot_is) in
-      subst (Serves w due) (sym stops) (goes, refl, lost stops)
+      subst (ServesDue w due) (sym stops) (goes, refl, lost stops)
 
   -- the deliveries that are left begin with it
   pub begins-due : shown_in w due.look due.place due.to ≡ d ∷ shown_in w due.look (due.place + 1) due.to
-  begins-due = shown-first w due.look due.place due.to is.in_turn is.in_list is.shown
+  begins-due = shown-first w due.look due.place due.to is.in_turn is.in_list is.enabled

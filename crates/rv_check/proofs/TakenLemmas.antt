@@ -8,7 +8,7 @@ use Rattle.rv_model.specs.declared.entry.Answer.{Answer}
 use Rattle.rv_model.specs.declared.entry.Answer.TheVariants.{Looked}
 use Rattle.rv_model.specs.declared.entry.Entry.{Entry}
 use Rattle.rv_model.specs.Cuts.{AtEach}
-use Rattle.rv_model.specs.Histories.{IsEarnedBy, IsHeldBy, IsSound}
+use Rattle.rv_model.specs.Histories.{IsJustifiedBy, IsPermittedTo, IsSound}
 use Rattle.rv_model.specs.Judging.{Judge}
 use Rattle.rv_model.specs.Numbers.{has_bit}
 use Rattle.rv_model.specs.Scripts.{Played, played, Plays}
@@ -19,17 +19,17 @@ use Rattle.rv_model.proofs.CutLemmas.{at_each-snoc}
 use Rattle.rv_model.proofs.ScriptLemmas.{played-other}
 use Rattle.rv_core.specs.Advance.{acted}
 use Rattle.rv_core.specs.Core.{IsCore}
-use Rattle.rv_core.specs.Setup.{ActFits, FitsAct, place_of, table_of_act, start_of_act, judges_of}
+use Rattle.rv_core.specs.Setup.{ActFits, FitsAct, word_index, table_of_act, start_of_act, judges_of}
 use Rattle.rv_core.proofs.CoreLemmas.{core-after, core-answer}
 use Rattle.rv_check.specs.declared.next.Next.{Next}
 use Rattle.rv_check.specs.declared.next.Next.TheVariants as next
-use Rattle.rv_check.specs.Nexts.{IsFresh, Allows, Moves, IsCounted, watched}
+use Rattle.rv_check.specs.Nexts.{HasNoLostTry, Allows, Moves, CountsLostTries, after_other}
 use Rattle.rv_check.specs.Run.{Stands, IsRun}
 use Rattle.rv_check.proofs.ServeLemmas.{look-is}
 use Rattle.rv_check.proofs.BeginningLemmas.{played-more}
 use Rattle.rv_check.proofs.MoveLemmas.{may-after, moves-on}
 use Rattle.rv_check.proofs.RunLemmas.{stand-at, fits-at}
-use Rattle.rv_check.proofs.WatchedLemmas.{watched-next, watched-may, may-watched, watched-counted}
+use Rattle.rv_check.proofs.WatchedLemmas.{after_other-next, after_other-may, may-after_other, after_other-counted}
 use Rattle.rv_check.proofs.AllowedLemmas.{allowed-fits, allowed-earned, allowed-held}
 
 -- equal or not
@@ -67,17 +67,17 @@ module _ (s : Setup) (panics : ℕ) (works : List Work) (words : List ℕ) (next
   back = reverse-append h (e ∷ [])
 
   -- the entry is added
-  module _ (allowed : Allows w n e.act) (bits : ActFits s e.act) (read : e.before ≡ get_or words (place_of e.act) e.before) (range : e.after < 2 ^ 64)
+  module _ (allowed : Allows w n e.act) (bits : ActFits s e.act) (read : e.before ≡ get_or words (word_index e.act) e.before) (range : e.after < 2 ^ 64)
       (after_is : e.after ≡ (acted (table_of_act s e.act) (start_of_act s e.act) e.before e.act).1)
       (m : Next) (moves : Moves s halts w n e.after (acted (table_of_act s e.act) (start_of_act s e.act) e.before e.act).0 m)
       (nexts' : List Next) (count : length nexts' ≡ length works) (m_is : get_or nexts' k next.Over ≡ m)
-      (others : (j : ℕ) → j < length works → j ≢ k → get_or nexts' j next.Over ≡ watched e (get_or nexts j next.Over)) where
+      (others : (j : ℕ) → j < length works → j ≢ k → get_or nexts' j next.Over ≡ after_other e (get_or nexts j next.Over)) where
     -- it fits the machine
     fits : FitsAct s e.act
     fits = allowed-fits s w n stand.is_next e.act allowed
 
     -- whose words are those of the longer history
-    core : IsCore s (set words (place_of e.act) e.after) (h ++ e ∷ [])
+    core : IsCore s (set words (word_index e.act) e.after) (h ++ e ∷ [])
     core = core-after s words h run.core e.seat e.act e.before e.after fits bits read after_is range
 
     -- what is next is told by its answer
@@ -85,11 +85,11 @@ module _ (s : Setup) (panics : ℕ) (works : List Work) (words : List ℕ) (next
     moves-here = subst (λ (x : Answer). Moves s halts w n e.after x m) (core-answer s words h run.core e.seat e.act e.before e.after fits bits read after_is range) moves
 
     -- it has the tries that it needs
-    earned : IsEarnedBy e.act e.seat h
-    earned = subst (λ (i : ℕ). IsEarnedBy e.act i h) mine (allowed-earned w seat h n stand.counted e.act allowed)
+    earned : IsJustifiedBy e.act e.seat h
+    earned = subst (λ (i : ℕ). IsJustifiedBy e.act i h) mine (allowed-earned w seat h n stand.counted e.act allowed)
 
     -- its seat may do it
-    held : IsHeldBy e.act e.seat
+    held : IsPermittedTo e.act e.seat
     held = allowed-held w e.seat n e.act allowed
 
     -- its seat is that of a CPU
@@ -100,8 +100,8 @@ module _ (s : Setup) (panics : ℕ) (works : List Work) (words : List ℕ) (next
     sound : IsSound s js (h ++ e ∷ [])
     sound = record {
       replays = core.replays;
-      earned = at_each-snoc (λ before e. IsEarnedBy e.act e.seat before) h e run.sound.earned earned;
-      held = at_each-snoc (λ before e. (e.seat < 67) × IsHeldBy e.act e.seat) h e run.sound.held (low, held);
+      justified = at_each-snoc (λ before e. IsJustifiedBy e.act e.seat before) h e run.sound.justified earned;
+      permitted = at_each-snoc (λ before e. (e.seat < 67) × IsPermittedTo e.act e.seat) h e run.sound.permitted (low, held);
     }
 
     -- each entry is a work's
@@ -113,7 +113,7 @@ module _ (s : Setup) (panics : ℕ) (works : List Work) (words : List ℕ) (next
     shows _ x is act = is ∙ ap (λ (z : Act). answer_at s js past e z) act
 
     -- what is new has lost no try
-    fresh-counted : (x : Next) → IsFresh x → IsCounted seat (e ∷ past) x
+    fresh-counted : (x : Next) → HasNoLostTry x → CountsLostTries seat (e ∷ past) x
     fresh-counted (next.Look turn) f = tt
     fresh-counted (next.Deliver due) f =
         let y : (e.seat == seat) ≡ true = grind arith in
@@ -128,13 +128,13 @@ module _ (s : Setup) (panics : ℕ) (works : List Work) (words : List ℕ) (next
         let after = λ (ps : List Played). may-after s halts w e a e.after ps n m stand.is_next allowed (λ look. shows allowed a refl (look-is e.act look)) moves-here in
         record {
           is_next = on.0;
-          counted = subst (λ (z : List Entry). IsCounted seat z m) (sym back) (fresh-counted m on.1);
+          counted = subst (λ (z : List Entry). CountsLostTries seat z m) (sym back) (fresh-counted m on.1);
           may = λ ps plays. (after ps).0 (stand.may ((e, a) ∷ ps) (subst (Plays s halts w) (played-more s js seat h e mine ps) plays));
           only = λ ps may. subst (Plays s halts w) (sym (played-more s js seat h e mine ps)) (stand.only ((e, a) ∷ ps) ((after ps).1 may));
         }
 
     -- and so do the others
-    other-stands : (j : ℕ) (d : Work) → j < length works → j ≢ k → Stands s js halts (h ++ e ∷ []) (get_or works j d) (watched e (get_or nexts j next.Over))
+    other-stands : (j : ℕ) (d : Work) → j < length works → j ≢ k → Stands s js halts (h ++ e ∷ []) (get_or works j d) (after_other e (get_or nexts j next.Over))
     other-stands j d lj ne =
         let v : Work = get_or works j d in
         let x : Next = get_or nexts j next.Over in
@@ -143,10 +143,10 @@ module _ (s : Setup) (panics : ℕ) (works : List Work) (words : List ℕ) (next
         let other : e.seat ≢ 2 + v.cpu = λ is. apart (omega arith) in
         let same : played s js (2 + v.cpu) (reverse (h ++ e ∷ [])) ≡ played s js (2 + v.cpu) past = ap (played s js (2 + v.cpu)) back ∙ played-other s js (2 + v.cpu) e past other in
         record {
-          is_next = watched-next s v e x was.is_next;
-          counted = subst (λ (z : List Entry). IsCounted (2 + v.cpu) z (watched e x)) (sym back) (watched-counted s v e (2 + v.cpu) past x other was.counted);
-          may = λ ps plays. watched-may s v e halts x ps (was.may ps (subst (λ (z : List Played). Plays s halts v (z ++ ps)) same plays));
-          only = λ ps may. subst (λ (z : List Played). Plays s halts v (z ++ ps)) (sym same) (was.only ps (may-watched s v e halts x ps may));
+          is_next = after_other-next s v e x was.is_next;
+          counted = subst (λ (z : List Entry). CountsLostTries (2 + v.cpu) z (after_other e x)) (sym back) (after_other-counted s v e (2 + v.cpu) past x other was.counted);
+          may = λ ps plays. after_other-may s v e halts x ps (was.may ps (subst (λ (z : List Played). Plays s halts v (z ++ ps)) same plays));
+          only = λ ps may. subst (λ (z : List Played). Plays s halts v (z ++ ps)) (sym same) (was.only ps (may-after_other s v e halts x ps may));
         }
       where
         three : (i j : ℕ) → (i < j) ⊎ ((i ≡ j) ⊎ (j < i))
@@ -164,7 +164,7 @@ module _ (s : Setup) (panics : ℕ) (works : List Work) (words : List ℕ) (next
             go (inr (inr above)) = run.fit.apart k j d above lj (sym (same ∙ ap (λ (x : Work). x.cpu) is))
 
     -- the longer history has begun too
-    pub run-takes : IsRun s panics works (set words (place_of e.act) e.after) nexts' (h ++ e ∷ [])
+    pub run-takes : IsRun s panics works (set words (word_index e.act) e.after) nexts' (h ++ e ∷ [])
     run-takes = record {
       core = core;
       fit = run.fit;

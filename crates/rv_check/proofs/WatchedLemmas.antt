@@ -8,29 +8,29 @@ use Rattle.rv_model.specs.Setups.{Setup}
 use Rattle.rv_model.specs.Works.{Work}
 use Rattle.rv_check.specs.declared.next.Next.{Next}
 use Rattle.rv_check.specs.declared.next.Next.TheVariants as next
-use Rattle.rv_check.specs.Nexts.{May, IsNext, lost_of, CountsTo, IsCounted, watched}
+use Rattle.rv_check.specs.Nexts.{May, IsNext, lost_of, CountsTo, CountsLostTries, after_other}
 
 module _ (s : Setup) (v : Work) (e : Entry) where
   -- it may be next
-  pub watched-next : (x : Next) → IsNext s v x → IsNext s v (watched e x)
-  watched-next (next.Look turn) is = tt
-  watched-next (next.Deliver due) is = record { in_turn = is.in_turn; in_list = is.in_list; shown = is.shown; slot_is = is.slot_is; range = is.range; fits = is.fits }
-  watched-next next.Raise is = tt
-  watched-next next.Over is = tt
+  pub after_other-next : (x : Next) → IsNext s v x → IsNext s v (after_other e x)
+  after_other-next (next.Look turn) is = tt
+  after_other-next (next.Deliver due) is = record { in_turn = is.in_turn; in_list = is.in_list; enabled = is.enabled; slot_is = is.slot_is; range = is.range; fits = is.fits }
+  after_other-next next.Raise is = tt
+  after_other-next next.Over is = tt
 
   -- what may follow it may follow it still
-  pub watched-may : (panics : ℕ → Bool) (x : Next) (ps : List Played) → May s panics v x ps → May s panics v (watched e x) ps
-  watched-may panics (next.Look turn) ps h = h
-  watched-may panics (next.Deliver due) ps h = h
-  watched-may panics next.Raise ps h = h
-  watched-may panics next.Over ps h = h
+  pub after_other-may : (panics : ℕ → Bool) (x : Next) (ps : List Played) → May s panics v x ps → May s panics v (after_other e x) ps
+  after_other-may panics (next.Look turn) ps h = h
+  after_other-may panics (next.Deliver due) ps h = h
+  after_other-may panics next.Raise ps h = h
+  after_other-may panics next.Over ps h = h
 
   -- and nothing else may
-  pub may-watched : (panics : ℕ → Bool) (x : Next) (ps : List Played) → May s panics v (watched e x) ps → May s panics v x ps
-  may-watched panics (next.Look turn) ps h = h
-  may-watched panics (next.Deliver due) ps h = h
-  may-watched panics next.Raise ps h = h
-  may-watched panics next.Over ps h = h
+  pub may-after_other : (panics : ℕ → Bool) (x : Next) (ps : List Played) → May s panics v (after_other e x) ps → May s panics v x ps
+  may-after_other panics (next.Look turn) ps h = h
+  may-after_other panics (next.Deliver due) ps h = h
+  may-after_other panics next.Raise ps h = h
+  may-after_other panics next.Over ps h = h
 
   -- one change more, or none
   counts-on : (lost n : ℕ) (b : Bool) → CountsTo lost n → CountsTo (cond (b && nat_lt lost 3) (lost + 1) lost) (cond b 1 0 + n)
@@ -49,10 +49,10 @@ module _ (s : Setup) (v : Work) (e : Entry) where
   counts-on lost n false c = record { most = c.most; below = λ h. (let is = c.below h in omega arith); enough = λ h. (let three = c.enough h in omega arith) }
 
   -- so its tries are counted
-  pub watched-counted : (seat : ℕ) (past : List Entry) (x : Next) → e.seat ≢ seat → IsCounted seat past x → IsCounted seat (e ∷ past) (watched e x)
-  watched-counted seat past (next.Look turn) other c = tt
-  watched-counted seat past (next.Deliver due) other c =
+  pub after_other-counted : (seat : ℕ) (past : List Entry) (x : Next) → e.seat ≢ seat → CountsLostTries seat past x → CountsLostTries seat (e ∷ past) (after_other e x)
+  after_other-counted seat past (next.Look turn) other c = tt
+  after_other-counted seat past (next.Deliver due) other c =
       let n : (e.seat == seat) ≡ false = grind arith in
       rw n (counts-on due.lost (lost_of due.slot seat past) (changed due.slot e) c)
-  watched-counted seat past next.Raise other c = tt
-  watched-counted seat past next.Over other c = tt
+  after_other-counted seat past next.Raise other c = tt
+  after_other-counted seat past next.Over other c = tt

@@ -42,7 +42,7 @@ IsWhole c specs = (h : List Entry) × IsJournalOf c.lines h × IsLegal (input_of
 -- ---- what it keeps
 
 -- the lines are the journal of the run's history, which has begun, and of no other
-pub record IsGood (r : RunValue) (lines : List (List ℕ)) : Type 0 where
+pub record IsGoodJournal (r : RunValue) (lines : List (List ℕ)) : Type 0 where
   pub journal : IsJournalOf lines r.history
   pub only : (h : List Entry) → IsJournalOf lines h → h ≡ r.history
   pub begins : BeginsRun r r.history
@@ -53,4 +53,4 @@ IsBad r lines = (h : List Entry) → IsJournalOf lines h → BeginsRun r h → �
 
 -- the one or the other
 abbrev pub IsChecker : RunValue → Bool → List (List ℕ) → Type 0
-IsChecker r good lines = MatchBool good (IsGood r lines) (IsBad r lines)
+IsChecker r good lines = MatchBool good (IsGoodJournal r lines) (IsBad r lines)

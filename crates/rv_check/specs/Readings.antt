@@ -22,20 +22,20 @@ coded_reader work =
     (λ p. record { journal = record { setup = p.0; panics = p.1.0; works = p.1.1.0; text = p.1.1.1.0 }; stopped = p.1.1.1.1 }) (λ _. refl)
 
 -- the pieces, one behind the other
-abbrev pub joined : List (List ℕ) → List ℕ
-joined pieces = flat_map (λ piece. piece) pieces
+abbrev pub pieces_joined : List (List ℕ) → List ℕ
+pieces_joined pieces = flat_map (λ piece. piece) pieces
 
 -- what a checker was made with, and a text
 abbrev pub journal_by : CheckerValue → List ℕ → Journal
 journal_by c text = record { setup = c.setup; panics = c.panics; works = c.works; text = text }
 
 -- the same, and more text
-abbrev pub longer : Journal → List ℕ → Journal
-longer j more = record j { text = j.text ++ more }
+abbrev pub with_more_text : Journal → List ℕ → Journal
+with_more_text j more = record j { text = j.text ++ more }
 
 -- a reader whose text has grown
 abbrev pub grown : ReaderValue → List ℕ → Bool → ReaderValue
-grown r more stopped = record { journal = longer r.journal more; stopped = stopped }
+grown r more stopped = record { journal = with_more_text r.journal more; stopped = stopped }
 
 -- the text has grown by a front of the piece
 abbrev pub IsFed : ReaderValue → ReaderValue → List ℕ → Type 0
@@ -47,8 +47,8 @@ has_no_end [] = true
 has_no_end (byte ∷ bytes) = not (byte == 10) && has_no_end bytes
 
 -- each line with its line end
-abbrev pub ended : List (List ℕ) → List ℕ
-ended lines = flat_map (λ line. line ++ 10 ∷ []) lines
+abbrev pub with_line_ends : List (List ℕ) → List ℕ
+with_line_ends lines = flat_map (λ line. line ++ 10 ∷ []) lines
 
 -- the line of this number is stuck, whatever stands behind the text
 pub record IsStopped (j : Journal) (line : ℕ) : Type 0 where
@@ -64,7 +64,7 @@ pub record IsStopped (j : Journal) (line : ℕ) : Type 0 where
 -- the text is the checker's lines, which have begun, and a line of this number that is not ended
 pub record IsOpen (c : CheckerValue) (tail : List ℕ) (line : ℕ) (text : List ℕ) : Type 0 where
   pub begun : IsBegun c
-  pub text_is : text ≡ ended c.lines ++ tail
+  pub text_is : text ≡ with_line_ends c.lines ++ tail
   pub count : line ≡ suc (length c.lines)
   pub unended : has_no_end tail ≡ true
   pub short : length tail ≤ 200
@@ -84,7 +84,7 @@ abbrev pub SameMaking : CheckerValue → CheckerValue → Type 0
 SameMaking c new = new ≡ record c { lines = new.lines }
 
 -- the line is good, and taken; or it is too long for an entry, or goes on with no beginning
-abbrev pub Takes : CheckerValue → List ℕ → Bool → CheckerValue → List ℕ → Type 0
-Takes c line good new tail =
+abbrev pub TakesJournalLine : CheckerValue → List ℕ → Bool → CheckerValue → List ℕ → Type 0
+TakesJournalLine c line good new tail =
     SameMaking c new
     × MatchBool good ((new ≡ one_more c line) × IsBegun new × (tail ≡ [])) ((200 < length line) ⊎ (IsBegun (one_more c line) → ⊥))

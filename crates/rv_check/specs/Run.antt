@@ -15,7 +15,7 @@ use Rattle.rv_core.specs.Setup.{judges_of}
 use Rattle.rv_check.specs.declared.next.Next.{Next}
 use Rattle.rv_check.specs.declared.next.Next.TheVariants as next
 use Rattle.rv_check.specs.Beginnings.{IsBeginning, FitWorks}
-use Rattle.rv_check.specs.Nexts.{May, IsNext, IsCounted}
+use Rattle.rv_check.specs.Nexts.{May, IsNext, CountsLostTries}
 
 -- what it was made with, and the entries so far
 pub record RunValue : Type 0 where
@@ -41,7 +41,7 @@ AllPlayed r = All (λ w. Plays r.setup (has_bit r.panics) w (played r.setup (jud
 -- exactly what may follow goes on with what the seat has played
 pub record Stands (s : Setup) (js : List Judge) (panics : ℕ → Bool) (h : List Entry) (w : Work) (n : Next) : Type 0 where
   pub is_next : IsNext s w n
-  pub counted : IsCounted (2 + w.cpu) (reverse h) n
+  pub counted : CountsLostTries (2 + w.cpu) (reverse h) n
   pub may : (ps : List Played) → Plays s panics w (played s js (2 + w.cpu) (reverse h) ++ ps) → May s panics w n ps
   pub only : (ps : List Played) → May s panics w n ps → Plays s panics w (played s js (2 + w.cpu) (reverse h) ++ ps)
 

@@ -49,10 +49,10 @@ pub record IsNo (j : Journal) (specs : List Spec) (line : ℕ) : Type 0 where
   pub why : ((back ≡ []) × (Legal j specs front → ⊥)) ⊎ ((back ≢ []) × IsStuck j front back)
 
 -- the verdict holds of the text
-abbrev pub Holds : Journal → List Spec → Verdict → Type 0
-Holds j specs Yes = IsYes j specs
-Holds j specs (No line) = IsNo j specs line
+abbrev pub VerdictHolds : Journal → List Spec → Verdict → Type 0
+VerdictHolds j specs Yes = IsYes j specs
+VerdictHolds j specs (No line) = IsNo j specs line
 
 -- no text has two verdicts
 abbrev pub OneVerdict : Type 0
-OneVerdict = (j : Journal) (specs : List Spec) (v w : Verdict) → Holds j specs v → Holds j specs w → v ≡ w
+OneVerdict = (j : Journal) (specs : List Spec) (v w : Verdict) → VerdictHolds j specs v → VerdictHolds j specs w → v ≡ w

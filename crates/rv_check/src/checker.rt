@@ -48,7 +48,7 @@ fn judge(run: &mut Run, good: bool, line: &[u8]) -> bool
         None => false,
         Some(entry) => {
             let taken = run.take(&entry);
-            run.known();
+            run.assert_invariant();
             taken
         }
     }
@@ -66,7 +66,7 @@ impl Checker {
         ensures { IfOk result (λ checker. checker ≡ record { setup = setup; panics = panics; works = works.items; lines = [] }) }
     {
         let run = Run::new(alloc, setup, panics, works)?;
-        run.known();
+        run.assert_invariant();
         let given = Given::new();
         Ok(Checker {
             run,
@@ -76,7 +76,7 @@ impl Checker {
     }
 
     /// Where the tables of its setup mean specifications, these are its judges.
-    pub fn known(&self)
+    pub fn assert_invariant(&self)
         ensures { JudgesBySpecs self.now.setup }
     {
         self.run.judged();
@@ -86,7 +86,7 @@ impl Checker {
     pub fn begins(&self)
         ensures { IsBegun (record self.now { lines = [] }) }
     {
-        self.run.known();
+        self.run.assert_invariant();
     }
 
     /// The next line, which is given without its line end: whether the lines so far are those of a history that has begun.

@@ -2,8 +2,8 @@
 ghost use Rattle.std.specs.Prelude.{◌≡◌, ◌≢◌, ℕ, ◌≤◌, List, [], ◌∷◌, ◌++◌, true, length, take, drop, ◌<◌, ◌+◌, IfSome, IfNone, IfOk, OnOk, OnErr, Bool, false, not, if◌then◌else◌};
 ghost use Rattle.rv_model.specs.declared.formula.Spec.{Spec};
 ghost use Rattle.rv_check.specs.Checker.{CheckerValue};
-ghost use Rattle.rv_check.specs.Readings.{ReaderValue, coded_reader, joined, journal_by, longer, grown, has_no_end, IsFed, Takes};
-ghost use Rattle.rv_check.specs.Verdicts.{Journal, Holds, OneVerdict};
+ghost use Rattle.rv_check.specs.Readings.{ReaderValue, coded_reader, pieces_joined, journal_by, with_more_text, grown, has_no_end, IsFed, TakesJournalLine};
+ghost use Rattle.rv_check.specs.Verdicts.{Journal, VerdictHolds, OneVerdict};
 
 use crate::checker::Checker;
 use crate::given::Given;
@@ -39,15 +39,15 @@ pub struct JournalReader {
 
 impl Model for JournalReader {
     ghost use Rattle.rv_model.specs.contracts.work.CpuWork as work;
-    ghost use Rattle.rv_check.specs.Readings.{ReaderValue, coded_reader, joined, journal_by, IsReader};
+    ghost use Rattle.rv_check.specs.Readings.{ReaderValue, coded_reader, pieces_joined, journal_by, IsReader};
 
     ghost Value = { ReaderValue };
 
     ghost coded = { coded_reader work.the_row.coded };
 
-    ghost view = { λ r. record { journal = journal_by r.checker (joined r.pieces); stopped = r.stopped } };
+    ghost view = { λ r. record { journal = journal_by r.checker (pieces_joined r.pieces); stopped = r.stopped } };
 
-    ghost invariant = { λ r. IsReader r.checker r.tail.items r.line r.stopped (joined r.pieces) };
+    ghost invariant = { λ r. IsReader r.checker r.tail.items r.line r.stopped (pieces_joined r.pieces) };
 }
 
 /// The place of the first line end.
@@ -63,7 +63,7 @@ fn line_end(bytes: &[u8]) -> Option<usize>
 /// The line that ends with this part is given to the checker, unless it is too long.
 fn take_line(checker: &mut Checker, tail: &mut Vec<u8>, part: &[u8]) -> Result<bool, AllocError>
     requires { length tail.old.items ≤ 200 }
-    ensures takes { IfOk result (λ good. Takes checker.old (tail.old.items ++ part.now) good checker.new tail.new.items) }
+    ensures takes { IfOk result (λ good. TakesJournalLine checker.old (tail.old.items ++ part.now) good checker.new tail.new.items) }
     ensures checker_kept { OnErr result (checker.new ≡ checker.old) }
     ensures tail_kept { OnErr result (tail.new.items ≡ tail.old.items) }
 {
@@ -186,8 +186,8 @@ impl JournalReader {
 
     /// What the text comes to.
     pub fn verdict(&self) -> Verdict
-        ensures holds { (specs : List Spec) → Holds self.now.journal specs result }
-        ensures stays { self.now.stopped ≡ true → (specs : List Spec) (more : List ℕ) → Holds (longer self.now.journal more) specs result }
+        ensures holds { (specs : List Spec) → VerdictHolds self.now.journal specs result }
+        ensures stays { self.now.stopped ≡ true → (specs : List Spec) (more : List ℕ) → VerdictHolds (with_more_text self.now.journal more) specs result }
     {
         if !self.stopped && is_over(&self.tail) && self.checker.whole() {
             return Verdict::Yes;

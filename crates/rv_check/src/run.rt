@@ -9,7 +9,7 @@ ghost use Rattle.rv_check.specs.Run.{RunValue, BeginsRun, AllPlayed};
 use crate::next::Next;
 use crate::script::{after, allows, may_end, watch_all};
 use crate::work::work_of;
-use rv_core::{Setup, act_on, place_of};
+use rv_core::{Setup, act_on, word_index};
 use rv_model::{Closed, CpuWork, Entry};
 use std::alloc::{AllocError, Global};
 use std::marker::Model;
@@ -45,7 +45,7 @@ impl Model for Run {
 fn opening_words(alloc: Global, setup: &Setup) -> Result<Vec<u64>, AllocError>
     ensures { IfOk result (λ words. IsCore setup.now words.items []) }
 {
-    setup.known();
+    setup.assert_invariant();
     let slots = setup.shape.slots();
     let mut words = Vec::new(alloc);
     words.push(setup.switches)?;
@@ -90,7 +90,7 @@ impl Run {
     }
 
     /// Its history is a beginning.
-    pub fn known(&self)
+    pub fn assert_invariant(&self)
         ensures { BeginsRun self.now self.now.history }
     {
         let _ = &self.words;
@@ -117,7 +117,7 @@ impl Run {
         if !allows(work, &next, &entry.act) {
             return false;
         }
-        let at = place_of(&entry.act);
+        let at = word_index(&entry.act);
         if entry.before != self.words[at] {
             return false;
         }

@@ -1,19 +1,19 @@
 //! A script, one entry on.
 ghost use Rattle.std.specs.Prelude.{◌≡◌, ◌+◌, ◌<◌, ◌≤◌, ◌&&◌, ℕ, Bool, true, false, All, length, slice_index_or};
 ghost use Rattle.rv_model.specs.Numbers.{has_bit};
-ghost use Rattle.rv_model.specs.Scripts.{is_shown, fails};
+ghost use Rattle.rv_model.specs.Scripts.{is_enabled_by, fails};
 ghost use Rattle.rv_model.specs.declared.entry.Answer.{Answer};
 ghost use Rattle.rv_check.specs.declared.next.Next.{Next};
 ghost use Rattle.rv_check.specs.declared.next.Next.TheVariants.{Look, Deliver};
 ghost use Rattle.rv_check.specs.Beginnings.{FitsDelivery};
-ghost use Rattle.rv_check.specs.Nexts.{IsNext, HasPlace, IsDue, IsHalt, Serves, Allows, MayEnd, Settles, Moves, CanMove, watched};
+ghost use Rattle.rv_check.specs.Nexts.{IsNext, HasPlace, IsDue, IsHalt, ServesDue, Allows, MayEnd, Settles, Moves, CanMove, after_other};
 
 use crate::entries::changes;
 use crate::next::{Due, Next};
 use crate::work::{delivery_at, turn_at, turn_count};
 use rv_core::{Setup, Step};
 use rv_model::{
-    Act, Answer, CpuWork, Delivery, Entry, HALTED, REACTING, Turn, fails, has_switch, is_shown,
+    Act, Answer, CpuWork, Delivery, Entry, HALTED, REACTING, Turn, fails, has_switch, is_enabled_by,
 };
 
 /// Three lost tries stop an instance.
@@ -38,7 +38,7 @@ fn settle(setup: &Setup, work: &CpuWork, look: u64, place: u32, to: u32, turn: u
 {
     for at in place..to {
         let delivery = delivery_at(work, at);
-        if is_shown(look, &delivery) {
+        if is_enabled_by(look, &delivery) {
             let slot = setup.shape.slot(delivery.monitor, delivery.instance);
             return Next::Deliver(Due {
                 look,
@@ -57,8 +57,8 @@ fn settle(setup: &Setup, work: &CpuWork, look: u64, place: u32, to: u32, turn: u
 /// lost three times.
 fn serves(work: &CpuWork, due: &Due, act: &Act) -> bool
     requires { due.now.place < length work.now.deliveries }
-    ensures yes { result ≡ true → Serves work.now due.now act.now }
-    ensures no { result ≡ false → ¬ Serves work.now due.now act.now }
+    ensures yes { result ≡ true → ServesDue work.now due.now act.now }
+    ensures no { result ≡ false → ¬ ServesDue work.now due.now act.now }
 {
     let wanted = delivery_at(work, due.place).hit;
     let ends = wanted.mode.is_end();
@@ -126,7 +126,7 @@ pub fn after(setup: &Setup, panics: u32, work: &CpuWork, next: &Next, step: &Ste
 
 /// What is next after an entry of another seat.
 fn watch(next: &Next, entry: &Entry) -> Next
-    ensures { result ≡ watched entry.now next.now }
+    ensures { result ≡ after_other entry.now next.now }
 {
     match *next {
         Next::Deliver(due) => {
@@ -144,7 +144,7 @@ fn watch(next: &Next, entry: &Entry) -> Next
 /// What is next for each seat after an entry of another one.
 pub fn watch_all(nexts: &mut Vec<Next>, entry: &Entry)
     ensures count { length nexts.new.items ≡ length nexts.old.items }
-    ensures watched { (k : ℕ) (d : Next) → k < length nexts.old.items → slice_index_or nexts.new.items k d ≡ watched entry.now (slice_index_or nexts.old.items k d) }
+    ensures watched { (k : ℕ) (d : Next) → k < length nexts.old.items → slice_index_or nexts.new.items k d ≡ after_other entry.now (slice_index_or nexts.old.items k d) }
 {
     for place in 0..nexts.len() {
         let next = nexts[place];

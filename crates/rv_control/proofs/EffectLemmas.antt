@@ -18,8 +18,8 @@ use Rattle.rv_control.specs.declared.paths.Path.{Path}
 use Rattle.rv_control.specs.declared.paths.Path.TheVariants.{AvailableMonitors, AvailableReactors, EnabledMonitors, MonitoringOn, ReactingOn, Desc, Enable, Reactors}
 use Rattle.rv_control.specs.declared.orders.Order.{Order}
 use Rattle.rv_control.specs.declared.orders.Order.TheVariants as orders
-use Rattle.rv_control.specs.Trees.{Tree}
-use Rattle.rv_control.specs.Sets.{is_chosen, set_of}
+use Rattle.rv_control.specs.Trees.{ControlValue}
+use Rattle.rv_control.specs.Sets.{is_chosen, chosen_set}
 use Rattle.rv_control.specs.Paths.{path_of}
 use Rattle.rv_control.specs.Effects.{no_change, switching, enabling, disabling, turning, replacing, appending, ordering, order_of, flag_of, without_end, with_change, with_reactor, change_of, written, effect}
 
@@ -37,11 +37,11 @@ chained : {X Y : Type 0} (P : Y → Type 0) (f : X → Option Y) → ((x : X) �
 chained P f each None = tt
 chained P f each (Some x) = each x
 
-module _ (tree : Tree) (few : length tree.monitors ≤ 32) where
+module _ (tree : ControlValue) (few : length tree.monitors ≤ 32) where
   -- a set of monitors is below the switch of monitoring
-  set-below : (item : Option Item) (which : Those) → set_of tree item which < 2 ^ 34
+  set-below : (item : Option Item) (which : Those) → chosen_set tree item which < 2 ^ 34
   set-below item which =
-      let lt : set_of tree item which < 2 ^ length tree.monitors = number_of-lt (is_chosen tree item which) (length tree.monitors) in
+      let lt : chosen_set tree item which < 2 ^ length tree.monitors = number_of-lt (is_chosen tree item which) (length tree.monitors) in
       let le : 2 ^ length tree.monitors ≤ 2 ^ 32 = pow_mono few in
       omega arith
 
@@ -106,7 +106,7 @@ module _ (tree : Tree) (few : length tree.monitors ≤ 32) where
   change-below (Reactors place) text append = tt
 
   -- what is written touches no bit from the halted one on
-  abbrev pub WritesBelow : Option (Tree × Change) → Type 0
+  abbrev pub WritesBelow : Option (ControlValue × Change) → Type 0
   WritesBelow o = IfSome o (λ done. IsBelow done.1)
 
   -- it is so where the change touches none
@@ -116,7 +116,7 @@ module _ (tree : Tree) (few : length tree.monitors ≤ 32) where
 
   -- it is so of every text at every file
   written-below : (file : Path) (text : List ℕ) (append : Bool) → WritesBelow (written tree file text append)
-  written-below (Reactors place) text append = mapped (λ (done : Tree × Change). IsBelow done.1) (with_reactor tree place) (λ reactor. none-below) (reactor_named text)
+  written-below (Reactors place) text append = mapped (λ (done : ControlValue × Change). IsBelow done.1) (with_reactor tree place) (λ reactor. none-below) (reactor_named text)
   written-below MonitoringOn text append = with_change-below _ (change-below MonitoringOn text append)
   written-below ReactingOn text append = with_change-below _ (change-below ReactingOn text append)
   written-below EnabledMonitors text append = with_change-below _ (change-below EnabledMonitors text append)
@@ -126,10 +126,10 @@ module _ (tree : Tree) (few : length tree.monitors ≤ 32) where
   written-below (Desc item) text append = tt
 
   -- what was written
-  pub effect-below : (path text : List ℕ) (append : Bool) (after : Tree) (change : Change) → effect tree path text append ≡ Ok (after, change) → IsBelow change
+  pub effect-below : (path text : List ℕ) (append : Bool) (after : ControlValue) (change : Change) → effect tree path text append ≡ Ok (after, change) → IsBelow change
   effect-below path text append after change is = found (path_of tree path) is
     where
-      done : (o : Option (Tree × Change)) (refusal : Refusal) → WritesBelow o → ok_or o refusal ≡ Ok (after, change) → IsBelow change
+      done : (o : Option (ControlValue × Change)) (refusal : Refusal) → WritesBelow o → ok_or o refusal ≡ Ok (after, change) → IsBelow change
       done None refusal below e = cc
       done (Some d) refusal below e = let same : d.1 ≡ change = cc in subst IsBelow same below
 

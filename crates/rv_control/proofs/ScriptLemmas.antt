@@ -6,7 +6,7 @@ use Rattle.rv_text.specs.declared.refusals.Refusal.{Refusal}
 use Rattle.rv_text.specs.declared.refusals.Refused.{Refused}
 use Rattle.rv_text.specs.declared.refusals.Refused.TheVariants as refuseds
 use Rattle.rv_control.specs.declared.script.Numbered.{Numbered}
-use Rattle.rv_control.specs.Scripts.{line_said, onto, all_said}
+use Rattle.rv_control.specs.Scripts.{line_said, onto, commands_of_lines}
 
 -- what a line adds comes to the commands so far
 pub onto-onto : (commands more : List Numbered) (later : Result (List Numbered) Refusal) → onto commands (onto more later) ≡ onto (commands ++ more) later
@@ -19,18 +19,18 @@ onto-none (Err refusal) = refl
 onto-none (Ok later) = refl
 
 -- nothing behind changes nothing
-pub all_said-none : (commands : List Numbered) → onto commands (all_said []) ≡ Ok commands
-unfolding all_said
-all_said-none commands = ap Ok (append-nil commands)
+pub commands_of_lines-none : (commands : List Numbered) → onto commands (commands_of_lines []) ≡ Ok commands
+unfolding commands_of_lines
+commands_of_lines-none commands = ap Ok (append-nil commands)
 
 module _ (line : LineText) (later : List LineText) (so_far : List Numbered) where
   -- a line that was read, before the others
-  pub all_said-ok : (commands : List Numbered) → line_said line ≡ Ok commands → onto so_far (all_said (line ∷ later)) ≡ onto (so_far ++ commands) (all_said later)
-  unfolding all_said
-  all_said-ok commands is = ap (λ r. onto so_far (and_then r (λ more. onto more (all_said later)))) is ∙ onto-onto so_far commands (all_said later)
+  pub commands_of_lines-ok : (commands : List Numbered) → line_said line ≡ Ok commands → onto so_far (commands_of_lines (line ∷ later)) ≡ onto (so_far ++ commands) (commands_of_lines later)
+  unfolding commands_of_lines
+  commands_of_lines-ok commands is = ap (λ r. onto so_far (and_then r (λ more. onto more (commands_of_lines later)))) is ∙ onto-onto so_far commands (commands_of_lines later)
 
   -- a line that is refused, before the others
-  pub all_said-refused : (refused : Refused) → Refuses refused (line_said line) → Refuses refused (onto so_far (all_said (line ∷ later)))
-  unfolding all_said
-  all_said-refused refuseds.Memory is = tt
-  all_said-refused (refuseds.Because refusal) is = ap (λ r. onto so_far (and_then r (λ more. onto more (all_said later)))) is
+  pub commands_of_lines-refused : (refused : Refused) → Refuses refused (line_said line) → Refuses refused (onto so_far (commands_of_lines (line ∷ later)))
+  unfolding commands_of_lines
+  commands_of_lines-refused refuseds.Memory is = tt
+  commands_of_lines-refused (refuseds.Because refusal) is = ap (λ r. onto so_far (and_then r (λ more. onto more (commands_of_lines later)))) is

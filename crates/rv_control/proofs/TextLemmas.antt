@@ -5,27 +5,27 @@ use Rattle.std.proofs.lemmas.Option.{get_or_from_slice_get, slice_get_within}
 use Rattle.std.proofs.lemmas.List.{take_all, take_more, flat_map_more}
 use Rattle.rv_bind.specs.declared.bindings.Item.{Item}
 use Rattle.rv_bind.specs.declared.bindings.Item.TheVariants as items
-use Rattle.rv_control.specs.Trees.{Tree, is_in}
-use Rattle.rv_control.specs.FileTexts.{held}
+use Rattle.rv_control.specs.Trees.{ControlValue, is_in_container}
+use Rattle.rv_control.specs.FileTexts.{monitors_in}
 
 -- no monitors
-pub held-none : (tree : Tree) (container : ℕ) (old : List Item) → old ≡ old ++ held tree container 0
-unfolding held
-held-none tree container old = sym (append-nil old)
+pub monitors_in-none : (tree : ControlValue) (container : ℕ) (old : List Item) → old ≡ old ++ monitors_in tree container 0
+unfolding monitors_in
+monitors_in-none tree container old = sym (append-nil old)
 
-module _ (tree : Tree) (container n : ℕ) (old listed : List Item) where
+module _ (tree : ControlValue) (container n : ℕ) (old listed : List Item) where
   -- one monitor more, by whether it is in the container
-  held_more : (b : Bool) → is_in container (slice_get tree.monitors n) ≡ b → held tree container (n + 1) ≡ held tree container n ++ (if b then items.Monitor n ∷ [] else [])
-  unfolding held
-  held_more b is = ap (held tree container) (add-one n) ∙ ap (λ (t : Bool). held tree container n ++ (if t then items.Monitor n ∷ [] else [])) is
+  monitors_in_more : (b : Bool) → is_in_container container (slice_get tree.monitors n) ≡ b → monitors_in tree container (n + 1) ≡ monitors_in tree container n ++ (if b then items.Monitor n ∷ [] else [])
+  unfolding monitors_in
+  monitors_in_more b is = ap (monitors_in tree container) (add-one n) ∙ ap (λ (t : Bool). monitors_in tree container n ++ (if t then items.Monitor n ∷ [] else [])) is
 
   -- one monitor more that is in the container
-  pub held-yes : is_in container (slice_get tree.monitors n) ≡ true → listed ≡ old ++ held tree container n → listed ++ items.Monitor n ∷ [] ≡ old ++ held tree container (n + 1)
-  held-yes is so_far = ap (λ (z : List Item). z ++ items.Monitor n ∷ []) so_far ∙ append_assoc old (held tree container n) (items.Monitor n ∷ []) ∙ ap (λ (z : List Item). old ++ z) (sym (held_more true is))
+  pub monitors_in-yes : is_in_container container (slice_get tree.monitors n) ≡ true → listed ≡ old ++ monitors_in tree container n → listed ++ items.Monitor n ∷ [] ≡ old ++ monitors_in tree container (n + 1)
+  monitors_in-yes is so_far = ap (λ (z : List Item). z ++ items.Monitor n ∷ []) so_far ∙ append_assoc old (monitors_in tree container n) (items.Monitor n ∷ []) ∙ ap (λ (z : List Item). old ++ z) (sym (monitors_in_more true is))
 
   -- one that is not
-  pub held-no : is_in container (slice_get tree.monitors n) ≡ false → listed ≡ old ++ held tree container n → listed ≡ old ++ held tree container (n + 1)
-  held-no is so_far = so_far ∙ ap (λ (z : List Item). old ++ z) (sym (held_more false is ∙ append-nil _))
+  pub monitors_in-no : is_in_container container (slice_get tree.monitors n) ≡ false → listed ≡ old ++ monitors_in tree container n → listed ≡ old ++ monitors_in tree container (n + 1)
+  monitors_in-no is so_far = so_far ∙ ap (λ (z : List Item). old ++ z) (sym (monitors_in_more false is ∙ append-nil _))
 
 module _ {X Y : Type 0} (f : X → List Y) (xs : List X) where
   -- what is made of the first items, behind a text, and of one item more

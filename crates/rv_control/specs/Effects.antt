@@ -15,8 +15,8 @@ use Rattle.rv_control.specs.declared.paths.Path.{Path}
 use Rattle.rv_control.specs.declared.paths.Path.TheVariants.{AvailableMonitors, AvailableReactors, EnabledMonitors, MonitoringOn, ReactingOn, Desc, Enable, Reactors}
 use Rattle.rv_control.specs.declared.orders.Order.{Order}
 use Rattle.rv_control.specs.declared.orders.Order.TheVariants as orders
-use Rattle.rv_control.specs.Trees.{Tree}
-use Rattle.rv_control.specs.Sets.{set_of}
+use Rattle.rv_control.specs.Trees.{ControlValue}
+use Rattle.rv_control.specs.Sets.{chosen_set}
 use Rattle.rv_control.specs.Paths.{item_named, path_of}
 
 -- ---- texts
@@ -30,7 +30,7 @@ abbrev pub flag_of : List ℕ → Option Bool
 flag_of text = if bytes_eq text (codes "0") then Some false else if bytes_eq text (codes "1") then Some true else None
 
 -- nothing, a name that is enabled, or `!` and a name that is disabled
-abbrev pub order_of : Tree → List ℕ → Option Order
+abbrev pub order_of : ControlValue → List ℕ → Option Order
 order_of tree [] = Some orders.Nothing
 order_of tree (byte ∷ bytes) = if byte == 33 then option_map orders.Disable (item_named tree bytes) else option_map orders.Enable (item_named tree (byte ∷ bytes))
 
@@ -41,52 +41,52 @@ abbrev pub no_change : Change
 no_change = record { lower = 0; clear = 0; raise = 0 }
 
 -- a switch goes on or off, where it is not so already
-abbrev pub switching : Tree → ℕ → Bool → Change
+abbrev pub switching : ControlValue → ℕ → Bool → Change
 switching tree bit true = if has_bit tree.switches bit then no_change else record no_change { raise = 2 ^ bit }
 switching tree bit false = if has_bit tree.switches bit then record no_change { lower = 2 ^ bit } else no_change
 
 -- those monitors of a container or a monitor that are not enabled are cleared and enabled
-abbrev pub enabling : Tree → Item → Change
-enabling tree item = let fresh = set_of tree (Some item) those.Disabled in record { lower = 0; clear = fresh; raise = fresh }
+abbrev pub enabling : ControlValue → Item → Change
+enabling tree item = let fresh = chosen_set tree (Some item) those.Disabled in record { lower = 0; clear = fresh; raise = fresh }
 
 -- those that are enabled are disabled
-abbrev pub disabling : Tree → Item → Change
-disabling tree item = record no_change { lower = set_of tree (Some item) those.Enabled }
+abbrev pub disabling : ControlValue → Item → Change
+disabling tree item = record no_change { lower = chosen_set tree (Some item) those.Enabled }
 
 -- an item is enabled or disabled
-abbrev pub turning : Tree → Item → Bool → Change
+abbrev pub turning : ControlValue → Item → Bool → Change
 turning tree item true = enabling tree item
 turning tree item false = disabling tree item
 
 -- all monitors are disabled
-abbrev pub disabling_all : Tree → Change
-disabling_all tree = record no_change { lower = set_of tree None those.Enabled }
+abbrev pub disabling_all : ControlValue → Change
+disabling_all tree = record no_change { lower = chosen_set tree None those.Enabled }
 
 -- all monitors are disabled, and then all of the container's or the monitor itself are cleared and enabled
-abbrev pub enabling_alone : Tree → Item → Change
-enabling_alone tree item = let fresh = set_of tree (Some item) those.All in record (disabling_all tree) { clear = fresh; raise = fresh }
+abbrev pub enabling_alone : ControlValue → Item → Change
+enabling_alone tree item = let fresh = chosen_set tree (Some item) those.All in record (disabling_all tree) { clear = fresh; raise = fresh }
 
 -- an order that is not appended comes after all monitors are disabled, so that there is nothing more to disable
-abbrev pub replacing : Tree → Order → Change
+abbrev pub replacing : ControlValue → Order → Change
 replacing tree orders.Nothing = disabling_all tree
 replacing tree (orders.Enable item) = enabling_alone tree item
 replacing tree (orders.Disable item) = disabling_all tree
 
 -- an order that is appended leaves the other monitors as they are; there is no appending of nothing
-abbrev pub appending : Tree → Order → Option Change
+abbrev pub appending : ControlValue → Order → Option Change
 appending tree orders.Nothing = None
 appending tree (orders.Enable item) = Some (enabling tree item)
 appending tree (orders.Disable item) = Some (disabling tree item)
 
 -- an order is appended, or it replaces what was enabled
-abbrev pub ordering : Tree → Bool → Order → Option Change
+abbrev pub ordering : ControlValue → Bool → Order → Option Change
 ordering tree true order = appending tree order
 ordering tree false order = Some (replacing tree order)
 
 -- ---- writes
 
 -- the change of the switches that a text asks of a file, where it is allowed
-abbrev pub change_of : Tree → Path → List ℕ → Bool → Option Change
+abbrev pub change_of : ControlValue → Path → List ℕ → Bool → Option Change
 change_of tree MonitoringOn text append = option_map (switching tree 32) (flag_of text)
 change_of tree ReactingOn text append = option_map (switching tree 33) (flag_of text)
 change_of tree EnabledMonitors text append = option_and_then (ordering tree append) (order_of tree text)
@@ -97,24 +97,24 @@ change_of tree (Desc item) text append = None
 change_of tree (Reactors place) text append = None
 
 -- the switches go off, and then on
-abbrev pub changed : Tree → Change → Tree
-changed tree change = record tree { switches = bit_or (bit_and tree.switches (bit_not w64 change.lower)) change.raise }
+abbrev pub with_switches : ControlValue → Change → ControlValue
+with_switches tree change = record tree { switches = bit_or (bit_and tree.switches (bit_not w64 change.lower)) change.raise }
 
 -- the change as a tree, too
-abbrev pub with_change : Tree → Change → Tree × Change
-with_change tree change = (changed tree change, change)
+abbrev pub with_change : ControlValue → Change → ControlValue × Change
+with_change tree change = (with_switches tree change, change)
 
 -- the monitor's reactor is this one; no switch changes
-abbrev pub with_reactor : Tree → ℕ → Reactor → Tree × Change
+abbrev pub with_reactor : ControlValue → ℕ → Reactor → ControlValue × Change
 with_reactor tree place reactor = (record tree { reactors = slice_set tree.reactors place reactor }, no_change)
 
 -- what a text makes of the tree at a file, where it is allowed
-abbrev pub written : Tree → Path → List ℕ → Bool → Option (Tree × Change)
+abbrev pub written : ControlValue → Path → List ℕ → Bool → Option (ControlValue × Change)
 written tree (Reactors place) text append = option_map (with_reactor tree place) (reactor_named text)
 written tree file text append = option_map (with_change tree) (change_of tree file text append)
 
 -- what a write makes of the tree, and its change; or that there is no such file, or that the text is not allowed
-abbrev pub effect : Tree → List ℕ → List ℕ → Bool → Result (Tree × Change) Refusal
+abbrev pub effect : ControlValue → List ℕ → List ℕ → Bool → Result (ControlValue × Change) Refusal
 effect tree path text append =
     and_then (ok_or (path_of tree path) (record { number = NO_SUCH_FILE; line = 0 })) (λ file.
     ok_or (written tree file (without_end text) append) (record { number = INVALID; line = 0 }))

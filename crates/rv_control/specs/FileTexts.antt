@@ -14,40 +14,40 @@ use Rattle.rv_bind.specs.declared.bindings.Item.{Item}
 use Rattle.rv_bind.specs.declared.bindings.Item.TheVariants as items
 use Rattle.rv_control.specs.declared.watched.Kind.{Kind}
 use Rattle.rv_control.specs.declared.watched.Kind.TheVariants.{Da, Ltl}
-use Rattle.rv_control.specs.declared.watched.Watched.{Watched}
+use Rattle.rv_control.specs.declared.watched.MonitorInfo.{MonitorInfo}
 use Rattle.rv_control.specs.declared.paths.Path.{Path}
 use Rattle.rv_control.specs.declared.paths.Path.TheVariants.{AvailableMonitors, AvailableReactors, EnabledMonitors, MonitoringOn, ReactingOn, Desc, Enable, Reactors}
-use Rattle.rv_control.specs.Trees.{Tree, shown, is_in}
+use Rattle.rv_control.specs.Trees.{ControlValue, item_display_name, is_in_container}
 use Rattle.rv_control.specs.Sets.{is_enabled}
 use Rattle.rv_control.specs.Paths.{path_of}
 
 -- ---- lists of monitors
 
 -- of the first n monitors those in the container
-unfoldable pub held : Tree → ℕ → ℕ → List Item
-held tree container zero = []
-held tree container (suc n) = held tree container n ++ (if is_in container (slice_get tree.monitors n) then items.Monitor n ∷ [] else [])
+unfoldable pub monitors_in : ControlValue → ℕ → ℕ → List Item
+monitors_in tree container zero = []
+monitors_in tree container (suc n) = monitors_in tree container n ++ (if is_in_container container (slice_get tree.monitors n) then items.Monitor n ∷ [] else [])
 
 -- a container stands before its monitors
-abbrev pub with_held : Tree → Item → List Item
-with_held tree (items.Container place) = items.Container place ∷ held tree place (length tree.monitors)
+abbrev pub with_held : ControlValue → Item → List Item
+with_held tree (items.Container place) = items.Container place ∷ monitors_in tree place (length tree.monitors)
 with_held tree (items.Monitor place) = items.Monitor place ∷ []
 
 -- all containers and monitors, in the order of the items
-abbrev pub listed : Tree → List Item
+abbrev pub listed : ControlValue → List Item
 listed tree = flat_map (with_held tree) tree.items
 
 -- the lines are of all, or of those that are enabled
-abbrev pub is_listed : Tree → Bool → Item → Bool
-is_listed tree true item = is_enabled tree item
-is_listed tree false item = true
+abbrev pub has_line : ControlValue → Bool → Item → Bool
+has_line tree true item = is_enabled tree item
+has_line tree false item = true
 
 -- the line with the shown name of a container or a monitor, where it is listed
-abbrev pub name_line : Tree → Bool → Item → List ℕ
-name_line tree enabled item = if is_listed tree enabled item then shown tree item ++ line_end else []
+abbrev pub name_line : ControlValue → Bool → Item → List ℕ
+name_line tree enabled item = if has_line tree enabled item then item_display_name tree item ++ line_end else []
 
 -- a line for each container and each monitor that is listed
-abbrev pub names_text : Tree → Bool → List ℕ
+abbrev pub names_text : ControlValue → Bool → List ℕ
 names_text tree enabled = flat_map (name_line tree enabled) (listed tree)
 
 -- ---- single files
@@ -68,12 +68,12 @@ scope_text Cpu = codes "cpu"
 scope_text Task = codes "task"
 
 -- how a monitor is specified
-abbrev pub watched_text : Option Watched → List ℕ
+abbrev pub watched_text : Option MonitorInfo → List ℕ
 watched_text None = []
 watched_text (Some m) = kind_text m.kind ++ codes " " ++ scope_text m.scope ++ codes " " ++ m.file ++ line_end
 
 -- a container says that it is one, and a monitor how it is specified
-abbrev pub desc_text : Tree → Item → List ℕ
+abbrev pub desc_text : ControlValue → Item → List ℕ
 desc_text tree (items.Container place) = codes "container" ++ line_end
 desc_text tree (items.Monitor place) = watched_text (slice_get tree.monitors place)
 
@@ -85,7 +85,7 @@ reactors_text (Some Panic) = codes "nop\n[panic]\nprintk\n"
 reactors_text (Some Printk) = codes "nop\npanic\n[printk]\n"
 
 -- the text of a file
-abbrev pub text_of : Tree → Path → List ℕ
+abbrev pub text_of : ControlValue → Path → List ℕ
 text_of tree AvailableMonitors = names_text tree false
 text_of tree AvailableReactors = reactors_text None
 text_of tree EnabledMonitors = names_text tree true
@@ -96,5 +96,5 @@ text_of tree (Enable item) = flag_text (is_enabled tree item)
 text_of tree (Reactors place) = reactors_text (slice_get tree.reactors place)
 
 -- the text at a path, or that there is no such file
-abbrev pub file_text : Tree → List ℕ → Result (List ℕ) Refusal
+abbrev pub file_text : ControlValue → List ℕ → Result (List ℕ) Refusal
 file_text tree path = and_then (ok_or (path_of tree path) (record { number = NO_SUCH_FILE; line = 0 })) (λ file. Ok (text_of tree file))

@@ -7,33 +7,33 @@ use Rattle.rv_bind.specs.declared.bindings.Bindings.{Bindings}
 use Rattle.rv_bind.specs.declared.bindings.Monitor.{Monitor}
 use Rattle.rv_control.specs.declared.watched.Kind.{Kind}
 use Rattle.rv_control.specs.declared.watched.Kind.TheVariants as kinds
-use Rattle.rv_control.specs.declared.watched.Watched.{Watched}
-use Rattle.rv_control.specs.Trees.{Tree}
+use Rattle.rv_control.specs.declared.watched.MonitorInfo.{MonitorInfo}
+use Rattle.rv_control.specs.Trees.{ControlValue}
 
 -- whether the specification is an automaton or a rule
-abbrev pub kind_of : Spec → Kind
-kind_of (specs.Da automaton) = kinds.Da
-kind_of (specs.Ltl rule) = kinds.Ltl
+abbrev pub spec_kind : Spec → Kind
+spec_kind (specs.Da automaton) = kinds.Da
+spec_kind (specs.Ltl rule) = kinds.Ltl
 
 -- what the control files show of a monitor
-abbrev pub watched : Monitor → Watched
-watched m = record { name = m.name; container = m.container; kind = kind_of m.spec; scope = m.scope; file = m.file }
+abbrev pub watched : Monitor → MonitorInfo
+watched m = record { name = m.name; container = m.container; kind = spec_kind m.spec; scope = m.scope; file = m.file }
 
 -- there is a monitor, and it is enabled when the run begins
-abbrev pub is_enabled : Option Monitor → Bool
-is_enabled None = false
-is_enabled (Some m) = m.enabled
+abbrev pub starts_enabled : Option Monitor → Bool
+starts_enabled None = false
+starts_enabled (Some m) = m.enabled
 
 -- whether the monitor of the bit is enabled
 abbrev pub enables : List Monitor → ℕ → Bool
-enables monitors bit = is_enabled (slice_get monitors bit)
+enables monitors bit = starts_enabled (slice_get monitors bit)
 
 -- bits 32 and 33 are on, monitoring and reacting, and so is the bit of each monitor that is not off
 abbrev pub opening_switches : List Monitor → ℕ
 opening_switches monitors = number_of (enables monitors) 32 + (2 ^ 32 + 2 ^ 33)
 
 -- the tree of bindings
-abbrev pub opening_tree : Bindings → Tree
+abbrev pub opening_tree : Bindings → ControlValue
 opening_tree b = record {
   switches = opening_switches b.monitors.items;
   reactors = map (λ m. m.reactor) b.monitors.items;

@@ -2,10 +2,10 @@
 use Rattle.std.specs.Prelude.{ℕ, Bool, true, false, ◌&&◌, ◌==◌, bytes_eq, position, List, [], ◌∷◌, Option, Some, None, option_map, option_and_then, if◌then◌else◌, codes}
 use Rattle.rv_bind.specs.declared.bindings.Item.{Item}
 use Rattle.rv_bind.specs.declared.bindings.Item.TheVariants as items
-use Rattle.rv_control.specs.declared.watched.Watched.{Watched}
+use Rattle.rv_control.specs.declared.watched.MonitorInfo.{MonitorInfo}
 use Rattle.rv_control.specs.declared.paths.Path.{Path}
 use Rattle.rv_control.specs.declared.paths.Path.TheVariants.{AvailableMonitors, AvailableReactors, EnabledMonitors, MonitoringOn, ReactingOn, Desc, Enable, Reactors}
-use Rattle.rv_control.specs.Trees.{Tree, shown_in}
+use Rattle.rv_control.specs.Trees.{ControlValue, display_name}
 
 -- a byte in front of the first piece
 abbrev pub begin_with : ℕ → List (List ℕ) → List (List ℕ)
@@ -13,35 +13,35 @@ begin_with byte [] = (byte ∷ []) ∷ []
 begin_with byte (piece ∷ pieces) = (byte ∷ piece) ∷ pieces
 
 -- the pieces of a path between its slashes
-unfoldable pub pieces_of : List ℕ → List (List ℕ)
-pieces_of [] = [] ∷ []
-pieces_of (byte ∷ bytes) = if byte == 47 then [] ∷ pieces_of bytes else begin_with byte (pieces_of bytes)
+unfoldable pub path_pieces : List ℕ → List (List ℕ)
+path_pieces [] = [] ∷ []
+path_pieces (byte ∷ bytes) = if byte == 47 then [] ∷ path_pieces bytes else begin_with byte (path_pieces bytes)
 
 -- the pieces of what is left of a path
 abbrev pub pieces_left : Option (List ℕ) → List (List ℕ)
 pieces_left None = []
-pieces_left (Some text) = pieces_of text
+pieces_left (Some text) = path_pieces text
 
 -- ---- names
 
 -- the container of this name
-abbrev pub container_named : Tree → List ℕ → Option ℕ
+abbrev pub container_named : ControlValue → List ℕ → Option ℕ
 container_named tree name = position (λ other. bytes_eq other name) tree.containers
 
 -- both name one container, or neither names any
-abbrev pub is_same : Option ℕ → Option ℕ → Bool
-is_same None None = true
-is_same None (Some other) = false
-is_same (Some place) None = false
-is_same (Some place) (Some other) = place == other
+abbrev pub is_same_container : Option ℕ → Option ℕ → Bool
+is_same_container None None = true
+is_same_container None (Some other) = false
+is_same_container (Some place) None = false
+is_same_container (Some place) (Some other) = place == other
 
 -- the monitor has this name, and is in this container, or in none
-abbrev pub is_called : Option ℕ → List ℕ → Watched → Bool
-is_called holder name m = is_same m.container holder && bytes_eq m.name name
+abbrev pub is_called_in : Option ℕ → List ℕ → MonitorInfo → Bool
+is_called_in holder name m = is_same_container m.container holder && bytes_eq m.name name
 
 -- the monitor of this name in this container, or in none
-abbrev pub monitor_named : Tree → Option ℕ → List ℕ → Option Item
-monitor_named tree holder name = option_map items.Monitor (position (is_called holder name) tree.monitors)
+abbrev pub monitor_item : ControlValue → Option ℕ → List ℕ → Option Item
+monitor_item tree holder name = option_map items.Monitor (position (is_called_in holder name) tree.monitors)
 
 -- the first where there is one, or else the second
 abbrev pub item_or : Option ℕ → Option Item → Option Item
@@ -49,20 +49,20 @@ item_or None other = other
 item_or (Some container) other = Some (items.Container container)
 
 -- a container, or a monitor outside containers
-abbrev pub outer_named : Tree → List ℕ → Option Item
-outer_named tree name = item_or (container_named tree name) (monitor_named tree None name)
+abbrev pub outer_named : ControlValue → List ℕ → Option Item
+outer_named tree name = item_or (container_named tree name) (monitor_item tree None name)
 
 -- a monitor in a container
-abbrev pub inner_named : Tree → List ℕ → List ℕ → Option Item
-inner_named tree container name = option_and_then (λ place. monitor_named tree (Some place) name) (container_named tree container)
+abbrev pub inner_named : ControlValue → List ℕ → List ℕ → Option Item
+inner_named tree container name = option_and_then (λ place. monitor_item tree (Some place) name) (container_named tree container)
 
 -- the monitor's shown name is this one
-abbrev pub is_shown : Tree → List ℕ → Watched → Bool
-is_shown tree name m = bytes_eq (shown_in tree.containers m.container m.name) name
+abbrev pub has_display_name : ControlValue → List ℕ → MonitorInfo → Bool
+has_display_name tree name m = bytes_eq (display_name tree.containers m.container m.name) name
 
 -- a container, or a monitor by its shown name
-abbrev pub item_named : Tree → List ℕ → Option Item
-item_named tree name = item_or (container_named tree name) (option_map items.Monitor (position (is_shown tree name) tree.monitors))
+abbrev pub item_named : ControlValue → List ℕ → Option Item
+item_named tree name = item_or (container_named tree name) (option_map items.Monitor (position (has_display_name tree name) tree.monitors))
 
 -- ---- files
 
@@ -92,7 +92,7 @@ abbrev pub file_below : List ℕ → Option Item → List ℕ → Option Path
 file_below top item name = if bytes_eq top (codes "monitors") then option_and_then (item_file name) item else None
 
 -- the file of these pieces
-abbrev pub file_by : Tree → List (List ℕ) → Option Path
+abbrev pub file_by : ControlValue → List (List ℕ) → Option Path
 file_by tree [] = None
 file_by tree (name ∷ []) = top_file name
 file_by tree (top ∷ name ∷ []) = None
@@ -101,8 +101,8 @@ file_by tree (top ∷ container ∷ monitor ∷ name ∷ []) = file_below top (i
 file_by tree (top ∷ container ∷ monitor ∷ name ∷ more ∷ pieces) = None
 
 -- the file of a path
-abbrev pub path_of : Tree → List ℕ → Option Path
-path_of tree path = file_by tree (pieces_of path)
+abbrev pub path_of : ControlValue → List ℕ → Option Path
+path_of tree path = file_by tree (path_pieces path)
 
 -- there is a file, and it is a monitor's reactors
 abbrev pub is_reactors_file : Option Path → Bool
@@ -110,5 +110,5 @@ is_reactors_file (Some (Reactors place)) = true
 is_reactors_file _ = false
 
 -- the path is that of a monitor's reactors
-abbrev pub is_reactors : Tree → List ℕ → Bool
+abbrev pub is_reactors : ControlValue → List ℕ → Bool
 is_reactors tree path = is_reactors_file (path_of tree path)

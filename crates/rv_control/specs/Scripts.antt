@@ -13,43 +13,43 @@ use Rattle.rv_control.specs.declared.script.Numbered.{Numbered}
 use Rattle.rv_control.specs.declared.script.TheConstants.{SCRIPT_LIMIT}
 
 -- VERB PATH [TEXT]
-abbrev pub command_with : List ℕ → List ℕ → Option (List ℕ) → Option Command
-command_with verb path None =
+abbrev pub script_command_with : List ℕ → List ℕ → Option (List ℕ) → Option Command
+script_command_with verb path None =
     if bytes_eq verb (codes "read") then Some (Read path)
     else if bytes_eq verb (codes "write") then Some (Write path [] false)
     else if bytes_eq verb (codes "append") then Some (Write path [] true) else None
-command_with verb path (Some text) =
+script_command_with verb path (Some text) =
     if bytes_eq verb (codes "write") then Some (Write path text false)
     else if bytes_eq verb (codes "append") then Some (Write path text true) else None
 
 -- the command that words spell: a verb, a path, and a text where one is written
-abbrev pub command_of : List (List ℕ) → Option Command
-command_of [] = None
-command_of (verb ∷ []) = None
-command_of (verb ∷ path ∷ []) = command_with verb path None
-command_of (verb ∷ path ∷ text ∷ []) = command_with verb path (Some text)
-command_of (verb ∷ path ∷ text ∷ more ∷ words) = None
+abbrev pub script_command_of : List (List ℕ) → Option Command
+script_command_of [] = None
+script_command_of (verb ∷ []) = None
+script_command_of (verb ∷ path ∷ []) = script_command_with verb path None
+script_command_of (verb ∷ path ∷ text ∷ []) = script_command_with verb path (Some text)
+script_command_of (verb ∷ path ∷ text ∷ more ∷ words) = None
 
 -- the command of a line by its words; a line without a word, or whose first word begins with `#`, is skipped
-abbrev pub said : ℕ → List (List ℕ) → Result (List Numbered) Refusal
-said line [] = Ok []
-said line (word ∷ words) =
+abbrev pub commands_of_line : ℕ → List (List ℕ) → Result (List Numbered) Refusal
+commands_of_line line [] = Ok []
+commands_of_line line (word ∷ words) =
     if starts_with nat_eq word (codes "#") then Ok []
-    else and_then (ok_or (command_of (word ∷ words)) (record { number = CONTROL_SYNTAX; line = line })) (λ command. Ok (record { line = line; command = command } ∷ []))
+    else and_then (ok_or (script_command_of (word ∷ words)) (record { number = CONTROL_SYNTAX; line = line })) (λ command. Ok (record { line = line; command = command } ∷ []))
 
 -- what a line adds; one that ends past the limit is of no form, whatever it says
 abbrev pub line_said : LineText → Result (List Numbered) Refusal
-line_said line = if nat_lt SCRIPT_LIMIT line.end then refused_at CONTROL_SYNTAX line.number else said line.number (words_of line.bytes)
+line_said line = if nat_lt SCRIPT_LIMIT line.end then refused_at CONTROL_SYNTAX line.number else commands_of_line line.number (words_of line.bytes)
 
 -- these commands, and then those of the later lines
 abbrev pub onto : List Numbered → Result (List Numbered) Refusal → Result (List Numbered) Refusal
 onto commands later = and_then later (λ more. Ok (commands ++ more))
 
 -- what lines say, one after the other: the first fault decides
-unfoldable pub all_said : List LineText → Result (List Numbered) Refusal
-all_said [] = Ok []
-all_said (line ∷ later) = and_then (line_said line) (λ commands. onto commands (all_said later))
+unfoldable pub commands_of_lines : List LineText → Result (List Numbered) Refusal
+commands_of_lines [] = Ok []
+commands_of_lines (line ∷ later) = and_then (line_said line) (λ commands. onto commands (commands_of_lines later))
 
 -- the commands of a script, or the first line that has none of the forms
 unfoldable pub script_of : List ℕ → Result (List Numbered) Refusal
-script_of text = all_said (lines_of text)
+script_of text = commands_of_lines (lines_of text)

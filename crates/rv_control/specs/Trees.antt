@@ -3,18 +3,18 @@ use Rattle.std.specs.Prelude.{◌≡◌, ◌≤◌, ℕ, Bool, false, ◌==◌, 
 use Rattle.rv_model.specs.declared.reactor.Reactor.{Reactor}
 use Rattle.rv_bind.specs.declared.bindings.Item.{Item}
 use Rattle.rv_bind.specs.declared.bindings.Item.TheVariants as items
-use Rattle.rv_control.specs.declared.watched.Watched.{Watched}
+use Rattle.rv_control.specs.declared.watched.MonitorInfo.{MonitorInfo}
 
 -- the switches, a reactor for each monitor, the containers' names, the monitors, and the items of the bindings
-pub record Tree : Type 0 where
+pub record ControlValue : Type 0 where
   pub switches : ℕ
   pub reactors : List Reactor
   pub containers : List (List ℕ)
-  pub monitors : List Watched
+  pub monitors : List MonitorInfo
   pub items : List Item
 
 -- each monitor has a reactor, and a switch among the first 32
-pub record IsTree (tree : Tree) : Type 0 where
+pub record IsControl (tree : ControlValue) : Type 0 where
   pub reactors : length tree.reactors ≡ length tree.monitors
   pub few_monitors : length tree.monitors ≤ 32
   pub few_containers : length tree.containers ≤ 32
@@ -22,19 +22,19 @@ pub record IsTree (tree : Tree) : Type 0 where
 -- ---- names
 
 -- the shown name: a container's name stands before that of a monitor in it
-abbrev pub shown_in : List (List ℕ) → Option ℕ → List ℕ → List ℕ
-shown_in containers None name = name
-shown_in containers (Some place) name = slice_index_or containers place [] ++ codes ":" ++ name
+abbrev pub display_name : List (List ℕ) → Option ℕ → List ℕ → List ℕ
+display_name containers None name = name
+display_name containers (Some place) name = slice_index_or containers place [] ++ codes ":" ++ name
 
 -- the shown name of a monitor, and an empty one where there is no monitor
-abbrev pub shown_name : Tree → Option Watched → List ℕ
-shown_name tree None = []
-shown_name tree (Some m) = shown_in tree.containers m.container m.name
+abbrev pub monitor_display_name : ControlValue → Option MonitorInfo → List ℕ
+monitor_display_name tree None = []
+monitor_display_name tree (Some m) = display_name tree.containers m.container m.name
 
 -- how a container or a monitor is called
-abbrev pub shown : Tree → Item → List ℕ
-shown tree (items.Container place) = slice_index_or tree.containers place []
-shown tree (items.Monitor place) = shown_name tree (slice_get tree.monitors place)
+abbrev pub item_display_name : ControlValue → Item → List ℕ
+item_display_name tree (items.Container place) = slice_index_or tree.containers place []
+item_display_name tree (items.Monitor place) = monitor_display_name tree (slice_get tree.monitors place)
 
 -- ---- containers and their monitors
 
@@ -44,11 +44,11 @@ is_holder container None = false
 is_holder container (Some place) = place == container
 
 -- the monitor is in the container
-abbrev pub is_in : ℕ → Option Watched → Bool
-is_in container None = false
-is_in container (Some m) = is_holder container m.container
+abbrev pub is_in_container : ℕ → Option MonitorInfo → Bool
+is_in_container container None = false
+is_in_container container (Some m) = is_holder container m.container
 
 -- the monitor of this place is in the container, or is the monitor itself
-abbrev pub is_of : Tree → Item → ℕ → Bool
-is_of tree (items.Container container) place = is_in container (slice_get tree.monitors place)
-is_of tree (items.Monitor monitor) place = monitor == place
+abbrev pub belongs_to : ControlValue → Item → ℕ → Bool
+belongs_to tree (items.Container container) place = is_in_container container (slice_get tree.monitors place)
+belongs_to tree (items.Monitor monitor) place = monitor == place

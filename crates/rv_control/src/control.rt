@@ -1,9 +1,9 @@
 //! The control files as one value.
 ghost use Rattle.std.specs.Prelude.{◌≡◌, ◌<◌, ◌≤◌, length, slice_get, option_copied, Some};
 ghost use Rattle.rv_model.specs.Numbers.{has_bit};
-ghost use Rattle.rv_control.specs.Trees.{IsTree, is_holder, is_in, is_of};
+ghost use Rattle.rv_control.specs.Trees.{IsControl, is_holder, is_in_container, belongs_to};
 
-use crate::watched::Watched;
+use crate::watched::MonitorInfo;
 use rv_bind::Item;
 use rv_model::{Name, Reactor};
 use std::marker::Model;
@@ -14,24 +14,24 @@ pub struct Control {
     pub(crate) switches: u64,
     pub(crate) reactors: Vec<Reactor>,
     pub(crate) containers: Vec<Name>,
-    pub(crate) monitors: Vec<Watched>,
+    pub(crate) monitors: Vec<MonitorInfo>,
     pub(crate) items: Vec<Item>,
 }
 
 impl Model for Control {
-    ghost use Rattle.rv_control.specs.Trees.{Tree, IsTree};
+    ghost use Rattle.rv_control.specs.Trees.{ControlValue, IsControl};
 
-    ghost Value = { Tree };
+    ghost Value = { ControlValue };
 
     ghost view = { λ c. record { switches = c.switches; reactors = c.reactors.items; containers = c.containers.items; monitors = c.monitors.items; items = c.items.items } };
 
-    ghost invariant = { λ c. IsTree (record { switches = c.switches; reactors = c.reactors.items; containers = c.containers.items; monitors = c.monitors.items; items = c.items.items }) };
+    ghost invariant = { λ c. IsControl (record { switches = c.switches; reactors = c.reactors.items; containers = c.containers.items; monitors = c.monitors.items; items = c.items.items }) };
 }
 
 impl Control {
     /// What is known of all control files.
-    pub(crate) fn known(&self)
-        ensures { IsTree self.now }
+    pub(crate) fn assert_invariant(&self)
+        ensures { IsControl self.now }
     {
         let _ = &self.monitors;
     }
@@ -60,19 +60,22 @@ impl Control {
     }
 
     /// Whether the monitor of this place is in the container, or is the monitor itself.
-    pub(crate) fn is_of(&self, item: Item, place: usize) -> bool
-        ensures { result ≡ is_of self.now item place }
+    pub(crate) fn belongs_to(&self, item: Item, place: usize) -> bool
+        ensures { result ≡ belongs_to self.now item place }
     {
         match item {
-            Item::Container(container) => is_in(container, self.monitors.as_slice().get(place)),
+            Item::Container(container) => is_in_container(
+                container,
+                self.monitors.as_slice().get(place),
+            ),
             Item::Monitor(monitor) => monitor as usize == place,
         }
     }
 }
 
 /// Whether the monitor, where there is one, is in the container.
-fn is_in(container: u8, monitor: Option<&Watched>) -> bool
-    ensures { result ≡ is_in container (option_copied monitor.entry) }
+fn is_in_container(container: u8, monitor: Option<&MonitorInfo>) -> bool
+    ensures { result ≡ is_in_container container (option_copied monitor.entry) }
 {
     match monitor {
         Some(monitor) => match monitor.container {

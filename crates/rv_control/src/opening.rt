@@ -1,9 +1,9 @@
 //! The control files of a run that begins.
 ghost use Rattle.std.specs.Prelude.{◌≡◌, ◌≤◌, ◌<◌, ◌^◌, map, length, IfOk};
-ghost use Rattle.rv_control.specs.Opening.{kind_of, watched, enables, opening_switches, opening_tree};
+ghost use Rattle.rv_control.specs.Opening.{spec_kind, watched, enables, opening_switches, opening_tree};
 
 use crate::control::Control;
-use crate::watched::{Kind, Watched};
+use crate::watched::{Kind, MonitorInfo};
 use rv_bind::{Bindings, Monitor};
 use rv_model::{Name, Names, Reactor, Spec};
 use std::alloc::{AllocError, Global};
@@ -11,8 +11,8 @@ use std::alloc::{AllocError, Global};
 /// Monitoring and reacting.
 const SWITCHED_ON: u64 = 12_884_901_888;
 
-fn kind_of(spec: &Spec) -> Kind
-    ensures { result ≡ kind_of spec.now }
+fn spec_kind(spec: &Spec) -> Kind
+    ensures { result ≡ spec_kind spec.now }
 {
     match spec {
         Spec::Da(_) => Kind::Da,
@@ -21,19 +21,19 @@ fn kind_of(spec: &Spec) -> Kind
 }
 
 /// What the control files show of a monitor.
-fn watched(alloc: Global, monitor: &Monitor) -> Result<Watched, AllocError>
+fn watched(alloc: Global, monitor: &Monitor) -> Result<MonitorInfo, AllocError>
     ensures { IfOk result (λ seen. seen ≡ watched monitor.now) }
 {
-    Ok(Watched {
+    Ok(MonitorInfo {
         name: Name::new(alloc, monitor.name.bytes())?,
         container: monitor.container,
-        kind: kind_of(&monitor.spec),
+        kind: spec_kind(&monitor.spec),
         scope: monitor.scope,
         file: Name::new(alloc, monitor.file.bytes())?,
     })
 }
 
-fn monitors(alloc: Global, monitors: &[Monitor]) -> Result<Vec<Watched>, AllocError>
+fn monitors(alloc: Global, monitors: &[Monitor]) -> Result<Vec<MonitorInfo>, AllocError>
     ensures { IfOk result (λ seen. seen.items ≡ map watched monitors.now) }
 {
     let mut seen = Vec::new(alloc);

@@ -1,11 +1,11 @@
 //! The control files by their paths.
 ghost use Rattle.std.specs.Prelude.{◌≡◌, ◌<◌, ◌≤◌, ◌++◌, [], length, position, bytes_eq, codes, option_map, option_copied, slice_index_or, IfSome};
-ghost use Rattle.rv_control.specs.Trees.{shown_in};
-ghost use Rattle.rv_control.specs.Paths.{container_named, is_same, is_called, monitor_named, outer_named, inner_named, is_shown, item_named, item_or, top_file, reactors_file, item_file, file_below, path_of, is_reactors};
+ghost use Rattle.rv_control.specs.Trees.{display_name};
+ghost use Rattle.rv_control.specs.Paths.{container_named, is_same_container, is_called_in, monitor_item, outer_named, inner_named, has_display_name, item_named, item_or, top_file, reactors_file, item_file, file_below, path_of, is_reactors};
 
 use crate::control::Control;
 use crate::pieces::Pieces;
-use crate::watched::Watched;
+use crate::watched::MonitorInfo;
 use rv_bind::Item;
 use rv_model::Name;
 
@@ -24,8 +24,8 @@ pub(crate) enum Path {
 }
 
 /// Whether both places are the same, or neither is given.
-fn is_same(place: Option<u8>, other: Option<u8>) -> bool
-    ensures { result ≡ is_same place other }
+fn is_same_container(place: Option<u8>, other: Option<u8>) -> bool
+    ensures { result ≡ is_same_container place other }
 {
     match place {
         Some(place) => match other {
@@ -44,10 +44,10 @@ fn is_named(other: &Name, name: &[u8]) -> bool
 }
 
 /// Whether the monitor has this name, in this container or in none.
-fn is_called(monitor: &Watched, holder: Option<u8>, name: &[u8]) -> bool
-    ensures { result ≡ is_called holder name.now monitor.now }
+fn is_called_in(monitor: &MonitorInfo, holder: Option<u8>, name: &[u8]) -> bool
+    ensures { result ≡ is_called_in holder name.now monitor.now }
 {
-    is_same(monitor.container, holder) && monitor.name.bytes() == name
+    is_same_container(monitor.container, holder) && monitor.name.bytes() == name
 }
 
 /// Whether the text is a colon and the name.
@@ -169,17 +169,17 @@ impl Control {
 
     /// The place of the monitor of this name in a container, or in none.
     fn monitor_place(&self, holder: Option<u8>, name: &[u8]) -> Option<usize>
-        ensures value { result ≡ position (is_called holder name.now) self.now.monitors }
+        ensures value { result ≡ position (is_called_in holder name.now) self.now.monitors }
         ensures within { IfSome result (λ place. place < 32) }
     {
         self.monitors
             .iter()
-            .position(|monitor| is_called(monitor, holder, name))
+            .position(|monitor| is_called_in(monitor, holder, name))
     }
 
     /// The monitor of this name in a container, or in none.
-    fn monitor_named(&self, holder: Option<u8>, name: &[u8]) -> Option<Item>
-        ensures { result ≡ monitor_named self.now holder name.now }
+    fn monitor_item(&self, holder: Option<u8>, name: &[u8]) -> Option<Item>
+        ensures { result ≡ monitor_item self.now holder name.now }
     {
         match self.monitor_place(holder, name) {
             Some(place) => Some(Item::Monitor(place as u8)),
@@ -191,7 +191,7 @@ impl Control {
     fn outer_named(&self, name: &[u8]) -> Option<Item>
         ensures { result ≡ outer_named self.now name.now }
     {
-        item_or(self.container_named(name), self.monitor_named(None, name))
+        item_or(self.container_named(name), self.monitor_item(None, name))
     }
 
     /// The monitor of this name in the container of that name.
@@ -199,7 +199,7 @@ impl Control {
         ensures { result ≡ inner_named self.now container.now name.now }
     {
         let place = self.container_named(container)?;
-        self.monitor_named(Some(place), name)
+        self.monitor_item(Some(place), name)
     }
 
     /// The name of the container at this place, where there is one.
@@ -213,8 +213,8 @@ impl Control {
     }
 
     /// Whether the monitor's shown name is this one.
-    fn is_shown(&self, monitor: &Watched, name: &[u8]) -> bool
-        ensures { result ≡ is_shown self.now name.now monitor.now }
+    fn has_display_name(&self, monitor: &MonitorInfo, name: &[u8]) -> bool
+        ensures { result ≡ has_display_name self.now name.now monitor.now }
     {
         match monitor.container {
             Some(place) => is_joined(name, self.container_name(place), monitor.name.bytes()),
@@ -223,20 +223,20 @@ impl Control {
     }
 
     /// The place of the monitor of this shown name.
-    fn monitor_shown(&self, name: &[u8]) -> Option<usize>
-        ensures value { result ≡ position (is_shown self.now name.now) self.now.monitors }
+    fn monitor_displayed(&self, name: &[u8]) -> Option<usize>
+        ensures value { result ≡ position (has_display_name self.now name.now) self.now.monitors }
         ensures within { IfSome result (λ place. place < 32) }
     {
         self.monitors
             .iter()
-            .position(|monitor| self.is_shown(monitor, name))
+            .position(|monitor| self.has_display_name(monitor, name))
     }
 
     /// The container of this name, or the monitor of this shown name.
     pub(crate) fn item_named(&self, name: &[u8]) -> Option<Item>
         ensures { result ≡ item_named self.now name.now }
     {
-        let monitor = match self.monitor_shown(name) {
+        let monitor = match self.monitor_displayed(name) {
             Some(place) => Some(Item::Monitor(place as u8)),
             None => None,
         };

@@ -1,6 +1,6 @@
 //! The pieces of a path, one at a time: what stands between its slashes.
 ghost use Rattle.std.specs.Prelude.{◌≡◌, [], ◌∷◌, ℕ, List, IfSome, IfNone};
-ghost use Rattle.rv_control.specs.Paths.{pieces_of};
+ghost use Rattle.rv_control.specs.Paths.{path_pieces};
 
 use memchr::memchr;
 use std::marker::Model;
@@ -24,7 +24,7 @@ impl<'a> Model for Pieces<'a> {
 impl<'a> Pieces<'a> {
     /// At the first piece of the path.
     pub(crate) fn new(text: &'a [u8]) -> Pieces<'a>
-        ensures { result ≡ pieces_of text.now }
+        ensures { result ≡ path_pieces text.now }
     {
         Pieces { text: Some(text) }
     }

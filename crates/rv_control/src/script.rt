@@ -2,7 +2,7 @@
 ghost use Rattle.std.specs.Prelude.{◌≡◌, ◌∷◌, ◌++◌, [], Option, List, option_copied, option_to_list, IfOk, OnOk, OnErr};
 ghost use Rattle.rv_text.specs.Readings.{Gives};
 ghost use Rattle.rv_text.specs.TextLines.{line_text};
-ghost use Rattle.rv_control.specs.Scripts.{command_with, command_of, line_said, said, script_of};
+ghost use Rattle.rv_control.specs.Scripts.{script_command_with, script_command_of, line_said, commands_of_line, script_of};
 
 use rv_model::Name;
 use rv_text::{CONTROL_SYNTAX, Cursor, Refusal, Refused, TextLine, Words};
@@ -55,7 +55,7 @@ fn spelled(
     path: &[u8],
     text: Option<&[u8]>,
 ) -> Result<Option<Command>, AllocError>
-    ensures { IfOk result (λ command. command ≡ command_with verb.now path.now (option_copied text.entry)) }
+    ensures { IfOk result (λ command. command ≡ script_command_with verb.now path.now (option_copied text.entry)) }
 {
     match text {
         None if verb == b"read".as_slice() => Ok(Some(Command::Read {
@@ -75,7 +75,7 @@ fn read_command(
     verb: &[u8],
     words: &mut Words<'_>,
 ) -> Result<Option<Command>, AllocError>
-    ensures { IfOk result (λ command. command ≡ command_of (verb.now ∷ words.old)) }
+    ensures { IfOk result (λ command. command ≡ script_command_of (verb.now ∷ words.old)) }
 {
     let Some(path) = words.next_word() else {
         return Ok(None);

@@ -1,6 +1,6 @@
 //! Sets of monitors, the bit of each being its place.
 ghost use Rattle.std.specs.Prelude.{◌≡◌, ◌<◌, ◌≤◌, ◌^◌, length};
-ghost use Rattle.rv_control.specs.Sets.{is_chosen, set_of, is_enabled};
+ghost use Rattle.rv_control.specs.Sets.{is_chosen, chosen_set, is_enabled};
 
 use crate::control::Control;
 use rv_bind::Item;
@@ -20,7 +20,7 @@ impl Control {
         ensures { result ≡ is_chosen self.now item those place }
     {
         let is_of = match item {
-            Some(item) => self.is_of(item, place),
+            Some(item) => self.belongs_to(item, place),
             None => true,
         };
         is_of
@@ -33,7 +33,7 @@ impl Control {
 
     /// The set of those of an item's monitors, or of all monitors.
     pub(crate) fn set(&self, item: Option<Item>, those: Those) -> u32
-        ensures { result ≡ set_of self.now item those }
+        ensures { result ≡ chosen_set self.now item those }
     {
         let mut set: u64 = 0;
         let mut bit: u64 = 1;

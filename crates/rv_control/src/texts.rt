@@ -1,12 +1,12 @@
 //! What the control files say.
 ghost use Rattle.std.specs.Prelude.{◌≡◌, ◌++◌, ◌≤◌, length, slice_get, option_copied, OnOk, IfOk};
 ghost use Rattle.rv_text.specs.Readings.{Gives};
-ghost use Rattle.rv_control.specs.Trees.{shown, shown_name};
-ghost use Rattle.rv_control.specs.FileTexts.{held, with_held, listed, is_listed, name_line, names_text, flag_text, kind_text, scope_text, watched_text, desc_text, reactors_text, text_of, file_text};
+ghost use Rattle.rv_control.specs.Trees.{item_display_name, monitor_display_name};
+ghost use Rattle.rv_control.specs.FileTexts.{monitors_in, with_held, listed, has_line, name_line, names_text, flag_text, kind_text, scope_text, watched_text, desc_text, reactors_text, text_of, file_text};
 
 use crate::control::Control;
 use crate::paths::Path;
-use crate::watched::{Kind, Watched};
+use crate::watched::{Kind, MonitorInfo};
 use rv_bind::Item;
 use rv_model::{Reactor, Scope};
 use rv_text::{Line, NO_SUCH_FILE, Refusal, Refused};
@@ -51,7 +51,7 @@ fn reactors_text(chosen: Option<Reactor>) -> &'static [u8]
 }
 
 /// Appends how a monitor is specified.
-fn describe(out: &mut Line, monitor: Option<&Watched>) -> Result<(), AllocError>
+fn describe(out: &mut Line, monitor: Option<&MonitorInfo>) -> Result<(), AllocError>
     ensures { OnOk result (out.new ≡ out.old ++ watched_text (option_copied monitor.entry)) }
 {
     let Some(monitor) = monitor else {
@@ -68,10 +68,10 @@ fn describe(out: &mut Line, monitor: Option<&Watched>) -> Result<(), AllocError>
 impl Control {
     /// Appends the monitors of a container to the list.
     fn list_held(&self, listed: &mut Vec<Item>, container: u8) -> Result<(), AllocError>
-        ensures { OnOk result (listed.new.items ≡ listed.old.items ++ held self.now container (length self.now.monitors)) }
+        ensures { OnOk result (listed.new.items ≡ listed.old.items ++ monitors_in self.now container (length self.now.monitors)) }
     {
         for place in 0..self.monitors.len() {
-            if self.is_of(Item::Container(container), place) {
+            if self.belongs_to(Item::Container(container), place) {
                 listed.push(Item::Monitor(place as u8))?;
             }
         }
@@ -101,8 +101,8 @@ impl Control {
     }
 
     /// Appends how a monitor is called, where there is one.
-    fn show_monitor(&self, out: &mut Line, monitor: Option<&Watched>) -> Result<(), AllocError>
-        ensures { OnOk result (out.new ≡ out.old ++ shown_name self.now (option_copied monitor.entry)) }
+    fn show_monitor(&self, out: &mut Line, monitor: Option<&MonitorInfo>) -> Result<(), AllocError>
+        ensures { OnOk result (out.new ≡ out.old ++ monitor_display_name self.now (option_copied monitor.entry)) }
     {
         let Some(monitor) = monitor else {
             return Ok(());
@@ -116,7 +116,7 @@ impl Control {
 
     /// Appends how a container or a monitor is called.
     fn show(&self, out: &mut Line, item: Item) -> Result<(), AllocError>
-        ensures { OnOk result (out.new ≡ out.old ++ shown self.now item) }
+        ensures { OnOk result (out.new ≡ out.old ++ item_display_name self.now item) }
     {
         match item {
             Item::Container(place) => out.text(self.container_name(place)),

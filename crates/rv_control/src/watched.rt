@@ -13,7 +13,7 @@ pub enum Kind {
 
 /// A monitor, without its specification.
 #[derive(Debug, Drop)]
-pub struct Watched {
+pub struct MonitorInfo {
     pub name: Name,
     /// The container's place in the list.
     pub container: Option<u8>,

@@ -1,7 +1,7 @@
 //! What a write to a control file does.
 ghost use Rattle.std.specs.Prelude.{◌≡◌, ◌≤◌, ◌<◌, ◌^◌, option_map, None, Some, Ok, Err, IfSome, IfNone, IfOk, IfErr, OnErr};
 ghost use Rattle.rv_bind.specs.LineWords.{reactor_named};
-ghost use Rattle.rv_control.specs.Effects.{without_end, flag_of, no_change, switching, change_of, changed, with_reactor, effect};
+ghost use Rattle.rv_control.specs.Effects.{without_end, flag_of, no_change, switching, change_of, with_switches, with_reactor, effect};
 
 use crate::control::Control;
 use crate::paths::Path;
@@ -80,7 +80,7 @@ impl Control {
 
     /// Changes the switches.
     fn apply(&mut self, change: Change)
-        ensures { self.new ≡ changed self.old change }
+        ensures { self.new ≡ with_switches self.old change }
     {
         self.switches = self.switches & !change.lower | change.raise;
     }
@@ -109,7 +109,7 @@ impl Control {
         ensures refused { IfErr result (λ refusal. effect self.old path.now text.now append ≡ Err refusal) }
         ensures kept { OnErr result (self.new ≡ self.old) }
     {
-        self.known();
+        self.assert_invariant();
         let file = self.file_at(path).ok_or(Refusal::whole(NO_SUCH_FILE))?;
         let text = without_end(text);
         if let Path::Reactors(place) = file {

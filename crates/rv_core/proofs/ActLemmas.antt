@@ -4,7 +4,7 @@ use Rattle.rv_model.specs.declared.entry.Act.{Act}
 use Rattle.rv_model.specs.declared.entry.Act.TheVariants.{Deliver, Stop, Look, Raise, Lower, Clear, End}
 use Rattle.rv_model.specs.Setups.{Setup, start_of}
 use Rattle.rv_core.specs.Advance.{FitsTable, acted}
-use Rattle.rv_core.specs.Setup.{ActFits, FitsAct, place_of, table_at, table_of_act, start_of_act}
+use Rattle.rv_core.specs.Setup.{ActFits, FitsAct, word_index, table_at, table_of_act, start_of_act}
 use Rattle.rv_core.proofs.TurnLemmas.{fits-start}
 use Rattle.rv_core.proofs.WordLemmas.{Acts}
 
@@ -13,7 +13,7 @@ pub same_or_not : (a b : ℕ) → (a ≡ b) ⊎ (a ≢ b)
 same_or_not a b = grind arith
 
 -- an act's word is one of the words
-pub place-below : (s : Setup) (act : Act) → FitsAct s act → place_of act < sum s.shape + 1
+pub place-below : (s : Setup) (act : Act) → FitsAct s act → word_index act < sum s.shape + 1
 place-below s (Deliver slot hit) f = let l = f.0 in omega arith
 place-below s (Stop slot) f = omega arith
 place-below s (Clear slot) f = omega arith
@@ -23,7 +23,7 @@ place-below s (Raise _) f = omega arith
 place-below s (Lower _) f = omega arith
 
 -- an act on a slot's word is on that slot, and fits its table
-pub acts-on : (s : Setup) (i : ℕ) (act : Act) → FitsAct s act → ActFits s act → place_of act ≡ i + 1 → Acts (table_at s i) (start_of s i) act
+pub acts-on : (s : Setup) (i : ℕ) (act : Act) → FitsAct s act → ActFits s act → word_index act ≡ i + 1 → Acts (table_at s i) (start_of s i) act
 acts-on s i (Deliver slot hit) f b e =
     let same : slot ≡ i = omega arith in
     let fits : FitsTable (table_at s i) hit = subst (λ (n : ℕ). FitsTable (table_at s n) hit) same f.1 in
@@ -36,7 +36,7 @@ acts-on s i (Raise _) f b e = tt
 acts-on s i (Lower _) f b e = tt
 
 -- what an act makes of the word of its slot, by the slot's table and starting levels
-pub acted-at : (s : Setup) (w i : ℕ) (act : Act) → place_of act ≡ i + 1 → (acted (table_of_act s act) (start_of_act s act) w act).1 ≡ (acted (table_at s i) (start_of s i) w act).1
+pub acted-at : (s : Setup) (w i : ℕ) (act : Act) → word_index act ≡ i + 1 → (acted (table_of_act s act) (start_of_act s act) w act).1 ≡ (acted (table_at s i) (start_of s i) w act).1
 acted-at s w i (Deliver slot hit) e = let same : slot ≡ i = omega arith in ap (λ (n : ℕ). (acted (table_at s n) (start_of s i) w (Deliver slot hit)).1) same
 acted-at s w i (Stop _) e = refl
 acted-at s w i (Clear slot) e = let same : slot ≡ i = omega arith in ap (λ (n : ℕ). 2 ^ 32 + start_of s n) same

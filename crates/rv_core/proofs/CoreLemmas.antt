@@ -17,7 +17,7 @@ use Rattle.rv_model.specs.Histories.{FitsWords}
 use Rattle.rv_model.proofs.CutLemmas.{at_each-snoc}
 use Rattle.rv_model.proofs.TableJudgeLemmas.{every_table_is_judged}
 use Rattle.rv_core.specs.Advance.{acted}
-use Rattle.rv_core.specs.Setup.{IsSetup, ActFits, FitsAct, place_of, table_at, no_table, table_of_act, start_of_act, judges_of}
+use Rattle.rv_core.specs.Setup.{IsSetup, ActFits, FitsAct, word_index, table_at, no_table, table_of_act, start_of_act, judges_of}
 use Rattle.rv_core.specs.Core.{IsCore, IsLive, slot_phase}
 use Rattle.rv_core.proofs.PlaceLemmas.{monitor_of-lt}
 use Rattle.rv_core.proofs.SwitchLemmas.{switch-acted, switch-other}
@@ -46,7 +46,7 @@ module _ (s : Setup) (k : IsSetup s) where
   word_of-is past i lt = ap (λ (j : Judge). slot_word j (start_of s i) past i) (judge-at i lt)
 
   -- the word at an act's place is the word that the act is on
-  pub word_on-is : (words : List ℕ) (past : List Entry) → get_or words 0 0 ≡ switches_of s.switches past → ((i : ℕ) → i < sum s.shape → get_or words (i + 1) 0 ≡ word_of s (judges_of s) past i) → (act : Act) → FitsAct s act → get_or words (place_of act) 0 ≡ word_on s (judges_of s) past act
+  pub word_on-is : (words : List ℕ) (past : List Entry) → get_or words 0 0 ≡ switches_of s.switches past → ((i : ℕ) → i < sum s.shape → get_or words (i + 1) 0 ≡ word_of s (judges_of s) past i) → (act : Act) → FitsAct s act → get_or words (word_index act) 0 ≡ word_on s (judges_of s) past act
   word_on-is words past sw w (Deliver slot hit) f = w slot f.0
   word_on-is words past sw w (Stop slot) f = w slot f
   word_on-is words past sw w (Clear slot) f = w slot f
@@ -78,7 +78,7 @@ module _ (s : Setup) (k : IsSetup s) where
 -- ---- one act
 module _ (s : Setup) (words : List ℕ) (h : List Entry) (k : IsCore s words h)
     (seat : ℕ) (act : Act) (before after : ℕ) (fits : FitsAct s act) (bits : ActFits s act)
-    (read : before ≡ get_or words (place_of act) before) (after_is : after ≡ (acted (table_of_act s act) (start_of_act s act) before act).1) (after_fits : after < 2 ^ 64) where
+    (read : before ≡ get_or words (word_index act) before) (after_is : after ≡ (acted (table_of_act s act) (start_of_act s act) before act).1) (after_fits : after < 2 ^ 64) where
   -- the entry of this act
   abbrev e : Entry
   e = entry_of seat act before after
@@ -89,7 +89,7 @@ module _ (s : Setup) (words : List ℕ) (h : List Entry) (k : IsCore s words h)
 
   -- the place of the word that the act is on
   abbrev place : ℕ
-  place = place_of act
+  place = word_index act
 
   -- it is a place of the words
   in_words : place < length words

@@ -11,7 +11,7 @@ use Rattle.rv_model.specs.Setups.{Setup}
 use Rattle.rv_model.specs.SharedWords.{switch_after}
 use Rattle.rv_model.proofs.NumberLemmas.{bit_of, is_number_of, bit_at-number_of}
 use Rattle.rv_core.specs.Advance.{acted}
-use Rattle.rv_core.specs.Setup.{ActFits, place_of}
+use Rattle.rv_core.specs.Setup.{ActFits, word_index}
 
 -- one bit of a union
 raised : (bits b : ℕ) (was : Bool) → max (bit_of was) (bit_at bits b) ≡ bit_of (if has_bit bits b then true else was)
@@ -34,7 +34,7 @@ lowered bits b was = go (bit_at bits b) (bit_at-lt bits b) was
     go (suc v) lt false = let z : v ≡ 0 = omega arith in rw z refl
 
 -- an act on the switches
-pub switch-acted : (s : Setup) (t : Table) (start : ℕ) (act : Act) (has : ℕ → Bool) → ActFits s act → place_of act ≡ 0 → (acted t start (number_of has 64) act).1 < 2 ^ 64 → (acted t start (number_of has 64) act).1 ≡ number_of (λ b. switch_after b act (has b)) 64
+pub switch-acted : (s : Setup) (t : Table) (start : ℕ) (act : Act) (has : ℕ → Bool) → ActFits s act → word_index act ≡ 0 → (acted t start (number_of has 64) act).1 < 2 ^ 64 → (acted t start (number_of has 64) act).1 ≡ number_of (λ b. switch_after b act (has b)) 64
 switch-acted s t start Look has fit e lt = refl
 switch-acted s t start (Raise bits) has fit e lt = is_number_of (λ b. switch_after b (Raise bits) (has b)) 64 (bit_or (number_of has 64) bits) lt (λ b h. bit_at_or (number_of has 64) bits b ∙ rw (bit_at-number_of has 64 b h) (raised bits b (has b)))
 switch-acted s t start (Lower bits) has fit e lt = is_number_of (λ b. switch_after b (Lower bits) (has b)) 64 (bit_and (number_of has 64) (bit_not w64 bits)) lt (λ b h. bit_at_and (number_of has 64) (bit_not w64 bits) b ∙ rw (bit_at-number_of has 64 b h, bit_at_not w64 bits b fit h) (lowered bits b (has b)))
@@ -44,7 +44,7 @@ switch-acted s t start (Clear _) has fit e lt = absurd (omega arith)
 switch-acted s t start (End _) has fit e lt = absurd (omega arith)
 
 -- an act on another word
-pub switch-other : (act : Act) (has : ℕ → Bool) → place_of act ≢ 0 → number_of (λ b. switch_after b act (has b)) 64 ≡ number_of has 64
+pub switch-other : (act : Act) (has : ℕ → Bool) → word_index act ≢ 0 → number_of (λ b. switch_after b act (has b)) 64 ≡ number_of has 64
 switch-other Look has n = absurd (n refl)
 switch-other (Raise bits) has n = absurd (n refl)
 switch-other (Lower bits) has n = absurd (n refl)

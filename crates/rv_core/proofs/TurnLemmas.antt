@@ -13,7 +13,7 @@ use Rattle.rv_model.specs.Judging.{Judge, JudgesByTable}
 use Rattle.rv_model.specs.Stepping.{IsTable, step_set, start_set}
 use Rattle.rv_model.specs.Phases.{Phase, waiting, running, stopped, rows_of, turn}
 use Rattle.rv_model.proofs.JudgeLemmas.{HasLetter, rows_of-snoc, holds-test, holds-rows, rows-not_one, rows-start}
-use Rattle.rv_core.specs.Advance.{IsRun, FitsKind, set_turn}
+use Rattle.rv_core.specs.Advance.{RunsItsEvent, FitsKind, set_turn}
 use Rattle.rv_core.specs.Core.{IsLive}
 
 -- the rows of a phase
@@ -68,7 +68,7 @@ turn-going j stopped going m x = absurd going
 
 -- a run may begin with no letter only at row 1
 abbrev pub MayStart : Table → Mode → Type 0
-MayStart t m = IsRun m ⊎ (first_row t ≡ 1)
+MayStart t m = RunsItsEvent m ⊎ (first_row t ≡ 1)
 
 -- a hit that fits begins so
 pub fits-start : (t : Table) (m : Mode) (w : What) → FitsKind t m w → MayStart t m

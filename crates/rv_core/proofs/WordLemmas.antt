@@ -16,7 +16,7 @@ use Rattle.rv_model.specs.Phases.{Phase, waiting, running, stopped, turn, letter
 use Rattle.rv_model.specs.SharedWords.{packed}
 use Rattle.rv_model.proofs.NumberLemmas.{number_of-lt, number_of-same, number_of-bits}
 use Rattle.rv_core.specs.Advance.{WhatFits, levels_after, letter_by, set_turn, moved, advanced, acted}
-use Rattle.rv_core.specs.Setup.{place_of}
+use Rattle.rv_core.specs.Setup.{word_index}
 use Rattle.rv_core.specs.Core.{IsLive}
 use Rattle.rv_core.proofs.LevelLemmas.{levels_are_bits}
 use Rattle.rv_core.proofs.TurnLemmas.{set_of, IsGoing, shown, MayStart, set-positive, turn-going, turn-is, turn-live}
@@ -107,7 +107,7 @@ Acts t start _ = Unit {0}
 
 module _ (t : Table) (it : IsTable t) (j : Judge) (judges : JudgesByTable t j) (start : ℕ) where
   -- an act on the slot
-  pub acted-same : (was : ℕ → Bool) (i : ℕ) (act : Act) (p : Phase) → Acts t start act → IsLive j p → place_of act ≡ i + 1
+  pub acted-same : (was : ℕ → Bool) (i : ℕ) (act : Act) (p : Phase) → Acts t start act → IsLive j p → word_index act ≡ i + 1
       → (acted t start (packed j (number_of was 32) p) act).1 ≡ packed j (number_of (levels_now start i act was) 32) (phase_after j (levels_now start i act was) i act p)
   acted-same was i (Deliver slot hit) p acts live e =
       let now : Bool → ℕ → Bool = λ b atom. if b then level_by hit.what atom (was atom) else was atom in
@@ -125,7 +125,7 @@ module _ (t : Table) (it : IsTable t) (j : Judge) (judges : JudgesByTable t j) (
   acted-same was i (Lower _) p acts live e = absurd (omega arith)
 
   -- it leaves what runs with rows
-  pub live-same : (on : ℕ → Bool) (i : ℕ) (act : Act) (p : Phase) → Acts t start act → IsLive j p → place_of act ≡ i + 1 → IsLive j (phase_after j on i act p)
+  pub live-same : (on : ℕ → Bool) (i : ℕ) (act : Act) (p : Phase) → Acts t start act → IsLive j p → word_index act ≡ i + 1 → IsLive j (phase_after j on i act p)
   live-same on i (Deliver slot hit) p acts live e = rw (same_slot slot i e) (turn-live t it j judges p hit.mode acts.1 (letter_at on hit.what))
   live-same on i (Stop slot) p acts live e = rw (same_slot slot i e) tt
   live-same on i (Clear slot) p acts live e = rw (same_slot slot i e) tt
@@ -142,7 +142,7 @@ module _ (t : Table) (it : IsTable t) (j : Judge) (judges : JudgesByTable t j) (
       subst P (sym (same_slot slot slot refl)) (ap (λ (r : Answer × ℕ). r.0) (advanced-is t it j judges was hit acts.0 p live))
 
 -- an act on another word
-pub phase_after-other : (j : Judge) (on : ℕ → Bool) (i : ℕ) (act : Act) (p : Phase) → place_of act ≢ i + 1 → phase_after j on i act p ≡ p
+pub phase_after-other : (j : Judge) (on : ℕ → Bool) (i : ℕ) (act : Act) (p : Phase) → word_index act ≢ i + 1 → phase_after j on i act p ≡ p
 phase_after-other j on i (Deliver slot hit) p n = rw (other_slot slot i n) refl
 phase_after-other j on i (Stop slot) p n = rw (other_slot slot i n) refl
 phase_after-other j on i (Clear slot) p n = rw (other_slot slot i n) refl
@@ -152,7 +152,7 @@ phase_after-other j on i (Raise _) p n = refl
 phase_after-other j on i (Lower _) p n = refl
 
 -- leaves the levels
-level_after-other : (start i atom : ℕ) (act : Act) (was : Bool) → place_of act ≢ i + 1 → level_after start i atom act was ≡ was
+level_after-other : (start i atom : ℕ) (act : Act) (was : Bool) → word_index act ≢ i + 1 → level_after start i atom act was ≡ was
 level_after-other start i atom (Deliver slot hit) was n = rw (other_slot slot i n) refl
 level_after-other start i atom (Stop slot) was n = refl
 level_after-other start i atom (Clear slot) was n = rw (other_slot slot i n) refl
@@ -162,7 +162,7 @@ level_after-other start i atom (Raise _) was n = refl
 level_after-other start i atom (Lower _) was n = refl
 
 -- leaves the word
-pub packed-other : (j : Judge) (start : ℕ) (was : ℕ → Bool) (i : ℕ) (act : Act) (p : Phase) → place_of act ≢ i + 1
+pub packed-other : (j : Judge) (start : ℕ) (was : ℕ → Bool) (i : ℕ) (act : Act) (p : Phase) → word_index act ≢ i + 1
     → packed j (number_of (levels_now start i act was) 32) (phase_after j (levels_now start i act was) i act p) ≡ packed j (number_of was 32) p
 packed-other j start was i act p n =
     ap (λ (q : Phase). packed j (number_of (levels_now start i act was) 32) q) (phase_after-other j (levels_now start i act was) i act p n)

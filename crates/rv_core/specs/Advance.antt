@@ -19,18 +19,18 @@ use Rattle.rv_word.specs.Words.{packed, set_in, atoms_in}
 use Rattle.rv_core.specs.Levels.{new_levels}
 
 -- only an automaton has a start whose event is not run, and an end runs none
-abbrev pub IsRun : Mode → Type 0
-IsRun mode.Event = Unit {0}
-IsRun mode.Start = ⊥
-IsRun mode.StartRun = Unit {0}
-IsRun mode.End = ⊥
+abbrev pub RunsItsEvent : Mode → Type 0
+RunsItsEvent mode.Event = Unit {0}
+RunsItsEvent mode.Start = ⊥
+RunsItsEvent mode.StartRun = Unit {0}
+RunsItsEvent mode.End = ⊥
 
 -- what is run is of the table's kind
 abbrev pub FitsKind : Table → Mode → What → Type 0
 FitsKind (of_events n rows) m (Da event) = event < n
 FitsKind (of_events n rows) m (Ltl _ _ _) = ⊥
 FitsKind (of_labels nodes) m (Da _) = ⊥
-FitsKind (of_labels nodes) m (Ltl _ _ _) = IsRun m
+FitsKind (of_labels nodes) m (Ltl _ _ _) = RunsItsEvent m
 FitsKind t m Nothing = ⊥
 
 -- the hit is no end and of the table's kind, and an event is in range

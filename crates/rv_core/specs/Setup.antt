@@ -60,9 +60,9 @@ ActFits s (Lower bits) = bits < 2 ^ 64
 ActFits s _ = Unit {0}
 
 -- the word of an act, among the words
-abbrev pub place_of : Act → ℕ
-place_of (Deliver slot _) = slot + 1
-place_of (Stop slot) = slot + 1
-place_of (Clear slot) = slot + 1
-place_of (End slot) = slot + 1
-place_of _ = 0
+abbrev pub word_index : Act → ℕ
+word_index (Deliver slot _) = slot + 1
+word_index (Stop slot) = slot + 1
+word_index (Clear slot) = slot + 1
+word_index (End slot) = slot + 1
+word_index _ = 0

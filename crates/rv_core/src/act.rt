@@ -3,7 +3,7 @@ ghost use Rattle.std.specs.Prelude.{◌≡◌, ◌<◌, ◌^◌, sum};
 ghost use Rattle.rv_model.specs.Setups.{start_of};
 ghost use Rattle.rv_word.specs.Words.{packed};
 ghost use Rattle.rv_core.specs.Advance.{acted};
-ghost use Rattle.rv_core.specs.Setup.{FitsAct, ActFits, place_of, table_of_act, start_of_act};
+ghost use Rattle.rv_core.specs.Setup.{FitsAct, ActFits, word_index, table_of_act, start_of_act};
 
 use crate::setup::Setup;
 use crate::word::{Step, advance};
@@ -11,8 +11,8 @@ use rv_model::{Act, Answer};
 use rv_word::STOPPED;
 
 /// The place of an act's word: the switches, and then a word for each slot.
-pub fn place_of(act: &Act) -> usize
-    ensures { result ≡ place_of act.now }
+pub fn word_index(act: &Act) -> usize
+    ensures { result ≡ word_index act.now }
 {
     match *act {
         Act::Deliver { slot, .. } => slot as usize + 1,

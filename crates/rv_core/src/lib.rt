@@ -7,7 +7,7 @@ mod setup;
 mod turn;
 mod word;
 
-pub use act::{act_on, place_of};
+pub use act::{act_on, word_index};
 pub use machine::Core;
 pub use setup::Setup;
 pub use word::{Step, advance};

@@ -5,7 +5,7 @@ ghost use Rattle.rv_core.specs.Setup.{FitsAct, IsSetup, judges_of};
 ghost use Rattle.rv_core.specs.Core.{Steps, CoreValue};
 ghost use Rattle.rv_core.specs.Judged.{JudgesBySpecs};
 
-use crate::act::{act_on, place_of};
+use crate::act::{act_on, word_index};
 use crate::setup::Setup;
 use rv_model::{Act, Answer, Closed, Entry, Keeps};
 use rv_slots::Shape;
@@ -43,7 +43,7 @@ impl Core {
     pub fn new(alloc: Global, setup: Setup) -> Result<Core, AllocError>
         ensures { IfOk result (λ core. core ≡ record { setup = setup; history = [] }) }
     {
-        setup.known();
+        setup.assert_invariant();
         let slots = setup.shape.slots();
         let mut words = Vec::new(alloc);
         words.push(setup.switches)?;
@@ -58,7 +58,7 @@ impl Core {
     }
 
     /// What is known of every machine. Where its tables mean specifications, the specifications are its judges.
-    pub fn known(&self)
+    pub fn assert_invariant(&self)
         ensures setup { IsSetup self.now.setup }
         ensures replays { Replays self.now.setup (judges_of self.now.setup) self.now.history }
         ensures judges { JudgesBySpecs self.now.setup }
@@ -78,7 +78,7 @@ impl Core {
         requires { FitsAct self.old.setup act.now }
         ensures { Steps self.old self.new seat act.now result }
     {
-        let place = place_of(act);
+        let place = word_index(act);
         let before = self.words[place];
         let step = act_on(&self.setup, before, act);
         self.words[place] = step.word;

@@ -34,11 +34,11 @@ impl Model for Setup {
 
 impl Setup {
     /// What is known of every setup.
-    pub fn known(&self)
+    pub fn assert_invariant(&self)
         ensures { IsSetup self.now }
     {
         for table in &self.tables {
-            table.known();
+            table.assert_invariant();
         }
     }
 

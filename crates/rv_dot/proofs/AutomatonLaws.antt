@@ -15,8 +15,8 @@ use Rattle.rv_dot.specs.Statements.{Claim}
 use Rattle.rv_dot.specs.Names.{is_event_name}
 use Rattle.rv_dot.specs.Gathered.{Arc, state_in, states_in, arcs_in, fits, events_fit, all_fit, is_marked}
 use Rattle.rv_dot.specs.Members.{IsMember, Ascends}
-use Rattle.rv_dot.specs.Sets.{set_of, stands_in, number_in}
-use Rattle.rv_dot.specs.Moves.{has_clash, moves_of, numbered, edge_of}
+use Rattle.rv_dot.specs.Sets.{ascending, stands_in, number_in}
+use Rattle.rv_dot.specs.Moves.{has_clash, moves_of, arc_move, edge_of}
 use Rattle.rv_dot.specs.Dot.{bits_of, marked_or_initial, ends_declared, has_conflict, states_from, events_from, machine_from}
 use Rattle.rv_dot.proofs.BitLaws.{bits_below}
 use Rattle.rv_dot.proofs.ConflictLaws.{IsNumbered, arc_of_move, move_of_arc, clash_is_conflict}
@@ -43,7 +43,7 @@ module _ (claims : List Claim) (initial : List ℕ) (h : IsDrawn claims initial)
       let names = map (λ (b : Arc). b.event) (arcs_in claims) in
       record {
         from = stands_in_states initial (states_in claims) h.initial_declared a.from ∙ both.0;
-        event = member_stands (set_of names) a.event ((set_members names a.event).1 (map_member (λ (b : Arc). b.event) a (arcs_in claims) m));
+        event = member_stands (ascending names) a.event ((set_members names a.event).1 (map_member (λ (b : Arc). b.event) a (arcs_in claims) m));
         to = stands_in_states initial (states_in claims) h.initial_declared a.to ∙ both.1;
       }
 
@@ -75,29 +75,29 @@ module _ (claims : List Claim) (initial : List ℕ) (h : IsDrawn claims initial)
       subst (IsNameOf is_event_byte) a.2 (event_named a.0.event (list_all_member (λ (b : Arc). is_event_name b.event) a.0 (arcs_in claims) fit_parts.1 a.1))
 
   -- an edge has numbers in range
-  edge_in_range : (e : Edge) → IsMember e (map edge_of (moves_of (map (numbered (states_from initial (states_in claims)) (events_from (arcs_in claims))) (arcs_in claims))))
+  edge_in_range : (e : Edge) → IsMember e (map edge_of (moves_of (map (arc_move (states_from initial (states_in claims)) (events_from (arcs_in claims))) (arcs_in claims))))
       → (e.from < length (states_from initial (states_in claims))) × (e.event < length (events_from (arcs_in claims))) × (e.to < length (states_from initial (states_in claims)))
   edge_in_range e m =
       let states = states_from initial (states_in claims) in
       let events = events_from (arcs_in claims) in
-      let move = member_map edge_of e (moves_of (map (numbered states events) (arcs_in claims))) m in
+      let move = member_map edge_of e (moves_of (map (arc_move states events) (arcs_in claims))) m in
       let a = arc_of_move states events (arcs_in claims) arcs_numbered move.0 move.1 in
       let n = arcs_numbered a.0 a.1 in
-      let same : edge_of (numbered states events a.0) ≡ e = ap edge_of a.2 ∙ move.2 in
+      let same : edge_of (arc_move states events a.0) ≡ e = ap edge_of a.2 ∙ move.2 in
       subst (λ (x : Edge). (x.from < length states) × (x.event < length events) × (x.to < length states)) same
       ((number_at states a.0.from [] n.from).0, (number_at events a.0.event [] n.event).0, (number_at states a.0.to [] n.to).0)
 
   -- each event stands on an edge
-  event_used : (event : ℕ) → event < length (events_from (arcs_in claims)) → Any (λ (e : Edge). e.event ≡ event) (map edge_of (moves_of (map (numbered (states_from initial (states_in claims)) (events_from (arcs_in claims))) (arcs_in claims))))
+  event_used : (event : ℕ) → event < length (events_from (arcs_in claims)) → Any (λ (e : Edge). e.event ≡ event) (map edge_of (moves_of (map (arc_move (states_from initial (states_in claims)) (events_from (arcs_in claims))) (arcs_in claims))))
   event_used event lt =
       let states = states_from initial (states_in claims) in
       let events = events_from (arcs_in claims) in
       let name = get_or events event [] in
       let a = event_arc name (member_at events event [] lt) in
       let has : number_in events a.0.event ≡ event = rw (a.2, place_of-at events event [] events_ascend lt) refl in
-      let member = map_member edge_of (numbered states events a.0) (moves_of (map (numbered states events) (arcs_in claims))) (move_of_arc states events (arcs_in claims) arcs_numbered a.0 a.1) in
-      let place = place_of_member (edge_of (numbered states events a.0)) (map edge_of (moves_of (map (numbered states events) (arcs_in claims)))) member in
-      (place.0, edge_of (numbered states events a.0), place.1, place.2, has)
+      let member = map_member edge_of (arc_move states events a.0) (moves_of (map (arc_move states events) (arcs_in claims))) (move_of_arc states events (arcs_in claims) arcs_numbered a.0 a.1) in
+      let place = place_of_member (edge_of (arc_move states events a.0)) (map edge_of (moves_of (map (arc_move states events) (arcs_in claims)))) member in
+      (place.0, edge_of (arc_move states events a.0), place.1, place.2, has)
 
 -- moves in order are edges in order
 keys_later : (moves : List Move) → KeysAscend moves → AllLater EdgeIsBefore (map edge_of moves)
@@ -112,14 +112,14 @@ keys_later (m ∷ moves) h = (below moves h.0, keys_later moves h.1)
 others_apart : (initial : List ℕ) (declared : List (List ℕ)) (s : List ℕ) → IsMember s (drop 1 (states_from initial declared)) → s ≢ get_or (states_from initial declared) 0 []
 unfolding states_from
 others_apart initial declared s m e =
-    let kept = (member_filter (λ x. not (bytes_eq x initial)) s (set_of declared) m).1 in
+    let kept = (member_filter (λ x. not (bytes_eq x initial)) s (ascending declared) m).1 in
     let apart : not true ≡ true = ap not (sym (name_test s initial e)) ∙ kept in
     cc
 
 -- the others ascend
 others_ascend : (initial : List ℕ) (declared : List (List ℕ)) → Ascends (slice_cmp nat_cmp) (drop 1 (states_from initial declared))
 unfolding states_from
-others_ascend initial declared = ascends_filter (slice_cmp nat_cmp) (λ s. not (bytes_eq s initial)) (set_of declared) (set_ascends declared)
+others_ascend initial declared = ascends_filter (slice_cmp nat_cmp) (λ s. not (bytes_eq s initial)) (ascending declared) (set_ascends declared)
 
 -- there is a state
 pub some_states : (initial : List ℕ) (declared : List (List ℕ)) → 1 ≤ length (states_from initial declared)
@@ -154,7 +154,7 @@ unfolding machine_from
 drawn_is_automaton claims initial h calm few_states few_events =
     let states = states_from initial (states_in claims) in
     let events = events_from (arcs_in claims) in
-    let moves = moves_of (map (numbered states events) (arcs_in claims)) in
+    let moves = moves_of (map (arc_move states events) (arcs_in claims)) in
     let no_clash : has_clash moves ≡ false = clash_is_conflict states events (arcs_in claims) (arcs_numbered claims initial h) ∙ calm in
     let bits = map (is_marked claims) states in
     let below : bits_of bits < 2 ^ length states = bits_below bits (length states) (omega (arith, length-map states (is_marked claims))) in
@@ -168,7 +168,7 @@ drawn_is_automaton claims initial h calm few_states few_events =
       states_ascend = pairs_from IsBefore (drop 1 states) (ascends_later (slice_cmp nat_cmp) (drop 1 states) (others_ascend initial (states_in claims)));
       events_ascend = pairs_from IsBefore events (ascends_later (slice_cmp nat_cmp) events (events_ascend claims initial h));
       in_range = all_members (λ e. (e.from < length states) × (e.event < length events) × (e.to < length states)) (map edge_of moves) (edge_in_range claims initial h);
-      edges_ascend = pairs_from EdgeIsBefore (map edge_of moves) (keys_later moves (keys_ascend moves (moves_ascend (map (numbered states events) (arcs_in claims))) no_clash));
+      edges_ascend = pairs_from EdgeIsBefore (map edge_of moves) (keys_later moves (keys_ascend moves (moves_ascend (map (arc_move states events) (arcs_in claims))) no_clash));
       events_used = event_used claims initial h;
       some_mark = marked_some (bits_of bits);
       marks_in_range = marked_below (bits_of bits) (length states) (some_states initial (states_in claims)) below;

@@ -8,7 +8,7 @@ use Rattle.rv_dot.specs.declared.moves.Move.{Move}
 use Rattle.rv_dot.specs.Gathered.{Arc}
 use Rattle.rv_dot.specs.Members.{IsMember}
 use Rattle.rv_dot.specs.Sets.{stands_in, number_in}
-use Rattle.rv_dot.specs.Moves.{has_clash, moves_of, numbered}
+use Rattle.rv_dot.specs.Moves.{has_clash, moves_of, arc_move}
 use Rattle.rv_dot.specs.Dot.{are_apart, has_conflict}
 use Rattle.rv_dot.proofs.MemberLaws.{and_true, member_map, map_member, list_any_member, list_any_from}
 use Rattle.rv_dot.proofs.MoveSets.{moves_ascend, moves_members}
@@ -40,15 +40,15 @@ pub record IsNumbered (states events : List (List ℕ)) (a : Arc) : Type 0 where
 
 module _ (states events : List (List ℕ)) (arcs : List Arc) (all : (a : Arc) → IsMember a arcs → IsNumbered states events a) where
   -- the arc of a move of the set
-  pub arc_of_move : (m : Move) → IsMember m (moves_of (map (numbered states events) arcs)) → (a : Arc) × IsMember a arcs × (numbered states events a ≡ m)
-  arc_of_move m h = member_map (numbered states events) m arcs ((moves_members (map (numbered states events) arcs) m).0 h)
+  pub arc_of_move : (m : Move) → IsMember m (moves_of (map (arc_move states events) arcs)) → (a : Arc) × IsMember a arcs × (arc_move states events a ≡ m)
+  arc_of_move m h = member_map (arc_move states events) m arcs ((moves_members (map (arc_move states events) arcs) m).0 h)
 
   -- the move of an arc is in the set
-  pub move_of_arc : (a : Arc) → IsMember a arcs → IsMember (numbered states events a) (moves_of (map (numbered states events) arcs))
-  move_of_arc a m = (moves_members (map (numbered states events) arcs) (numbered states events a)).1 (map_member (numbered states events) a arcs m)
+  pub move_of_arc : (a : Arc) → IsMember a arcs → IsMember (arc_move states events a) (moves_of (map (arc_move states events) arcs))
+  move_of_arc a m = (moves_members (map (arc_move states events) arcs) (arc_move states events a)).1 (map_member (arc_move states events) a arcs m)
 
   -- a clash comes of a conflict
-  conflict_of_clash : Clashes (moves_of (map (numbered states events) arcs)) → has_conflict arcs ≡ true
+  conflict_of_clash : Clashes (moves_of (map (arc_move states events) arcs)) → has_conflict arcs ≡ true
   unfolding has_conflict
   conflict_of_clash c =
       let a = arc_of_move c.one c.has_one in
@@ -62,7 +62,7 @@ module _ (states events : List (List ℕ)) (arcs : List Arc) (all : (a : Arc) �
       list_any_from (λ x. list_any (are_apart x) arcs) a.0 arcs a.1 (list_any_from (are_apart a.0) b.0 arcs b.1 apart)
 
   -- a conflict makes a clash
-  clash_of_conflict : has_conflict arcs ≡ true → Clashes (moves_of (map (numbered states events) arcs))
+  clash_of_conflict : has_conflict arcs ≡ true → Clashes (moves_of (map (arc_move states events) arcs))
   unfolding has_conflict
   clash_of_conflict h =
       let a = list_any_member (λ x. list_any (are_apart x) arcs) arcs h in
@@ -70,8 +70,8 @@ module _ (states events : List (List ℕ)) (arcs : List Arc) (all : (a : Arc) �
       let parts = and_true (bytes_eq a.0.from b.0.from && bytes_eq a.0.event b.0.event) (not (bytes_eq a.0.to b.0.to)) b.2 in
       let keys = and_true (bytes_eq a.0.from b.0.from) (bytes_eq a.0.event b.0.event) parts.0 in
       record {
-        one = numbered states events a.0;
-        other = numbered states events b.0;
+        one = arc_move states events a.0;
+        other = arc_move states events b.0;
         has_one = move_of_arc a.0 a.1;
         has_other = move_of_arc b.0 b.1;
         same_from = ap (number_in states) (name_same a.0.from b.0.from keys.0);
@@ -80,9 +80,9 @@ module _ (states events : List (List ℕ)) (arcs : List Arc) (all : (a : Arc) �
       }
 
   -- the test on numbers is the test on names
-  pub clash_is_conflict : has_clash (moves_of (map (numbered states events) arcs)) ≡ has_conflict arcs
+  pub clash_is_conflict : has_clash (moves_of (map (arc_move states events) arcs)) ≡ has_conflict arcs
   clash_is_conflict =
-      let up = moves_ascend (map (numbered states events) arcs) in
-      both_ways (has_clash (moves_of (map (numbered states events) arcs))) (has_conflict arcs)
-      (λ h. conflict_of_clash (clash_found (moves_of (map (numbered states events) arcs)) up h))
-      (λ h. clash_is (moves_of (map (numbered states events) arcs)) up (clash_of_conflict h))
+      let up = moves_ascend (map (arc_move states events) arcs) in
+      both_ways (has_clash (moves_of (map (arc_move states events) arcs))) (has_conflict arcs)
+      (λ h. conflict_of_clash (clash_found (moves_of (map (arc_move states events) arcs)) up h))
+      (λ h. clash_is (moves_of (map (arc_move states events) arcs)) up (clash_of_conflict h))

@@ -7,9 +7,9 @@ use Rattle.std.proofs.Math.Nat.{pow-succ'}
 use Rattle.std.proofs.lemmas.Bool.Decides.{nat_tests}
 use Rattle.rv_model.specs.WellFormed.{IsNameOf, IsStateName, is_event_byte}
 use Rattle.rv_dot.specs.Statements.{Claim, declares, leads}
-use Rattle.rv_dot.specs.Names.{is_marker, marks}
+use Rattle.rv_dot.specs.Names.{is_marker, is_marking_shape}
 use Rattle.rv_dot.specs.Gathered.{Arc, states_in, targets_in, arcs_of, arcs_in, fits, events_fit, all_fit, marks_state, is_marked}
-use Rattle.rv_dot.specs.Canonical.{State, Drawing, marker, shape_of, states_marked}
+use Rattle.rv_dot.specs.Canonical.{State, Drawing, marker, drawn_shape, states_marked}
 use Rattle.rv_dot.specs.Dot.{bits_of}
 use Rattle.rv_dot.proofs.Layouts.{state_claim, arc_claim, claims_drawn}
 use Rattle.rv_dot.proofs.PlainLaws.{state_name_test, no_marker_test, event_name_test, event_plain, one_event}
@@ -108,7 +108,7 @@ IsApart (s ∷ ss) = AllByRecursion (λ t. (bytes_eq s.name t.name ≡ false) ×
 marks_claim : (state : List ℕ) (s : State) → marks_state state (state_claim s) ≡ (bytes_eq s.name state && s.is_marked)
 marks_claim state s = go s.is_marked
   where
-    go : (t : Bool) → (bytes_eq s.name state && marks (Some (shape_of t))) ≡ (bytes_eq s.name state && t)
+    go : (t : Bool) → (bytes_eq s.name state && is_marking_shape (Some (drawn_shape t))) ≡ (bytes_eq s.name state && t)
     go true = refl
     go false = refl
 

@@ -10,8 +10,8 @@ use Rattle.rv_dot.specs.declared.moves.Move.{Move}
 use Rattle.rv_dot.specs.Statements.{Claim}
 use Rattle.rv_dot.specs.Gathered.{Arc, states_in, targets_in, arcs_in, is_marked}
 use Rattle.rv_dot.specs.Members.{IsMember}
-use Rattle.rv_dot.specs.Sets.{set_of, stands_in}
-use Rattle.rv_dot.specs.Moves.{move_cmp, moves_of, numbered, edge_of, has_clash}
+use Rattle.rv_dot.specs.Sets.{ascending, stands_in}
+use Rattle.rv_dot.specs.Moves.{move_cmp, moves_of, arc_move, edge_of, has_clash}
 use Rattle.rv_dot.specs.Canonical.{arc_named}
 use Rattle.rv_dot.specs.Dot.{ends_declared, states_from, events_from, bits_of, marked_or_initial, initial_of, machine_of, dot_of}
 use Rattle.rv_dot.specs.Drawn.{IsDrawnBy, IsDotOf}
@@ -26,8 +26,8 @@ use Rattle.rv_dot.proofs.StandsLaws.{name_test, member_stands}
 use Rattle.rv_dot.proofs.WholeLaws.{from_initial, short_read}
 
 -- lists with the same members have one set
-set_same : (xs ys : List (List ℕ)) → ((x : List ℕ) → IsMember x xs ↔ IsMember x ys) → set_of xs ≡ set_of ys
-set_same xs ys same = set_is_only ys (set_of xs) (set_ascends xs) (λ x. ((λ m. (same x).0 ((set_members xs x).0 m)), (λ m. (set_members xs x).1 ((same x).1 m))))
+set_same : (xs ys : List (List ℕ)) → ((x : List ℕ) → IsMember x xs ↔ IsMember x ys) → ascending xs ≡ ascending ys
+set_same xs ys same = set_is_only ys (ascending xs) (set_ascends xs) (λ x. ((λ m. (same x).0 ((set_members xs x).0 m)), (λ m. (set_members xs x).1 ((same x).1 m))))
 
 -- one target is the initial state
 initial_is : (targets : List (List ℕ)) (first : List ℕ) → IsMember first targets → ((t : List ℕ) → IsMember t targets → t ≡ first) → initial_of targets ≡ Ok first
@@ -43,7 +43,7 @@ module _ (claims : List Claim) (a : Machine) (h : IsAutomaton a) (d : IsDrawnBy 
   unfolding states_from
   are_states = sym (states_again a h) ∙ again (set_same a.states (states_in claims) d.states)
     where
-      again : set_of a.states ≡ set_of (states_in claims) → states_from (get_or a.states 0 []) a.states ≡ states_from (get_or a.states 0 []) (states_in claims)
+      again : ascending a.states ≡ ascending (states_in claims) → states_from (get_or a.states 0 []) a.states ≡ states_from (get_or a.states 0 []) (states_in claims)
       again e = rw e refl
 
   -- they are the events
@@ -70,23 +70,23 @@ module _ (claims : List Claim) (a : Machine) (h : IsAutomaton a) (d : IsDrawnBy 
       ap (ends_declared a.states) (sym e.2) ∙ both)
 
   -- they are the moves
-  are_moves : map move_of a.edges ≡ moves_of (map (numbered a.states a.events) (arcs_in claims))
+  are_moves : map move_of a.edges ≡ moves_of (map (arc_move a.states a.events) (arcs_in claims))
   are_moves =
-      let all = map (numbered a.states a.events) (arcs_in claims) in
+      let all = map (arc_move a.states a.events) (arcs_in claims) in
       one_list move_cmp moves_total same_move (map move_of a.edges) (moves_of all) (moves_in_order a.edges (edges_later a h)) (moves_ascend all)
       (λ m k.
       let e = member_map move_of m a.edges k in
       let arc = (d.edges (arc_named a.states a.events e.0)).0 (map_member (arc_named a.states a.events) e.0 a.edges e.1) in
-      let number : numbered a.states a.events (arc_named a.states a.events e.0) ≡ m = arc_number a h e.0 e.1 ∙ e.2 in
-      (moves_members all m).1 (subst (λ (n : Move). IsMember n all) number (map_member (numbered a.states a.events) (arc_named a.states a.events e.0) (arcs_in claims) arc)))
+      let number : arc_move a.states a.events (arc_named a.states a.events e.0) ≡ m = arc_number a h e.0 e.1 ∙ e.2 in
+      (moves_members all m).1 (subst (λ (n : Move). IsMember n all) number (map_member (arc_move a.states a.events) (arc_named a.states a.events e.0) (arcs_in claims) arc)))
       (λ m k.
-      let x = member_map (numbered a.states a.events) m (arcs_in claims) ((moves_members all m).0 k) in
+      let x = member_map (arc_move a.states a.events) m (arcs_in claims) ((moves_members all m).0 k) in
       let e = edge_of_arc x.0 x.1 in
-      let number : move_of e.0 ≡ m = sym (arc_number a h e.0 e.1) ∙ ap (numbered a.states a.events) e.2 ∙ x.2 in
+      let number : move_of e.0 ≡ m = sym (arc_number a h e.0 e.1) ∙ ap (arc_move a.states a.events) e.2 ∙ x.2 in
       subst (λ (n : Move). IsMember n (map move_of a.edges)) number (map_member move_of e.0 a.edges e.1))
 
   -- without conflict
-  calm : has_clash (moves_of (map (numbered a.states a.events) (arcs_in claims))) ≡ false
+  calm : has_clash (moves_of (map (arc_move a.states a.events) (arcs_in claims))) ≡ false
   calm = ap has_clash (sym are_moves) ∙ calm_edges a.edges (edges_later a h)
 
   -- so the claims give this automaton

@@ -15,7 +15,7 @@ use Rattle.rv_dot.specs.Statements.{Claim}
 use Rattle.rv_dot.specs.Gathered.{Arc, states_in, targets_in, arcs_in, all_fit}
 use Rattle.rv_dot.specs.Members.{IsMember}
 use Rattle.rv_dot.specs.Sets.{stands_in, number_in}
-use Rattle.rv_dot.specs.Moves.{moves_of, numbered, edge_of}
+use Rattle.rv_dot.specs.Moves.{moves_of, arc_move, edge_of}
 use Rattle.rv_dot.specs.Canonical.{arc_named}
 use Rattle.rv_dot.specs.Dot.{ends_declared, has_conflict, states_from, events_from, initial_of, machine_from, with_initial, machine_of, machine_said, dot_of}
 use Rattle.rv_dot.specs.Drawn.{IsDrawnBy, IsDotOf}
@@ -62,7 +62,7 @@ passed claims first a h =
     go true false false false e f g i h = record { ends = e; calm = f; states = g; events = i; same = cc }
 
 -- an arc by the names of its numbers
-arc_back : (states events : List (List ℕ)) (x : Arc) → IsNumbered states events x → arc_named states events (edge_of (numbered states events x)) ≡ x
+arc_back : (states events : List (List ℕ)) (x : Arc) → IsNumbered states events x → arc_named states events (edge_of (arc_move states events x)) ≡ x
 arc_back states events x n =
     let made : List ℕ → List ℕ → List ℕ → Arc = λ from event to. record { from = from; event = event; to = to } in
     let from = (number_at states x.from [] n.from).1 in
@@ -83,7 +83,7 @@ drawn_from claims first drawn some one =
     let states = states_from first (states_in claims) in
     let events = events_from (arcs_in claims) in
     let numbered_all = arcs_numbered claims first drawn in
-    let moves = moves_of (map (numbered states events) (arcs_in claims)) in
+    let moves = moves_of (map (arc_move states events) (arcs_in claims)) in
     let at_first = first_of first (states_in claims) in
     record {
       fit = drawn.fit;
@@ -100,7 +100,7 @@ drawn_from claims first drawn some one =
             subst (λ (y : Arc). IsMember y (arcs_in claims)) same arc.1),
         (λ m.
             subst (λ (y : Arc). IsMember y (map (arc_named states events) (map edge_of moves))) (arc_back states events x (numbered_all x m))
-            (map_member (arc_named states events) (edge_of (numbered states events x)) (map edge_of moves) (map_member edge_of (numbered states events x) moves (move_of_arc states events (arcs_in claims) numbered_all x m)))),
+            (map_member (arc_named states events) (edge_of (arc_move states events x)) (map edge_of moves) (map_member edge_of (arc_move states events x) moves (move_of_arc states events (arcs_in claims) numbered_all x m)))),
       );
       marked = refl;
     }

@@ -3,7 +3,7 @@ use Rattle.std.proofs.Common.{◌≡◌, ℕ, Bool, true, false, eqb, List, [], 
 use Rattle.std.specs.Prelude.{codes, ◌&&◌, Result, Ok, Err, IfOk}
 use Rattle.std.proofs.Common.{Vec, Global}
 use Rattle.rv_dot.specs.declared.fact.Fact.{Fact}
-use Rattle.rv_dot.specs.declared.fault.ReadError.{ReadError}
+use Rattle.rv_dot.specs.declared.fault.DotFault.{DotFault}
 use Rattle.std.specs.List.{flat_map}
 use Rattle.std.specs.Str.{bytes_eq}
 use Rattle.std.proofs.lemmas.Option.{same_Some}
@@ -12,9 +12,9 @@ use Rattle.std.proofs.lemmas.Bool.Decides.{nat_tests}
 use Rattle.rv_dot.specs.declared.token.Mark.TheVariants.{OpenBrace, CloseBrace}
 use Rattle.rv_dot.specs.Tokens.{Lexeme, sign, word, GivesSome}
 use Rattle.rv_dot.specs.Marks.{expects}
-use Rattle.rv_dot.specs.Lists.{word_at}
+use Rattle.rv_dot.specs.Lists.{front_word}
 use Rattle.rv_dot.specs.Statements.{Claim, claims, statements_within, statements_at, claims_of}
-use Rattle.rv_dot.specs.Grammar.{ended, File, file, IsFile, file_says}
+use Rattle.rv_dot.specs.Grammar.{with_semicolon, File, file, IsFile, file_says}
 use Rattle.rv_dot.proofs.MarkLaws.{bind_some, chosen, expects_takes}
 use Rattle.rv_dot.proofs.ListsTake.{word_takes}
 use Rattle.rv_dot.proofs.StatementsTake.{statements_take}
@@ -33,8 +33,8 @@ both false b h = absurd (cc)
 pub file_takes : (tokens : List Lexeme) (said : List Claim) → claims_of tokens ≡ Some said → (f : File) × IsFile f × (tokens ≡ file f) × (file_says f ≡ said)
 unfolding claims_of statements_at
 file_takes tokens said h =
-    let head = bind_some (word_at tokens) _ said h in
-    let title = bind_some (word_at head.0.1) _ said head.2 in
+    let head = bind_some (front_word tokens) _ said h in
+    let title = bind_some (front_word head.0.1) _ said head.2 in
     let behind = bind_some (expects OpenBrace title.0.1) _ said title.2 in
     let ss = bind_some (statements_within (length behind.0) behind.0) _ said behind.2 in
     elim (chosen (bytes_eq head.0.0 (codes "digraph") && eqb (length ss.0.1) 0) _ _ (Some said) ss.2) [
@@ -47,13 +47,13 @@ file_takes tokens said h =
             took.1,
             word_takes tokens head.0 head.1 ∙ ap (λ (k : List ℕ). word k ∷ head.0.1) is_digraph ∙ ap (λ (ts : List Lexeme). word (codes "digraph") ∷ ts)
                 (word_takes head.0.1 title.0 title.1 ∙ ap (λ (ts : List Lexeme). word title.0.0 ∷ ts) (expects_takes OpenBrace title.0.1 behind.0 behind.1 ∙ ap (λ (ts : List Lexeme). sign OpenBrace ∷ ts)
-                (took.2 ∙ ap (λ (ts : List Lexeme). flat_map ended took.0 ++ sign CloseBrace ∷ ts) is_end))),
+                (took.2 ∙ ap (λ (ts : List Lexeme). flat_map with_semicolon took.0 ++ sign CloseBrace ∷ ts) is_end))),
             took.3 ∙ same_Some ss.0.0 said p.1,
           )
       | inr p ↦ absurd (cc)
     ]
 
 -- what the code reads is spelled so
-pub is_found : (tokens : List Lexeme) (r : Result (Vec Fact Global) ReadError) → GivesSome (λ v. claims v.items) r (claims_of tokens) → IfOk r (λ v. (f : File) × IsFile f × (tokens ≡ file f) × (file_says f ≡ claims v.items))
+pub is_found : (tokens : List Lexeme) (r : Result (Vec Fact Global) DotFault) → GivesSome (λ v. claims v.items) r (claims_of tokens) → IfOk r (λ v. (f : File) × IsFile f × (tokens ≡ file f) × (file_says f ≡ claims v.items))
 is_found tokens (Ok v) h = file_takes tokens (claims v.items) h
 is_found tokens (Err e) h = tt

@@ -6,7 +6,7 @@ use Rattle.std.proofs.lemmas.List.{drop_at, take_at}
 use Rattle.rv_dot.specs.declared.token.Mark.TheVariants.{OpenBrace, CloseBrace, OpenBracket, CloseBracket, Equals, Semicolon, Comma, Arrow}
 use Rattle.rv_dot.specs.Runs.{is_word_byte, line_len, word_len, block_len, string_len}
 use Rattle.rv_dot.specs.Tokens.{sign, word, text, gap, comment_of, string_of, front_of, tokens_within}
-use Rattle.rv_dot.specs.Pieces.{Piece, blank, line_comment, block_comment, hash_line, unit, piece, EndsLine, EndsWord, IsOfLine, IsPieceAt, ends_line, Reads, token_in, tokens_in}
+use Rattle.rv_dot.specs.Pieces.{Piece, blank, line_comment, block_comment, hash_line, unit, piece_bytes, EndsLine, EndsWord, IsOfLine, IsPieceAt, ends_line, SplitsInto, token_in, tokens_in}
 use Rattle.rv_dot.proofs.RunLaws.{Stops, stop_again, block_again, string_again, same_byte}
 
 -- a byte that passes is none that doesn't
@@ -37,7 +37,7 @@ no_stops [] h = tt
 no_stops (b ∷ w) h = (rw h.0 refl, no_stops w h.1)
 
 -- a piece is read off the front
-pub front_again : (starts : Bool) (p : Piece) (rest : List ℕ) → IsPieceAt starts p rest → front_of starts (piece p ++ rest) ≡ Some (token_in p, rest)
+pub front_again : (starts : Bool) (p : Piece) (rest : List ℕ) → IsPieceAt starts p rest → front_of starts (piece_bytes p ++ rest) ≡ Some (token_in p, rest)
 unfolding front_of comment_of string_of
 front_again starts (blank b) rest h = rw h refl
 front_again starts (line_comment c) rest h = ap gap (line_again (47 ∷ c) rest (refl, h.0) h.1)
@@ -69,7 +69,7 @@ front_again starts (unit (text t)) rest h =
     rw (inner, taken, left) refl
 
 -- the first byte of a piece ends a line exactly where the piece does
-pub first_byte : (starts : Bool) (p : Piece) (rest : List ℕ) → IsPieceAt starts p rest → (b : ℕ) × (more : List ℕ) × (piece p ++ rest ≡ b ∷ more) × (eqb b 10 ≡ ends_line p)
+pub first_byte : (starts : Bool) (p : Piece) (rest : List ℕ) → IsPieceAt starts p rest → (b : ℕ) × (more : List ℕ) × (piece_bytes p ++ rest ≡ b ∷ more) × (eqb b 10 ≡ ends_line p)
 first_byte starts (blank b) rest h = (b, rest, refl, refl)
 first_byte starts (line_comment c) rest h = (47, _, refl, refl)
 first_byte starts (block_comment c) rest h = (47, _, refl, refl)
@@ -87,7 +87,7 @@ first_byte starts (unit (word (b ∷ w))) rest h = (b, w ++ rest, refl, other_by
 first_byte starts (unit (text t)) rest h = (34, _, refl, refl)
 
 -- the tokens of pieces are read
-pub tokens_again : (ps : List Piece) (n : ℕ) (starts : Bool) (bytes : List ℕ) → Reads starts bytes ps → length bytes ≤ n → tokens_within n starts bytes ≡ Some (tokens_in ps)
+pub tokens_again : (ps : List Piece) (n : ℕ) (starts : Bool) (bytes : List ℕ) → SplitsInto starts bytes ps → length bytes ≤ n → tokens_within n starts bytes ≡ Some (tokens_in ps)
 unfolding tokens_within
 tokens_again [] zero starts bytes h few = rw h refl
 tokens_again [] (suc n) starts bytes h few = rw h refl
@@ -98,11 +98,11 @@ tokens_again (p ∷ ps) (suc n) starts bytes h few =
     let rest = h.0 in
     let first = first_byte starts p rest h.2 in
     let read : front_of starts (first.0 ∷ first.1) ≡ Some (token_in p, rest) = ap (front_of starts) (sym first.2) ∙ front_again starts p rest h.2 in
-    let shorter : length rest ≤ n = omega (arith, ap length h.1, ap length (h.1 ∙ first.2), length-append (piece p) rest, piece_long starts p rest h.2) in
+    let shorter : length rest ≤ n = omega (arith, ap length h.1, ap length (h.1 ∙ first.2), length-append (piece_bytes p) rest, piece_long starts p rest h.2) in
     let more : tokens_within n (eqb first.0 10) rest ≡ Some (tokens_in ps) = ap (λ (t : Bool). tokens_within n t rest) first.3 ∙ tokens_again ps n (ends_line p) rest h.3 shorter in
     ap (tokens_within (suc n) starts) (h.1 ∙ first.2) ∙ rw (read, more) refl
   where
-    piece_long : (starts : Bool) (p : Piece) (rest : List ℕ) → IsPieceAt starts p rest → 0 < length (piece p)
+    piece_long : (starts : Bool) (p : Piece) (rest : List ℕ) → IsPieceAt starts p rest → 0 < length (piece_bytes p)
     piece_long starts (blank b) rest h = omega arith
     piece_long starts (line_comment c) rest h = omega arith
     piece_long starts (block_comment c) rest h = omega arith

@@ -7,7 +7,7 @@ use Rattle.rv_dot.specs.declared.token.Mark.{Mark}
 use Rattle.rv_dot.specs.declared.token.Mark.TheVariants.{OpenBrace, CloseBrace, OpenBracket, CloseBracket, Equals, Semicolon, Comma, Arrow}
 use Rattle.rv_dot.specs.Runs.{is_word_byte, begins_with}
 use Rattle.rv_dot.specs.Tokens.{Lexeme, sign, Front, gap, mark_of, front_of, tokens_within}
-use Rattle.rv_dot.specs.Pieces.{Piece, blank, hash_line, unit, mark_bytes, is_gap_byte, ends_line, Reads, tokens_in}
+use Rattle.rv_dot.specs.Pieces.{Piece, blank, hash_line, unit, mark_bytes, is_gap_byte, ends_line, SplitsInto, tokens_in}
 use Rattle.rv_dot.proofs.MarkLaws.{bind_some, chosen}
 use Rattle.rv_dot.proofs.RunLaws.{same_byte, begins_with_takes, map_some}
 use Rattle.rv_dot.proofs.FrontLaws.{first_byte}
@@ -94,7 +94,7 @@ front_takes starts (b ∷ rest) x h =
     ]
 
 -- what is read so is spelled so: tokens
-pub tokens_take : (n : ℕ) (starts : Bool) (bytes : List ℕ) (ts : List Lexeme) → tokens_within n starts bytes ≡ Some ts → (ps : List Piece) × Reads starts bytes ps × (tokens_in ps ≡ ts)
+pub tokens_take : (n : ℕ) (starts : Bool) (bytes : List ℕ) (ts : List Lexeme) → tokens_within n starts bytes ≡ Some ts → (ps : List Piece) × SplitsInto starts bytes ps × (tokens_in ps ≡ ts)
 unfolding tokens_within
 tokens_take zero starts [] ts h = ([], refl, same_Some [] ts h)
 tokens_take (suc n) starts [] ts h = ([], refl, same_Some [] ts h)
@@ -109,6 +109,6 @@ tokens_take (suc n) starts (b ∷ bytes) ts h =
     let same : b ≡ first.0 = cc in
     let line : eqb b 10 ≡ ends_line took.0 = ap (λ (d : ℕ). eqb d 10) same ∙ first.3 in (
       took.0 ∷ more.0,
-      (front.0.1, took.2, took.1, subst (λ (t : Bool). Reads t front.0.1 more.0) line more.1),
+      (front.0.1, took.2, took.1, subst (λ (t : Bool). SplitsInto t front.0.1 more.0) line more.1),
       ap (λ (o : Option Lexeme). option_to_list o ++ tokens_in more.0) took.3 ∙ ap (λ (l : List Lexeme). option_to_list front.0.0 ++ l) more.2 ∙ same_Some _ ts others.2,
     )

@@ -10,7 +10,7 @@ use Rattle.rv_dot.specs.declared.saying.Saying.{Saying}
 use Rattle.rv_dot.specs.declared.gather.Arc.{Arc as Held}
 use Rattle.rv_dot.specs.Statements.{Claim}
 use Rattle.rv_dot.specs.Gathered.{Arc, arcs_of}
-use Rattle.rv_dot.specs.Sayings.{said, all_said, arc}
+use Rattle.rv_dot.specs.Sayings.{claim_of, sayings_claims, arc}
 use Rattle.rv_dot.specs.Sets.{bytes_of}
 
 -- at most one in front
@@ -25,21 +25,21 @@ map-option f (Some x) = refl
 
 -- at most one name more
 pub one_more : (h : Claim → Option (List ℕ)) (sayings : List Saying) (i : ℕ) (d : Saying) (found found' : List (Bor (List ℕ))) (name : Option (Bor (List ℕ))) → i < length sayings
-    → map bytes_of found ≡ filter_map h (all_said (take i sayings)) → option_map bytes_of name ≡ h (said (get_or sayings i d)) → found' ≡ found ++ option_to_list name
-    → map bytes_of found' ≡ filter_map h (all_said (take (i + 1) sayings))
+    → map bytes_of found ≡ filter_map h (sayings_claims (take i sayings)) → option_map bytes_of name ≡ h (claim_of (get_or sayings i d)) → found' ≡ found ++ option_to_list name
+    → map bytes_of found' ≡ filter_map h (sayings_claims (take (i + 1) sayings))
 one_more h sayings i d found found' name lt so_far is grown =
     ap (map bytes_of) grown ∙ map-append bytes_of found (option_to_list name) ∙ ap (λ (ns : List (List ℕ)). ns ++ map bytes_of (option_to_list name)) so_far
-    ∙ ap (λ (ns : List (List ℕ)). filter_map h (all_said (take i sayings)) ++ ns) (map-option bytes_of name ∙ ap option_to_list is ∙ sym (option_front (h (said (get_or sayings i d)))))
-    ∙ sym (filter_map-append h (all_said (take i sayings)) (said (get_or sayings i d) ∷ [])) ∙ ap (filter_map h) (sym (map_more said sayings i d lt))
+    ∙ ap (λ (ns : List (List ℕ)). filter_map h (sayings_claims (take i sayings)) ++ ns) (map-option bytes_of name ∙ ap option_to_list is ∙ sym (option_front (h (claim_of (get_or sayings i d)))))
+    ∙ sym (filter_map-append h (sayings_claims (take i sayings)) (claim_of (get_or sayings i d) ∷ [])) ∙ ap (filter_map h) (sym (map_more claim_of sayings i d lt))
 
 -- the arcs of one saying more
 pub arcs_more : (sayings : List Saying) (i : ℕ) (d : Saying) (found found' more : List Held) → i < length sayings
-    → map arc found ≡ flat_map arcs_of (all_said (take i sayings)) → map arc more ≡ arcs_of (said (get_or sayings i d)) → found' ≡ found ++ more
-    → map arc found' ≡ flat_map arcs_of (all_said (take (i + 1) sayings))
+    → map arc found ≡ flat_map arcs_of (sayings_claims (take i sayings)) → map arc more ≡ arcs_of (claim_of (get_or sayings i d)) → found' ≡ found ++ more
+    → map arc found' ≡ flat_map arcs_of (sayings_claims (take (i + 1) sayings))
 arcs_more sayings i d found found' more lt so_far is grown =
     ap (map arc) grown ∙ map-append arc found more ∙ ap (λ (as' : List Arc). as' ++ map arc more) so_far
-    ∙ ap (λ (as' : List Arc). flat_map arcs_of (all_said (take i sayings)) ++ as') (is ∙ sym (append_nil (arcs_of (said (get_or sayings i d)))))
-    ∙ sym (flat_map-append arcs_of (all_said (take i sayings)) (said (get_or sayings i d) ∷ [])) ∙ ap (flat_map arcs_of) (sym (map_more said sayings i d lt))
+    ∙ ap (λ (as' : List Arc). flat_map arcs_of (sayings_claims (take i sayings)) ++ as') (is ∙ sym (append_nil (arcs_of (claim_of (get_or sayings i d)))))
+    ∙ sym (flat_map-append arcs_of (sayings_claims (take i sayings)) (claim_of (get_or sayings i d) ∷ [])) ∙ ap (flat_map arcs_of) (sym (map_more claim_of sayings i d lt))
   where
     append_nil : (xs : List Arc) → xs ++ [] ≡ xs
     append_nil [] = refl

@@ -16,9 +16,9 @@ use Rattle.rv_model.specs.WellFormed.{IsAutomaton}
 use Rattle.rv_dot.specs.declared.moves.Move.{Move}
 use Rattle.rv_dot.specs.Statements.{Claim}
 use Rattle.rv_dot.specs.Gathered.{Arc, states_in, arcs_in, all_fit, is_marked}
-use Rattle.rv_dot.specs.Sets.{set_of, stands_in, place_of, bytes_of}
+use Rattle.rv_dot.specs.Sets.{ascending, stands_in, place_of, bytes_of}
 use Rattle.rv_dot.specs.Members.{Ascends}
-use Rattle.rv_dot.specs.Moves.{has_clash, moves_of, numbered, edge_of}
+use Rattle.rv_dot.specs.Moves.{has_clash, moves_of, arc_move, edge_of}
 use Rattle.rv_dot.specs.Dot.{ends_declared, has_conflict, states_from, events_from, bits_of, marked_or_initial, machine_from, with_initial}
 use Rattle.rv_dot.proofs.AutomatonLaws.{IsDrawn, arcs_numbered, drawn_is_automaton}
 use Rattle.rv_dot.proofs.ConflictLaws.{clash_is_conflict}
@@ -35,18 +35,18 @@ within : (most n : ℕ) → n ≤ most → nat_lt most n ≡ false
 within most n h = grind (arith, nat_tests)
 
 -- an initial name without a place among the declared ones is refused
-pub first_refused : (claims : List Claim) (first : List ℕ) → stands_in (set_of (states_in claims)) first ≡ false → with_initial claims first ≡ refused_with UNDECLARED_STATE
+pub first_refused : (claims : List Claim) (first : List ℕ) → stands_in (ascending (states_in claims)) first ≡ false → with_initial claims first ≡ refused_with UNDECLARED_STATE
 unfolding with_initial
 first_refused claims first h =
     let none : stands_in (states_in claims) first ≡ false = sym (stands_in_set (states_in claims) first) ∙ h in
     rw none refl
 
 -- an initial name with a place there is declared
-pub first_stands : (claims : List Claim) (first : List ℕ) → stands_in (set_of (states_in claims)) first ≡ true → stands_in (states_in claims) first ≡ true
+pub first_stands : (claims : List Claim) (first : List ℕ) → stands_in (ascending (states_in claims)) first ≡ true → stands_in (states_in claims) first ≡ true
 first_stands claims first h = sym (stands_in_set (states_in claims) first) ∙ h
 
 -- the first state and the others kept of the set are the states
-pub states_are : (claims : List Claim) (first : List ℕ) (others : List (List ℕ)) → others ≡ filter (λ s. not (bytes_eq s first)) (set_of (states_in claims)) → first ∷ others ≡ states_from first (states_in claims)
+pub states_are : (claims : List Claim) (first : List ℕ) (others : List (List ℕ)) → others ≡ filter (λ s. not (bytes_eq s first)) (ascending (states_in claims)) → first ∷ others ≡ states_from first (states_in claims)
 unfolding states_from
 states_are claims first others e = ap (λ (os : List (List ℕ)). first ∷ os) e
 
@@ -70,15 +70,15 @@ module _ (claims : List Claim) (first : List ℕ) (states events : List (List �
   is_drawn fit h = record { fit = fit; initial_declared = stands; ends = sym ends_are ∙ h }
 
   -- a clash is a conflict
-  clash_is : IsDrawn claims first → has_clash (moves_of (map (numbered states events) arcs)) ≡ has_conflict (arcs_in claims)
+  clash_is : IsDrawn claims first → has_clash (moves_of (map (arc_move states events) arcs)) ≡ has_conflict (arcs_in claims)
   clash_is drawn = rw (are_states, are_events, are_arcs) (clash_is_conflict (states_from first (states_in claims)) (events_from (arcs_in claims)) (arcs_in claims) (arcs_numbered claims first drawn))
 
   -- a clash is refused
-  pub clash_refused : IsDrawn claims first → has_clash (moves_of (map (numbered states events) arcs)) ≡ true → with_initial claims first ≡ refused_with NOT_DETERMINISTIC
+  pub clash_refused : IsDrawn claims first → has_clash (moves_of (map (arc_move states events) arcs)) ≡ true → with_initial claims first ≡ refused_with NOT_DETERMINISTIC
   unfolding with_initial
   clash_refused drawn h = let conflict : has_conflict (arcs_in claims) ≡ true = sym (clash_is drawn) ∙ h in rw (stands, drawn.ends, conflict) refl
 
-  module _ (drawn : IsDrawn claims first) (calm : has_clash (moves_of (map (numbered states events) arcs)) ≡ false) where
+  module _ (drawn : IsDrawn claims first) (calm : has_clash (moves_of (map (arc_move states events) arcs)) ≡ false) where
     no_conflict : has_conflict (arcs_in claims) ≡ false
     no_conflict = sym (clash_is drawn) ∙ calm
 
@@ -116,7 +116,7 @@ module _ (claims : List Claim) (first : List ℕ) (states events : List (List �
   made ss es ms = record { states = ss; events = es; edges = map edge_of ms; marked = marked_or_initial (bits_of (map (is_marked claims) ss)) }
 
   -- it is the automaton that the definition draws
-  pub machine_is : (moves : List Move) → moves ≡ moves_of (map (numbered states events) arcs) → made states events moves ≡ machine_from claims first
+  pub machine_is : (moves : List Move) → moves ≡ moves_of (map (arc_move states events) arcs) → made states events moves ≡ machine_from claims first
   unfolding machine_from
   machine_is moves are_moves = rw (are_moves, are_states, are_events, are_arcs) refl
 
@@ -138,8 +138,8 @@ unfolding events_from
 events_up arcs events e = subst (Ascends (slice_cmp nat_cmp)) (sym e) (set_ascends (map (λ a. a.event) arcs))
 
 -- what is kept of the declared names ascends
-pub others_up : (names : List (List ℕ)) (first : List ℕ) (others : List (List ℕ)) → others ≡ filter (λ s. not (bytes_eq s first)) (set_of names) → Ascends (slice_cmp nat_cmp) others
-others_up names first others e = subst (Ascends (slice_cmp nat_cmp)) (sym e) (ascends_filter (slice_cmp nat_cmp) (λ s. not (bytes_eq s first)) (set_of names) (set_ascends names))
+pub others_up : (names : List (List ℕ)) (first : List ℕ) (others : List (List ℕ)) → others ≡ filter (λ s. not (bytes_eq s first)) (ascending names) → Ascends (slice_cmp nat_cmp) others
+others_up names first others e = subst (Ascends (slice_cmp nat_cmp)) (sym e) (ascends_filter (slice_cmp nat_cmp) (λ s. not (bytes_eq s first)) (ascending names) (set_ascends names))
 
 -- 31 others and the first are too many
 pub many_states : (first : List ℕ) (others : List (Bor (List ℕ))) → 31 ≤ length others → 31 < length (first ∷ map bytes_of others)

@@ -6,11 +6,11 @@ use Rattle.std.proofs.lemmas.List.Concat.{flat_map-append}
 use Rattle.rv_dot.specs.declared.token.Mark.{Mark}
 use Rattle.rv_dot.specs.declared.token.Mark.TheVariants.{OpenBrace, CloseBrace, OpenBracket, CloseBracket, Equals, Semicolon, Comma, Arrow}
 use Rattle.rv_dot.specs.Tokens.{sign, word, text}
-use Rattle.rv_dot.specs.Pieces.{Piece, blank, unit, piece}
+use Rattle.rv_dot.specs.Pieces.{Piece, blank, unit, piece_bytes}
 use Rattle.rv_dot.specs.Statements.{Claim, declares, leads}
 use Rattle.rv_dot.specs.Grammar.{nothing, comma, Statement, assigns, declaration, node, edge, File}
 use Rattle.rv_dot.specs.Gathered.{Arc}
-use Rattle.rv_dot.specs.Canonical.{State, Drawing, quoted, marker, shape_of, head_lines, marker_line, state_line, initial_line, node_line, arc_line, last_line, drawing_text}
+use Rattle.rv_dot.specs.Canonical.{State, Drawing, quoted, marker, drawn_shape, head_lines, marker_line, state_line, initial_line, node_line, arc_line, last_line, drawing_text}
 
 -- one token or blank
 abbrev pub space : Piece
@@ -53,7 +53,7 @@ marker_pieces initial =
 -- a state's declaration
 abbrev pub state_pieces : State → List Piece
 state_pieces s =
-    tab ∷ mark OpenBrace ∷ named (codes "node") ∷ space ∷ mark OpenBracket ∷ named (codes "shape") ∷ space ∷ mark Equals ∷ space ∷ named (shape_of s.is_marked) ∷ mark CloseBracket ∷ space
+    tab ∷ mark OpenBrace ∷ named (codes "node") ∷ space ∷ mark OpenBracket ∷ named (codes "shape") ∷ space ∷ mark Equals ∷ space ∷ named (drawn_shape s.is_marked) ∷ mark CloseBracket ∷ space
     ∷ string s.name ∷ mark CloseBrace ∷ mark Semicolon ∷ line_end ∷ []
 
 -- the edge from the marker
@@ -85,12 +85,12 @@ six : (a b c d e f g : List ℕ) → a ++ (b ++ (c ++ (d ++ (e ++ (f ++ g))))) �
 six a b c d e f g = simp append_assoc
 
 -- a declaration's bytes
-state_text : (name : List ℕ) (t : Bool) → flat_map piece (state_pieces (record { name = name; is_marked = t })) ≡ state_line (record { name = name; is_marked = t })
+state_text : (name : List ℕ) (t : Bool) → flat_map piece_bytes (state_pieces (record { name = name; is_marked = t })) ≡ state_line (record { name = name; is_marked = t })
 state_text name true = refl
 state_text name false = refl
 
 -- the marker's bytes
-marker_text : (initial : List ℕ) → flat_map piece (marker_pieces initial) ≡ marker_line initial
+marker_text : (initial : List ℕ) → flat_map piece_bytes (marker_pieces initial) ≡ marker_line initial
 marker_text initial = refl
 
 -- a line with two names
@@ -105,28 +105,28 @@ with_three : (a b c d x y z : List ℕ) → a ++ (quoted x ++ (b ++ (quoted y ++
 with_three a b c d x y z = six a (quoted x) b (quoted y) c (quoted z) d
 
 -- its edge's bytes
-initial_text : (initial : List ℕ) → flat_map piece (initial_pieces initial) ≡ initial_line initial
+initial_text : (initial : List ℕ) → flat_map piece_bytes (initial_pieces initial) ≡ initial_line initial
 initial_text initial = with_two (codes "\t") (codes " -> ") (codes ";\n") (marker initial) initial
 
 -- a label's bytes
-node_text : (name : List ℕ) → flat_map piece (node_pieces name) ≡ node_line name
+node_text : (name : List ℕ) → flat_map piece_bytes (node_pieces name) ≡ node_line name
 node_text name = with_two (codes "\t") (codes " [label = ") (codes "];\n") name name
 
 -- an edge's bytes
-arc_text : (a : Arc) → flat_map piece (arc_pieces a) ≡ arc_line a
+arc_text : (a : Arc) → flat_map piece_bytes (arc_pieces a) ≡ arc_line a
 arc_text a = with_three (codes "\t") (codes " -> ") (codes " [ label = ") (codes " ];\n") a.from a.to a.event
 
 -- pieces and more pieces spell their texts
-more_text : (ps qs : List Piece) → flat_map piece (ps ++ qs) ≡ flat_map piece ps ++ flat_map piece qs
-more_text ps qs = flat_map-append piece ps qs
+more_text : (ps qs : List Piece) → flat_map piece_bytes (ps ++ qs) ≡ flat_map piece_bytes ps ++ flat_map piece_bytes qs
+more_text ps qs = flat_map-append piece_bytes ps qs
 
 -- lines as pieces and more pieces spell the lines and more
-lines_text : {A : Type 0} (pieces : A → List Piece) (line : A → List ℕ) → ((x : A) → flat_map piece (pieces x) ≡ line x) → (xs : List A) → flat_map piece (flat_map pieces xs) ≡ flat_map line xs
+lines_text : {A : Type 0} (pieces : A → List Piece) (line : A → List ℕ) → ((x : A) → flat_map piece_bytes (pieces x) ≡ line x) → (xs : List A) → flat_map piece_bytes (flat_map pieces xs) ≡ flat_map line xs
 lines_text pieces line same [] = refl
-lines_text pieces line same (x ∷ xs) = more_text (pieces x) (flat_map pieces xs) ∙ ap (λ (t : List ℕ). t ++ flat_map piece (flat_map pieces xs)) (same x) ∙ ap (λ (t : List ℕ). line x ++ t) (lines_text pieces line same xs)
+lines_text pieces line same (x ∷ xs) = more_text (pieces x) (flat_map pieces xs) ∙ ap (λ (t : List ℕ). t ++ flat_map piece_bytes (flat_map pieces xs)) (same x) ∙ ap (λ (t : List ℕ). line x ++ t) (lines_text pieces line same xs)
 
 -- the pieces spell the text
-pub layout_text : (d : Drawing) → flat_map piece (layout d) ≡ drawing_text d
+pub layout_text : (d : Drawing) → flat_map piece_bytes (layout d) ≡ drawing_text d
 layout_text d =
     let states = flat_map state_pieces d.states in
     let nodes = flat_map node_pieces (map (λ (s : State). s.name) d.states) in
@@ -136,7 +136,7 @@ layout_text d =
     let rest_two = initial_pieces d.initial ++ rest_three in
     let rest_one = states ++ rest_two in
     let rest = marker_pieces d.initial ++ rest_one in
-    let t : List Piece → List ℕ = λ ps. flat_map piece ps in
+    let t : List Piece → List ℕ = λ ps. flat_map piece_bytes ps in
     let e1 : t (head_pieces ++ rest) ≡ head_lines ++ t rest = more_text head_pieces rest in
     let e2 : t rest ≡ marker_line d.initial ++ t rest_one = more_text (marker_pieces d.initial) rest_one ∙ ap (λ (x : List ℕ). x ++ t rest_one) (marker_text d.initial) in
     let e3 : t rest_one ≡ flat_map state_line d.states ++ t rest_two = more_text states rest_two ∙ ap (λ (x : List ℕ). x ++ t rest_two) (lines_text state_pieces state_line (λ s. state_text s.name s.is_marked) d.states) in
@@ -155,7 +155,7 @@ marker_statement initial =
 
 -- a state's declaration
 abbrev pub state_statement : State → Statement
-state_statement s = declaration ((record { key = codes "shape"; value = word (shape_of s.is_marked) }, nothing) ∷ []) ((text s.name, false) ∷ [])
+state_statement s = declaration ((record { key = codes "shape"; value = word (drawn_shape s.is_marked) }, nothing) ∷ []) ((text s.name, false) ∷ [])
 
 -- the edge from the marker
 abbrev pub initial_statement : List ℕ → Statement
@@ -183,7 +183,7 @@ drawn d = record {
 
 -- what the file says
 abbrev pub state_claim : State → Claim
-state_claim s = declares s.name (Some (shape_of s.is_marked))
+state_claim s = declares s.name (Some (drawn_shape s.is_marked))
 
 -- an edge's claim
 abbrev pub arc_claim : Arc → Claim

@@ -1,9 +1,9 @@
 -- Lists of tokens are as long without where they lie in memory.
 use Rattle.std.proofs.Common.{◌≡◌, List, length}
 use Rattle.std.proofs.lemmas.List.{length-map}
-use Rattle.rv_dot.specs.declared.token.Token.{Token}
+use Rattle.rv_dot.specs.declared.token.DotToken.{DotToken}
 use Rattle.rv_dot.specs.Tokens.{lexeme, lexemes}
 
 -- there are as many lexemes as tokens
-pub length_lexemes : (tokens : List Token) → length (lexemes tokens) ≡ length tokens
+pub length_lexemes : (tokens : List DotToken) → length (lexemes tokens) ≡ length tokens
 length_lexemes tokens = length-map tokens lexeme

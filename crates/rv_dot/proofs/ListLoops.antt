@@ -4,7 +4,7 @@ use Rattle.std.specs.Option.{option_map}
 use Rattle.std.proofs.lemmas.List.{append-nil}
 use Rattle.rv_dot.specs.declared.token.Mark.TheVariants.{CloseBracket, CloseBrace, Semicolon}
 use Rattle.rv_dot.specs.Tokens.{Lexeme, ◌>>=◌}
-use Rattle.rv_dot.specs.Marks.{begins, without}
+use Rattle.rv_dot.specs.Marks.{begins, past_mark}
 use Rattle.rv_dot.specs.Lists.{Attribute, separated, attribute_at, attributes_within, name_at, names_within}
 
 -- a list and the tokens behind it, with what was read before
@@ -43,17 +43,17 @@ attributes_end front (suc m) tokens total apart read so_far =
 
 -- all attributes are read
 pub attributes_are_done : (front : List Attribute) (n : ℕ) (tokens : List Lexeme) (total : Option (List Attribute × List Lexeme))
-    → begins CloseBracket tokens ≡ true → length tokens ≤ n → items_on front (attributes_within n tokens) ≡ total → total ≡ Some (front, without CloseBracket tokens)
+    → begins CloseBracket tokens ≡ true → length tokens ≤ n → items_on front (attributes_within n tokens) ≡ total → total ≡ Some (front, past_mark CloseBracket tokens)
 unfolding attributes_within begins
 attributes_are_done front zero [] total apart few so_far = absurd (cc)
 attributes_are_done front zero (t ∷ tokens) total apart few so_far = absurd (omega arith)
 attributes_are_done front (suc m) tokens total apart few so_far =
-    let step : items_on front (attributes_within (suc m) tokens) ≡ Some (front ++ [], without CloseBracket tokens) = rw apart refl in
-    sym so_far ∙ step ∙ ap (λ (all : List Attribute). Some (all, without CloseBracket tokens)) (append-nil front)
+    let step : items_on front (attributes_within (suc m) tokens) ≡ Some (front ++ [], past_mark CloseBracket tokens) = rw apart refl in
+    sym so_far ∙ step ∙ ap (λ (all : List Attribute). Some (all, past_mark CloseBracket tokens)) (append-nil front)
 
 -- one name more
 pub names_go_on : (front : List Lexeme) (n : ℕ) (tokens : List Lexeme) (first : Lexeme) (after behind : List Lexeme) (total : Option (List Lexeme × List Lexeme))
-    → begins CloseBrace tokens ≡ false → Some (first, after) ≡ name_at tokens → behind ≡ without Semicolon after → length behind < length tokens → length tokens ≤ n
+    → begins CloseBrace tokens ≡ false → Some (first, after) ≡ name_at tokens → behind ≡ past_mark Semicolon after → length behind < length tokens → length tokens ≤ n
     → items_on front (names_within n tokens) ≡ total
     → (m : ℕ) × (length behind ≤ m) × (items_on (front ++ first ∷ []) (names_within m behind) ≡ total)
 unfolding names_within
@@ -73,10 +73,10 @@ names_end front (suc m) tokens total apart read so_far =
 
 -- all names are read
 pub names_are_done : (front : List Lexeme) (n : ℕ) (tokens : List Lexeme) (total : Option (List Lexeme × List Lexeme))
-    → begins CloseBrace tokens ≡ true → length tokens ≤ n → items_on front (names_within n tokens) ≡ total → total ≡ Some (front, without CloseBrace tokens)
+    → begins CloseBrace tokens ≡ true → length tokens ≤ n → items_on front (names_within n tokens) ≡ total → total ≡ Some (front, past_mark CloseBrace tokens)
 unfolding names_within begins
 names_are_done front zero [] total apart few so_far = absurd (cc)
 names_are_done front zero (t ∷ tokens) total apart few so_far = absurd (omega arith)
 names_are_done front (suc m) tokens total apart few so_far =
-    let step : items_on front (names_within (suc m) tokens) ≡ Some (front ++ [], without CloseBrace tokens) = rw apart refl in
-    sym so_far ∙ step ∙ ap (λ (all : List Lexeme). Some (all, without CloseBrace tokens)) (append-nil front)
+    let step : items_on front (names_within (suc m) tokens) ≡ Some (front ++ [], past_mark CloseBrace tokens) = rw apart refl in
+    sym so_far ∙ step ∙ ap (λ (all : List Lexeme). Some (all, past_mark CloseBrace tokens)) (append-nil front)

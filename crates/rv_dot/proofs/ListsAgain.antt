@@ -5,11 +5,11 @@ use Rattle.std.specs.List.{flat_map}
 use Rattle.rv_dot.specs.declared.token.Mark.{Mark}
 use Rattle.rv_dot.specs.declared.token.Mark.TheVariants.{CloseBrace, OpenBracket, CloseBracket, Semicolon, Comma}
 use Rattle.rv_dot.specs.Tokens.{Lexeme, sign, word, text}
-use Rattle.rv_dot.specs.Marks.{begins, expects, without}
-use Rattle.rv_dot.specs.Lists.{word_at, value_at, name_at, separated, attribute_at, attributes_within, attributes_at, bracket_at, names_within, names_at}
+use Rattle.rv_dot.specs.Marks.{begins, expects, past_mark}
+use Rattle.rv_dot.specs.Lists.{front_word, value_at, name_at, separated, attribute_at, attributes_within, attributes_at, bracket_at, names_within, names_at}
 use Rattle.rv_dot.specs.Statements.{optional_bracket_at}
 use Rattle.rv_dot.specs.Grammar.{semicolon, Separator, nothing, comma, semi, separator, Bracket, inside, optional_bracket, Group, named, group, IsValue, IsName, IsBracket, IsOptionalBracket, IsGroup, value_in, value_in_optional}
-use Rattle.rv_dot.proofs.MarkLaws.{without_none, without_again, semicolon_again}
+use Rattle.rv_dot.proofs.MarkLaws.{past_mark_none, past_mark_again, semicolon_again}
 
 -- what is spelled so is read so: value
 pub value_again : (v : Lexeme) (rest : List Lexeme) → IsValue v → value_at (v ∷ rest) ≡ Some (v, rest)
@@ -35,9 +35,9 @@ name_begins m (text t) rest h = refl
 -- what is spelled so is read so: separated
 separated_again : (s : Separator) (rest : List Lexeme) → begins Comma rest ≡ false → begins Semicolon rest ≡ false → separated (separator s ++ rest) ≡ rest
 unfolding separated begins
-separated_again nothing rest no_comma no_semi = rw no_comma (without_none Semicolon rest no_semi)
-separated_again comma rest no_comma no_semi = without_again Comma rest
-separated_again semi rest no_comma no_semi = without_again Semicolon rest
+separated_again nothing rest no_comma no_semi = rw no_comma (past_mark_none Semicolon rest no_semi)
+separated_again comma rest no_comma no_semi = past_mark_again Comma rest
+separated_again semi rest no_comma no_semi = past_mark_again Semicolon rest
 
 -- what stands inside a bracket begins with a word
 inside_begins : (m : Mark) (b : Bracket) (rest : List Lexeme) → begins m (sign CloseBracket ∷ rest) ≡ false → begins m (inside b ++ sign CloseBracket ∷ rest) ≡ false
@@ -47,7 +47,7 @@ inside_begins m (a ∷ b) rest h = refl
 
 -- what is spelled so is read so: attributes
 pub attributes_again : (b : Bracket) (n : ℕ) (rest : List Lexeme) → IsBracket b → length b < n → attributes_within n (inside b ++ sign CloseBracket ∷ rest) ≡ Some (map (λ a. a.0) b, rest)
-unfolding attributes_within begins without attribute_at word_at expects
+unfolding attributes_within begins past_mark attribute_at front_word expects
 attributes_again b zero rest h few = absurd (omega arith)
 attributes_again [] (suc n) rest h few = refl
 attributes_again (a ∷ b) (suc n) rest h few =
@@ -69,7 +69,7 @@ bracket_again key b rest h =
 
 -- what is spelled so is read so: optional bracket
 pub optional_bracket_again : (key : List ℕ) (b : Option Bracket) (rest : List Lexeme) → IsOptionalBracket b → begins OpenBracket rest ≡ false → optional_bracket_at key (optional_bracket b ++ rest) ≡ Some (value_in_optional key b, rest)
-unfolding optional_bracket_at begins without
+unfolding optional_bracket_at begins past_mark
 optional_bracket_again key None rest h apart = rw apart refl
 optional_bracket_again key (Some b) rest h apart = ap (bracket_at key) (append_assoc (inside b) (sign CloseBracket ∷ []) rest) ∙ bracket_again key b rest h
 
@@ -80,13 +80,13 @@ names_begin m (n ∷ g) rest h apart = name_begins m n.0 _ h.0
 
 -- what is spelled so is read so: names
 pub names_again : (g : Group) (n : ℕ) (rest : List Lexeme) → IsGroup g → length g < n → names_within n (flat_map named g ++ sign CloseBrace ∷ rest) ≡ Some (map (λ n. n.0) g, rest)
-unfolding names_within begins without
+unfolding names_within begins past_mark
 names_again g zero rest h few = absurd (omega arith)
 names_again [] (suc n) rest h few = refl
 names_again (first ∷ g) (suc n) rest h few =
     let tail = flat_map named g ++ sign CloseBrace ∷ rest in
-    let cut : without Semicolon ((semicolon first.1 ++ flat_map named g) ++ sign CloseBrace ∷ rest) ≡ tail =
-    ap (without Semicolon) (append_assoc (semicolon first.1) (flat_map named g) (sign CloseBrace ∷ rest)) ∙ semicolon_again first.1 tail (names_begin Semicolon g rest h.1 refl) in
+    let cut : past_mark Semicolon ((semicolon first.1 ++ flat_map named g) ++ sign CloseBrace ∷ rest) ≡ tail =
+    ap (past_mark Semicolon) (append_assoc (semicolon first.1) (flat_map named g) (sign CloseBrace ∷ rest)) ∙ semicolon_again first.1 tail (names_begin Semicolon g rest h.1 refl) in
     rw (name_begins CloseBrace first.0 ((semicolon first.1 ++ flat_map named g) ++ sign CloseBrace ∷ rest) h.0, name_again first.0 ((semicolon first.1 ++ flat_map named g) ++ sign CloseBrace ∷ rest) h.0, cut, names_again g n rest h.1 (omega arith)) refl
 
 -- a name has tokens

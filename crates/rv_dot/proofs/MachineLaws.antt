@@ -10,8 +10,8 @@ use Rattle.rv_model.specs.Machine.{Machine}
 use Rattle.rv_model.specs.WellFormed.{EdgeIsBefore, IsAutomaton}
 use Rattle.rv_dot.specs.Gathered.{Arc}
 use Rattle.rv_dot.specs.Members.{IsMember, Ascends}
-use Rattle.rv_dot.specs.Sets.{set_of, place_of, number_in}
-use Rattle.rv_dot.specs.Moves.{moves_of, numbered}
+use Rattle.rv_dot.specs.Sets.{ascending, place_of, number_in}
+use Rattle.rv_dot.specs.Moves.{moves_of, arc_move}
 use Rattle.rv_dot.specs.Dot.{states_from, events_from}
 use Rattle.rv_dot.specs.Canonical.{arc_named}
 use Rattle.rv_dot.proofs.MemberLaws.{AllLater, member_at, member_filter, filter_member, member_map, map_member, all_member, place_of_member, ascends_filter}
@@ -61,7 +61,7 @@ module _ (a : Machine) (h : IsAutomaton a) where
   event_number k lt = rw (place_of-at a.events k [] events_up lt) refl
 
   -- an edge by its names has its numbers
-  pub arc_number : (e : Edge) → IsMember e a.edges → numbered a.states a.events (arc_named a.states a.events e) ≡ move_of e
+  pub arc_number : (e : Edge) → IsMember e a.edges → arc_move a.states a.events (arc_named a.states a.events e) ≡ move_of e
   arc_number e m =
       let in_range = all_member (λ (x : Edge). (x.from < length a.states) × (x.event < length a.events) × (x.to < length a.states)) a.edges e h.in_range m in
       rw (state_number e.from in_range.0, event_number e.event in_range.1, state_number e.to in_range.2) refl
@@ -74,10 +74,10 @@ module _ (a : Machine) (h : IsAutomaton a) where
       let others = drop 1 a.states in
       let split = split_first a.states h.some_state in
       let keep : List ℕ → Bool = λ s. not (bytes_eq s initial) in
-      let kept : filter keep (set_of a.states) ≡ others =
-      one_list (slice_cmp nat_cmp) nat_list_cmp_total same_name (filter keep (set_of a.states)) others (ascends_filter (slice_cmp nat_cmp) keep (set_of a.states) (set_ascends a.states)) others_up
-      (λ s m. let k = member_filter keep s (set_of a.states) m in behind s (subst (λ (ns : List (List ℕ)). IsMember s ns) split ((set_members a.states s).0 k.0)) k.1)
-      (λ s m. filter_member keep s (set_of a.states) ((set_members a.states s).1 (subst (λ (ns : List (List ℕ)). IsMember s ns) (sym split) (inr m))) (ap not (apart s m))) in
+      let kept : filter keep (ascending a.states) ≡ others =
+      one_list (slice_cmp nat_cmp) nat_list_cmp_total same_name (filter keep (ascending a.states)) others (ascends_filter (slice_cmp nat_cmp) keep (ascending a.states) (set_ascends a.states)) others_up
+      (λ s m. let k = member_filter keep s (ascending a.states) m in behind s (subst (λ (ns : List (List ℕ)). IsMember s ns) split ((set_members a.states s).0 k.0)) k.1)
+      (λ s m. filter_member keep s (ascending a.states) ((set_members a.states s).1 (subst (λ (ns : List (List ℕ)). IsMember s ns) (sym split) (inr m))) (ap not (apart s m))) in
       ap (λ (ns : List (List ℕ)). initial ∷ ns) kept ∙ sym split
     where
       behind : (s : List ℕ) → IsMember s (get_or a.states 0 [] ∷ drop 1 a.states) → not (bytes_eq s (get_or a.states 0 [])) ≡ true → IsMember s (drop 1 a.states)
@@ -124,9 +124,9 @@ module _ (a : Machine) (h : IsAutomaton a) where
           subst (λ (n : List ℕ). IsMember n a.events) same (member_at a.events edge.0.event [] in_range.1)
 
   -- the moves of the arcs are those of the edges
-  pub moves_again : moves_of (map (numbered a.states a.events) (map (arc_named a.states a.events) a.edges)) ≡ map move_of a.edges
+  pub moves_again : moves_of (map (arc_move a.states a.events) (map (arc_named a.states a.events) a.edges)) ≡ map move_of a.edges
   moves_again = ap moves_of (each a.edges (λ e m. m)) ∙ moves_only a.edges edges_later
     where
-      each : (es : List Edge) → ((e : Edge) → IsMember e es → IsMember e a.edges) → map (numbered a.states a.events) (map (arc_named a.states a.events) es) ≡ map move_of es
+      each : (es : List Edge) → ((e : Edge) → IsMember e es → IsMember e a.edges) → map (arc_move a.states a.events) (map (arc_named a.states a.events) es) ≡ map move_of es
       each [] f = refl
       each (e ∷ es) f = rw (arc_number e (f e (inl refl)), each es (λ x m. f x (inr m))) refl

@@ -3,7 +3,7 @@ use Rattle.std.proofs.Common.{◌≡◌, Bool, true, false, List, [], ◌∷◌,
 use Rattle.rv_dot.specs.declared.token.Mark.{Mark}
 use Rattle.rv_dot.specs.declared.token.Mark.TheVariants.{OpenBrace, CloseBrace, OpenBracket, CloseBracket, Equals, Semicolon, Comma, Arrow}
 use Rattle.rv_dot.specs.Tokens.{Lexeme, sign, word, text, ◌>>=◌}
-use Rattle.rv_dot.specs.Marks.{mark_eq, begins, expects, without}
+use Rattle.rv_dot.specs.Marks.{mark_eq, begins, expects, past_mark}
 use Rattle.rv_dot.specs.Grammar.{semicolon}
 
 -- what was read on comes of what was read
@@ -62,35 +62,35 @@ unfolding begins
 begins_again m rest = mark_eq-same m
 
 -- the mark is passed over
-pub without_again : (m : Mark) (rest : List Lexeme) → without m (sign m ∷ rest) ≡ rest
-unfolding without
-without_again m rest = rw mark_eq-same refl
+pub past_mark_again : (m : Mark) (rest : List Lexeme) → past_mark m (sign m ∷ rest) ≡ rest
+unfolding past_mark
+past_mark_again m rest = rw mark_eq-same refl
 
 -- a mark that doesn't stand there is not taken
-pub without_none : (m : Mark) (tokens : List Lexeme) → begins m tokens ≡ false → without m tokens ≡ tokens
-unfolding without begins
-without_none m [] h = refl
-without_none m (sign n ∷ tokens) h = rw h refl
-without_none m (word w ∷ tokens) h = refl
-without_none m (text t ∷ tokens) h = refl
+pub past_mark_none : (m : Mark) (tokens : List Lexeme) → begins m tokens ≡ false → past_mark m tokens ≡ tokens
+unfolding past_mark begins
+past_mark_none m [] h = refl
+past_mark_none m (sign n ∷ tokens) h = rw h refl
+past_mark_none m (word w ∷ tokens) h = refl
+past_mark_none m (text t ∷ tokens) h = refl
 
 -- what is read so is spelled so: begins
-pub begins_takes : (m : Mark) (tokens : List Lexeme) → begins m tokens ≡ true → tokens ≡ sign m ∷ without m tokens
-unfolding without begins
+pub begins_takes : (m : Mark) (tokens : List Lexeme) → begins m tokens ≡ true → tokens ≡ sign m ∷ past_mark m tokens
+unfolding past_mark begins
 begins_takes m [] h = absurd (cc)
 begins_takes m (sign n ∷ tokens) h = let same = mark_eq_is m n h in rw h (ap (λ (k : Mark). sign k ∷ tokens) (sym same))
 begins_takes m (word w ∷ tokens) h = absurd (cc)
 begins_takes m (text t ∷ tokens) h = absurd (cc)
 
 -- a semicolon or none is passed over
-pub semicolon_again : (b : Bool) (rest : List Lexeme) → begins Semicolon rest ≡ false → without Semicolon (semicolon b ++ rest) ≡ rest
-semicolon_again true rest h = without_again Semicolon rest
-semicolon_again false rest h = without_none Semicolon rest h
+pub semicolon_again : (b : Bool) (rest : List Lexeme) → begins Semicolon rest ≡ false → past_mark Semicolon (semicolon b ++ rest) ≡ rest
+semicolon_again true rest h = past_mark_again Semicolon rest
+semicolon_again false rest h = past_mark_none Semicolon rest h
 
 -- what is passed over is a semicolon or none
-pub semicolon_takes : (tokens : List Lexeme) → (b : Bool) × (tokens ≡ semicolon b ++ without Semicolon tokens)
+pub semicolon_takes : (tokens : List Lexeme) → (b : Bool) × (tokens ≡ semicolon b ++ past_mark Semicolon tokens)
 semicolon_takes tokens = go (begins Semicolon tokens) refl
   where
-    go : (t : Bool) → begins Semicolon tokens ≡ t → (b : Bool) × (tokens ≡ semicolon b ++ without Semicolon tokens)
+    go : (t : Bool) → begins Semicolon tokens ≡ t → (b : Bool) × (tokens ≡ semicolon b ++ past_mark Semicolon tokens)
     go true h = (true, begins_takes Semicolon tokens h)
-    go false h = (false, sym (without_none Semicolon tokens h))
+    go false h = (false, sym (past_mark_none Semicolon tokens h))

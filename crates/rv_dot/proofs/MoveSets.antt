@@ -15,7 +15,7 @@ use Rattle.rv_dot.specs.declared.gather.Arc.{Arc as Held}
 use Rattle.rv_dot.specs.Gathered.{Arc}
 use Rattle.rv_dot.specs.Sayings.{arc}
 use Rattle.rv_dot.specs.Members.{IsMember, Ascends}
-use Rattle.rv_dot.specs.Moves.{move_cmp, moves_of, numbered}
+use Rattle.rv_dot.specs.Moves.{move_cmp, moves_of, arc_move}
 use Rattle.rv_dot.proofs.SetOrder.{fold_ascends, fold_members, members_fold}
 
 -- one move more
@@ -25,15 +25,15 @@ moves_of-push moves m = fold_push (insert_key move_cmp) [] moves m
 
 -- one arc more
 pub moves_more : (states events : List (List ℕ)) (arcs : List Held) (i : ℕ) (d : Held) (m : Move) (keys keys' : List Move) → i < length arcs
-    → keys ≡ moves_of (map (numbered states events) (map arc (take i arcs))) → m ≡ numbered states events (arc (get_or arcs i d)) → keys' ≡ insert_key move_cmp keys m
-    → keys' ≡ moves_of (map (numbered states events) (map arc (take (i + 1) arcs)))
+    → keys ≡ moves_of (map (arc_move states events) (map arc (take i arcs))) → m ≡ arc_move states events (arc (get_or arcs i d)) → keys' ≡ insert_key move_cmp keys m
+    → keys' ≡ moves_of (map (arc_move states events) (map arc (take (i + 1) arcs)))
 moves_more states events arcs i d m keys keys' lt so_far is inserted =
-    inserted ∙ ap (λ (ks : List Move). insert_key move_cmp ks m) so_far ∙ ap (insert_key move_cmp (moves_of (map (numbered states events) (map arc (take i arcs))))) is
-    ∙ sym (moves_of-push (map (numbered states events) (map arc (take i arcs))) (numbered states events (arc (get_or arcs i d))))
-    ∙ ap moves_of (sym (map_push_arc (map arc (take i arcs)) (arc (get_or arcs i d))) ∙ ap (map (numbered states events)) (sym (map_more arc arcs i d lt)))
+    inserted ∙ ap (λ (ks : List Move). insert_key move_cmp ks m) so_far ∙ ap (insert_key move_cmp (moves_of (map (arc_move states events) (map arc (take i arcs))))) is
+    ∙ sym (moves_of-push (map (arc_move states events) (map arc (take i arcs))) (arc_move states events (arc (get_or arcs i d))))
+    ∙ ap moves_of (sym (map_push_arc (map arc (take i arcs)) (arc (get_or arcs i d))) ∙ ap (map (arc_move states events)) (sym (map_more arc arcs i d lt)))
   where
-    map_push_arc : (as' : List Arc) (a : Arc) → map (numbered states events) (as' ++ a ∷ []) ≡ map (numbered states events) as' ++ numbered states events a ∷ []
-    map_push_arc as' a = map_push (numbered states events) as' a
+    map_push_arc : (as' : List Arc) (a : Arc) → map (arc_move states events) (as' ++ a ∷ []) ≡ map (arc_move states events) as' ++ arc_move states events a ∷ []
+    map_push_arc as' a = map_push (arc_move states events) as' a
 
 -- moves are in total order
 pub moves_total : IsTotalOrder move_cmp

@@ -7,12 +7,12 @@ use Rattle.std.proofs.lemmas.Bool.Decides.{nat_tests}
 use Rattle.rv_model.specs.WellFormed.{IsNameOf, IsStateName, is_event_byte, is_state_byte}
 use Rattle.rv_dot.specs.Runs.{is_word_byte}
 use Rattle.rv_dot.specs.Statements.{Claim, declares, leads}
-use Rattle.rv_dot.specs.Names.{is_marker, is_name, is_state_name, is_event_name}
+use Rattle.rv_dot.specs.Names.{is_marker, is_name_by, is_state_name, is_event_name}
 use Rattle.rv_dot.specs.Gathered.{state_in, fits}
 use Rattle.rv_dot.proofs.MemberLaws.{and_true, list_all_member, all_members}
 
 -- a name by the test is a name by its parts
-pub name_parts : (of_kind : ℕ → Bool) (name : List ℕ) → is_name of_kind name ≡ true → IsNameOf of_kind name
+pub name_parts : (of_kind : ℕ → Bool) (name : List ℕ) → is_name_by of_kind name ≡ true → IsNameOf of_kind name
 name_parts of_kind name h =
     let parts = and_true (not (length name == 0) && nat_le (length name) 64) (list_all of_kind name) h in
     let long = and_true (not (length name == 0)) (nat_le (length name) 64) parts.0 in

@@ -7,7 +7,7 @@ use Rattle.std.specs.declared.cmp.Ordering.{Ordering}
 use Rattle.std.specs.declared.cmp.Ordering.TheVariants.{Less, Equal, Greater}
 use Rattle.std.proofs.lemmas.Bool.Decides.{nat_tests}
 use Rattle.rv_dot.specs.Members.{IsMember, Ascends}
-use Rattle.rv_dot.specs.Sets.{set_of}
+use Rattle.rv_dot.specs.Sets.{ascending}
 use Rattle.rv_dot.proofs.SetOrder.{fold_ascends, fold_members, members_fold, one_list}
 
 -- names that compare as equal are equal
@@ -28,20 +28,20 @@ either (inl a) none = a
 either (inr b) none = absurd (none b)
 
 -- a set ascends
-pub set_ascends : (names : List (List ℕ)) → Ascends (slice_cmp nat_cmp) (set_of names)
-unfolding set_of
+pub set_ascends : (names : List (List ℕ)) → Ascends (slice_cmp nat_cmp) (ascending names)
+unfolding ascending
 set_ascends names = fold_ascends (slice_cmp nat_cmp) nat_list_cmp_total same_name names [] tt
 
 -- its members are the names
-pub set_members : (names : List (List ℕ)) (name : List ℕ) → IsMember name (set_of names) ↔ IsMember name names
-unfolding set_of
+pub set_members : (names : List (List ℕ)) (name : List ℕ) → IsMember name (ascending names) ↔ IsMember name names
+unfolding ascending
 set_members names name = (
   (λ m. either (fold_members (slice_cmp nat_cmp) nat_list_cmp_total same_name names [] name m) (λ none. none)),
   (λ m. members_fold (slice_cmp nat_cmp) nat_list_cmp_total same_name names [] name (inl m)),
 )
 
 -- no other list is so
-pub set_is_only : (names found : List (List ℕ)) → Ascends (slice_cmp nat_cmp) found → ((name : List ℕ) → IsMember name found ↔ IsMember name names) → found ≡ set_of names
+pub set_is_only : (names found : List (List ℕ)) → Ascends (slice_cmp nat_cmp) found → ((name : List ℕ) → IsMember name found ↔ IsMember name names) → found ≡ ascending names
 set_is_only names found up members =
-    one_list (slice_cmp nat_cmp) nat_list_cmp_total same_name found (set_of names) up (set_ascends names)
+    one_list (slice_cmp nat_cmp) nat_list_cmp_total same_name found (ascending names) up (set_ascends names)
     (λ z m. (set_members names z).1 ((members z).0 m)) (λ z m. (members z).1 ((set_members names z).0 m))

@@ -6,20 +6,20 @@ use Rattle.std.proofs.lemmas.Option.{same_Some}
 use Rattle.std.proofs.lemmas.List.{drop_at, take_at}
 use Rattle.rv_dot.specs.Runs.{is_word_byte, line_len, word_len, block_len, string_len, begins_with}
 use Rattle.rv_dot.specs.Tokens.{word, text, Front, gap, one, comment_of, string_of}
-use Rattle.rv_dot.specs.Pieces.{Piece, line_comment, block_comment, unit, piece, EndsLine, EndsWord, IsOfLine, IsPieceAt, token_in}
+use Rattle.rv_dot.specs.Pieces.{Piece, line_comment, block_comment, unit, piece_bytes, EndsLine, EndsWord, IsOfLine, IsPieceAt, token_in}
 use Rattle.rv_dot.proofs.MarkLaws.{bind_some, chosen}
 use Rattle.rv_dot.proofs.RunLaws.{Stops, stop-is, stop_takes, block_takes, string_takes, begins_with_takes}
 use Rattle.rv_dot.proofs.FrontLaws.{line_again}
 
 -- something was read off the front
 abbrev pub Took : Bool → List ℕ → Front → Type 0
-Took starts bytes x = (p : Piece) × IsPieceAt starts p x.1 × (bytes ≡ piece p ++ x.1) × (token_in p ≡ x.0)
+Took starts bytes x = (p : Piece) × IsPieceAt starts p x.1 × (bytes ≡ piece_bytes p ++ x.1) × (token_in p ≡ x.0)
 
 -- what may stand between tokens is a piece
-pub took_gap : (starts : Bool) (bytes : List ℕ) (p : Piece) (rest : List ℕ) (x : Front) → Some (token_in p, rest) ≡ Some x → IsPieceAt starts p rest → bytes ≡ piece p ++ rest → Took starts bytes x
+pub took_gap : (starts : Bool) (bytes : List ℕ) (p : Piece) (rest : List ℕ) (x : Front) → Some (token_in p, rest) ≡ Some x → IsPieceAt starts p rest → bytes ≡ piece_bytes p ++ rest → Took starts bytes x
 took_gap starts bytes p rest x h fits whole =
     let e = same_Some (token_in p, rest) x h in
-    (p, subst (λ (y : Front). IsPieceAt starts p y.1) e fits, whole ∙ ap (λ (y : Front). piece p ++ y.1) e, ap (λ (y : Front). y.0) e)
+    (p, subst (λ (y : Front). IsPieceAt starts p y.1) e fits, whole ∙ ap (λ (y : Front). piece_bytes p ++ y.1) e, ap (λ (y : Front). y.0) e)
 
 -- the rest of a line
 pub line_takes : (bytes : List ℕ) → (c : List ℕ) × (rest : List ℕ) × (bytes ≡ c ++ rest) × IsOfLine c × EndsLine rest × (drop (line_len bytes) bytes ≡ rest)

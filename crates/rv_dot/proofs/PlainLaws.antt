@@ -6,14 +6,14 @@ use Rattle.std.proofs.Math.Seq.{take-length}
 use Rattle.std.proofs.lemmas.Bool.Decides.{nat_tests}
 use Rattle.rv_model.specs.WellFormed.{IsNameOf, IsStateName, is_event_byte, is_state_byte}
 use Rattle.rv_dot.specs.Runs.{is_word_byte}
-use Rattle.rv_dot.specs.Names.{is_marker, is_name, is_state_name, is_event_name}
-use Rattle.rv_dot.specs.Labels.{is_blank, piece_len, without_blanks, kept_len, trimmed, piece_of, pieces_within, events_of}
+use Rattle.rv_dot.specs.Names.{is_marker, is_name_by, is_state_name, is_event_name}
+use Rattle.rv_dot.specs.Labels.{is_blank, piece_len, without_blanks, kept_len, trimmed, piece_of, pieces_within, label_events}
 use Rattle.rv_dot.proofs.MemberLaws.{list_all_from, all_member}
 use Rattle.rv_dot.proofs.PlainBytes.{IsPlain, other_byte}
 use Rattle.rv_dot.proofs.SetOrder.{all_from_members}
 
 -- a name by its parts is a name by the test
-name_test_of : (of_kind : ℕ → Bool) (name : List ℕ) → IsNameOf of_kind name → is_name of_kind name ≡ true
+name_test_of : (of_kind : ℕ → Bool) (name : List ℕ) → IsNameOf of_kind name → is_name_by of_kind name ≡ true
 name_test_of of_kind name h =
     let some : not (length name == 0) ≡ true = go_some (length name) h.0 in
     let few : nat_le (length name) 64 ≡ true = go_few (length name) h.1 in
@@ -95,5 +95,5 @@ one_piece zero name h = ap (λ (t : List ℕ). t ∷ []) (trimmed_plain name h)
 one_piece (suc n) name h = rw (uncut name h) (ap (λ (t : List ℕ). t ∷ []) (trimmed_plain name h))
 
 -- such a label is one event
-pub one_event : (name : List ℕ) → IsPlain name → events_of name ≡ name ∷ []
+pub one_event : (name : List ℕ) → IsPlain name → label_events name ≡ name ∷ []
 one_event name h = one_piece (length name) name h

@@ -14,7 +14,7 @@ use Rattle.rv_dot.specs.Statements.{Claim}
 use Rattle.rv_dot.specs.Gathered.{Arc, states_in, arcs_in, is_marked}
 use Rattle.rv_dot.specs.Members.{IsMember, Ascends}
 use Rattle.rv_dot.specs.Sets.{stands_in}
-use Rattle.rv_dot.specs.Moves.{moves_of, numbered, edge_of, has_clash}
+use Rattle.rv_dot.specs.Moves.{moves_of, arc_move, edge_of, has_clash}
 use Rattle.rv_dot.specs.Canonical.{State, states_marked, arc_named, drawing_of, drawing_text, dot_text}
 use Rattle.rv_dot.specs.Dot.{ends_declared, states_from, events_from, bits_of, marked_or_initial, initial_of, machine_of, dot_of}
 use Rattle.rv_dot.proofs.CanonicalLaws.{names_marked}
@@ -162,11 +162,11 @@ module _ (a : Machine) (h : IsAutomaton a) where
       kept bits some = let test : (bits == 0) ≡ false = grind (arith, nat_tests) in rw test refl
 
   -- the moves that are read
-  read_moves : map move_of a.edges ≡ moves_of (map (numbered a.states a.events) (map (arc_named a.states a.events) a.edges))
+  read_moves : map move_of a.edges ≡ moves_of (map (arc_move a.states a.events) (map (arc_named a.states a.events) a.edges))
   read_moves = sym (moves_again a h)
 
   -- without conflict
-  calm : has_clash (moves_of (map (numbered a.states a.events) (map (arc_named a.states a.events) a.edges))) ≡ false
+  calm : has_clash (moves_of (map (arc_move a.states a.events) (map (arc_named a.states a.events) a.edges))) ≡ false
   calm = ap has_clash (moves_again a h) ∙ calm_edges a.edges (edges_later a h)
 
   -- the statements give the automaton

@@ -8,7 +8,7 @@ use Rattle.std.specs.declared.cmp.Ordering.TheVariants.{Less, Equal, Greater}
 use Rattle.std.specs.Cmp.Lexicographic.{slice_cmp}
 use Rattle.std.proofs.lemmas.List.Sums.{fold_push}
 use Rattle.std.proofs.lemmas.List.{map_more}
-use Rattle.rv_dot.specs.Sets.{set_of, bytes_of}
+use Rattle.rv_dot.specs.Sets.{ascending, bytes_of}
 
 -- by bytes
 abbrev pub name_cmp : Bor (List ℕ) → Bor (List ℕ) → Ordering
@@ -26,14 +26,14 @@ map-insert_key (x ∷ keys) k = go (slice_cmp nat_cmp k.now x.now) (map-insert_k
     go Greater h = ap (λ (ks : List (List ℕ)). x.now ∷ ks) h
 
 -- one name more
-pub set_of-push : (names : List (List ℕ)) (name : List ℕ) → set_of (names ++ name ∷ []) ≡ insert_key (slice_cmp nat_cmp) (set_of names) name
-unfolding set_of
-set_of-push names name = fold_push (insert_key (slice_cmp nat_cmp)) [] names name
+pub ascending-push : (names : List (List ℕ)) (name : List ℕ) → ascending (names ++ name ∷ []) ≡ insert_key (slice_cmp nat_cmp) (ascending names) name
+unfolding ascending
+ascending-push names name = fold_push (insert_key (slice_cmp nat_cmp)) [] names name
 
 -- one name more
 pub gathers_more : (names : List (Bor (List ℕ))) (i : ℕ) (d : Bor (List ℕ)) (keys keys' : List (Bor (List ℕ))) → i < length names
-    → map bytes_of keys ≡ set_of (map bytes_of (take i names)) → keys' ≡ insert_key name_cmp keys (get_or names i d)
-    → map bytes_of keys' ≡ set_of (map bytes_of (take (i + 1) names))
+    → map bytes_of keys ≡ ascending (map bytes_of (take i names)) → keys' ≡ insert_key name_cmp keys (get_or names i d)
+    → map bytes_of keys' ≡ ascending (map bytes_of (take (i + 1) names))
 gathers_more names i d keys keys' lt so_far inserted =
     ap (map bytes_of) inserted ∙ map-insert_key keys (get_or names i d) ∙ ap (λ (ks : List (List ℕ)). insert_key (slice_cmp nat_cmp) ks (get_or names i d).now) so_far
-    ∙ sym (set_of-push (map bytes_of (take i names)) (get_or names i d).now) ∙ ap set_of (sym (map_more bytes_of names i d lt))
+    ∙ sym (ascending-push (map bytes_of (take i names)) (get_or names i d).now) ∙ ap ascending (sym (map_more bytes_of names i d lt))

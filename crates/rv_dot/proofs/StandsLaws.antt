@@ -11,7 +11,7 @@ use Rattle.std.specs.Str.{bytes_eq}
 use Rattle.std.proofs.lemmas.Option.{same_Some}
 use Rattle.std.proofs.lemmas.Slice.Eq.{bytes_eq-Decides}
 use Rattle.rv_dot.specs.Members.{IsMember, Ascends}
-use Rattle.rv_dot.specs.Sets.{set_of, place_of, stands_in, number_in}
+use Rattle.rv_dot.specs.Sets.{ascending, place_of, stands_in, number_in}
 use Rattle.rv_dot.specs.Dot.{states_from}
 use Rattle.rv_dot.proofs.MemberLaws.{member_filter, filter_member, member_at}
 use Rattle.rv_dot.proofs.NameSets.{set_members}
@@ -52,11 +52,11 @@ member_stands (n ∷ names) x m = go (bytes_eq n x) refl m (λ k. some_more (pla
     go false e m later = elim m [ inl f ↦ absurd (let apart : true ≡ false = sym (name_test n x f) ∙ e in cc) | inr k ↦ later k ]
 
 -- names stand in the set of names where they stand among them
-pub stands_in_set : (names : List (List ℕ)) (x : List ℕ) → stands_in (set_of names) x ≡ stands_in names x
+pub stands_in_set : (names : List (List ℕ)) (x : List ℕ) → stands_in (ascending names) x ≡ stands_in names x
 stands_in_set names x =
-    both_ways (stands_in (set_of names) x) (stands_in names x)
-    (λ h. member_stands names x ((set_members names x).0 (stands_member (set_of names) x h)))
-    (λ h. member_stands (set_of names) x ((set_members names x).1 (stands_member names x h)))
+    both_ways (stands_in (ascending names) x) (stands_in names x)
+    (λ h. member_stands names x ((set_members names x).0 (stands_member (ascending names) x h)))
+    (λ h. member_stands (ascending names) x ((set_members names x).1 (stands_member names x h)))
 
 -- a state of the automaton is a declared one
 pub member_states : (initial : List ℕ) (declared : List (List ℕ)) (x : List ℕ) → IsMember initial declared → IsMember x (states_from initial declared) → IsMember x declared
@@ -64,7 +64,7 @@ unfolding states_from
 member_states initial declared x has m =
     elim m [
       | inl e ↦ subst (λ y. IsMember y declared) e has
-      | inr n ↦ (set_members declared x).0 (member_filter (λ s. not (bytes_eq s initial)) x (set_of declared) n).0
+      | inr n ↦ (set_members declared x).0 (member_filter (λ s. not (bytes_eq s initial)) x (ascending declared) n).0
     ]
 
 -- a declared state is a state of the automaton
@@ -72,9 +72,9 @@ pub states_member : (initial : List ℕ) (declared : List (List ℕ)) (x : List 
 unfolding states_from
 states_member initial declared x m = go (bytes_eq x initial) refl
   where
-    go : (t : Bool) → bytes_eq x initial ≡ t → IsMember x (initial ∷ filter (λ s. not (bytes_eq s initial)) (set_of declared))
+    go : (t : Bool) → bytes_eq x initial ≡ t → IsMember x (initial ∷ filter (λ s. not (bytes_eq s initial)) (ascending declared))
     go true e = inl (sym (name_same x initial e))
-    go false e = inr (filter_member (λ s. not (bytes_eq s initial)) x (set_of declared) ((set_members declared x).1 m) (ap not e))
+    go false e = inr (filter_member (λ s. not (bytes_eq s initial)) x (ascending declared) ((set_members declared x).1 m) (ap not e))
 
 -- the states are the declared names
 pub stands_in_states : (initial : List ℕ) (declared : List (List ℕ)) → stands_in declared initial ≡ true → (x : List ℕ) → stands_in (states_from initial declared) x ≡ stands_in declared x

@@ -1,11 +1,11 @@
 -- Statements, read one after the other as a loop does.
 use Rattle.std.proofs.Common.{◌≡◌, ℕ, zero, suc, ◌≤◌, ◌<◌, true, false, List, [], ◌∷◌, ◌++◌, length, Option, Some, None, refl, sym, ap, ◌∙◌, append_assoc, arith}
 use Rattle.std.proofs.lemmas.List.{append-nil}
-use Rattle.rv_dot.specs.declared.fault.ReadError.{ReadError}
-use Rattle.rv_dot.specs.declared.fault.ReadError.TheVariants.{Memory, Syntax}
+use Rattle.rv_dot.specs.declared.fault.DotFault.{DotFault}
+use Rattle.rv_dot.specs.declared.fault.DotFault.TheVariants.{Memory, Syntax}
 use Rattle.rv_dot.specs.declared.token.Mark.TheVariants.{CloseBrace, Semicolon}
 use Rattle.rv_dot.specs.Tokens.{Lexeme, ◌>>=◌, Fails}
-use Rattle.rv_dot.specs.Marks.{begins, without}
+use Rattle.rv_dot.specs.Marks.{begins, past_mark}
 use Rattle.rv_dot.specs.Statements.{Claim, statement_at, statements_within}
 use Rattle.rv_dot.proofs.ListLoops.{items_on}
 
@@ -16,7 +16,7 @@ regroup front first (Some others) = ap (λ (all : List Claim). Some (all, others
 
 -- one statement more
 pub go_on : (front : List Claim) (n : ℕ) (tokens : List Lexeme) (first : List Claim) (after behind : List Lexeme) (total : Option (List Claim × List Lexeme))
-    → begins CloseBrace tokens ≡ false → statement_at tokens ≡ Some (first, after) → behind ≡ without Semicolon after → length behind < length tokens → length tokens ≤ n
+    → begins CloseBrace tokens ≡ false → statement_at tokens ≡ Some (first, after) → behind ≡ past_mark Semicolon after → length behind < length tokens → length tokens ≤ n
     → items_on front (statements_within n tokens) ≡ total
     → (m : ℕ) × (length behind ≤ m) × (items_on (front ++ first) (statements_within m behind) ≡ total)
 unfolding statements_within
@@ -26,7 +26,7 @@ go_on front (suc m) tokens first after behind total apart read cut shorter few s
     (m, omega arith, sym step ∙ so_far)
 
 -- a fault ends the statements
-pub end : (e : ReadError) (front : List Claim) (n : ℕ) (tokens : List Lexeme) (total : Option (List Claim × List Lexeme))
+pub end : (e : DotFault) (front : List Claim) (n : ℕ) (tokens : List Lexeme) (total : Option (List Claim × List Lexeme))
     → begins CloseBrace tokens ≡ false → Fails e (statement_at tokens) → items_on front (statements_within n tokens) ≡ total → Fails e total
 unfolding statements_within
 end Memory front n tokens total apart read so_far = tt
@@ -37,10 +37,10 @@ end Syntax front (suc m) tokens total apart read so_far =
 
 -- all statements are read
 pub are_done : (front : List Claim) (n : ℕ) (tokens : List Lexeme) (total : Option (List Claim × List Lexeme))
-    → begins CloseBrace tokens ≡ true → length tokens ≤ n → items_on front (statements_within n tokens) ≡ total → total ≡ Some (front, without CloseBrace tokens)
+    → begins CloseBrace tokens ≡ true → length tokens ≤ n → items_on front (statements_within n tokens) ≡ total → total ≡ Some (front, past_mark CloseBrace tokens)
 unfolding statements_within begins
 are_done front zero [] total apart few so_far = absurd (cc)
 are_done front zero (t ∷ tokens) total apart few so_far = absurd (omega arith)
 are_done front (suc m) tokens total apart few so_far =
-    let step : items_on front (statements_within (suc m) tokens) ≡ Some (front ++ [], without CloseBrace tokens) = rw apart refl in
-    sym so_far ∙ step ∙ ap (λ (all : List Claim). Some (all, without CloseBrace tokens)) (append-nil front)
+    let step : items_on front (statements_within (suc m) tokens) ≡ Some (front ++ [], past_mark CloseBrace tokens) = rw apart refl in
+    sym so_far ∙ step ∙ ap (λ (all : List Claim). Some (all, past_mark CloseBrace tokens)) (append-nil front)

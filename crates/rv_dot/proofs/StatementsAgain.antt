@@ -6,11 +6,11 @@ use Rattle.std.proofs.lemmas.Bool.Decides.{nat_tests}
 use Rattle.rv_dot.specs.declared.token.Mark.{Mark}
 use Rattle.rv_dot.specs.declared.token.Mark.TheVariants.{OpenBrace, CloseBrace, OpenBracket, CloseBracket, Equals, Semicolon, Arrow}
 use Rattle.rv_dot.specs.Tokens.{Lexeme, sign, word, text}
-use Rattle.rv_dot.specs.Marks.{begins, expects, without, is_assignment}
+use Rattle.rv_dot.specs.Marks.{begins, expects, past_mark, is_assignment}
 use Rattle.rv_dot.specs.Names.{name_of}
-use Rattle.rv_dot.specs.Lists.{word_at}
-use Rattle.rv_dot.specs.Statements.{Claim, declares, held, declared_at, ranked_at, group_at, assignment_at, edge_at, named_at, statement_at, statements_within, statements_at, claims_of}
-use Rattle.rv_dot.specs.Grammar.{semicolon, Bracket, inside, optional_bracket, Group, group, Statement, assigns, declaration, rank, node, edge, statement, ended, File, file, IsValue, IsName, IsGroup, IsStatement, IsFile, value_in, says, file_says}
+use Rattle.rv_dot.specs.Lists.{front_word}
+use Rattle.rv_dot.specs.Statements.{Claim, declares, value_held, declared_at, ranked_at, group_at, assignment_at, edge_at, named_at, statement_at, statements_within, statements_at, claims_of}
+use Rattle.rv_dot.specs.Grammar.{semicolon, Bracket, inside, optional_bracket, Group, group, Statement, assigns, declaration, rank, node, edge, statement, with_semicolon, File, file, IsValue, IsName, IsGroup, IsStatement, IsFile, value_in, statement_claims, file_says}
 use Rattle.rv_dot.proofs.MarkLaws.{semicolon_again}
 use Rattle.rv_dot.proofs.ListsAgain.{value_again, name_again, name_begins, bracket_again, optional_bracket_again, names_begin, group_again}
 
@@ -43,9 +43,9 @@ name_assigns (word w) rest h apart = apart
 name_assigns (text t) rest h apart = refl
 
 -- each name of a group is declared
-pub declared_each : (g : Group) (shape : Option Lexeme) → map (λ name. declares (name_of name) (held shape)) (map (λ n. n.0) g) ≡ map (λ n. declares (name_of n.0) (held shape)) g
+pub declared_each : (g : Group) (shape : Option Lexeme) → map (λ name. declares (name_of name) (value_held shape)) (map (λ n. n.0) g) ≡ map (λ n. declares (name_of n.0) (value_held shape)) g
 declared_each [] shape = refl
-declared_each (n ∷ g) shape = ap (λ (cs : List Claim). declares (name_of n.0) (held shape) ∷ cs) (declared_each g shape)
+declared_each (n ∷ g) shape = ap (λ (cs : List Claim). declares (name_of n.0) (value_held shape) ∷ cs) (declared_each g shape)
 
 -- a longer list has some length
 nonzero : (n : ℕ) → eqb (suc n) 0 ≡ false
@@ -57,11 +57,11 @@ some_names [] x h = absurd (omega arith)
 some_names {A = A} (n ∷ g) x h = rw (nonzero (length (map (λ (n : Lexeme × Bool). n.0) g))) refl
 
 -- what is spelled so is read so: declared
-declared_again : (b : Bracket) (g : Group) (rest : List Lexeme) → IsStatement (declaration b g) → declared_at (sign OpenBracket ∷ inside b ++ sign CloseBracket ∷ (group g ++ rest)) ≡ Some (says (declaration b g), rest)
+declared_again : (b : Bracket) (g : Group) (rest : List Lexeme) → IsStatement (declaration b g) → declared_at (sign OpenBracket ∷ inside b ++ sign CloseBracket ∷ (group g ++ rest)) ≡ Some (statement_claims (declaration b g), rest)
 unfolding declared_at expects
 declared_again b g rest h =
     rw (bracket_again (codes "shape") b (group g ++ rest) h.0, group_again g rest h.1)
-    (some_names g (Some (map (λ name. declares (name_of name) (held (value_in (codes "shape") b))) (map (λ n. n.0) g), rest)) h.2 ∙ ap (λ (cs : List Claim). Some (cs, rest)) (declared_each g (value_in (codes "shape") b)))
+    (some_names g (Some (map (λ name. declares (name_of name) (value_held (value_in (codes "shape") b))) (map (λ n. n.0) g), rest)) h.2 ∙ ap (λ (cs : List Claim). Some (cs, rest)) (declared_each g (value_in (codes "shape") b)))
 
 -- no statement begins with a semicolon
 no_semicolon : (rest : List Lexeme) → begins Semicolon (sign CloseBrace ∷ rest) ≡ false
@@ -76,8 +76,8 @@ ranked_again value s g rest h k =
     rw (value_again value (semicolon s ++ (group g ++ rest)) h, semicolon_again s (group g ++ rest) regrouped, group_again g rest k) refl
 
 -- what is spelled so is read so: statement
-pub statement_again : (s : Statement) (rest : List Lexeme) → IsStatement s → Follows rest → statement_at (statement s ++ rest) ≡ Some (says s, rest)
-unfolding statement_at begins without is_assignment assignment_at group_at named_at edge_at word_at expects
+pub statement_again : (s : Statement) (rest : List Lexeme) → IsStatement s → Follows rest → statement_at (statement s ++ rest) ≡ Some (statement_claims s, rest)
+unfolding statement_at begins past_mark is_assignment assignment_at group_at named_at edge_at front_word expects
 statement_again (assigns key value) rest h next = rw (value_again value rest h) refl
 statement_again (declaration b g) rest h next =
     let regrouped : (inside b ++ sign CloseBracket ∷ []) ++ group g ++ rest ≡ inside b ++ sign CloseBracket ∷ (group g ++ rest) = append_assoc _ (group g) rest ∙ append_assoc (inside b) (sign CloseBracket ∷ []) (group g ++ rest) in
@@ -91,28 +91,28 @@ statement_again (edge from to b) rest h next =
     rw (name_begins OpenBrace from (sign Arrow ∷ tail) h.0, name_assigns from (sign Arrow ∷ tail) h.0 refl, name_again from (sign Arrow ∷ tail) h.0, name_again to (optional_bracket b ++ rest) h.1, optional_bracket_again (codes "label") b rest h.2 next.no_bracket) refl
 
 -- behind statements stands no mark but a brace
-ended_begin : (m : Mark) (ss : List (Statement × Bool)) (rest : List Lexeme) → AllByRecursion (λ s. IsStatement s.0) ss → begins m (sign OpenBrace ∷ []) ≡ false → begins m (sign CloseBrace ∷ rest) ≡ false
-    → begins m (flat_map ended ss ++ sign CloseBrace ∷ rest) ≡ false
-ended_begin m [] rest h other apart = apart
-ended_begin m (s ∷ ss) rest h other apart =
-    ap (begins m) (append_assoc (ended s) (flat_map ended ss) _ ∙ append_assoc (statement s.0) (semicolon s.1) _) ∙ statement_begins m s.0 _ h.0 other
+with_semicolon_begin : (m : Mark) (ss : List (Statement × Bool)) (rest : List Lexeme) → AllByRecursion (λ s. IsStatement s.0) ss → begins m (sign OpenBrace ∷ []) ≡ false → begins m (sign CloseBrace ∷ rest) ≡ false
+    → begins m (flat_map with_semicolon ss ++ sign CloseBrace ∷ rest) ≡ false
+with_semicolon_begin m [] rest h other apart = apart
+with_semicolon_begin m (s ∷ ss) rest h other apart =
+    ap (begins m) (append_assoc (with_semicolon s) (flat_map with_semicolon ss) _ ∙ append_assoc (statement s.0) (semicolon s.1) _) ∙ statement_begins m s.0 _ h.0 other
 
 -- what may follow a statement
-follows : (b : Bool) (ss : List (Statement × Bool)) (rest : List Lexeme) → AllByRecursion (λ s. IsStatement s.0) ss → Follows (semicolon b ++ (flat_map ended ss ++ sign CloseBrace ∷ rest))
+follows : (b : Bool) (ss : List (Statement × Bool)) (rest : List Lexeme) → AllByRecursion (λ s. IsStatement s.0) ss → Follows (semicolon b ++ (flat_map with_semicolon ss ++ sign CloseBrace ∷ rest))
 unfolding begins
 follows true ss rest h = record { no_bracket = refl; no_arrow = refl; no_equals = refl }
-follows false ss rest h = record { no_bracket = ended_begin OpenBracket ss rest h refl refl; no_arrow = ended_begin Arrow ss rest h refl refl; no_equals = ended_begin Equals ss rest h refl refl }
+follows false ss rest h = record { no_bracket = with_semicolon_begin OpenBracket ss rest h refl refl; no_arrow = with_semicolon_begin Arrow ss rest h refl refl; no_equals = with_semicolon_begin Equals ss rest h refl refl }
 
 -- what is spelled so is read so: statements
 pub statements_again : (ss : List (Statement × Bool)) (n : ℕ) (rest : List Lexeme) → AllByRecursion (λ s. IsStatement s.0) ss → length ss < n
-    → statements_within n (flat_map ended ss ++ sign CloseBrace ∷ rest) ≡ Some (flat_map (λ s. says s.0) ss, rest)
-unfolding statements_within begins without
+    → statements_within n (flat_map with_semicolon ss ++ sign CloseBrace ∷ rest) ≡ Some (flat_map (λ s. statement_claims s.0) ss, rest)
+unfolding statements_within begins past_mark
 statements_again ss zero rest h few = absurd (omega arith)
 statements_again [] (suc n) rest h few = refl
 statements_again (s ∷ ss) (suc n) rest h few =
-    let tail = flat_map ended ss ++ sign CloseBrace ∷ rest in
-    let regrouped : flat_map ended (s ∷ ss) ++ sign CloseBrace ∷ rest ≡ statement s.0 ++ (semicolon s.1 ++ tail) = append_assoc (ended s) (flat_map ended ss) _ ∙ append_assoc (statement s.0) (semicolon s.1) tail in
-    let cut : without Semicolon (semicolon s.1 ++ tail) ≡ tail = semicolon_again s.1 tail (ended_begin Semicolon ss rest h.1 refl refl) in
+    let tail = flat_map with_semicolon ss ++ sign CloseBrace ∷ rest in
+    let regrouped : flat_map with_semicolon (s ∷ ss) ++ sign CloseBrace ∷ rest ≡ statement s.0 ++ (semicolon s.1 ++ tail) = append_assoc (with_semicolon s) (flat_map with_semicolon ss) _ ∙ append_assoc (statement s.0) (semicolon s.1) tail in
+    let cut : past_mark Semicolon (semicolon s.1 ++ tail) ≡ tail = semicolon_again s.1 tail (with_semicolon_begin Semicolon ss rest h.1 refl refl) in
     ap (statements_within (suc n)) regrouped ∙
     rw (statement_begins CloseBrace s.0 (semicolon s.1 ++ tail) h.0 refl, statement_again s.0 (semicolon s.1 ++ tail) h.0 (follows s.1 ss rest h.1), cut, statements_again ss n rest h.1 (omega arith)) refl
 
@@ -125,12 +125,12 @@ length_statement (node name b) = omega arith
 length_statement (edge from to b) = omega arith
 
 -- with its semicolon too
-length_ended : (ss : List (Statement × Bool)) → length ss ≤ length (flat_map ended ss)
-length_ended [] = omega arith
-length_ended (s ∷ ss) = omega (arith, length_ended ss, length_statement s.0, length-append (statement s.0) (semicolon s.1), length-append (ended s) (flat_map ended ss))
+length_with_semicolon : (ss : List (Statement × Bool)) → length ss ≤ length (flat_map with_semicolon ss)
+length_with_semicolon [] = omega arith
+length_with_semicolon (s ∷ ss) = omega (arith, length_with_semicolon ss, length_statement s.0, length-append (statement s.0) (semicolon s.1), length-append (with_semicolon s) (flat_map with_semicolon ss))
 
 -- a file that is spelled so says this
 pub file_again : (f : File) → IsFile f → claims_of (file f) ≡ Some (file_says f)
-unfolding claims_of statements_at word_at expects
+unfolding claims_of statements_at front_word expects
 file_again f h =
-    rw (statements_again f.statements (length (flat_map ended f.statements ++ sign CloseBrace ∷ [])) [] h (omega (arith, length_ended f.statements, length-append (flat_map ended f.statements) (sign CloseBrace ∷ [])))) refl
+    rw (statements_again f.statements (length (flat_map with_semicolon f.statements ++ sign CloseBrace ∷ [])) [] h (omega (arith, length_with_semicolon f.statements, length-append (flat_map with_semicolon f.statements) (sign CloseBrace ∷ [])))) refl

@@ -7,18 +7,18 @@ use Rattle.std.proofs.lemmas.Option.{same_Some}
 use Rattle.std.specs.Cmp.Lexicographic.{bytes_decides}
 use Rattle.rv_dot.specs.declared.token.Mark.TheVariants.{OpenBrace, CloseBrace, OpenBracket, CloseBracket, Equals, Semicolon, Arrow}
 use Rattle.rv_dot.specs.Tokens.{Lexeme, sign, word}
-use Rattle.rv_dot.specs.Marks.{begins, expects, without, is_assignment}
+use Rattle.rv_dot.specs.Marks.{begins, expects, past_mark, is_assignment}
 use Rattle.rv_dot.specs.Names.{name_of}
-use Rattle.rv_dot.specs.Lists.{word_at, value_at, name_at, bracket_at, names_at}
-use Rattle.rv_dot.specs.Statements.{Claim, declares, leads, held, optional_bracket_at, declared_at, ranked_at, group_at, assignment_at, edge_at, named_at, statement_at, statements_within}
-use Rattle.rv_dot.specs.Grammar.{semicolon, inside, optional_bracket, Group, group, Statement, assigns, declaration, rank, node, edge, statement, ended, IsName, IsStatement, says}
+use Rattle.rv_dot.specs.Lists.{front_word, value_at, name_at, bracket_at, names_at}
+use Rattle.rv_dot.specs.Statements.{Claim, declares, leads, value_held, optional_bracket_at, declared_at, ranked_at, group_at, assignment_at, edge_at, named_at, statement_at, statements_within}
+use Rattle.rv_dot.specs.Grammar.{semicolon, inside, optional_bracket, Group, group, Statement, assigns, declaration, rank, node, edge, statement, with_semicolon, IsName, IsStatement, statement_claims}
 use Rattle.rv_dot.proofs.MarkLaws.{bind_some, chosen, expects_takes, begins_takes, semicolon_takes}
 use Rattle.rv_dot.proofs.ListsTake.{word_takes, value_takes, name_takes, bracket_takes, optional_bracket_takes, group_takes}
 use Rattle.rv_dot.proofs.StatementsAgain.{declared_each}
 
 -- a statement was read off the front
 abbrev pub Took : List Lexeme → List Claim × List Lexeme → Type 0
-Took tokens x = (s : Statement) × IsStatement s × (tokens ≡ statement s ++ x.1) × (says s ≡ x.0)
+Took tokens x = (s : Statement) × IsStatement s × (tokens ≡ statement s ++ x.1) × (statement_claims s ≡ x.0)
 
 -- the tokens behind
 abbrev behind_of : List Claim × List Lexeme → List Lexeme
@@ -32,7 +32,7 @@ claims_in y = y.0
 assignment_takes : (tokens : List Lexeme) (x : List Claim × List Lexeme) → assignment_at tokens ≡ Some x → Took tokens x
 unfolding assignment_at
 assignment_takes tokens x h =
-    let key = bind_some (word_at tokens) _ x h in
+    let key = bind_some (front_word tokens) _ x h in
     let behind = bind_some (expects Equals key.0.1) _ x key.2 in
     let value = bind_some (value_at behind.0) _ x behind.2 in
     let e = same_Some _ x value.2 in
@@ -55,7 +55,7 @@ edge_takes from tokens x k h =
       edge from to.0.0 b.0,
       (k, t.1, b.1),
       ap (λ (ts : List Lexeme). from ∷ sign Arrow ∷ ts) (t.0 ∙ ap (λ (ts : List Lexeme). to.0.0 ∷ ts) (b.2 ∙ ap (λ (y : List Claim × List Lexeme). optional_bracket b.0 ++ y.1) e)),
-      ap (λ (l : Option Lexeme). leads (name_of from) (name_of to.0.0) (held l) ∷ []) b.3 ∙ ap claims_in e,
+      ap (λ (l : Option Lexeme). leads (name_of from) (name_of to.0.0) (value_held l) ∷ []) b.3 ∙ ap claims_in e,
     )
 
 -- what is read so is spelled so: named
@@ -66,7 +66,7 @@ named_takes tokens x h =
     let f = name_takes tokens from.0 from.1 in
     elim (chosen (begins Arrow from.0.1) _ _ (Some x) from.2) [
       | inl p ↦
-          let took = edge_takes from.0.0 (without Arrow from.0.1) x f.1 p.1 in
+          let took = edge_takes from.0.0 (past_mark Arrow from.0.1) x f.1 p.1 in
           (took.0, took.1, f.0 ∙ ap (λ (ts : List Lexeme). from.0.0 ∷ ts) (begins_takes Arrow from.0.1 p.0) ∙ took.2, took.3)
       | inr p ↦
           let ignored = bind_some (optional_bracket_at [] from.0.1) _ x p.1 in
@@ -89,7 +89,7 @@ declared_takes tokens x h =
     let names = bind_some (names_at shape.0.1) _ x shape.2 in
     let b = bracket_takes (codes "shape") behind.0 shape.0 shape.1 in
     let g = group_takes shape.0.1 names.0 names.1 in
-    let said = map (λ name. declares (name_of name) (held shape.0.0)) names.0.0 in
+    let said = map (λ name. declares (name_of name) (value_held shape.0.0)) names.0.0 in
     let guarded : cond (eqb (length (map (λ (n : Lexeme × Bool). n.0) g.0)) 0) None (Some (said, names.0.1)) ≡ Some x = rw g.3 names.2 in
     let some : 0 < length g.0 = some_name g.0 (said, names.0.1) x guarded in
     elim (chosen (eqb (length names.0.0) 0) None (Some (said, names.0.1)) (Some x) names.2) [
@@ -102,7 +102,7 @@ declared_takes tokens x h =
                 (expects_takes OpenBracket tokens behind.0 behind.1 ∙ ap (λ (ts : List Lexeme). sign OpenBracket ∷ ts)
                 (b.2 ∙ ap (λ (ts : List Lexeme). inside b.0 ++ sign CloseBracket ∷ ts) (g.2 ∙ ap (λ (y : List Claim × List Lexeme). group g.0 ++ y.1) e)
                 ∙ sym (append_assoc (inside b.0 ++ sign CloseBracket ∷ []) (group g.0) x.1 ∙ append_assoc (inside b.0) (sign CloseBracket ∷ []) (group g.0 ++ x.1)))),
-            ap (λ (o : Option Lexeme). map (λ (n : Lexeme × Bool). declares (name_of n.0) (held o)) g.0) b.3 ∙ sym (declared_each g.0 shape.0.0) ∙ ap (λ (ns : List Lexeme). map (λ (name : Lexeme). declares (name_of name) (held shape.0.0)) ns) g.3 ∙ ap claims_in e,
+            ap (λ (o : Option Lexeme). map (λ (n : Lexeme × Bool). declares (name_of n.0) (value_held o)) g.0) b.3 ∙ sym (declared_each g.0 shape.0.0) ∙ ap (λ (ns : List Lexeme). map (λ (name : Lexeme). declares (name_of name) (value_held shape.0.0)) ns) g.3 ∙ ap claims_in e,
           )
     ]
 
@@ -111,11 +111,11 @@ ranked_takes : (key : List ℕ) (tokens : List Lexeme) (x : List Claim × List L
 unfolding ranked_at
 ranked_takes key tokens x h =
     let value = bind_some (value_at tokens) _ x h in
-    let names = bind_some (names_at (without Semicolon value.0.1)) _ x value.2 in
+    let names = bind_some (names_at (past_mark Semicolon value.0.1)) _ x value.2 in
     let e = same_Some _ x names.2 in
     let v = value_takes tokens value.0 value.1 in
     let s = semicolon_takes value.0.1 in
-    let g = group_takes (without Semicolon value.0.1) names.0 names.1 in (
+    let g = group_takes (past_mark Semicolon value.0.1) names.0 names.1 in (
       rank key value.0.0 s.0 g.0,
       (v.1, g.1),
       ap (λ (ts : List Lexeme). sign OpenBrace ∷ word key ∷ sign Equals ∷ ts)
@@ -128,11 +128,11 @@ ranked_takes key tokens x h =
 group_statement_takes : (tokens : List Lexeme) (x : List Claim × List Lexeme) → group_at tokens ≡ Some x → Took (sign OpenBrace ∷ tokens) x
 unfolding group_at
 group_statement_takes tokens x h =
-    let head = bind_some (word_at tokens) _ x h in
+    let head = bind_some (front_word tokens) _ x h in
     let w = word_takes tokens head.0 head.1 in
     elim (chosen (begins Equals head.0.1) _ _ (Some x) head.2) [
       | inl p ↦
-          let took = ranked_takes head.0.0 (without Equals head.0.1) x p.1 in
+          let took = ranked_takes head.0.0 (past_mark Equals head.0.1) x p.1 in
           (took.0, took.1, ap (λ (ts : List Lexeme). sign OpenBrace ∷ ts) (w ∙ ap (λ (ts : List Lexeme). word head.0.0 ∷ ts) (begins_takes Equals head.0.1 p.0)) ∙ took.2, took.3)
       | inr p ↦
           elim (chosen (bytes_eq head.0.0 (codes "node")) _ _ (Some x) p.1) [
@@ -150,7 +150,7 @@ unfolding statement_at
 statement_takes tokens x h =
     elim (chosen (begins OpenBrace tokens) _ _ (Some x) h) [
       | inl p ↦
-          let took = group_statement_takes (without OpenBrace tokens) x p.1 in
+          let took = group_statement_takes (past_mark OpenBrace tokens) x p.1 in
           (took.0, took.1, begins_takes OpenBrace tokens p.0 ∙ took.2, took.3)
       | inr p ↦
           elim (chosen (is_assignment tokens) _ _ (Some x) p.1) [
@@ -161,7 +161,7 @@ statement_takes tokens x h =
 
 -- what is read so is spelled so: statements
 pub statements_take : (n : ℕ) (tokens : List Lexeme) (x : List Claim × List Lexeme) → statements_within n tokens ≡ Some x
-    → (ss : List (Statement × Bool)) × AllByRecursion (λ s. IsStatement s.0) ss × (tokens ≡ flat_map ended ss ++ sign CloseBrace ∷ x.1) × (flat_map (λ s. says s.0) ss ≡ x.0)
+    → (ss : List (Statement × Bool)) × AllByRecursion (λ s. IsStatement s.0) ss × (tokens ≡ flat_map with_semicolon ss ++ sign CloseBrace ∷ x.1) × (flat_map (λ s. statement_claims s.0) ss ≡ x.0)
 unfolding statements_within
 statements_take zero tokens x h = absurd (cc)
 statements_take (suc n) tokens x h =
@@ -171,17 +171,17 @@ statements_take (suc n) tokens x h =
           ([], tt, begins_takes CloseBrace tokens p.0 ∙ ap (λ (y : List Claim × List Lexeme). sign CloseBrace ∷ y.1) e, ap claims_in e)
       | inr p ↦
           let first = bind_some (statement_at tokens) _ x p.1 in
-          let others = bind_some (statements_within n (without Semicolon first.0.1)) _ x first.2 in
+          let others = bind_some (statements_within n (past_mark Semicolon first.0.1)) _ x first.2 in
           let e = same_Some _ x others.2 in
           let took = statement_takes tokens first.0 first.1 in
           let s = semicolon_takes first.0.1 in
-          let more = statements_take n (without Semicolon first.0.1) others.0 others.1 in
-          let tail = flat_map ended more.0 ++ sign CloseBrace ∷ others.0.1 in (
+          let more = statements_take n (past_mark Semicolon first.0.1) others.0 others.1 in
+          let tail = flat_map with_semicolon more.0 ++ sign CloseBrace ∷ others.0.1 in (
             (took.0, s.0) ∷ more.0,
             (took.1, more.1),
             took.2 ∙ ap (λ (ts : List Lexeme). statement took.0 ++ ts) (s.1 ∙ ap (λ (ts : List Lexeme). semicolon s.0 ++ ts) more.2)
-                ∙ sym (append_assoc (statement took.0 ++ semicolon s.0) (flat_map ended more.0) (sign CloseBrace ∷ others.0.1) ∙ append_assoc (statement took.0) (semicolon s.0) tail)
-                ∙ ap (λ (y : List Claim × List Lexeme). flat_map ended ((took.0, s.0) ∷ more.0) ++ sign CloseBrace ∷ y.1) e,
-            ap (λ (cs : List Claim). cs ++ flat_map (λ (s : Statement × Bool). says s.0) more.0) took.3 ∙ ap (λ (cs : List Claim). first.0.0 ++ cs) more.3 ∙ ap claims_in e,
+                ∙ sym (append_assoc (statement took.0 ++ semicolon s.0) (flat_map with_semicolon more.0) (sign CloseBrace ∷ others.0.1) ∙ append_assoc (statement took.0) (semicolon s.0) tail)
+                ∙ ap (λ (y : List Claim × List Lexeme). flat_map with_semicolon ((took.0, s.0) ∷ more.0) ++ sign CloseBrace ∷ y.1) e,
+            ap (λ (cs : List Claim). cs ++ flat_map (λ (s : Statement × Bool). statement_claims s.0) more.0) took.3 ∙ ap (λ (cs : List Claim). first.0.0 ++ cs) more.3 ∙ ap claims_in e,
           )
     ]

@@ -1,10 +1,10 @@
 -- Texts, both ways.
 use Rattle.std.proofs.Common.{◌≡◌, ℕ, List, length, arith, ap, ◌∙◌, Some, true, Vec, Global}
 use Rattle.std.specs.Prelude.{Result, Ok, Err, IfOk}
-use Rattle.rv_dot.specs.declared.token.Token.{Token}
-use Rattle.rv_dot.specs.declared.fault.ReadError.{ReadError}
+use Rattle.rv_dot.specs.declared.token.DotToken.{DotToken}
+use Rattle.rv_dot.specs.declared.fault.DotFault.{DotFault}
 use Rattle.rv_dot.specs.Tokens.{GivesSome, lexemes, tokens_of}
-use Rattle.rv_dot.specs.Pieces.{Piece, Reads, tokens_in}
+use Rattle.rv_dot.specs.Pieces.{Piece, SplitsInto, tokens_in}
 use Rattle.rv_dot.specs.Statements.{Claim, claims_of}
 use Rattle.rv_dot.specs.Grammar.{File, file_says}
 use Rattle.rv_dot.specs.Text.{IsTextOf, said_by}
@@ -15,12 +15,12 @@ use Rattle.rv_dot.proofs.StatementsAgain.{file_again}
 use Rattle.rv_dot.proofs.FilesTake.{file_takes}
 
 -- tokens that are read are those of pieces
-pub tokens_are_found : (bytes : List ℕ) (r : Result (Vec Token Global) ReadError) → GivesSome (λ v. lexemes v.items) r (tokens_of bytes) → IfOk r (λ v. (ps : List Piece) × Reads true bytes ps × (tokens_in ps ≡ lexemes v.items))
+pub tokens_are_found : (bytes : List ℕ) (r : Result (Vec DotToken Global) DotFault) → GivesSome (λ v. lexemes v.items) r (tokens_of bytes) → IfOk r (λ v. (ps : List Piece) × SplitsInto true bytes ps × (tokens_in ps ≡ lexemes v.items))
 tokens_are_found bytes (Ok v) h = tokens_take (length bytes) true bytes (lexemes v.items) h
 tokens_are_found bytes (Err e) h = tt
 
 -- the tokens of pieces are read
-pub tokens_are_read : (bytes : List ℕ) (ps : List Piece) → Reads true bytes ps → tokens_of bytes ≡ Some (tokens_in ps)
+pub tokens_are_read : (bytes : List ℕ) (ps : List Piece) → SplitsInto true bytes ps → tokens_of bytes ≡ Some (tokens_in ps)
 tokens_are_read bytes ps h = tokens_again ps (length bytes) true bytes h (omega arith)
 
 -- a text of the grammar says what its file says

@@ -9,7 +9,7 @@ use Rattle.rv_model.specs.Machine.{Machine}
 use Rattle.rv_model.specs.WellFormed.{IsStateName, EdgeIsBefore, IsAutomaton}
 use Rattle.rv_dot.specs.Gathered.{Arc}
 use Rattle.rv_dot.specs.Members.{IsMember}
-use Rattle.rv_dot.specs.Canonical.{State, quoted, marker, shape_of, head_lines, marker_line, state_line, initial_line, node_line, arc_line, last_line, states_marked, arc_named, drawing_of, drawing_text}
+use Rattle.rv_dot.specs.Canonical.{State, quoted, marker, drawn_shape, head_lines, marker_line, state_line, initial_line, node_line, arc_line, last_line, states_marked, arc_named, drawing_of, drawing_text}
 use Rattle.rv_dot.proofs.CanonicalLaws.{names_marked}
 use Rattle.rv_dot.proofs.MemberLaws.{AllLater, member_map, all_member}
 use Rattle.rv_dot.proofs.SetOrder.{all_from_members}
@@ -76,13 +76,13 @@ sum_seven : (a b x y z v w : List ℕ) (i j k l m n o : ℕ) → length a ≤ i 
 sum_seven a b x y z v w i j k l m n o e f p q r s t = sum_five (a ++ b ++ x) y z v w (i + j + k) l m n o (sum_three a b x i j k e f p) q r s t
 
 -- a shape is short
-shape_few : (t : Bool) → length (shape_of t) ≤ 12
+shape_few : (t : Bool) → length (drawn_shape t) ≤ 12
 shape_few true = omega arith
 shape_few false = omega arith
 
 -- a declaration is short
 state_few : (s : State) → length s.name ≤ 64 → length (state_line s) ≤ 99
-state_few s h = sum_five (codes "\t{node [shape = ") (shape_of s.is_marked) (codes "] ") (quoted s.name) (codes "};\n") 16 12 2 66 3 (omega arith) (shape_few s.is_marked) (omega arith) (quoted_few s.name h) (omega arith)
+state_few s h = sum_five (codes "\t{node [shape = ") (drawn_shape s.is_marked) (codes "] ") (quoted s.name) (codes "};\n") 16 12 2 66 3 (omega arith) (shape_few s.is_marked) (omega arith) (quoted_few s.name h) (omega arith)
 
 -- the marker's is short
 marker_line_few : (i : List ℕ) → length i ≤ 64 → length (marker_line i) ≤ 150

@@ -25,8 +25,8 @@ abbrev pub marker : List ℕ → List ℕ
 marker initial = codes "__init_" ++ initial
 
 -- the shape that a state is drawn with
-abbrev pub shape_of : Bool → List ℕ
-shape_of is_marked = if is_marked then codes "doublecircle" else codes "circle"
+abbrev pub drawn_shape : Bool → List ℕ
+drawn_shape is_marked = if is_marked then codes "doublecircle" else codes "circle"
 
 -- the lines that are always the same
 abbrev pub head_lines : List ℕ
@@ -38,7 +38,7 @@ marker_line initial = codes "\t{node [shape = plaintext, style=invis, label=\"\"
 
 --     {node [shape = circle] "S"};
 abbrev pub state_line : State → List ℕ
-state_line s = codes "\t{node [shape = " ++ shape_of s.is_marked ++ codes "] " ++ quoted s.name ++ codes "};\n"
+state_line s = codes "\t{node [shape = " ++ drawn_shape s.is_marked ++ codes "] " ++ quoted s.name ++ codes "};\n"
 
 --     "__init_S" -> "S";
 abbrev pub initial_line : List ℕ → List ℕ

@@ -9,8 +9,8 @@ use Rattle.rv_model.specs.Machine.{Machine}
 use Rattle.rv_dot.specs.Text.{said_by}
 use Rattle.rv_dot.specs.Statements.{Claim}
 use Rattle.rv_dot.specs.Gathered.{Arc, states_in, targets_in, arcs_in, all_fit, is_marked}
-use Rattle.rv_dot.specs.Sets.{set_of, stands_in}
-use Rattle.rv_dot.specs.Moves.{moves_of, numbered, edge_of}
+use Rattle.rv_dot.specs.Sets.{ascending, stands_in}
+use Rattle.rv_dot.specs.Moves.{moves_of, arc_move, edge_of}
 
 -- both ends are declared
 abbrev pub ends_declared : List (List ℕ) → Arc → Bool
@@ -26,11 +26,11 @@ has_conflict arcs = list_any (λ a. list_any (are_apart a) arcs) arcs
 
 -- the initial state, and then the others ascending
 unfoldable pub states_from : List ℕ → List (List ℕ) → List (List ℕ)
-states_from initial declared = initial ∷ filter (λ s. not (bytes_eq s initial)) (set_of declared)
+states_from initial declared = initial ∷ filter (λ s. not (bytes_eq s initial)) (ascending declared)
 
 -- the events of the arcs, ascending
 unfoldable pub events_from : List Arc → List (List ℕ)
-events_from arcs = set_of (map (λ a. a.event) arcs)
+events_from arcs = ascending (map (λ a. a.event) arcs)
 
 -- the number whose bit k is the kth test, from the lowest on
 abbrev pub bits_of : List Bool → ℕ
@@ -46,7 +46,7 @@ unfoldable pub machine_from : List Claim → List ℕ → Machine
 machine_from claims initial = record {
   states = states_from initial (states_in claims);
   events = events_from (arcs_in claims);
-  edges = map edge_of (moves_of (map (numbered (states_from initial (states_in claims)) (events_from (arcs_in claims))) (arcs_in claims)));
+  edges = map edge_of (moves_of (map (arc_move (states_from initial (states_in claims)) (events_from (arcs_in claims))) (arcs_in claims)));
   marked = marked_or_initial (bits_of (map (is_marked claims) (states_from initial (states_in claims))));
 }
 

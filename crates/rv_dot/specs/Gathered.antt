@@ -3,8 +3,8 @@ use Rattle.std.specs.Prelude.{ℕ, Bool, false, not, ◌&&◌, ◌||◌, ◌==�
 use Rattle.std.specs.List.{filter_map, flat_map, list_all, list_any}
 use Rattle.std.specs.Str.{bytes_eq}
 use Rattle.rv_dot.specs.Statements.{Claim, declares, leads}
-use Rattle.rv_dot.specs.Names.{is_marker, is_state_name, is_event_name, marks}
-use Rattle.rv_dot.specs.Labels.{events_of}
+use Rattle.rv_dot.specs.Names.{is_marker, is_state_name, is_event_name, is_marking_shape}
+use Rattle.rv_dot.specs.Labels.{label_events}
 
 -- from one state to another by an event, each by its name
 pub record Arc : Type 0 where
@@ -30,7 +30,7 @@ arcs_with from to events = map (λ event. record { from = from; event = event; t
 abbrev pub arcs_of : Claim → List Arc
 arcs_of (declares name shape) = []
 arcs_of (leads from to None) = []
-arcs_of (leads from to (Some label)) = if is_marker from then [] else arcs_with from to (events_of label)
+arcs_of (leads from to (Some label)) = if is_marker from then [] else arcs_with from to (label_events label)
 
 -- the names of the declared states, in the order of the text
 abbrev pub states_in : List Claim → List (List ℕ)
@@ -52,7 +52,7 @@ fits (leads from to (Some label)) = not (is_marker from) || length label == 0
 
 -- the statement is a declaration of this state that marks it
 abbrev pub marks_state : List ℕ → Claim → Bool
-marks_state state (declares name shape) = bytes_eq name state && marks shape
+marks_state state (declares name shape) = bytes_eq name state && is_marking_shape shape
 marks_state state (leads from to label) = false
 
 -- every event has the name of one

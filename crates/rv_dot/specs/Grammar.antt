@@ -3,8 +3,8 @@ use Rattle.std.specs.Prelude.{ℕ, ◌<◌, Bool, true, false, codes, List, [], 
 use Rattle.std.specs.List.{flat_map, AllByRecursion}
 use Rattle.rv_dot.specs.declared.token.Mark.TheVariants.{OpenBrace, CloseBrace, OpenBracket, CloseBracket, Equals, Semicolon, Comma, Arrow}
 use Rattle.rv_dot.specs.Tokens.{Lexeme, sign, word, text}
-use Rattle.rv_dot.specs.Lists.{Attribute, is_keyword, last_of}
-use Rattle.rv_dot.specs.Statements.{Claim, declares, leads, held}
+use Rattle.rv_dot.specs.Lists.{Attribute, is_keyword, last_value}
+use Rattle.rv_dot.specs.Statements.{Claim, declares, leads, value_held}
 use Rattle.rv_dot.specs.Names.{name_of}
 
 -- a semicolon, or none
@@ -74,8 +74,8 @@ statement (node name b) = name ∷ optional_bracket b
 statement (edge from to b) = from ∷ sign Arrow ∷ to ∷ optional_bracket b
 
 -- a statement and its semicolon
-abbrev pub ended : Statement × Bool → List Lexeme
-ended s = statement s.0 ++ semicolon s.1
+abbrev pub with_semicolon : Statement × Bool → List Lexeme
+with_semicolon s = statement s.0 ++ semicolon s.1
 
 -- a title, and statements, each with a semicolon or none behind it
 pub record File : Type 0 where
@@ -84,7 +84,7 @@ pub record File : Type 0 where
 
 -- the tokens of a whole file
 abbrev pub file : File → List Lexeme
-file f = word (codes "digraph") ∷ word f.title ∷ sign OpenBrace ∷ flat_map ended f.statements ++ sign CloseBrace ∷ []
+file f = word (codes "digraph") ∷ word f.title ∷ sign OpenBrace ∷ flat_map with_semicolon f.statements ++ sign CloseBrace ∷ []
 
 -- a value is a word or a string
 abbrev pub IsValue : Lexeme → Type 0
@@ -125,7 +125,7 @@ IsFile f = AllByRecursion (λ s. IsStatement s.0) f.statements
 
 -- the value that counts for a key in a bracket: the last one
 abbrev pub value_in : List ℕ → Bracket → Option Lexeme
-value_in key b = last_of key (map (λ a. a.0) b)
+value_in key b = last_value key (map (λ a. a.0) b)
 
 -- the value that counts, where attributes may be missing
 abbrev pub value_in_optional : List ℕ → Option Bracket → Option Lexeme
@@ -133,13 +133,13 @@ value_in_optional key None = None
 value_in_optional key (Some b) = value_in key b
 
 -- what a statement says of the automaton
-abbrev pub says : Statement → List Claim
-says (assigns key value) = []
-says (declaration b g) = map (λ n. declares (name_of n.0) (held (value_in (codes "shape") b))) g
-says (rank key value s g) = []
-says (node name b) = []
-says (edge from to b) = leads (name_of from) (name_of to) (held (value_in_optional (codes "label") b)) ∷ []
+abbrev pub statement_claims : Statement → List Claim
+statement_claims (assigns key value) = []
+statement_claims (declaration b g) = map (λ n. declares (name_of n.0) (value_held (value_in (codes "shape") b))) g
+statement_claims (rank key value s g) = []
+statement_claims (node name b) = []
+statement_claims (edge from to b) = leads (name_of from) (name_of to) (value_held (value_in_optional (codes "label") b)) ∷ []
 
 -- what a file says: what its statements say, in order
 abbrev pub file_says : File → List Claim
-file_says f = flat_map (λ s. says s.0) f.statements
+file_says f = flat_map (λ s. statement_claims s.0) f.statements

@@ -36,5 +36,5 @@ pieces_within zero label = trimmed label ∷ []
 pieces_within (suc n) label = unwrap_or (option_map (λ x. x.0 ∷ pieces_within n x.1) (piece_of label)) (trimmed label ∷ [])
 
 -- the events of a label: its pieces
-abbrev pub events_of : List ℕ → List (List ℕ)
-events_of label = pieces_within (length label) label
+abbrev pub label_events : List ℕ → List (List ℕ)
+label_events label = pieces_within (length label) label

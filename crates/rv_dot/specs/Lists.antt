@@ -4,17 +4,17 @@ use Rattle.std.specs.Str.{bytes_eq}
 use Rattle.std.specs.Option.{option_or}
 use Rattle.rv_dot.specs.declared.token.Mark.TheVariants.{CloseBrace, CloseBracket, Equals, Semicolon, Comma}
 use Rattle.rv_dot.specs.Tokens.{Lexeme, sign, word, text, ◌>>=◌}
-use Rattle.rv_dot.specs.Marks.{begins, expects, without}
+use Rattle.rv_dot.specs.Marks.{begins, expects, past_mark}
 
 -- the words that a name may not be
 abbrev pub is_keyword : List ℕ → Bool
 is_keyword w = bytes_eq w (codes "digraph") || bytes_eq w (codes "node") || bytes_eq w (codes "edge") || bytes_eq w (codes "graph") || bytes_eq w (codes "subgraph") || bytes_eq w (codes "strict")
 
 -- a word at the front, and the tokens behind it
-unfoldable pub word_at : List Lexeme → Option (List ℕ × List Lexeme)
-word_at [] = None
-word_at (word w ∷ rest) = Some (w, rest)
-word_at (other ∷ rest) = None
+unfoldable pub front_word : List Lexeme → Option (List ℕ × List Lexeme)
+front_word [] = None
+front_word (word w ∷ rest) = Some (w, rest)
+front_word (other ∷ rest) = None
 
 -- a value at the front
 unfoldable pub value_at : List Lexeme → Option (Lexeme × List Lexeme)
@@ -37,12 +37,12 @@ pub record Attribute : Type 0 where
 
 -- the tokens behind at most one comma or semicolon
 unfoldable pub separated : List Lexeme → List Lexeme
-separated tokens = if begins Comma tokens then without Comma tokens else without Semicolon tokens
+separated tokens = if begins Comma tokens then past_mark Comma tokens else past_mark Semicolon tokens
 
 -- a word, `=`, a value
 unfoldable pub attribute_at : List Lexeme → Option (Attribute × List Lexeme)
 attribute_at tokens = do
-  key ← word_at tokens
+  key ← front_word tokens
   behind ← expects Equals key.1
   value ← value_at behind
   Some (record { key = key.0; value = value.0 }, value.1)
@@ -51,13 +51,13 @@ attribute_at tokens = do
 unfoldable pub attributes_within : ℕ → List Lexeme → Option (List Attribute × List Lexeme)
 attributes_within zero tokens = None
 attributes_within (suc n) tokens =
-    if begins CloseBracket tokens then Some ([], without CloseBracket tokens)
+    if begins CloseBracket tokens then Some ([], past_mark CloseBracket tokens)
     else (attribute_at tokens >>= (λ first. attributes_within n (separated first.1) >>= (λ others. Some (first.0 ∷ others.0, others.1))))
 
 -- the value that counts for this key: the last one
-unfoldable pub last_of : List ℕ → List Attribute → Option Lexeme
-last_of key [] = None
-last_of key (a ∷ as') = option_or (last_of key as') (if bytes_eq a.key key then Some a.value else None)
+unfoldable pub last_value : List ℕ → List Attribute → Option Lexeme
+last_value key [] = None
+last_value key (a ∷ as') = option_or (last_value key as') (if bytes_eq a.key key then Some a.value else None)
 
 -- the same, in as many tokens as there are
 unfoldable pub attributes_at : List Lexeme → Option (List Attribute × List Lexeme)
@@ -67,14 +67,14 @@ attributes_at tokens = attributes_within (length tokens) tokens
 unfoldable pub bracket_at : List ℕ → List Lexeme → Option (Option Lexeme × List Lexeme)
 bracket_at key tokens = do
   attributes ← attributes_at tokens
-  Some (last_of key attributes.0, attributes.1)
+  Some (last_value key attributes.0, attributes.1)
 
 -- names, each with at most one semicolon, up to and with the closing brace, in at most so many tokens
 unfoldable pub names_within : ℕ → List Lexeme → Option (List Lexeme × List Lexeme)
 names_within zero tokens = None
 names_within (suc n) tokens =
-    if begins CloseBrace tokens then Some ([], without CloseBrace tokens)
-    else (name_at tokens >>= (λ first. names_within n (without Semicolon first.1) >>= (λ others. Some (first.0 ∷ others.0, others.1))))
+    if begins CloseBrace tokens then Some ([], past_mark CloseBrace tokens)
+    else (name_at tokens >>= (λ first. names_within n (past_mark Semicolon first.1) >>= (λ others. Some (first.0 ∷ others.0, others.1))))
 
 -- the same, in as many tokens as there are
 unfoldable pub names_at : List Lexeme → Option (List Lexeme × List Lexeme)

@@ -29,10 +29,10 @@ expects mark (sign found ∷ rest) = if mark_eq mark found then Some rest else N
 expects mark (other ∷ rest) = None
 
 -- the tokens behind this mark, where it stands at the front; else all of them
-unfoldable pub without : Mark → List Lexeme → List Lexeme
-without mark [] = []
-without mark (sign found ∷ rest) = if mark_eq mark found then rest else sign found ∷ rest
-without mark (other ∷ rest) = other ∷ rest
+unfoldable pub past_mark : Mark → List Lexeme → List Lexeme
+past_mark mark [] = []
+past_mark mark (sign found ∷ rest) = if mark_eq mark found then rest else sign found ∷ rest
+past_mark mark (other ∷ rest) = other ∷ rest
 
 -- a word, `=`
 unfoldable pub is_assignment : List Lexeme → Bool

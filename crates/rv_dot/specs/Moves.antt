@@ -18,8 +18,8 @@ unfoldable pub moves_of : List Move → List Move
 moves_of moves = fold (insert_key move_cmp) [] moves
 
 -- an arc by the places of its names
-abbrev pub numbered : List (List ℕ) → List (List ℕ) → Arc → Move
-numbered states events a = record { from = number_in states a.from; event = number_in events a.event; to = number_in states a.to }
+abbrev pub arc_move : List (List ℕ) → List (List ℕ) → Arc → Move
+arc_move states events a = record { from = number_in states a.from; event = number_in events a.event; to = number_in states a.to }
 
 -- a move as an edge
 abbrev pub edge_of : Move → Edge

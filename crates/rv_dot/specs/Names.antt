@@ -24,18 +24,18 @@ abbrev pub is_marker : List ℕ → Bool
 is_marker name = starts_with nat_eq name (codes "__init_")
 
 -- 1 to 64 bytes of the kind
-abbrev pub is_name : (ℕ → Bool) → List ℕ → Bool
-is_name of_kind name = not (length name == 0) && nat_le (length name) 64 && list_all of_kind name
+abbrev pub is_name_by : (ℕ → Bool) → List ℕ → Bool
+is_name_by of_kind name = not (length name == 0) && nat_le (length name) 64 && list_all of_kind name
 
 -- a state's name has letters, digits, `_` and `.`
 abbrev pub is_state_name : List ℕ → Bool
-is_state_name name = is_name is_word_byte name
+is_state_name name = is_name_by is_word_byte name
 
 -- an event's name has letters, digits and `_`
 abbrev pub is_event_name : List ℕ → Bool
-is_event_name name = is_name (λ b. is_word_byte b && not (b == 46)) name
+is_event_name name = is_name_by (λ b. is_word_byte b && not (b == 46)) name
 
 -- the shapes that mark a state
-abbrev pub marks : Option (List ℕ) → Bool
-marks None = false
-marks (Some shape) = bytes_eq shape (codes "doublecircle") || bytes_eq shape (codes "ellipse")
+abbrev pub is_marking_shape : Option (List ℕ) → Bool
+is_marking_shape None = false
+is_marking_shape (Some shape) = bytes_eq shape (codes "doublecircle") || bytes_eq shape (codes "ellipse")

@@ -1,4 +1,4 @@
--- What a numbering knows of its names.
+-- Private: what a numbering knows of its names.
 use Rattle.std.specs.Prelude.{ℕ, List, ◌∷◌, map}
 use Rattle.std.specs.Cmp.Lexicographic.{slice_cmp}
 use Rattle.std.specs.Ordering.{nat_cmp}

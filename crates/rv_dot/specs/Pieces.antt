@@ -33,12 +33,12 @@ lexeme_bytes (word w) = w
 lexeme_bytes (text t) = 34 ∷ t ++ 34 ∷ []
 
 -- the bytes of a piece
-abbrev pub piece : Piece → List ℕ
-piece (blank b) = b ∷ []
-piece (line_comment c) = 47 ∷ 47 ∷ c
-piece (block_comment c) = 47 ∷ 42 ∷ c ++ 42 ∷ 47 ∷ []
-piece (hash_line c) = 35 ∷ c
-piece (unit t) = lexeme_bytes t
+abbrev pub piece_bytes : Piece → List ℕ
+piece_bytes (blank b) = b ∷ []
+piece_bytes (line_comment c) = 47 ∷ 47 ∷ c
+piece_bytes (block_comment c) = 47 ∷ 42 ∷ c ++ 42 ∷ 47 ∷ []
+piece_bytes (hash_line c) = 35 ∷ c
+piece_bytes (unit t) = lexeme_bytes t
 
 -- a blank, a line end or a carriage return
 abbrev pub is_gap_byte : ℕ → Bool
@@ -84,9 +84,9 @@ ends_line (blank b) = b == 10
 ends_line other = false
 
 -- the text is made of these pieces
-abbrev pub Reads : Bool → List ℕ → List Piece → Type 0
-Reads starts bytes [] = bytes ≡ []
-Reads starts bytes (p ∷ ps) = (rest : List ℕ) × (bytes ≡ piece p ++ rest) × IsPieceAt starts p rest × Reads (ends_line p) rest ps
+abbrev pub SplitsInto : Bool → List ℕ → List Piece → Type 0
+SplitsInto starts bytes [] = bytes ≡ []
+SplitsInto starts bytes (p ∷ ps) = (rest : List ℕ) × (bytes ≡ piece_bytes p ++ rest) × IsPieceAt starts p rest × SplitsInto (ends_line p) rest ps
 
 -- the token of a piece, if it is one
 abbrev pub token_in : Piece → Option Lexeme

@@ -1,4 +1,4 @@
--- Sayings and arcs without where they lie in memory.
+-- Private: sayings and arcs without where they lie in memory.
 use Rattle.std.specs.Prelude.{List, map}
 use Rattle.std.specs.Option.{option_map}
 use Rattle.rv_dot.specs.declared.saying.Saying.{Saying}
@@ -9,13 +9,13 @@ use Rattle.rv_dot.specs.Gathered.{Arc}
 use Rattle.rv_dot.specs.Sets.{bytes_of}
 
 -- what a saying says
-abbrev pub said : Saying → Claim
-said (Declares name shape) = declares name.items (option_map bytes_of shape)
-said (Leads from to label) = leads from.items to.items (option_map bytes_of label)
+abbrev pub claim_of : Saying → Claim
+claim_of (Declares name shape) = declares name.items (option_map bytes_of shape)
+claim_of (Leads from to label) = leads from.items to.items (option_map bytes_of label)
 
 -- what sayings say
-abbrev pub all_said : List Saying → List Claim
-all_said sayings = map said sayings
+abbrev pub sayings_claims : List Saying → List Claim
+sayings_claims sayings = map claim_of sayings
 
 -- an arc by its names
 abbrev pub arc : Held → Arc

@@ -9,8 +9,8 @@ use Rattle.std.specs.Cmp.Lexicographic.{slice_cmp}
 use Rattle.std.specs.Ordering.{nat_cmp}
 
 -- the names, ascending by bytes, each once
-unfoldable pub set_of : List (List ℕ) → List (List ℕ)
-set_of names = fold (insert_key (slice_cmp nat_cmp)) [] names
+unfoldable pub ascending : List (List ℕ) → List (List ℕ)
+ascending names = fold (insert_key (slice_cmp nat_cmp)) [] names
 
 -- a name's bytes
 abbrev pub bytes_of : Bor (List ℕ) → List ℕ

@@ -1,4 +1,4 @@
--- An attribute without where it lies in memory.
+-- Private: an attribute without where it lies in memory.
 use Rattle.std.specs.Prelude.{List, map}
 use Rattle.rv_dot.specs.declared.attribute.Attribute.{Attribute}
 use Rattle.rv_dot.specs.Tokens.{lexeme}

@@ -6,8 +6,8 @@ use Rattle.rv_dot.specs.declared.token.Mark.TheVariants.{OpenBrace, CloseBrace, 
 use Rattle.rv_dot.specs.declared.fact.Fact.{Fact}
 use Rattle.rv_dot.specs.declared.fact.Fact.TheVariants.{Declares, Leads}
 use Rattle.rv_dot.specs.Tokens.{Lexeme, lexeme, ◌>>=◌}
-use Rattle.rv_dot.specs.Lists.{word_at, value_at, name_at, bracket_at, names_at}
-use Rattle.rv_dot.specs.Marks.{begins, expects, without, is_assignment}
+use Rattle.rv_dot.specs.Lists.{front_word, value_at, name_at, bracket_at, names_at}
+use Rattle.rv_dot.specs.Marks.{begins, expects, past_mark, is_assignment}
 use Rattle.rv_dot.specs.Names.{content_of, name_of}
 
 -- what a statement says of the automaton: a name with the shape of its declaration, or an edge with its label
@@ -16,13 +16,13 @@ pub data Claim : Type 0 where
   leads : List ℕ → List ℕ → Option (List ℕ) → Claim
 
 -- what a value holds
-abbrev pub held : Option Lexeme → Option (List ℕ)
-held value = option_map content_of value
+abbrev pub value_held : Option Lexeme → Option (List ℕ)
+value_held value = option_map content_of value
 
 -- what a fact says
 abbrev pub claim : Fact → Claim
-claim (Declares name shape) = declares (name_of (lexeme name)) (held (option_map lexeme shape))
-claim (Leads from to label) = leads (name_of (lexeme from)) (name_of (lexeme to)) (held (option_map lexeme label))
+claim (Declares name shape) = declares (name_of (lexeme name)) (value_held (option_map lexeme shape))
+claim (Leads from to label) = leads (name_of (lexeme from)) (name_of (lexeme to)) (value_held (option_map lexeme label))
 
 -- what facts say
 abbrev pub claims : List Fact → List Claim
@@ -31,7 +31,7 @@ claims facts = map claim facts
 -- a bracket, where one stands
 unfoldable pub optional_bracket_at : List ℕ → List Lexeme → Option (Option Lexeme × List Lexeme)
 optional_bracket_at key tokens =
-    if begins OpenBracket tokens then bracket_at key (without OpenBracket tokens)
+    if begins OpenBracket tokens then bracket_at key (past_mark OpenBracket tokens)
     else Some (None, tokens)
 
 -- behind `{ node`: attributes, and one name or more
@@ -40,26 +40,26 @@ declared_at tokens = do
   behind ← expects OpenBracket tokens
   shape ← bracket_at (codes "shape") behind
   names ← names_at shape.1
-  if length names.0 == 0 then None else Some (map (λ name. declares (name_of name) (held shape.0)) names.0, names.1)
+  if length names.0 == 0 then None else Some (map (λ name. declares (name_of name) (value_held shape.0)) names.0, names.1)
 
 -- behind `{ word =`: a rank group, which says nothing
 unfoldable pub ranked_at : List Lexeme → Option (List Claim × List Lexeme)
 ranked_at tokens = do
   value ← value_at tokens
-  names ← names_at (without Semicolon value.1)
+  names ← names_at (past_mark Semicolon value.1)
   Some ([], names.1)
 
 -- behind `{`
 unfoldable pub group_at : List Lexeme → Option (List Claim × List Lexeme)
 group_at tokens = do
-  head ← word_at tokens
-  if begins Equals head.1 then ranked_at (without Equals head.1)
+  head ← front_word tokens
+  if begins Equals head.1 then ranked_at (past_mark Equals head.1)
       else (if bytes_eq head.0 (codes "node") then declared_at head.1 else None)
 
 -- word = value, which says nothing
 unfoldable pub assignment_at : List Lexeme → Option (List Claim × List Lexeme)
 assignment_at tokens = do
-  key ← word_at tokens
+  key ← front_word tokens
   behind ← expects Equals key.1
   value ← value_at behind
   Some ([], value.1)
@@ -69,27 +69,27 @@ unfoldable pub edge_at : Lexeme → List Lexeme → Option (List Claim × List L
 edge_at from tokens = do
   to ← name_at tokens
   label ← optional_bracket_at (codes "label") to.1
-  Some (leads (name_of from) (name_of to.0) (held label.0) ∷ [], label.1)
+  Some (leads (name_of from) (name_of to.0) (value_held label.0) ∷ [], label.1)
 
 -- a node, of which nothing is said, or an edge
 unfoldable pub named_at : List Lexeme → Option (List Claim × List Lexeme)
 named_at tokens = do
   from ← name_at tokens
-  if begins Arrow from.1 then edge_at from.0 (without Arrow from.1)
+  if begins Arrow from.1 then edge_at from.0 (past_mark Arrow from.1)
       else (optional_bracket_at [] from.1 >>= (λ ignored. Some ([], ignored.1)))
 
 -- a statement, without its semicolon
 unfoldable pub statement_at : List Lexeme → Option (List Claim × List Lexeme)
 statement_at tokens =
-    if begins OpenBrace tokens then group_at (without OpenBrace tokens)
+    if begins OpenBrace tokens then group_at (past_mark OpenBrace tokens)
     else (if is_assignment tokens then assignment_at tokens else named_at tokens)
 
 -- statements, each with at most one semicolon, up to and with the closing brace, in at most so many tokens
 unfoldable pub statements_within : ℕ → List Lexeme → Option (List Claim × List Lexeme)
 statements_within zero tokens = None
 statements_within (suc n) tokens =
-    if begins CloseBrace tokens then Some ([], without CloseBrace tokens)
-    else (statement_at tokens >>= (λ first. statements_within n (without Semicolon first.1) >>= (λ others. Some (first.0 ++ others.0, others.1))))
+    if begins CloseBrace tokens then Some ([], past_mark CloseBrace tokens)
+    else (statement_at tokens >>= (λ first. statements_within n (past_mark Semicolon first.1) >>= (λ others. Some (first.0 ++ others.0, others.1))))
 
 -- the same, in as many tokens as there are
 unfoldable pub statements_at : List Lexeme → Option (List Claim × List Lexeme)
@@ -98,8 +98,8 @@ statements_at tokens = statements_within (length tokens) tokens
 -- what all the tokens say: `digraph`, a word, and statements between braces
 unfoldable pub claims_of : List Lexeme → Option (List Claim)
 claims_of tokens = do
-  head ← word_at tokens
-  title ← word_at head.1
+  head ← front_word tokens
+  title ← front_word head.1
   behind ← expects OpenBrace title.1
   said ← statements_at behind
   if bytes_eq head.0 (codes "digraph") && length said.1 == 0 then Some said.0 else None

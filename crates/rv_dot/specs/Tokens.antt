@@ -3,10 +3,10 @@ use Rattle.std.specs.Prelude.{ℕ, zero, suc, ◌+◌, Bool, true, ◌||◌, ◌
 use Rattle.std.specs.Option.{option_map, option_to_list}
 use Rattle.rv_dot.specs.declared.token.Mark.{Mark}
 use Rattle.rv_dot.specs.declared.token.Mark.TheVariants.{OpenBrace, CloseBrace, OpenBracket, CloseBracket, Equals, Semicolon, Comma, Arrow}
-use Rattle.rv_dot.specs.declared.token.Token.{Token}
-use Rattle.rv_dot.specs.declared.token.Token.TheVariants.{Sign, Word, Text}
-use Rattle.rv_dot.specs.declared.fault.ReadError.{ReadError}
-use Rattle.rv_dot.specs.declared.fault.ReadError.TheVariants.{Memory, Syntax}
+use Rattle.rv_dot.specs.declared.token.DotToken.{DotToken}
+use Rattle.rv_dot.specs.declared.token.DotToken.TheVariants.{Sign, Word, Text}
+use Rattle.rv_dot.specs.declared.fault.DotFault.{DotFault}
+use Rattle.rv_dot.specs.declared.fault.DotFault.TheVariants.{Memory, Syntax}
 use Rattle.rv_dot.specs.Runs.{is_word_byte, line_len, word_len, block_len, string_len, begins_with}
 
 infixl 10 ◌>>=◌
@@ -15,12 +15,12 @@ abbrev pub ◌>>=◌ : {A B : Type 0} → Option A → (A → Option B) → Opti
 o >>= f = option_and_then f o
 
 -- What a function returned, seen by view, is what reading gives, unless memory ran out.
-abbrev pub Fails : {Y : Type 0} → ReadError → Option Y → Type 0
+abbrev pub Fails : {Y : Type 0} → DotFault → Option Y → Type 0
 Fails Memory read = Unit {0}
 Fails Syntax read = read ≡ None
 
 -- the same of a value
-abbrev pub GivesSome : {X Y : Type 0} → (X → Y) → Result X ReadError → Option Y → Type 0
+abbrev pub GivesSome : {X Y : Type 0} → (X → Y) → Result X DotFault → Option Y → Type 0
 GivesSome view (Ok x) read = read ≡ Some (view x)
 GivesSome view (Err e) read = Fails e read
 
@@ -31,13 +31,13 @@ pub data Lexeme : Type 0 where
   text : List ℕ → Lexeme
 
 -- what a token is
-abbrev pub lexeme : Token → Lexeme
+abbrev pub lexeme : DotToken → Lexeme
 lexeme (Sign mark) = sign mark
 lexeme (Word bytes) = word bytes.now
 lexeme (Text bytes) = text bytes.now
 
 -- what tokens are
-abbrev pub lexemes : List Token → List Lexeme
+abbrev pub lexemes : List DotToken → List Lexeme
 lexemes tokens = map lexeme tokens
 
 -- what stands at the front, a token or what may stand between tokens, and the bytes after it

@@ -5,7 +5,7 @@ ghost use Rattle.rv_model.specs.declared.automaton.Edge.{Edge as EdgeValue};
 ghost use Rattle.rv_model.specs.Machine.{Machine};
 ghost use Rattle.rv_model.specs.WellFormed.{IsAutomaton};
 ghost use Rattle.rv_dot.specs.Dot.{dot_of};
-ghost use Rattle.rv_dot.specs.Canonical.{quoted, marker, shape_of, marker_line, state_line, initial_line, node_line, arc_line, states_marked, arc_named, dot_text};
+ghost use Rattle.rv_dot.specs.Canonical.{quoted, marker, drawn_shape, marker_line, state_line, initial_line, node_line, arc_line, states_marked, arc_named, dot_text};
 
 use rv_model::{Automaton, Edge, Names};
 use std::alloc::{AllocError, Global};
@@ -47,7 +47,7 @@ fn put_marker_line(out: &mut Vec<u8>, initial: &[u8]) -> Result<(), AllocError>
 }
 
 fn put_shape(out: &mut Vec<u8>, is_marked: bool) -> Result<(), AllocError>
-    ensures { OnOk result (out.new.items ≡ out.old.items ++ shape_of is_marked) }
+    ensures { OnOk result (out.new.items ≡ out.old.items ++ drawn_shape is_marked) }
 {
     if is_marked {
         put(out, b"doublecircle")

@@ -1,7 +1,7 @@
 //! The automaton of names and moves that fit together.
 ghost use Rattle.std.specs.Prelude.{◌≡◌, ◌<◌, ◌≤◌, ◌+◌, ◌*◌, IfOk, map, All, length, if◌then◌else◌};
 ghost use Rattle.rv_model.specs.WellFormed.{IsAutomaton};
-ghost use Rattle.rv_dot.specs.Sayings.{all_said};
+ghost use Rattle.rv_dot.specs.Sayings.{sayings_claims};
 ghost use Rattle.rv_dot.specs.Gathered.{is_marked};
 ghost use Rattle.rv_dot.specs.Sets.{bytes_of};
 ghost use Rattle.rv_dot.specs.Moves.{edge_of};
@@ -51,7 +51,7 @@ fn more(bits: u32, has: bool) -> u32
 /// A bit for each marked state, of which the first is the lowest; without any, the first state is the marked one.
 fn marked(said: &[Saying<'_>], states: &[&[u8]]) -> u32
     requires { length states.now ≤ 31 }
-    ensures { result ≡ marked_or_initial (bits_of (map (is_marked (all_said said.now)) (map bytes_of states.now))) }
+    ensures { result ≡ marked_or_initial (bits_of (map (is_marked (sayings_claims said.now)) (map bytes_of states.now))) }
 {
     let mut count = states.len();
     let mut bits = 0;
@@ -79,8 +79,8 @@ pub fn built(
     numbering: Numbering<'_, '_>,
     moves: &[Move],
 ) -> Result<Automaton, AllocError>
-    requires { IsAutomaton (machine_by (all_said said.now) numbering moves.now) }
-    ensures { IfOk result (λ a. a ≡ machine_by (all_said said.now) numbering.entry moves.now) }
+    requires { IsAutomaton (machine_by (sayings_claims said.now) numbering moves.now) }
+    ensures { IfOk result (λ a. a ≡ machine_by (sayings_claims said.now) numbering.entry moves.now) }
 {
     let states = states(alloc, numbering)?;
     let marked = marked(said, &states);

@@ -5,7 +5,7 @@ ghost use Rattle.rv_dot.specs.Runs.{begins_with};
 ghost use Rattle.rv_dot.specs.Tokens.{lexeme, mark_of, comment_of, string_of, front_of};
 
 use crate::runs::{begins_with, block_len, is_word_byte, line_len, string_len, word_len};
-use crate::token::{Mark, Token};
+use crate::token::{DotToken, Mark};
 
 fn mark(byte: u8) -> Option<Mark>
     ensures { result ≡ mark_of byte }
@@ -24,7 +24,7 @@ fn mark(byte: u8) -> Option<Mark>
 
 /// Behind a slash: the bytes after the comment.
 #[tactic(auto, unfolding(crate::specs::Tokens::comment_of))]
-fn comment(rest: &[u8]) -> Option<(Option<Token<'_>>, &[u8])>
+fn comment(rest: &[u8]) -> Option<(Option<DotToken<'_>>, &[u8])>
     ensures value { option_map (λ x. (option_map lexeme x.0, x.1.now)) result ≡ comment_of rest.now }
     ensures within { IfSome result (λ x. length x.1.now ≤ length rest.now) }
 {
@@ -40,17 +40,17 @@ fn comment(rest: &[u8]) -> Option<(Option<Token<'_>>, &[u8])>
 
 /// Behind a quote: the string, and the bytes after it.
 #[tactic(auto, unfolding(crate::specs::Tokens::string_of))]
-fn string(rest: &[u8]) -> Option<(Option<Token<'_>>, &[u8])>
+fn string(rest: &[u8]) -> Option<(Option<DotToken<'_>>, &[u8])>
     ensures value { option_map (λ x. (option_map lexeme x.0, x.1.now)) result ≡ string_of rest.now }
     ensures within { IfSome result (λ x. length x.1.now ≤ length rest.now) }
 {
     let len = string_len(rest)?;
-    Some((Some(Token::Text(&rest[..len])), &rest[len + 1..]))
+    Some((Some(DotToken::Text(&rest[..len])), &rest[len + 1..]))
 }
 
 /// What stands at the front, and the bytes after it. Where the text is empty, nothing does.
 #[tactic(auto, unfolding(crate::specs::Tokens::front_of))]
-pub fn front(bytes: &[u8], starts_line: bool) -> Option<(Option<Token<'_>>, &[u8])>
+pub fn front(bytes: &[u8], starts_line: bool) -> Option<(Option<DotToken<'_>>, &[u8])>
     ensures value { option_map (λ x. (option_map lexeme x.0, x.1.now)) result ≡ front_of starts_line bytes.now }
     ensures within { IfSome result (λ x. length x.1.now < length bytes.now) }
 {
@@ -64,18 +64,18 @@ pub fn front(bytes: &[u8], starts_line: bool) -> Option<(Option<Token<'_>>, &[u8
         b'"' => string(rest),
         b'-' => {
             if begins_with(rest, b'>') {
-                Some((Some(Token::Sign(Mark::Arrow)), &rest[1..]))
+                Some((Some(DotToken::Sign(Mark::Arrow)), &rest[1..]))
             } else {
                 None
             }
         }
         byte if is_word_byte(byte) => {
             let len = word_len(rest);
-            Some((Some(Token::Word(&bytes[..len + 1])), &rest[len..]))
+            Some((Some(DotToken::Word(&bytes[..len + 1])), &rest[len..]))
         }
         byte => {
             let mark = mark(byte)?;
-            Some((Some(Token::Sign(mark)), rest))
+            Some((Some(DotToken::Sign(mark)), rest))
         }
     }
 }

@@ -2,13 +2,13 @@
 ghost use Rattle.std.specs.Prelude.{◌≡◌, map, IfOk};
 ghost use Rattle.std.specs.List.{list_all};
 ghost use Rattle.std.specs.Option.{option_map};
-ghost use Rattle.rv_dot.specs.Sayings.{said, all_said, arc};
+ghost use Rattle.rv_dot.specs.Sayings.{claim_of, sayings_claims, arc};
 ghost use Rattle.rv_dot.specs.Names.{is_event_name};
 ghost use Rattle.rv_dot.specs.Gathered.{state_in, target_in, states_in, targets_in, arcs_with, arcs_of, arcs_in, fits, events_fit, marks_state, is_marked};
 ghost use Rattle.rv_dot.specs.Sets.{bytes_of};
 
-use crate::label::events_of;
-use crate::names::{is_event_name, is_marker, is_state_name, marks};
+use crate::label::label_events;
+use crate::names::{is_event_name, is_marker, is_marking_shape, is_state_name};
 use crate::saying::Saying;
 use std::alloc::{AllocError, Global};
 
@@ -22,7 +22,7 @@ pub struct Arc<'s> {
 
 /// The declared name, unless it is a marker.
 fn state_in<'s, 'a>(saying: &'s Saying<'a>) -> Option<&'s [u8]>
-    ensures { option_map bytes_of result ≡ state_in (said saying.now) }
+    ensures { option_map bytes_of result ≡ state_in (claim_of saying.now) }
 {
     match saying {
         Saying::Declares { name, .. } => {
@@ -38,7 +38,7 @@ fn state_in<'s, 'a>(saying: &'s Saying<'a>) -> Option<&'s [u8]>
 
 /// The target, where the edge leaves a marker.
 fn target_in<'s, 'a>(saying: &'s Saying<'a>) -> Option<&'s [u8]>
-    ensures { option_map bytes_of result ≡ target_in (said saying.now) }
+    ensures { option_map bytes_of result ≡ target_in (claim_of saying.now) }
 {
     match saying {
         Saying::Declares { .. } => None,
@@ -54,7 +54,7 @@ fn target_in<'s, 'a>(saying: &'s Saying<'a>) -> Option<&'s [u8]>
 
 /// The names of the declared states, in the order of the text.
 pub fn states_in<'s, 'a>(alloc: Global, said: &'s [Saying<'a>]) -> Result<Vec<&'s [u8]>, AllocError>
-    ensures { IfOk result (λ v. map bytes_of v.items ≡ states_in (all_said said.now)) }
+    ensures { IfOk result (λ v. map bytes_of v.items ≡ states_in (sayings_claims said.now)) }
 {
     let mut found = Vec::new(alloc);
     'sayings: for saying in said {
@@ -70,7 +70,7 @@ pub fn targets_in<'s, 'a>(
     alloc: Global,
     said: &'s [Saying<'a>],
 ) -> Result<Vec<&'s [u8]>, AllocError>
-    ensures { IfOk result (λ v. map bytes_of v.items ≡ targets_in (all_said said.now)) }
+    ensures { IfOk result (λ v. map bytes_of v.items ≡ targets_in (sayings_claims said.now)) }
 {
     let mut found = Vec::new(alloc);
     'sayings: for saying in said {
@@ -103,7 +103,7 @@ fn arcs_with<'s>(
 
 /// One arc for each event of an edge that leaves no marker.
 fn arcs_of<'s, 'a: 's>(alloc: Global, saying: &'s Saying<'a>) -> Result<Vec<Arc<'s>>, AllocError>
-    ensures { IfOk result (λ v. map arc v.items ≡ arcs_of (said saying.now)) }
+    ensures { IfOk result (λ v. map arc v.items ≡ arcs_of (claim_of saying.now)) }
 {
     let Saying::Leads {
         from,
@@ -116,7 +116,7 @@ fn arcs_of<'s, 'a: 's>(alloc: Global, saying: &'s Saying<'a>) -> Result<Vec<Arc<
     if is_marker(from) {
         return Ok(Vec::new(alloc));
     }
-    let events = events_of(alloc, *label)?;
+    let events = label_events(alloc, *label)?;
     arcs_with(alloc, from.as_slice(), to.as_slice(), &events)
 }
 
@@ -125,7 +125,7 @@ pub fn arcs_in<'s, 'a: 's>(
     alloc: Global,
     said: &'s [Saying<'a>],
 ) -> Result<Vec<Arc<'s>>, AllocError>
-    ensures { IfOk result (λ v. map arc v.items ≡ arcs_in (all_said said.now)) }
+    ensures { IfOk result (λ v. map arc v.items ≡ arcs_in (sayings_claims said.now)) }
 {
     let mut found = Vec::new(alloc);
     'sayings: for saying in said {
@@ -137,7 +137,7 @@ pub fn arcs_in<'s, 'a: 's>(
 
 /// A declared name is a marker's or a state's; an edge from a marker has no label or an empty one, and any other edge has a label.
 pub fn fits(saying: &Saying<'_>) -> bool
-    ensures { result ≡ fits (said saying.now) }
+    ensures { result ≡ fits (claim_of saying.now) }
 {
     match saying {
         Saying::Declares { name, .. } => is_marker(name) || is_state_name(name),
@@ -150,7 +150,7 @@ pub fn fits(saying: &Saying<'_>) -> bool
 
 /// All names and labels of the statements fit.
 pub fn all_fit(said: &[Saying<'_>]) -> bool
-    ensures { result ≡ list_all fits (all_said said.now) }
+    ensures { result ≡ list_all fits (sayings_claims said.now) }
 {
     let mut rest = said;
     while let [first, after @ ..] = rest {
@@ -178,17 +178,17 @@ pub fn events_fit(arcs: &[Arc<'_>]) -> bool
 
 /// The statement is a declaration of this state that marks it.
 fn marks_state(saying: &Saying<'_>, state: &[u8]) -> bool
-    ensures { result ≡ marks_state state.now (said saying.now) }
+    ensures { result ≡ marks_state state.now (claim_of saying.now) }
 {
     match saying {
-        Saying::Declares { name, shape } => name.as_slice() == state && marks(*shape),
+        Saying::Declares { name, shape } => name.as_slice() == state && is_marking_shape(*shape),
         Saying::Leads { .. } => false,
     }
 }
 
 /// Some declaration marks this state.
 pub fn is_marked(said: &[Saying<'_>], state: &[u8]) -> bool
-    ensures { result ≡ is_marked (all_said said.now) state.now }
+    ensures { result ≡ is_marked (sayings_claims said.now) state.now }
 {
     let mut rest = said;
     while let [first, after @ ..] = rest {

@@ -1,7 +1,7 @@
 //! The events of a label.
 ghost use Rattle.std.specs.Prelude.{◌≡◌, ◌≤◌, ◌<◌, ◌+◌, ◌^◌, if◌then◌else◌, length, map, IfOk, IfSome};
 ghost use Rattle.std.specs.Option.{option_map};
-ghost use Rattle.rv_dot.specs.Labels.{is_blank, piece_len, piece_of, without_blanks, kept_len, trimmed, events_of};
+ghost use Rattle.rv_dot.specs.Labels.{is_blank, piece_len, piece_of, without_blanks, kept_len, trimmed, label_events};
 ghost use Rattle.rv_dot.specs.Sets.{bytes_of};
 
 use crate::runs::begins_with;
@@ -76,7 +76,7 @@ fn trimmed(bytes: &[u8]) -> &[u8]
 
 /// The first piece, without the blanks round it, and the bytes behind the cut.
 #[tactic(auto, unfolding(crate::specs::Labels::piece_of))]
-fn piece(label: &[u8]) -> Option<(&[u8], &[u8])>
+fn piece_bytes(label: &[u8]) -> Option<(&[u8], &[u8])>
     ensures value { option_map (λ x. (x.0.now, x.1.now)) result ≡ piece_of label.now }
     ensures within { IfSome result (λ x. length x.1.now < length label.now) }
 {
@@ -85,12 +85,12 @@ fn piece(label: &[u8]) -> Option<(&[u8], &[u8])>
 }
 
 /// The pieces of a label, cut at each backslash with an `n` behind it, each without the blanks round it.
-pub fn events_of<'a>(alloc: Global, label: &'a [u8]) -> Result<Vec<&'a [u8]>, AllocError>
-    ensures { IfOk result (λ v. map bytes_of v.items ≡ events_of label.now) }
+pub fn label_events<'a>(alloc: Global, label: &'a [u8]) -> Result<Vec<&'a [u8]>, AllocError>
+    ensures { IfOk result (λ v. map bytes_of v.items ≡ label_events label.now) }
 {
     let mut found = Vec::new(alloc);
     let mut rest = label;
-    'pieces: while let Some((piece, after)) = piece(rest) {
+    'pieces: while let Some((piece, after)) = piece_bytes(rest) {
         found.push(piece)?;
         rest = after;
     }

@@ -2,34 +2,34 @@
 ghost use Rattle.std.specs.Prelude.{◌≡◌, ◌<◌, ◌≤◌, length, IfSome, IfOk};
 ghost use Rattle.std.specs.Option.{option_map};
 ghost use Rattle.rv_dot.specs.Tokens.{GivesSome, lexeme, lexemes};
-ghost use Rattle.rv_dot.specs.Lists.{separated, attribute_at, attributes_at, last_of, bracket_at, names_at};
+ghost use Rattle.rv_dot.specs.Lists.{separated, attribute_at, attributes_at, last_value, bracket_at, names_at};
 ghost use Rattle.rv_dot.specs.Settings.{setting, settings};
 
 use crate::attribute::Attribute;
-use crate::fault::ReadError;
-use crate::marks::{begins, expect, name_at, value_at, without, word_at};
-use crate::token::{Mark, Token};
+use crate::fault::DotFault;
+use crate::marks::{begins, expect, front_word, name_at, past_mark, value_at};
+use crate::token::{DotToken, Mark};
 use std::alloc::Global;
 
 /// The tokens behind at most one comma or semicolon.
 #[tactic(auto, unfolding(crate::specs::Lists::separated))]
-fn separated<'t, 'a>(tokens: &'t [Token<'a>]) -> &'t [Token<'a>]
+fn separated<'t, 'a>(tokens: &'t [DotToken<'a>]) -> &'t [DotToken<'a>]
     ensures value { lexemes result.now ≡ separated (lexemes tokens.now) }
     ensures within { length result.now ≤ length tokens.now }
 {
     if begins(tokens, Mark::Comma) {
-        without(tokens, Mark::Comma)
+        past_mark(tokens, Mark::Comma)
     } else {
-        without(tokens, Mark::Semicolon)
+        past_mark(tokens, Mark::Semicolon)
     }
 }
 
 #[tactic(auto, unfolding(crate::specs::Lists::attribute_at))]
-fn attribute_at<'t, 'a>(tokens: &'t [Token<'a>]) -> Option<(Attribute<'a>, &'t [Token<'a>])>
+fn attribute_at<'t, 'a>(tokens: &'t [DotToken<'a>]) -> Option<(Attribute<'a>, &'t [DotToken<'a>])>
     ensures value { option_map (λ x. (setting x.0, lexemes x.1.now)) result ≡ attribute_at (lexemes tokens.now) }
     ensures within { IfSome result (λ x. length x.1.now < length tokens.now) }
 {
-    let (key, rest) = word_at(tokens)?;
+    let (key, rest) = front_word(tokens)?;
     let rest = expect(rest, Mark::Equals)?;
     let (value, rest) = value_at(rest)?;
     Some((Attribute { key, value }, rest))
@@ -38,8 +38,8 @@ fn attribute_at<'t, 'a>(tokens: &'t [Token<'a>]) -> Option<(Attribute<'a>, &'t [
 /// Behind an opening bracket: the attributes, and the tokens behind the closing bracket.
 fn attributes<'t, 'a>(
     alloc: Global,
-    tokens: &'t [Token<'a>],
-) -> Result<(Vec<Attribute<'a>>, &'t [Token<'a>]), ReadError>
+    tokens: &'t [DotToken<'a>],
+) -> Result<(Vec<Attribute<'a>>, &'t [DotToken<'a>]), DotFault>
     ensures value { GivesSome (λ x. (settings x.0.items, lexemes x.1.now)) result (attributes_at (lexemes tokens.now)) }
     ensures within { IfOk result (λ x. length x.1.now ≤ length tokens.now) }
 {
@@ -47,17 +47,17 @@ fn attributes<'t, 'a>(
     let mut rest = tokens;
     'attributes: while !begins(rest, Mark::CloseBracket) {
         let Some((attribute, after)) = attribute_at(rest) else {
-            return Err(ReadError::Syntax);
+            return Err(DotFault::Syntax);
         };
         found.push(attribute)?;
         rest = separated(after);
     }
-    Ok((found, without(rest, Mark::CloseBracket)))
+    Ok((found, past_mark(rest, Mark::CloseBracket)))
 }
 
 /// The value that counts for the key: the last one.
-fn last_of<'a>(attributes: &[Attribute<'a>], key: &[u8]) -> Option<Token<'a>>
-    ensures { option_map lexeme result ≡ last_of key.now (settings attributes.now) }
+fn last_value<'a>(attributes: &[Attribute<'a>], key: &[u8]) -> Option<DotToken<'a>>
+    ensures { option_map lexeme result ≡ last_value key.now (settings attributes.now) }
 {
     let mut count = attributes.len();
     while 0 < count {
@@ -73,21 +73,21 @@ fn last_of<'a>(attributes: &[Attribute<'a>], key: &[u8]) -> Option<Token<'a>>
 #[tactic(auto, unfolding(crate::specs::Lists::bracket_at))]
 pub fn bracket<'t, 'a>(
     alloc: Global,
-    tokens: &'t [Token<'a>],
+    tokens: &'t [DotToken<'a>],
     key: &[u8],
-) -> Result<(Option<Token<'a>>, &'t [Token<'a>]), ReadError>
+) -> Result<(Option<DotToken<'a>>, &'t [DotToken<'a>]), DotFault>
     ensures value { GivesSome (λ x. (option_map lexeme x.0, lexemes x.1.now)) result (bracket_at key.now (lexemes tokens.now)) }
     ensures within { IfOk result (λ x. length x.1.now ≤ length tokens.now) }
 {
     let (attributes, rest) = attributes(alloc, tokens)?;
-    Ok((last_of(&attributes, key), rest))
+    Ok((last_value(&attributes, key), rest))
 }
 
 /// The names up to the closing brace, and the tokens behind it.
 pub fn names<'t, 'a>(
     alloc: Global,
-    tokens: &'t [Token<'a>],
-) -> Result<(Vec<Token<'a>>, &'t [Token<'a>]), ReadError>
+    tokens: &'t [DotToken<'a>],
+) -> Result<(Vec<DotToken<'a>>, &'t [DotToken<'a>]), DotFault>
     ensures value { GivesSome (λ x. (lexemes x.0.items, lexemes x.1.now)) result (names_at (lexemes tokens.now)) }
     ensures within { IfOk result (λ x. length x.1.now ≤ length tokens.now) }
 {
@@ -95,10 +95,10 @@ pub fn names<'t, 'a>(
     let mut rest = tokens;
     'names: while !begins(rest, Mark::CloseBrace) {
         let Some((name, after)) = name_at(rest) else {
-            return Err(ReadError::Syntax);
+            return Err(DotFault::Syntax);
         };
         found.push(name)?;
-        rest = without(after, Mark::Semicolon);
+        rest = past_mark(after, Mark::Semicolon);
     }
-    Ok((found, without(rest, Mark::CloseBrace)))
+    Ok((found, past_mark(rest, Mark::CloseBrace)))
 }

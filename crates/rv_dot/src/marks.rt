@@ -2,10 +2,10 @@
 ghost use Rattle.std.specs.Prelude.{◌≡◌, ◌<◌, ◌≤◌, length, IfSome};
 ghost use Rattle.std.specs.Option.{option_map};
 ghost use Rattle.rv_dot.specs.Tokens.{lexeme, lexemes};
-ghost use Rattle.rv_dot.specs.Marks.{begins, expects, without, is_assignment, mark_eq};
-ghost use Rattle.rv_dot.specs.Lists.{is_keyword, word_at, value_at, name_at};
+ghost use Rattle.rv_dot.specs.Marks.{begins, expects, past_mark, is_assignment, mark_eq};
+ghost use Rattle.rv_dot.specs.Lists.{is_keyword, front_word, value_at, name_at};
 
-use crate::token::{Mark, Token};
+use crate::token::{DotToken, Mark};
 
 fn same(a: Mark, b: Mark) -> bool
     ensures { result ≡ mark_eq a b }
@@ -15,46 +15,46 @@ fn same(a: Mark, b: Mark) -> bool
 
 /// The mark stands at the front.
 #[tactic(auto, unfolding(crate::specs::Marks::begins))]
-pub fn begins(tokens: &[Token<'_>], mark: Mark) -> bool
+pub fn begins(tokens: &[DotToken<'_>], mark: Mark) -> bool
     ensures value { result ≡ begins mark (lexemes tokens.now) }
 {
     match tokens {
-        [Token::Sign(found), ..] => same(mark, *found),
+        [DotToken::Sign(found), ..] => same(mark, *found),
         _ => false,
     }
 }
 
 /// The tokens behind this mark, which has to stand at the front.
 #[tactic(auto, unfolding(crate::specs::Marks::expects))]
-pub fn expect<'t, 'a>(tokens: &'t [Token<'a>], mark: Mark) -> Option<&'t [Token<'a>]>
+pub fn expect<'t, 'a>(tokens: &'t [DotToken<'a>], mark: Mark) -> Option<&'t [DotToken<'a>]>
     ensures value { option_map (λ rest. lexemes rest.now) result ≡ expects mark (lexemes tokens.now) }
     ensures within { IfSome result (λ rest. length rest.now < length tokens.now) }
 {
     match tokens {
-        [Token::Sign(found), rest @ ..] if same(mark, *found) => Some(rest),
+        [DotToken::Sign(found), rest @ ..] if same(mark, *found) => Some(rest),
         _ => None,
     }
 }
 
 /// The tokens behind this mark, where it stands at the front; else all of them.
-#[tactic(auto, unfolding(crate::specs::Marks::without))]
-pub fn without<'t, 'a>(tokens: &'t [Token<'a>], mark: Mark) -> &'t [Token<'a>]
-    ensures value { lexemes result.now ≡ without mark (lexemes tokens.now) }
+#[tactic(auto, unfolding(crate::specs::Marks::past_mark))]
+pub fn past_mark<'t, 'a>(tokens: &'t [DotToken<'a>], mark: Mark) -> &'t [DotToken<'a>]
+    ensures value { lexemes result.now ≡ past_mark mark (lexemes tokens.now) }
     ensures within { length result.now ≤ length tokens.now }
 {
     match tokens {
-        [Token::Sign(found), rest @ ..] if same(mark, *found) => rest,
+        [DotToken::Sign(found), rest @ ..] if same(mark, *found) => rest,
         _ => tokens,
     }
 }
 
 /// A word and `=` stand at the front.
 #[tactic(auto, unfolding(crate::specs::Marks::is_assignment))]
-pub fn is_assignment(tokens: &[Token<'_>]) -> bool
+pub fn is_assignment(tokens: &[DotToken<'_>]) -> bool
     ensures { result ≡ is_assignment (lexemes tokens.now) }
 {
     match tokens {
-        [Token::Word(_), rest @ ..] => begins(rest, Mark::Equals),
+        [DotToken::Word(_), rest @ ..] => begins(rest, Mark::Equals),
         _ => false,
     }
 }
@@ -70,44 +70,44 @@ fn is_keyword(word: &[u8]) -> bool
         || word == b"strict".as_slice()
 }
 
-#[tactic(auto, unfolding(crate::specs::Lists::word_at))]
-pub fn word_at<'t, 'a>(tokens: &'t [Token<'a>]) -> Option<(&'a [u8], &'t [Token<'a>])>
-    ensures value { option_map (λ x. (x.0.now, lexemes x.1.now)) result ≡ word_at (lexemes tokens.now) }
+#[tactic(auto, unfolding(crate::specs::Lists::front_word))]
+pub fn front_word<'t, 'a>(tokens: &'t [DotToken<'a>]) -> Option<(&'a [u8], &'t [DotToken<'a>])>
+    ensures value { option_map (λ x. (x.0.now, lexemes x.1.now)) result ≡ front_word (lexemes tokens.now) }
     ensures within { IfSome result (λ x. length x.1.now < length tokens.now) }
 {
     match tokens {
-        [Token::Word(word), rest @ ..] => Some((*word, rest)),
+        [DotToken::Word(word), rest @ ..] => Some((*word, rest)),
         _ => None,
     }
 }
 
 #[tactic(auto, unfolding(crate::specs::Lists::value_at))]
-pub fn value_at<'t, 'a>(tokens: &'t [Token<'a>]) -> Option<(Token<'a>, &'t [Token<'a>])>
+pub fn value_at<'t, 'a>(tokens: &'t [DotToken<'a>]) -> Option<(DotToken<'a>, &'t [DotToken<'a>])>
     ensures value { option_map (λ x. (lexeme x.0, lexemes x.1.now)) result ≡ value_at (lexemes tokens.now) }
     ensures within { IfSome result (λ x. length x.1.now < length tokens.now) }
 {
     match tokens {
-        [Token::Word(word), rest @ ..] => Some((Token::Word(*word), rest)),
-        [Token::Text(text), rest @ ..] => Some((Token::Text(*text), rest)),
+        [DotToken::Word(word), rest @ ..] => Some((DotToken::Word(*word), rest)),
+        [DotToken::Text(text), rest @ ..] => Some((DotToken::Text(*text), rest)),
         _ => None,
     }
 }
 
 /// A name: a string, or a word that is no keyword.
 #[tactic(auto, unfolding(crate::specs::Lists::name_at))]
-pub fn name_at<'t, 'a>(tokens: &'t [Token<'a>]) -> Option<(Token<'a>, &'t [Token<'a>])>
+pub fn name_at<'t, 'a>(tokens: &'t [DotToken<'a>]) -> Option<(DotToken<'a>, &'t [DotToken<'a>])>
     ensures value { option_map (λ x. (lexeme x.0, lexemes x.1.now)) result ≡ name_at (lexemes tokens.now) }
     ensures within { IfSome result (λ x. length x.1.now < length tokens.now) }
 {
     match tokens {
-        [Token::Word(word), rest @ ..] => {
+        [DotToken::Word(word), rest @ ..] => {
             if is_keyword(*word) {
                 None
             } else {
-                Some((Token::Word(*word), rest))
+                Some((DotToken::Word(*word), rest))
             }
         }
-        [Token::Text(text), rest @ ..] => Some((Token::Text(*text), rest)),
+        [DotToken::Text(text), rest @ ..] => Some((DotToken::Text(*text), rest)),
         _ => None,
     }
 }

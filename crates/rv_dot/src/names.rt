@@ -4,21 +4,21 @@ ghost use Rattle.std.specs.List.{list_all};
 ghost use Rattle.rv_dot.specs.Runs.{is_word_byte};
 ghost use Rattle.std.specs.Option.{option_map};
 ghost use Rattle.rv_dot.specs.Tokens.{lexeme};
-ghost use Rattle.rv_dot.specs.Names.{content_of, name_byte, name_of, is_marker, is_state_name, is_event_name, marks};
+ghost use Rattle.rv_dot.specs.Names.{content_of, name_byte, name_of, is_marker, is_state_name, is_event_name, is_marking_shape};
 ghost use Rattle.rv_dot.specs.Sets.{bytes_of};
 
 use crate::runs::is_word_byte;
-use crate::token::Token;
+use crate::token::DotToken;
 use std::alloc::{AllocError, Global};
 
 /// What a word or a string holds.
-pub fn content<'a>(token: Token<'a>) -> &'a [u8]
+pub fn content<'a>(token: DotToken<'a>) -> &'a [u8]
     ensures { result.now ≡ content_of (lexeme token.entry) }
 {
     match token {
-        Token::Sign(_) => b"",
-        Token::Word(bytes) => bytes,
-        Token::Text(bytes) => bytes,
+        DotToken::Sign(_) => b"",
+        DotToken::Word(bytes) => bytes,
+        DotToken::Text(bytes) => bytes,
     }
 }
 
@@ -30,7 +30,7 @@ fn name_byte(byte: u8) -> u8
 }
 
 /// The name that a word or a string is.
-pub fn name(alloc: Global, token: Token<'_>) -> Result<Vec<u8>, AllocError>
+pub fn name(alloc: Global, token: DotToken<'_>) -> Result<Vec<u8>, AllocError>
     ensures { IfOk result (λ v. v.items ≡ name_of (lexeme token.entry)) }
 {
     content(token)
@@ -73,8 +73,8 @@ pub fn is_event_name(name: &[u8]) -> bool
 }
 
 /// A shape that marks the state that is declared with it.
-pub fn marks(shape: Option<&[u8]>) -> bool
-    ensures { result ≡ marks (option_map bytes_of shape.entry) }
+pub fn is_marking_shape(shape: Option<&[u8]>) -> bool
+    ensures { result ≡ is_marking_shape (option_map bytes_of shape.entry) }
 {
     match shape {
         None => false,

@@ -4,8 +4,8 @@ ghost use Rattle.std.specs.List.{list_all};
 ghost use Rattle.std.specs.Cmp.Lexicographic.{slice_cmp};
 ghost use Rattle.std.specs.Ordering.{nat_cmp};
 ghost use Rattle.rv_dot.specs.Members.{Ascends};
-ghost use Rattle.rv_dot.specs.Sets.{set_of, bytes_of, place_of, stands_in, number_in};
-ghost use Rattle.rv_dot.specs.Moves.{moves_of, numbered};
+ghost use Rattle.rv_dot.specs.Sets.{ascending, bytes_of, place_of, stands_in, number_in};
+ghost use Rattle.rv_dot.specs.Moves.{moves_of, arc_move};
 ghost use Rattle.rv_dot.specs.Sayings.{arc as arc_of};
 ghost use Rattle.rv_dot.specs.Dot.{ends_declared};
 
@@ -15,7 +15,7 @@ use std::alloc::{AllocError, Global};
 use std::collections::BTreeSet;
 
 fn gathered<'a>(alloc: Global, names: &[&'a [u8]]) -> Result<BTreeSet<&'a [u8]>, AllocError>
-    ensures { IfOk result (λ set. map bytes_of set.keys ≡ set_of (map bytes_of names.now)) }
+    ensures { IfOk result (λ set. map bytes_of set.keys ≡ ascending (map bytes_of names.now)) }
 {
     let mut set = BTreeSet::new(alloc);
     'names: for name in names {
@@ -26,7 +26,7 @@ fn gathered<'a>(alloc: Global, names: &[&'a [u8]]) -> Result<BTreeSet<&'a [u8]>,
 
 /// The names, ascending by bytes, each once.
 pub fn ascending<'a>(alloc: Global, names: &[&'a [u8]]) -> Result<Vec<&'a [u8]>, AllocError>
-    ensures { IfOk result (λ v. map bytes_of v.items ≡ set_of (map bytes_of names.now)) }
+    ensures { IfOk result (λ v. map bytes_of v.items ≡ ascending (map bytes_of names.now)) }
 {
     let set = gathered(alloc, names)?;
     set.into_iter().collect(alloc)
@@ -90,9 +90,9 @@ impl Numbering<'_, '_> {
         place_among(self.events, name).unwrap_or(0)
     }
 
-    fn numbered(&self, arc: Arc<'_>) -> Move
+    fn arc_move(&self, arc: Arc<'_>) -> Move
         requires { IsNumbering self.now }
-        ensures { result ≡ numbered (states_by self.now) (events_by self.now) (arc_of arc.entry) }
+        ensures { result ≡ arc_move (states_by self.now) (events_by self.now) (arc_of arc.entry) }
     {
         Move {
             from: self.state(arc.from),
@@ -118,11 +118,11 @@ impl Numbering<'_, '_> {
 
     fn gathered_moves(&self, alloc: Global, arcs: &[Arc<'_>]) -> Result<BTreeSet<Move>, AllocError>
         requires { IsNumbering self.now }
-        ensures { IfOk result (λ set. set.keys ≡ moves_of (map (numbered (states_by self.now) (events_by self.now)) (map arc_of arcs.now))) }
+        ensures { IfOk result (λ set. set.keys ≡ moves_of (map (arc_move (states_by self.now) (events_by self.now)) (map arc_of arcs.now))) }
     {
         let mut set = BTreeSet::new(alloc);
         'arcs: for arc in arcs {
-            set.insert(self.numbered(*arc))?;
+            set.insert(self.arc_move(*arc))?;
         }
         Ok(set)
     }
@@ -130,7 +130,7 @@ impl Numbering<'_, '_> {
     /// The moves of the arcs, ascending, each once.
     pub fn moves(&self, alloc: Global, arcs: &[Arc<'_>]) -> Result<Vec<Move>, AllocError>
         requires { IsNumbering self.now }
-        ensures { IfOk result (λ v. v.items ≡ moves_of (map (numbered (states_by self.now) (events_by self.now)) (map arc_of arcs.now))) }
+        ensures { IfOk result (λ v. v.items ≡ moves_of (map (arc_move (states_by self.now) (events_by self.now)) (map arc_of arcs.now))) }
     {
         let set = self.gathered_moves(alloc, arcs)?;
         set.into_iter().collect(alloc)

@@ -5,16 +5,16 @@ ghost use Rattle.std.specs.Str.{bytes_eq};
 ghost use Rattle.rv_text.specs.Readings.{Gives, refused_with};
 ghost use Rattle.rv_dot.specs.Tokens.{GivesSome};
 ghost use Rattle.rv_dot.specs.Text.{said_by};
-ghost use Rattle.rv_dot.specs.Sayings.{all_said, arc};
+ghost use Rattle.rv_dot.specs.Sayings.{sayings_claims, arc};
 ghost use Rattle.rv_dot.specs.Gathered.{states_in, arcs_in, all_fit};
-ghost use Rattle.rv_dot.specs.Sets.{bytes_of, set_of, stands_in};
+ghost use Rattle.rv_dot.specs.Sets.{bytes_of, ascending, stands_in};
 ghost use Rattle.rv_dot.specs.Numberings.{IsNumbering, states_by, events_by};
 ghost use Rattle.rv_model.specs.Machine.{Machine};
 ghost use Rattle.rv_dot.specs.Drawn.{IsDotOf};
 ghost use Rattle.rv_dot.specs.Dot.{initial_of, with_initial, machine_of, states_from, events_from, dot_of};
 
 use crate::drawing::built;
-use crate::fault::ReadError;
+use crate::fault::DotFault;
 use crate::gather::{Arc, all_fit, arcs_in, events_fit, states_in, targets_in};
 use crate::moves::clash;
 use crate::numbering::{Numbering, ascending, place_among};
@@ -43,8 +43,8 @@ fn refused(number: u8) -> Refused
 }
 
 /// What the text's statements say.
-fn said_by(alloc: Global, bytes: &[u8]) -> Result<Vec<Saying<'_>>, ReadError>
-    ensures { GivesSome (λ v. all_said v.items) result (said_by bytes.now) }
+fn said_by(alloc: Global, bytes: &[u8]) -> Result<Vec<Saying<'_>>, DotFault>
+    ensures { GivesSome (λ v. sayings_claims v.items) result (said_by bytes.now) }
 {
     let tokens = tokens(alloc, bytes)?;
     let facts = facts(alloc, &tokens)?;
@@ -105,7 +105,7 @@ fn events<'s>(alloc: Global, arcs: &[Arc<'s>]) -> Result<Vec<&'s [u8]>, AllocErr
 
 /// The declared states, ascending.
 fn declared<'s, 'a>(alloc: Global, said: &'s [Saying<'a>]) -> Result<Vec<&'s [u8]>, AllocError>
-    ensures { IfOk result (λ v. map bytes_of v.items ≡ set_of (states_in (all_said said.now))) }
+    ensures { IfOk result (λ v. map bytes_of v.items ≡ ascending (states_in (sayings_claims said.now))) }
 {
     let states = states_in(alloc, said)?;
     ascending(alloc, &states)
@@ -118,13 +118,13 @@ fn with_numbering(
     arcs: &[Arc<'_>],
     numbering: Numbering<'_, '_>,
 ) -> Result<Automaton, Refused>
-    requires gathered { map arc arcs.now ≡ arcs_in (all_said said.now) }
-    requires fit { all_fit (all_said said.now) ≡ true }
+    requires gathered { map arc arcs.now ≡ arcs_in (sayings_claims said.now) }
+    requires fit { all_fit (sayings_claims said.now) ≡ true }
     requires ascend { IsNumbering numbering }
-    requires states { states_by numbering ≡ states_from numbering.first.now (states_in (all_said said.now)) }
-    requires events { events_by numbering ≡ events_from (arcs_in (all_said said.now)) }
-    requires stands { stands_in (states_in (all_said said.now)) numbering.first.now ≡ true }
-    ensures { Gives (λ a. a) result (with_initial (all_said said.now) numbering.entry.first.now) }
+    requires states { states_by numbering ≡ states_from numbering.first.now (states_in (sayings_claims said.now)) }
+    requires events { events_by numbering ≡ events_from (arcs_in (sayings_claims said.now)) }
+    requires stands { stands_in (states_in (sayings_claims said.now)) numbering.first.now ≡ true }
+    ensures { Gives (λ a. a) result (with_initial (sayings_claims said.now) numbering.entry.first.now) }
 {
     if !numbering.are_declared(arcs) {
         return Err(refused(UNDECLARED_STATE));
@@ -149,9 +149,9 @@ fn with_initial(
     arcs: &[Arc<'_>],
     first: &[u8],
 ) -> Result<Automaton, Refused>
-    requires gathered { map arc arcs.now ≡ arcs_in (all_said said.now) }
-    requires fit { all_fit (all_said said.now) ≡ true }
-    ensures { Gives (λ a. a) result (with_initial (all_said said.now) first.now) }
+    requires gathered { map arc arcs.now ≡ arcs_in (sayings_claims said.now) }
+    requires fit { all_fit (sayings_claims said.now) ≡ true }
+    ensures { Gives (λ a. a) result (with_initial (sayings_claims said.now) first.now) }
 {
     let declared = declared(alloc, said)?;
     if place_among(&declared, first).is_none() {
@@ -169,7 +169,7 @@ fn with_initial(
 
 /// What the statements say, as an automaton.
 fn automaton(alloc: Global, said: &[Saying<'_>]) -> Result<Automaton, Refused>
-    ensures { Gives (λ a. a) result (machine_of (all_said said.now)) }
+    ensures { Gives (λ a. a) result (machine_of (sayings_claims said.now)) }
 {
     let arcs = arcs_in(alloc, said)?;
     if !all_fit(said) || !events_fit(&arcs) {
@@ -189,8 +189,8 @@ pub fn read_dot(alloc: Global, bytes: &[u8]) -> Result<Automaton, Refused>
     }
     match said_by(alloc, bytes) {
         Ok(said) => automaton(alloc, &said),
-        Err(ReadError::Memory) => Err(Refused::Memory),
-        Err(ReadError::Syntax) => Err(refused(DOT_SYNTAX)),
+        Err(DotFault::Memory) => Err(Refused::Memory),
+        Err(DotFault::Syntax) => Err(refused(DOT_SYNTAX)),
     }
 }
 

@@ -2,13 +2,13 @@
 ghost use Rattle.std.specs.Prelude.{◌≡◌, IfOk};
 ghost use Rattle.std.specs.Option.{option_map};
 ghost use Rattle.rv_dot.specs.Tokens.{lexeme};
-ghost use Rattle.rv_dot.specs.Statements.{held, claim, claims};
-ghost use Rattle.rv_dot.specs.Sayings.{said, all_said};
+ghost use Rattle.rv_dot.specs.Statements.{value_held, claim, claims};
+ghost use Rattle.rv_dot.specs.Sayings.{claim_of, sayings_claims};
 ghost use Rattle.rv_dot.specs.Sets.{bytes_of};
 
 use crate::fact::Fact;
 use crate::names::{content, name};
-use crate::token::Token;
+use crate::token::DotToken;
 use std::alloc::{AllocError, Global};
 
 #[derive(Debug, Drop)]
@@ -26,8 +26,8 @@ pub enum Saying<'a> {
     },
 }
 
-fn held<'a>(value: Option<Token<'a>>) -> Option<&'a [u8]>
-    ensures { option_map bytes_of result ≡ held (option_map lexeme value.entry) }
+fn value_held<'a>(value: Option<DotToken<'a>>) -> Option<&'a [u8]>
+    ensures { option_map bytes_of result ≡ value_held (option_map lexeme value.entry) }
 {
     match value {
         None => None,
@@ -36,14 +36,14 @@ fn held<'a>(value: Option<Token<'a>>) -> Option<&'a [u8]>
 }
 
 fn said_of<'a>(alloc: Global, fact: Fact<'a>) -> Result<Saying<'a>, AllocError>
-    ensures { IfOk result (λ s. said s ≡ claim fact.entry) }
+    ensures { IfOk result (λ s. claim_of s ≡ claim fact.entry) }
 {
     match fact {
         Fact::Declares { name: token, shape } => {
             let name = name(alloc, token)?;
             Ok(Saying::Declares {
                 name,
-                shape: held(shape),
+                shape: value_held(shape),
             })
         }
         Fact::Leads { from, to, label } => {
@@ -52,7 +52,7 @@ fn said_of<'a>(alloc: Global, fact: Fact<'a>) -> Result<Saying<'a>, AllocError>
             Ok(Saying::Leads {
                 from,
                 to,
-                label: held(label),
+                label: value_held(label),
             })
         }
     }
@@ -60,7 +60,7 @@ fn said_of<'a>(alloc: Global, fact: Fact<'a>) -> Result<Saying<'a>, AllocError>
 
 /// What the facts say, each with its names.
 pub fn sayings<'a>(alloc: Global, facts: &[Fact<'a>]) -> Result<Vec<Saying<'a>>, AllocError>
-    ensures { IfOk result (λ v. all_said v.items ≡ claims facts.now) }
+    ensures { IfOk result (λ v. sayings_claims v.items ≡ claims facts.now) }
 {
     let mut found = Vec::new(alloc);
     for fact in facts {

@@ -4,28 +4,28 @@ ghost use Rattle.std.specs.Option.{option_map};
 ghost use Rattle.rv_dot.specs.Tokens.{GivesSome, lexeme, lexemes};
 ghost use Rattle.rv_dot.specs.Names.{name_of};
 ghost use Rattle.rv_dot.specs.Grammar.{File, IsFile, file, file_says};
-ghost use Rattle.rv_dot.specs.Statements.{claims, declares, held, optional_bracket_at, declared_at, ranked_at, group_at, assignment_at, edge_at, named_at, statement_at, statements_at, claims_of};
+ghost use Rattle.rv_dot.specs.Statements.{claims, declares, value_held, optional_bracket_at, declared_at, ranked_at, group_at, assignment_at, edge_at, named_at, statement_at, statements_at, claims_of};
 
 use crate::fact::Fact;
-use crate::fault::ReadError;
+use crate::fault::DotFault;
 use crate::lists::{bracket, names};
-use crate::marks::{begins, expect, is_assignment, name_at, value_at, without, word_at};
-use crate::token::{Mark, Token};
+use crate::marks::{begins, expect, front_word, is_assignment, name_at, past_mark, value_at};
+use crate::token::{DotToken, Mark};
 use std::alloc::{AllocError, Global};
 
-type Said<'t, 'a> = Result<(Vec<Fact<'a>>, &'t [Token<'a>]), ReadError>;
+type Said<'t, 'a> = Result<(Vec<Fact<'a>>, &'t [DotToken<'a>]), DotFault>;
 
 #[tactic(auto, unfolding(crate::specs::Statements::optional_bracket_at))]
 fn optional_bracket<'t, 'a>(
     alloc: Global,
-    tokens: &'t [Token<'a>],
+    tokens: &'t [DotToken<'a>],
     key: &[u8],
-) -> Result<(Option<Token<'a>>, &'t [Token<'a>]), ReadError>
+) -> Result<(Option<DotToken<'a>>, &'t [DotToken<'a>]), DotFault>
     ensures value { GivesSome (λ x. (option_map lexeme x.0, lexemes x.1.now)) result (optional_bracket_at key.now (lexemes tokens.now)) }
     ensures within { IfOk result (λ x. length x.1.now ≤ length tokens.now) }
 {
     if begins(tokens, Mark::OpenBracket) {
-        bracket(alloc, without(tokens, Mark::OpenBracket), key)
+        bracket(alloc, past_mark(tokens, Mark::OpenBracket), key)
     } else {
         Ok((None, tokens))
     }
@@ -34,10 +34,10 @@ fn optional_bracket<'t, 'a>(
 /// Each of the names is declared with this shape.
 fn declared_names<'a>(
     alloc: Global,
-    names: &[Token<'a>],
-    shape: Option<Token<'a>>,
+    names: &[DotToken<'a>],
+    shape: Option<DotToken<'a>>,
 ) -> Result<Vec<Fact<'a>>, AllocError>
-    ensures { IfOk result (λ v. claims v.items ≡ map (λ name. declares (name_of name) (held (option_map lexeme shape.entry))) (lexemes names.now)) }
+    ensures { IfOk result (λ v. claims v.items ≡ map (λ name. declares (name_of name) (value_held (option_map lexeme shape.entry))) (lexemes names.now)) }
 {
     let mut facts = Vec::new(alloc);
     for name in names {
@@ -48,78 +48,78 @@ fn declared_names<'a>(
 
 /// Behind `{ node`: attributes, and one name or more.
 #[tactic(auto, unfolding(crate::specs::Statements::declared_at))]
-fn declared<'t, 'a>(alloc: Global, tokens: &'t [Token<'a>]) -> Said<'t, 'a>
+fn declared<'t, 'a>(alloc: Global, tokens: &'t [DotToken<'a>]) -> Said<'t, 'a>
     ensures value { GivesSome (λ x. (claims x.0.items, lexemes x.1.now)) result (declared_at (lexemes tokens.now)) }
     ensures within { IfOk result (λ x. length x.1.now ≤ length tokens.now) }
 {
     let Some(rest) = expect(tokens, Mark::OpenBracket) else {
-        return Err(ReadError::Syntax);
+        return Err(DotFault::Syntax);
     };
     let (shape, rest) = bracket(alloc, rest, b"shape")?;
     let (names, rest) = names(alloc, rest)?;
     if names.is_empty() {
-        return Err(ReadError::Syntax);
+        return Err(DotFault::Syntax);
     }
     Ok((declared_names(alloc, &names, shape)?, rest))
 }
 
 /// Behind `{ word =`: a rank group, which says nothing.
 #[tactic(auto, unfolding(crate::specs::Statements::ranked_at))]
-fn ranked<'t, 'a>(alloc: Global, tokens: &'t [Token<'a>]) -> Said<'t, 'a>
+fn ranked<'t, 'a>(alloc: Global, tokens: &'t [DotToken<'a>]) -> Said<'t, 'a>
     ensures value { GivesSome (λ x. (claims x.0.items, lexemes x.1.now)) result (ranked_at (lexemes tokens.now)) }
     ensures within { IfOk result (λ x. length x.1.now ≤ length tokens.now) }
 {
     let Some((_, rest)) = value_at(tokens) else {
-        return Err(ReadError::Syntax);
+        return Err(DotFault::Syntax);
     };
-    let (_, rest) = names(alloc, without(rest, Mark::Semicolon))?;
+    let (_, rest) = names(alloc, past_mark(rest, Mark::Semicolon))?;
     Ok((Vec::new(alloc), rest))
 }
 
 /// Behind `{`.
 #[tactic(auto, unfolding(crate::specs::Statements::group_at))]
-fn group<'t, 'a>(alloc: Global, tokens: &'t [Token<'a>]) -> Said<'t, 'a>
+fn group<'t, 'a>(alloc: Global, tokens: &'t [DotToken<'a>]) -> Said<'t, 'a>
     ensures value { GivesSome (λ x. (claims x.0.items, lexemes x.1.now)) result (group_at (lexemes tokens.now)) }
     ensures within { IfOk result (λ x. length x.1.now < length tokens.now) }
 {
-    let Some((head, rest)) = word_at(tokens) else {
-        return Err(ReadError::Syntax);
+    let Some((head, rest)) = front_word(tokens) else {
+        return Err(DotFault::Syntax);
     };
     if begins(rest, Mark::Equals) {
-        ranked(alloc, without(rest, Mark::Equals))
+        ranked(alloc, past_mark(rest, Mark::Equals))
     } else if head == b"node".as_slice() {
         declared(alloc, rest)
     } else {
-        Err(ReadError::Syntax)
+        Err(DotFault::Syntax)
     }
 }
 
 /// `word = value`, which says nothing.
 #[tactic(auto, unfolding(crate::specs::Statements::assignment_at))]
-fn assignment<'t, 'a>(alloc: Global, tokens: &'t [Token<'a>]) -> Said<'t, 'a>
+fn assignment<'t, 'a>(alloc: Global, tokens: &'t [DotToken<'a>]) -> Said<'t, 'a>
     ensures value { GivesSome (λ x. (claims x.0.items, lexemes x.1.now)) result (assignment_at (lexemes tokens.now)) }
     ensures within { IfOk result (λ x. length x.1.now < length tokens.now) }
 {
-    let Some((_, rest)) = word_at(tokens) else {
-        return Err(ReadError::Syntax);
+    let Some((_, rest)) = front_word(tokens) else {
+        return Err(DotFault::Syntax);
     };
     let Some(rest) = expect(rest, Mark::Equals) else {
-        return Err(ReadError::Syntax);
+        return Err(DotFault::Syntax);
     };
     let Some((_, rest)) = value_at(rest) else {
-        return Err(ReadError::Syntax);
+        return Err(DotFault::Syntax);
     };
     Ok((Vec::new(alloc), rest))
 }
 
 /// Behind `name ->`.
 #[tactic(auto, unfolding(crate::specs::Statements::edge_at))]
-fn edge<'t, 'a>(alloc: Global, from: Token<'a>, tokens: &'t [Token<'a>]) -> Said<'t, 'a>
+fn edge<'t, 'a>(alloc: Global, from: DotToken<'a>, tokens: &'t [DotToken<'a>]) -> Said<'t, 'a>
     ensures value { GivesSome (λ x. (claims x.0.items, lexemes x.1.now)) result (edge_at (lexeme from.entry) (lexemes tokens.now)) }
     ensures within { IfOk result (λ x. length x.1.now < length tokens.now) }
 {
     let Some((to, rest)) = name_at(tokens) else {
-        return Err(ReadError::Syntax);
+        return Err(DotFault::Syntax);
     };
     let (label, rest) = optional_bracket(alloc, rest, b"label")?;
     let mut facts = Vec::new(alloc);
@@ -129,15 +129,15 @@ fn edge<'t, 'a>(alloc: Global, from: Token<'a>, tokens: &'t [Token<'a>]) -> Said
 
 /// A node, of which nothing is said, or an edge.
 #[tactic(auto, unfolding(crate::specs::Statements::named_at))]
-fn named<'t, 'a>(alloc: Global, tokens: &'t [Token<'a>]) -> Said<'t, 'a>
+fn named<'t, 'a>(alloc: Global, tokens: &'t [DotToken<'a>]) -> Said<'t, 'a>
     ensures value { GivesSome (λ x. (claims x.0.items, lexemes x.1.now)) result (named_at (lexemes tokens.now)) }
     ensures within { IfOk result (λ x. length x.1.now < length tokens.now) }
 {
     let Some((from, rest)) = name_at(tokens) else {
-        return Err(ReadError::Syntax);
+        return Err(DotFault::Syntax);
     };
     if begins(rest, Mark::Arrow) {
-        edge(alloc, from, without(rest, Mark::Arrow))
+        edge(alloc, from, past_mark(rest, Mark::Arrow))
     } else {
         let (_, rest) = optional_bracket(alloc, rest, b"")?;
         Ok((Vec::new(alloc), rest))
@@ -146,12 +146,12 @@ fn named<'t, 'a>(alloc: Global, tokens: &'t [Token<'a>]) -> Said<'t, 'a>
 
 /// A statement, without its semicolon.
 #[tactic(auto, unfolding(crate::specs::Statements::statement_at))]
-fn statement<'t, 'a>(alloc: Global, tokens: &'t [Token<'a>]) -> Said<'t, 'a>
+fn statement<'t, 'a>(alloc: Global, tokens: &'t [DotToken<'a>]) -> Said<'t, 'a>
     ensures value { GivesSome (λ x. (claims x.0.items, lexemes x.1.now)) result (statement_at (lexemes tokens.now)) }
     ensures within { IfOk result (λ x. length x.1.now < length tokens.now) }
 {
     if begins(tokens, Mark::OpenBrace) {
-        group(alloc, without(tokens, Mark::OpenBrace))
+        group(alloc, past_mark(tokens, Mark::OpenBrace))
     } else if is_assignment(tokens) {
         assignment(alloc, tokens)
     } else {
@@ -160,7 +160,7 @@ fn statement<'t, 'a>(alloc: Global, tokens: &'t [Token<'a>]) -> Said<'t, 'a>
 }
 
 /// Statements up to the closing brace, and the tokens behind it.
-fn statements<'t, 'a>(alloc: Global, tokens: &'t [Token<'a>]) -> Said<'t, 'a>
+fn statements<'t, 'a>(alloc: Global, tokens: &'t [DotToken<'a>]) -> Said<'t, 'a>
     ensures { GivesSome (λ x. (claims x.0.items, lexemes x.1.now)) result (statements_at (lexemes tokens.now)) }
 {
     let mut found = Vec::new(alloc);
@@ -168,35 +168,35 @@ fn statements<'t, 'a>(alloc: Global, tokens: &'t [Token<'a>]) -> Said<'t, 'a>
     'statements: while !begins(rest, Mark::CloseBrace) {
         let (facts, after) = statement(alloc, rest)?;
         found.extend_from_slice(&facts)?;
-        rest = without(after, Mark::Semicolon);
+        rest = past_mark(after, Mark::Semicolon);
     }
-    Ok((found, without(rest, Mark::CloseBrace)))
+    Ok((found, past_mark(rest, Mark::CloseBrace)))
 }
 
 /// What all the tokens say.
 #[tactic(auto, unfolding(crate::specs::Statements::claims_of))]
-fn all<'a>(alloc: Global, tokens: &[Token<'a>]) -> Result<Vec<Fact<'a>>, ReadError>
+fn all<'a>(alloc: Global, tokens: &[DotToken<'a>]) -> Result<Vec<Fact<'a>>, DotFault>
     ensures { GivesSome (λ v. claims v.items) result (claims_of (lexemes tokens.now)) }
 {
-    let Some((head, rest)) = word_at(tokens) else {
-        return Err(ReadError::Syntax);
+    let Some((head, rest)) = front_word(tokens) else {
+        return Err(DotFault::Syntax);
     };
-    let Some((_, rest)) = word_at(rest) else {
-        return Err(ReadError::Syntax);
+    let Some((_, rest)) = front_word(rest) else {
+        return Err(DotFault::Syntax);
     };
     let Some(rest) = expect(rest, Mark::OpenBrace) else {
-        return Err(ReadError::Syntax);
+        return Err(DotFault::Syntax);
     };
     let (facts, rest) = statements(alloc, rest)?;
     if head == b"digraph".as_slice() && rest.is_empty() {
         Ok(facts)
     } else {
-        Err(ReadError::Syntax)
+        Err(DotFault::Syntax)
     }
 }
 
 /// What the file says that these tokens spell.
-pub fn facts<'a>(alloc: Global, tokens: &[Token<'a>]) -> Result<Vec<Fact<'a>>, ReadError>
+pub fn facts<'a>(alloc: Global, tokens: &[DotToken<'a>]) -> Result<Vec<Fact<'a>>, DotFault>
     // What is read is spelled so.
     ensures found { IfOk result (λ v. (f : File) × IsFile f × (lexemes tokens.now ≡ file f) × (file_says f ≡ claims v.items)) }
     // What is spelled so is read, unless memory runs out.

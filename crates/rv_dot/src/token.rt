@@ -1,9 +1,9 @@
 //! From a text's bytes to its tokens.
 ghost use Rattle.std.specs.Prelude.{◌≡◌, List, Some, IfOk, true};
-ghost use Rattle.rv_dot.specs.Pieces.{Piece, Reads, tokens_in};
+ghost use Rattle.rv_dot.specs.Pieces.{Piece, SplitsInto, tokens_in};
 ghost use Rattle.rv_dot.specs.Tokens.{GivesSome, lexemes, tokens_of};
 
-use crate::fault::ReadError;
+use crate::fault::DotFault;
 use crate::front::front;
 use std::alloc::Global;
 
@@ -22,14 +22,14 @@ pub enum Mark {
 
 /// A token, which borrows the text.
 #[derive(Clone, Copy, Debug)]
-pub enum Token<'a> {
+pub enum DotToken<'a> {
     Sign(Mark),
     Word(&'a [u8]),
     /// What stands between the quotes, as it is written.
     Text(&'a [u8]),
 }
 
-fn all(alloc: Global, bytes: &[u8]) -> Result<Vec<Token<'_>>, ReadError>
+fn all(alloc: Global, bytes: &[u8]) -> Result<Vec<DotToken<'_>>, DotFault>
     ensures { GivesSome (λ v. lexemes v.items) result (tokens_of bytes.now) }
 {
     let mut found = Vec::new(alloc);
@@ -37,7 +37,7 @@ fn all(alloc: Global, bytes: &[u8]) -> Result<Vec<Token<'_>>, ReadError>
     let mut rest = bytes;
     while let [first, ..] = rest {
         let Some((token, after)) = front(rest, starts_line) else {
-            return Err(ReadError::Syntax);
+            return Err(DotFault::Syntax);
         };
         if let Some(token) = token {
             found.push(token)?;
@@ -49,11 +49,11 @@ fn all(alloc: Global, bytes: &[u8]) -> Result<Vec<Token<'_>>, ReadError>
 }
 
 /// The tokens of the text.
-pub fn tokens(alloc: Global, bytes: &[u8]) -> Result<Vec<Token<'_>>, ReadError>
+pub fn tokens(alloc: Global, bytes: &[u8]) -> Result<Vec<DotToken<'_>>, DotFault>
     // The text is made of pieces, of which these are the tokens.
-    ensures found { IfOk result (λ v. (ps : List Piece) × Reads true bytes.now ps × (tokens_in ps ≡ lexemes v.items)) }
+    ensures found { IfOk result (λ v. (ps : List Piece) × SplitsInto true bytes.now ps × (tokens_in ps ≡ lexemes v.items)) }
     // A text that is made of pieces is read, unless memory runs out.
-    ensures only { (ps : List Piece) → Reads true bytes.now ps → GivesSome (λ v. lexemes v.items) result (Some (tokens_in ps)) }
+    ensures only { (ps : List Piece) → SplitsInto true bytes.now ps → GivesSome (λ v. lexemes v.items) result (Some (tokens_in ps)) }
     ensures exact { GivesSome (λ v. lexemes v.items) result (tokens_of bytes.now) }
 {
     all(alloc, bytes)

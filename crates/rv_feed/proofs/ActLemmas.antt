@@ -7,7 +7,7 @@ use Rattle.rv_model.specs.declared.entry.Answer.{Answer}
 use Rattle.rv_model.specs.declared.hit.Hit.{Hit}
 use Rattle.rv_model.specs.declared.hit.What.TheVariants.{Nothing}
 use Rattle.rv_model.specs.declared.record.Delivered.TheVariants.{Done}
-use Rattle.rv_model.specs.Histories.{IsNoStop, IsHeldBy}
+use Rattle.rv_model.specs.Histories.{IsNoStop, IsPermittedTo}
 use Rattle.rv_model.specs.Records.{outcome_of}
 use Rattle.rv_model.specs.Scripts.{is_end, hit_act}
 use Rattle.rv_model.specs.Setups.{Setup}
@@ -36,8 +36,8 @@ pub hit-free : (slot : ℕ) (hit : Hit) → IsNoStop (hit_act slot hit)
 hit-free slot hit = by_hit IsNoStop slot hit tt tt
 
 -- each seat may do it
-pub hit-held : (seat slot : ℕ) (hit : Hit) → IsHeldBy (hit_act slot hit) seat
-hit-held seat slot hit = by_hit (λ (a : Act). IsHeldBy a seat) slot hit tt tt
+pub hit-held : (seat slot : ℕ) (hit : Hit) → IsPermittedTo (hit_act slot hit) seat
+hit-held seat slot hit = by_hit (λ (a : Act). IsPermittedTo a seat) slot hit tt tt
 
 -- it is done with its answer
 pub hit-done : (slot : ℕ) (hit : Hit) (answer : Answer) → outcome_of (hit_act slot hit) answer ≡ Done answer

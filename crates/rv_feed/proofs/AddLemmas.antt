@@ -21,12 +21,12 @@ use Rattle.rv_model.specs.SharedWords.{answer_at}
 use Rattle.rv_model.proofs.ScriptLemmas.{played-own}
 use Rattle.rv_model.proofs.SeatLemmas.{played-none}
 use Rattle.rv_core.specs.Setup.{judges_of}
-use Rattle.rv_board.specs.Deliveries.{Delivers}
+use Rattle.rv_board.specs.Deliveries.{DeliversOrStops}
 use Rattle.rv_board.specs.Seats.{BoardId, SeatValue, SeatGrows, Acts, Looks, Does}
 use Rattle.rv_board.proofs.GrowLemmas.{grows_none, grows_then}
 use Rattle.rv_feed.specs.Feeding.{played_by, Adds, Serves}
-use Rattle.rv_feed.specs.Turns.{entries_of}
-use Rattle.rv_feed.proofs.DoneLemmas.{entries_of-append}
+use Rattle.rv_feed.specs.Turns.{entries_played}
+use Rattle.rv_feed.proofs.DoneLemmas.{entries_played-append}
 
 -- ---- one call
 
@@ -115,7 +115,7 @@ adds-raise old new bits d =
     answered old new d.0 Switched a (ap (answer_at s (judges_of s) (reverse a.before) d.0) d.1.act_is)
 
 -- a delivery, with its outcome
-pub serves : (old new : SeatValue) (d : Delivery) (slot : ℕ) (outcome : Delivered) → slot ≡ slot_of old.board.setup.shape d.monitor d.instance → is_end d.hit.mode ≡ false → Delivers old new slot d.hit outcome → Serves old new d outcome
+pub serves : (old new : SeatValue) (d : Delivery) (slot : ℕ) (outcome : Delivered) → slot ≡ slot_of old.board.setup.shape d.monitor d.instance → is_end d.hit.mode ≡ false → DeliversOrStops old new slot d.hit outcome → Serves old new d outcome
 serves old new d slot (Done answer) at goes v =
     let s : Setup = old.board.setup in
     let a = added old new (Deliver slot d.hit) v.entry v.acts in
@@ -166,6 +166,6 @@ adds-none a sound = record { grows = grows_none a sound; played_is = sym (append
 -- calls, and then some that add something
 pub adds-then : (a b c : SeatValue) (ps : List Played) (q : Played) (qs : List Played) → Adds a b ps → Adds b c (q ∷ qs) → Adds a c (ps ++ q ∷ qs)
 adds-then a b c ps q qs one two = record {
-  grows = subst (SeatGrows a c) (sym (entries_of-append ps (q ∷ qs))) (grows_then a b c (entries_of ps) (entries_of qs) q.0 one.grows two.grows);
+  grows = subst (SeatGrows a c) (sym (entries_played-append ps (q ∷ qs))) (grows_then a b c (entries_played ps) (entries_played qs) q.0 one.grows two.grows);
   played_is = two.played_is ∙ ap (λ (z : List Played). z ++ q ∷ qs) one.played_is ∙ append_assoc (played_by a) ps (q ∷ qs);
 }

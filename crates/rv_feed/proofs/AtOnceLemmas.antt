@@ -16,8 +16,8 @@ use Rattle.rv_model.specs.Seats.{known_of}
 use Rattle.rv_model.specs.Works.{Work}
 use Rattle.rv_core.specs.Setup.{judges_of}
 use Rattle.rv_board.specs.Known.{part}
-use Rattle.rv_board.specs.RunSeats.{IsFresh, Holds}
-use Rattle.rv_board.specs.Seats.{BoardId, SeatValue, seat_value, Follows, Joins, Closes}
+use Rattle.rv_board.specs.RunSeats.{IsFresh, HasTakenIn}
+use Rattle.rv_board.specs.Seats.{BoardId, SeatValue, seat_value, ExtendsSeen, Joins, Closes}
 use Rattle.rv_board.proofs.ListLemmas.{kept-holds, map-reverse, All-reverse, Any-reverse, Any-implied, Any-map, zip-with, zip-left, zip-right, zip-map}
 use Rattle.rv_board.proofs.RunSeatLemmas.{follows-then, holds-itself, holds-still, holds-joined, later-own, split_known}
 use Rattle.rv_feed.specs.declared.feeder.Feeder.{Feeder}
@@ -39,7 +39,7 @@ module _ {G : Type 0} (board : BoardId) (panics : ℕ → Bool) (h : List Entry)
     own : (before : List Entry) (e : Entry) (after : List Entry) → h ≡ before ++ e ∷ after → known_of old.seat.part e.seat ≡ true → e.seat ≡ 2 + old.lane.work.cpu
 
   -- a feeder that ran, and whose seat was joined
-  is-in : (old new : Feeder G) → RunsFeeder panics old new → IsSeated board old → Follows h new.seat.part → IsIn old new
+  is-in : (old new : Feeder G) → RunsFeeder panics old new → IsSeated board old → ExtendsSeen h new.seat.part → IsIn old new
   is-in old new runs seated later =
       let on : old.seat.board ≡ board = seated.fits.board_is in
       let fresh = seated.fresh in
@@ -63,19 +63,19 @@ module _ {G : Type 0} (board : BoardId) (panics : ℕ → Bool) (h : List Entry)
     pub sound : IsSound board.setup (judges_of board.setup) h
     pub seated : All (IsSeated board) fs
     pub ran : AllZip (RunsFeeder panics) fs fs'
-    pub feeders_in : All (λ f. Follows h f.seat.part) fs'
+    pub feeders_in : All (λ f. ExtendsSeen h f.seat.part) fs'
     pub actor_is : actor.part.number ≡ 1
     pub actor_fresh : IsFresh actor
     pub did : DoesAll actor actor' (control_acts board.setup.shape changes)
-    pub actor_in : Follows h actor'.part
+    pub actor_in : ExtendsSeen h actor'.part
     pub seen : first.part.seen ≡ []
-    pub first_in : Follows h first.part
+    pub first_in : ExtendsSeen h first.part
     pub cover : (n : ℕ) → n < 67 → (known_of first.part n ≡ true) ⊎ ((known_of actor.part n ≡ true) ⊎ Any (λ f. known_of f.seat.part n ≡ true) fs)
 
   module _ (first actor actor' : SeatValue) (changes : List Change) (fs fs' : List (Feeder G)) (fed : IsFed first actor actor' changes fs fs') where
     -- each feeder's script is in the history
     all-in : AllZip IsIn fs fs'
-    all-in = zip-with (RunsFeeder panics) (IsSeated board) (λ f. Follows h f.seat.part) IsIn is-in fs fs' fed.ran fed.seated fed.feeders_in
+    all-in = zip-with (RunsFeeder panics) (IsSeated board) (λ f. ExtendsSeen h f.seat.part) IsIn is-in fs fs' fed.ran fed.seated fed.feeders_in
 
     -- each lane has the records of a whole script
     whole : All (Whole board.setup panics [] h) (lanes_of fs')
@@ -96,7 +96,7 @@ module _ {G : Type 0} (board : BoardId) (panics : ℕ → Bool) (h : List Entry)
 
     -- every entry is the control actor's or a CPU's
     nobody : AtEach (λ before e. (e.seat ≡ 1) ⊎ Any (λ w. e.seat ≡ 2 + w.cpu) (works_of (lanes_of fs))) h
-    nobody before e after cut = elim (fed.cover e.seat (fed.sound.held before e after cut).0) [
+    nobody before e after cut = elim (fed.cover e.seat (fed.sound.permitted before e after cut).0) [
       | inl knows ↦ absurd (nothing knows)
       | inr other ↦ elim other [
         | inl knows ↦ inl (later-own actor actor' h fed.actor_fresh.seen fed.actor_in fed.did.own fed.did.grows before e after cut knows ∙ fed.actor_is)
@@ -146,17 +146,17 @@ ran-many {G} panics lanes fs fs' is ran =
 
 -- the seats were split off, the feeders and the control actor ran, and all seats were joined into the one that closed the board
 pub fed-from : {G : Type 0} (board : BoardId) (end : ℕ) (panics : ℕ → Bool) (h : List Entry) (old first actor actor' mid last : SeatValue) (changes : List Change) (lanes : List LaneValue) (fs fs' : List (Feeder G))
-    → AreSeated board end old lanes [] fs → end ≡ 67 → first ≡ seat_value (part old.part.number 1 old.part.gone old.part.seen) old.board → actor ≡ seat_value (part 1 old.part.end [] old.part.seen) old.board
+    → AreSeated board end old lanes [] fs → end ≡ 67 → first ≡ seat_value (part old.part.number 1 old.part.joined_in old.part.seen) old.board → actor ≡ seat_value (part 1 old.part.end [] old.part.seen) old.board
     → AllZip (RunsFeeder panics) fs fs' → DoesAll actor actor' (control_acts actor.board.setup.shape changes)
-    → Joins first actor' mid → Holds last mid → All (λ (f : Feeder G). Holds last f.seat) fs' → last.board ≡ board → Closes last h → IsFed board panics h first actor actor' changes fs fs'
+    → Joins first actor' mid → HasTakenIn last mid → All (λ (f : Feeder G). HasTakenIn last f.seat) fs' → last.board ≡ board → Closes last h → IsFed board panics h first actor actor' changes fs fs'
 fed-from {G} board end panics h old first actor actor' mid last changes lanes fs fs' are all first_is actor_is ran did joins held feeders on closes =
-    let mid_in : Follows h mid.part = follows-then last mid h held closes.list in
+    let mid_in : ExtendsSeen h mid.part = follows-then last mid h held closes.list in
     let same_board : actor.board ≡ board = ap (λ (s : SeatValue). s.board) actor_is ∙ are.is_first.board_is in
     record {
       sound = subst (λ (b : BoardId). IsSound b.setup (judges_of b.setup) h) on closes.sound;
       seated = are.seated;
       ran = ran;
-      feeders_in = All-weaker (λ (f : Feeder G). Holds last f.seat) (λ (f : Feeder G). Follows h f.seat.part) (λ f holds. follows-then last f.seat h holds closes.list) fs' feeders;
+      feeders_in = All-weaker (λ (f : Feeder G). HasTakenIn last f.seat) (λ (f : Feeder G). ExtendsSeen h f.seat.part) (λ f holds. follows-then last f.seat h holds closes.list) fs' feeders;
       actor_is = ap (λ (s : SeatValue). s.part.number) actor_is;
       actor_fresh = record {
         has = let n : actor.part.number ≡ 1 = ap (λ (s : SeatValue). s.part.number) actor_is in let e : actor.part.end ≡ old.part.end = ap (λ (s : SeatValue). s.part.end) actor_is in let above = are.is_first.end in omega arith;

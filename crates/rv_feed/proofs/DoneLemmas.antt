@@ -7,16 +7,16 @@ use Rattle.rv_model.specs.declared.entry.Entry.{Entry}
 use Rattle.rv_model.specs.Setups.{Setup}
 use Rattle.rv_model.specs.SharedWords.{answer_at}
 use Rattle.rv_model.specs.Scripts.{Played, played}
-use Rattle.rv_model.specs.Histories.{IsNoStop, IsHeldBy}
+use Rattle.rv_model.specs.Histories.{IsNoStop, IsPermittedTo}
 use Rattle.rv_model.proofs.ScriptLemmas.{played-own}
 use Rattle.rv_core.specs.Core.{CoreValue, Steps}
 use Rattle.rv_core.specs.Setup.{judges_of}
-use Rattle.rv_feed.specs.Turns.{entries_of, AllBy, Did, NoLooks}
+use Rattle.rv_feed.specs.Turns.{entries_played, AllBy, Did, NoLooks}
 
 -- entries of both
-pub entries_of-append : (ps qs : List Played) → entries_of (ps ++ qs) ≡ entries_of ps ++ entries_of qs
-entries_of-append [] qs = refl
-entries_of-append (p ∷ ps) qs = ap (λ (z : List Entry). p.0 ∷ z) (entries_of-append ps qs)
+pub entries_played-append : (ps qs : List Played) → entries_played (ps ++ qs) ≡ entries_played ps ++ entries_played qs
+entries_played-append [] qs = refl
+entries_played-append (p ∷ ps) qs = ap (λ (z : List Entry). p.0 ∷ z) (entries_played-append ps qs)
 
 -- both are the seat's
 pub all_by-append : (seat : ℕ) (ps qs : List Played) → AllBy seat ps → AllBy seat qs → AllBy seat (ps ++ qs)
@@ -24,7 +24,7 @@ all_by-append seat [] qs a b = b
 all_by-append seat (p ∷ ps) qs a b = (a.0, all_by-append seat ps qs a.1 b)
 
 -- one step of the machine
-pub did-step : (old new : CoreValue) (seat : ℕ) (act : Act) (result : Answer) → (t : Steps old new seat act result) → IsNoStop act → IsHeldBy act seat → Did old new seat ((t.entry, result) ∷ [])
+pub did-step : (old new : CoreValue) (seat : ℕ) (act : Act) (result : Answer) → (t : Steps old new seat act result) → IsNoStop act → IsPermittedTo act seat → Did old new seat ((t.entry, result) ∷ [])
 did-step old new seat act result t free held =
     let s : Setup = old.setup in
     let past : List Entry = reverse old.history in
@@ -33,7 +33,7 @@ did-step old new seat act result t free held =
       grows = t.grows;
       played_is = ap (played s (judges_of s) seat) (reverse-append old.history (t.entry ∷ [])) ∙ played-own s (judges_of s) seat t.entry past t.seat_is
           ∙ ap (λ (a : Answer). played s (judges_of s) seat past ++ (t.entry, a) ∷ []) answer;
-      by = ((t.seat_is, subst IsNoStop (sym t.act_is) free, subst (λ (a : Act). IsHeldBy a seat) (sym t.act_is) held), tt);
+      by = ((t.seat_is, subst IsNoStop (sym t.act_is) free, subst (λ (a : Act). IsPermittedTo a seat) (sym t.act_is) held), tt);
     }
 
 -- no step
@@ -45,9 +45,9 @@ did-nothing old seat = record {
 }
 
 -- the second began where the first ended
-did-join-same : (a : CoreValue) (c : CoreValue) (seat : ℕ) (ps qs : List Played) → Did a (record a { history = a.history ++ entries_of ps }) seat ps → Did (record a { history = a.history ++ entries_of ps }) c seat qs → Did a c seat (ps ++ qs)
+did-join-same : (a : CoreValue) (c : CoreValue) (seat : ℕ) (ps qs : List Played) → Did a (record a { history = a.history ++ entries_played ps }) seat ps → Did (record a { history = a.history ++ entries_played ps }) c seat qs → Did a c seat (ps ++ qs)
 did-join-same a c seat ps qs one two =
-    let h : a.history ++ entries_of (ps ++ qs) ≡ (a.history ++ entries_of ps) ++ entries_of qs = ap (λ (z : List Entry). a.history ++ z) (entries_of-append ps qs) ∙ sym (append_assoc a.history (entries_of ps) (entries_of qs)) in
+    let h : a.history ++ entries_played (ps ++ qs) ≡ (a.history ++ entries_played ps) ++ entries_played qs = ap (λ (z : List Entry). a.history ++ z) (entries_played-append ps qs) ∙ sym (append_assoc a.history (entries_played ps) (entries_played qs)) in
     record {
       grows = two.grows ∙ ap (λ (z : List Entry). record a { history = z }) (sym h);
       played_is = ap (λ (z : List Entry). played a.setup (judges_of a.setup) seat (reverse z)) h ∙ two.played_is ∙ ap (λ (z : List Played). z ++ qs) one.played_is ∙ append_assoc (played a.setup (judges_of a.setup) seat (reverse a.history)) ps qs;

@@ -4,35 +4,35 @@ use Rattle.std.specs.Prelude.{if◌then◌else◌}
 use Rattle.rv_model.specs.declared.entry.Entry.{Entry}
 use Rattle.rv_model.specs.Cuts.{AtEach}
 use Rattle.rv_model.specs.Scripts.{Played}
-use Rattle.rv_model.specs.Histories.{IsNoStop, IsHeldBy, look_count, looks_of, NoneOf, IsInOrder, line_at}
+use Rattle.rv_model.specs.Histories.{IsNoStop, IsPermittedTo, look_count, looks_of, NoneOf, IsInOrder, line_at}
 use Rattle.rv_model.specs.Works.{Work}
 use Rattle.rv_model.proofs.CutLemmas.{at_each-append, at_each-front, at_each-weaker}
-use Rattle.rv_feed.specs.Turns.{entries_of, AllBy, NoLooks, IsOneTurn}
+use Rattle.rv_feed.specs.Turns.{entries_played, AllBy, NoLooks, IsOneTurn}
 
 -- no entry is another seat's
-pub none-by : (seat other : ℕ) (ps : List Played) → AllBy seat ps → seat ≢ other → NoneOf other (entries_of ps)
+pub none-by : (seat other : ℕ) (ps : List Played) → AllBy seat ps → seat ≢ other → NoneOf other (entries_played ps)
 none-by seat other [] by n = tt
 none-by seat other (p ∷ ps) by n = (let at : p.0.seat ≡ seat = by.0.0 in let no : p.0.seat ≢ other = (λ e. n (sym at ∙ e)) in grind arith, none-by seat other ps by.1 n)
 
 -- the entry is the seat's, is no stop, and the seat may do it
 abbrev pub IsIn : ℕ → Entry → Type 0
-IsIn seat e = (e.seat ≡ seat) × IsNoStop e.act × IsHeldBy e.act seat
+IsIn seat e = (e.seat ≡ seat) × IsNoStop e.act × IsPermittedTo e.act seat
 
 -- so is each of them
-pub by-at : (seat : ℕ) (ps : List Played) → AllBy seat ps → (b : List Entry) (e : Entry) (a : List Entry) → entries_of ps ≡ b ++ e ∷ a → IsIn seat e
+pub by-at : (seat : ℕ) (ps : List Played) → AllBy seat ps → (b : List Entry) (e : Entry) (a : List Entry) → entries_played ps ≡ b ++ e ∷ a → IsIn seat e
 by-at seat [] by [] e a eq = absurd (let no : [] ≡ e ∷ a = eq in cc)
 by-at seat [] by (x ∷ b) e a eq = absurd (let no : [] ≡ x ∷ (b ++ e ∷ a) = eq in cc)
 by-at seat (p ∷ ps) by [] e a eq = let same : p.0 ≡ e = cc in subst (IsIn seat) same by.0
-by-at seat (p ∷ ps) by (x ∷ b) e a eq = let rest : entries_of ps ≡ b ++ e ∷ a = cc in by-at seat ps by.1 b e a rest
+by-at seat (p ∷ ps) by (x ∷ b) e a eq = let rest : entries_played ps ≡ b ++ e ∷ a = cc in by-at seat ps by.1 b e a rest
 
 -- among entries without a look, no look is before one or is it
-quiet-at : (seat : ℕ) (ps : List Played) → NoLooks ps → (b : List Entry) (e : Entry) (a : List Entry) → entries_of ps ≡ b ++ e ∷ a → looks_of seat b + look_count e.act ≡ 0
+quiet-at : (seat : ℕ) (ps : List Played) → NoLooks ps → (b : List Entry) (e : Entry) (a : List Entry) → entries_played ps ≡ b ++ e ∷ a → looks_of seat b + look_count e.act ≡ 0
 quiet-at seat [] q [] e a eq = absurd (let no : [] ≡ e ∷ a = eq in cc)
 quiet-at seat [] q (x ∷ b) e a eq = absurd (let no : [] ≡ x ∷ (b ++ e ∷ a) = eq in cc)
 quiet-at seat (p ∷ ps) q [] e a eq = let same : p.0 ≡ e = cc in let z : look_count e.act ≡ 0 = subst (λ (x : Entry). look_count x.act ≡ 0) same q.0 in omega arith
 quiet-at seat (p ∷ ps) q (x ∷ b) e a eq =
     let same : p.0 ≡ x = cc in
-    let rest : entries_of ps ≡ b ++ e ∷ a = cc in
+    let rest : entries_played ps ≡ b ++ e ∷ a = cc in
     let z : look_count x.act ≡ 0 = subst (λ (x : Entry). look_count x.act ≡ 0) same q.0 in
     let r = quiet-at seat ps q.1 b e a rest in
     let here : (if x.seat == seat then look_count x.act else 0) ≡ 0 = rw z (both (x.seat == seat)) in
@@ -43,12 +43,12 @@ quiet-at seat (p ∷ ps) q (x ∷ b) e a eq =
     both false = refl
 
 -- in a turn one look is before an entry or is it
-pub one-at : (seat : ℕ) (ps : List Played) → AllBy seat ps → IsOneTurn ps → (b : List Entry) (e : Entry) (a : List Entry) → entries_of ps ≡ b ++ e ∷ a → looks_of seat b + look_count e.act ≡ 1
+pub one-at : (seat : ℕ) (ps : List Played) → AllBy seat ps → IsOneTurn ps → (b : List Entry) (e : Entry) (a : List Entry) → entries_played ps ≡ b ++ e ∷ a → looks_of seat b + look_count e.act ≡ 1
 one-at seat [] by one b e a eq = absurd one
 one-at seat (p ∷ ps) by one [] e a eq = let same : p.0 ≡ e = cc in let z : look_count e.act ≡ 1 = subst (λ (x : Entry). look_count x.act ≡ 1) same (rw one.0 refl) in omega arith
 one-at seat (p ∷ ps) by one (x ∷ b) e a eq =
     let same : p.0 ≡ x = cc in
-    let rest : entries_of ps ≡ b ++ e ∷ a = cc in
+    let rest : entries_played ps ≡ b ++ e ∷ a = cc in
     let z : look_count x.act ≡ 1 = subst (λ (x : Entry). look_count x.act ≡ 1) same (rw one.0 refl) in
     let at : x.seat ≡ seat = subst (λ (x : Entry). x.seat ≡ seat) same by.0.0 in
     let yes : (x.seat == seat) ≡ true = grind arith in
@@ -57,7 +57,7 @@ one-at seat (p ∷ ps) by one (x ∷ b) e a eq =
     omega arith
 
 -- a turn has one look of its seat
-pub one-looks : (seat : ℕ) (ps : List Played) → AllBy seat ps → IsOneTurn ps → looks_of seat (entries_of ps) ≡ 1
+pub one-looks : (seat : ℕ) (ps : List Played) → AllBy seat ps → IsOneTurn ps → looks_of seat (entries_played ps) ≡ 1
 one-looks seat [] by one = absurd one
 one-looks seat (p ∷ ps) by one =
     let at : p.0.seat ≡ seat = by.0.0 in
@@ -71,7 +71,7 @@ one-looks seat (p ∷ ps) by one =
     both true = refl
     both false = refl
 
-    quiet : (ps : List Played) → NoLooks ps → looks_of seat (entries_of ps) ≡ 0
+    quiet : (ps : List Played) → NoLooks ps → looks_of seat (entries_played ps) ≡ 0
     quiet [] q = refl
     quiet (p ∷ ps) q =
         let z : look_count p.0.act ≡ 0 = q.0 in

@@ -5,7 +5,7 @@ use Rattle.rv_model.specs.declared.record.Record.{Record}
 use Rattle.rv_model.specs.declared.work.Turn.{Turn}
 use Rattle.rv_model.specs.Histories.{IsSound}
 use Rattle.rv_model.specs.Records.{script_records}
-use Rattle.rv_model.specs.ScriptParts.{turn_lists, GoesOn, Ends}
+use Rattle.rv_model.specs.ScriptParts.{turn_lists, GoesOn, EndsScript}
 use Rattle.rv_model.specs.Scripts.{PlaysTurns}
 use Rattle.rv_model.specs.Setups.{Setup}
 use Rattle.rv_model.specs.Works.{Work, IsWork}
@@ -71,7 +71,7 @@ module _ (panics : ℕ → Bool) (old cur new : SeatValue) (lane lane' lane'' : 
   -- a turn with which it ends
   pub fed-last : FeedsTurn cur new panics turn lane' lane'' true → Feeds panics old new lane lane''
   fed-last v =
-      let ends = subst (λ (w : Work). Ends s panics w.deliveries (turn ∷ []) (v.first ∷ v.more) v.rs) so_far.work_is (subst (λ (z : Setup). Ends z panics lane'.work.deliveries (turn ∷ []) (v.first ∷ v.more) v.rs) (same-setup old cur so_far.ps so_far.adds) v.script) in
+      let ends = subst (λ (w : Work). EndsScript s panics w.deliveries (turn ∷ []) (v.first ∷ v.more) v.rs) so_far.work_is (subst (λ (z : Setup). EndsScript z panics lane'.work.deliveries (turn ∷ []) (v.first ∷ v.more) v.rs) (same-setup old cur so_far.ps so_far.adds) v.script) in
       let whole = goes-end s panics lane.work.deliveries (take place turns) (turn ∷ []) so_far.ps (v.first ∷ v.more) lane'.records v.rs so_far.goes ends in
       let all : (take place turns ++ turn ∷ []) ++ drop (place + 1) turns ≡ turns = ap (λ (ts : List Turn). ts ++ drop (place + 1) turns) (sym one-more) ∙ take-append-drop (place + 1) turns in
       record {

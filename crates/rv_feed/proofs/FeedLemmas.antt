@@ -10,8 +10,8 @@ use Rattle.rv_model.specs.declared.work.Delivery.{Delivery}
 use Rattle.rv_model.specs.declared.work.Turn.{Turn}
 use Rattle.rv_model.specs.Numbers.{has_bit}
 use Rattle.rv_model.specs.Records.{failed_outcome, record_of}
-use Rattle.rv_model.specs.ScriptParts.{Part, LastPart}
-use Rattle.rv_model.specs.Scripts.{Played, is_shown, fails}
+use Rattle.rv_model.specs.ScriptParts.{TurnPart, LastPart}
+use Rattle.rv_model.specs.Scripts.{Played, is_enabled_by, fails}
 use Rattle.rv_model.specs.Setups.{Setup}
 use Rattle.rv_model.proofs.ScriptPartLemmas.{part-nothing, part-join, last-join, part-one, last-one, turn-goes, turn-ends, turn-halted}
 use Rattle.rv_board.specs.Seats.{BoardId, SeatValue, Looks, Does}
@@ -98,54 +98,54 @@ module _ (panics : ℕ → Bool) (word : ℕ) (turn : Turn) (lane : LaneValue) w
   module _ (old cur : SeatValue) (lane' : LaneValue) (place : ℕ) (done : FeedsPart old cur panics word turn lane lane' place)
       (d : Delivery) (d_is : d ≡ get_or ds place d) (le : turn.from ≤ place) (lt : place < length ds) where
     front : List Delivery
-    front = filter (is_shown word) (slice_range ds turn.from place)
+    front = filter (is_enabled_by word) (slice_range ds turn.from place)
 
-    so_far : filter (is_shown word) (slice_range ds turn.from (place + 1)) ≡ filter (is_shown word) (slice_range ds turn.from place) ++ filter (is_shown word) (d ∷ [])
-    so_far = ap (filter (is_shown word)) (slice-more ds turn.from place d le lt ∙ ap (λ (x : Delivery). slice_range ds turn.from place ++ x ∷ []) (sym d_is)) ∙ filter-append (is_shown word) (slice_range ds turn.from place) (d ∷ [])
+    so_far : filter (is_enabled_by word) (slice_range ds turn.from (place + 1)) ≡ filter (is_enabled_by word) (slice_range ds turn.from place) ++ filter (is_enabled_by word) (d ∷ [])
+    so_far = ap (filter (is_enabled_by word)) (slice-more ds turn.from place d le lt ∙ ap (λ (x : Delivery). slice_range ds turn.from place ++ x ∷ []) (sym d_is)) ∙ filter-append (is_enabled_by word) (slice_range ds turn.from place) (d ∷ [])
 
-    shown-so_far : is_shown word d ≡ true → filter (is_shown word) (slice_range ds turn.from (place + 1)) ≡ filter (is_shown word) (slice_range ds turn.from place) ++ d ∷ []
-    shown-so_far shown = so_far ∙ ap (λ (z : List Delivery). filter (is_shown word) (slice_range ds turn.from place) ++ z) (filter-one word d shown)
+    shown-so_far : is_enabled_by word d ≡ true → filter (is_enabled_by word) (slice_range ds turn.from (place + 1)) ≡ filter (is_enabled_by word) (slice_range ds turn.from place) ++ d ∷ []
+    shown-so_far shown = so_far ∙ ap (λ (z : List Delivery). filter (is_enabled_by word) (slice_range ds turn.from place) ++ z) (filter-one word d shown)
 
     -- the look does not show the delivery on
-    pub part-hidden : is_shown word d ≡ false → FeedsPart old cur panics word turn lane lane' (place + 1)
+    pub part-hidden : is_enabled_by word d ≡ false → FeedsPart old cur panics word turn lane lane' (place + 1)
     part-hidden hidden = record {
       look = done.look;
       look_is = done.look_is;
       ps = done.ps;
       rs = done.rs;
       adds = done.adds;
-      part = subst (λ (z : List Delivery). Part old.board.setup panics word turn.line z done.ps done.rs) (sym (so_far ∙ ap (λ (z : List Delivery). filter (is_shown word) (slice_range ds turn.from place) ++ z) (filter-none word d hidden) ∙ append-nil (filter (is_shown word) (slice_range ds turn.from place)))) done.part;
+      part = subst (λ (z : List Delivery). TurnPart old.board.setup panics word turn.line z done.ps done.rs) (sym (so_far ∙ ap (λ (z : List Delivery). filter (is_enabled_by word) (slice_range ds turn.from place) ++ z) (filter-none word d hidden) ∙ append-nil (filter (is_enabled_by word) (slice_range ds turn.from place)))) done.part;
       kept = done.kept;
       few = let f = done.few in omega arith;
     }
 
     -- it is made, and the script goes on
-    pub part-shown : (new : SeatValue) (lane'' : LaneValue) → is_shown word d ≡ true → FeedsDelivery cur new panics word turn.line d lane' lane'' false → FeedsPart old new panics word turn lane lane'' (place + 1)
+    pub part-shown : (new : SeatValue) (lane'' : LaneValue) → is_enabled_by word d ≡ true → FeedsDelivery cur new panics word turn.line d lane' lane'' false → FeedsPart old new panics word turn lane lane'' (place + 1)
     part-shown new lane'' shown v =
         let ps : List Played = v.first ∷ v.more in
-        let part = subst (λ (s : Setup). Part s panics word turn.line (d ∷ []) ps (v.made ∷ [])) (same-setup old cur ((done.look, Looked word) ∷ done.ps) done.adds) v.part in
+        let part = subst (λ (s : Setup). TurnPart s panics word turn.line (d ∷ []) ps (v.made ∷ [])) (same-setup old cur ((done.look, Looked word) ∷ done.ps) done.adds) v.part in
         record {
           look = done.look;
           look_is = done.look_is;
           ps = done.ps ++ ps;
           rs = done.rs ++ v.made ∷ [];
           adds = adds-then old cur new ((done.look, Looked word) ∷ done.ps) v.first v.more done.adds v.adds;
-          part = subst (λ (z : List Delivery). Part old.board.setup panics word turn.line z (done.ps ++ ps) (done.rs ++ v.made ∷ [])) (sym (shown-so_far shown))
-              (part-join old.board.setup panics word turn.line (filter (is_shown word) (slice_range ds turn.from place)) (d ∷ []) done.ps ps done.rs (v.made ∷ []) done.part part);
+          part = subst (λ (z : List Delivery). TurnPart old.board.setup panics word turn.line z (done.ps ++ ps) (done.rs ++ v.made ∷ [])) (sym (shown-so_far shown))
+              (part-join old.board.setup panics word turn.line (filter (is_enabled_by word) (slice_range ds turn.from place)) (d ∷ []) done.ps ps done.rs (v.made ∷ []) done.part part);
           kept = adds-join lane lane' lane'' done.rs (v.made ∷ []) done.kept v.kept;
           few = let f = done.few in let l = length-append done.rs (v.made ∷ []) in omega arith;
         }
 
     -- it is made, and the script ends
-    pub part-ends : (new : SeatValue) (lane'' : LaneValue) → has_bit word 34 ≡ false → place < turn.to → is_shown word d ≡ true → FeedsDelivery cur new panics word turn.line d lane' lane'' true → FeedsTurn old new panics turn lane lane'' true
+    pub part-ends : (new : SeatValue) (lane'' : LaneValue) → has_bit word 34 ≡ false → place < turn.to → is_enabled_by word d ≡ true → FeedsDelivery cur new panics word turn.line d lane' lane'' true → FeedsTurn old new panics turn lane lane'' true
     part-ends new lane'' on before shown v =
         let s : Setup = old.board.setup in
         let ps : List Played = v.first ∷ v.more in
-        let front : List Delivery = filter (is_shown word) (slice_range ds turn.from place) in
-        let rest : List Delivery = filter (is_shown word) (drop ((place + 1) - turn.from) (slice_range ds turn.from turn.to)) in
-        let split : filter (is_shown word) (slice_range ds turn.from turn.to) ≡ (front ++ d ∷ []) ++ rest =
-        ap (filter (is_shown word)) (slice-split ds turn.from (place + 1) turn.to (omega arith))
-        ∙ filter-append (is_shown word) (slice_range ds turn.from (place + 1)) (drop ((place + 1) - turn.from) (slice_range ds turn.from turn.to))
+        let front : List Delivery = filter (is_enabled_by word) (slice_range ds turn.from place) in
+        let rest : List Delivery = filter (is_enabled_by word) (drop ((place + 1) - turn.from) (slice_range ds turn.from turn.to)) in
+        let split : filter (is_enabled_by word) (slice_range ds turn.from turn.to) ≡ (front ++ d ∷ []) ++ rest =
+        ap (filter (is_enabled_by word)) (slice-split ds turn.from (place + 1) turn.to (omega arith))
+        ∙ filter-append (is_enabled_by word) (slice_range ds turn.from (place + 1)) (drop ((place + 1) - turn.from) (slice_range ds turn.from turn.to))
         ∙ ap (λ (z : List Delivery). z ++ rest) (shown-so_far shown) in
         let part = subst (λ (s : Setup). LastPart s panics word turn.line (d ∷ []) ps (v.made ∷ [])) (same-setup old cur ((done.look, Looked word) ∷ done.ps) done.adds) v.part in
         let last = last-join s panics word turn.line front (d ∷ []) done.ps ps done.rs (v.made ∷ []) done.part part in

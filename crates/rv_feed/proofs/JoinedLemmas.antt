@@ -9,15 +9,15 @@ use Rattle.rv_model.specs.Seats.{known_of, entries_of}
 use Rattle.rv_model.specs.Setups.{Setup}
 use Rattle.rv_model.proofs.SeatLemmas.{played-none}
 use Rattle.rv_core.specs.Setup.{judges_of}
-use Rattle.rv_board.specs.Seats.{BoardId, SeatValue, Follows}
+use Rattle.rv_board.specs.Seats.{BoardId, SeatValue, ExtendsSeen}
 use Rattle.rv_board.proofs.GrowLemmas.{same_known, own_entries}
 use Rattle.rv_board.proofs.Knowing.{knows_own, known_is}
 use Rattle.rv_feed.specs.Changes.{DoesAll}
 use Rattle.rv_feed.specs.Feeding.{Adds, played_by}
-use Rattle.rv_feed.specs.Turns.{entries_of as entries_in}
+use Rattle.rv_feed.specs.Turns.{entries_played as entries_in}
 use Rattle.rv_feed.proofs.AddLemmas.{none_known}
 
-module _ (old new : SeatValue) (h : List Entry) (fresh : old.part.seen ≡ []) (has : old.part.number < old.part.end) (later : Follows h new.part) where
+module _ (old new : SeatValue) (h : List Entry) (fresh : old.part.seen ≡ []) (has : old.part.number < old.part.end) (later : ExtendsSeen h new.part) where
   -- it has played what it added, and nothing else
   pub later-played : (ps : List Played) → Adds old new ps → played old.board.setup (judges_of old.board.setup) old.part.number (reverse h) ≡ ps
   later-played ps adds =
@@ -25,7 +25,7 @@ module _ (old new : SeatValue) (h : List Entry) (fresh : old.part.seen ≡ []) (
       let js : List Judge = judges_of s in
       let seat : ℕ = old.part.number in
       let g = adds.grows.grows in
-      let mine : known_of old.part seat ≡ true = (λ i. known_is old.part i seat) ∙ knows_own seat old.part.end old.part.gone has in
+      let mine : known_of old.part seat ≡ true = (λ i. known_is old.part i seat) ∙ knows_own seat old.part.end old.part.joined_in has in
       let none_left : entries_of (known_of old.part) later.rest ≡ [] = subst (λ (t : ℕ → Bool). entries_of t later.rest ≡ []) (same_known old new (entries_in ps) adds.grows) later.none in
       let none : NoneOf seat later.rest = none_known (known_of old.part) seat later.rest mine none_left in
       let nothing : played_by old ≡ [] = ap (λ (z : List Entry). played s js seat (reverse z)) fresh in

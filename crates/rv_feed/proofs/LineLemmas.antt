@@ -4,13 +4,13 @@ use Rattle.std.specs.Prelude.{AllPairs, slice_index}
 use Rattle.std.proofs.lemmas.List.{get_or_default}
 use Rattle.rv_model.specs.declared.work.Turn.{Turn}
 use Rattle.rv_model.specs.Works.{Work}
-use Rattle.rv_feed.specs.declared.order.Next.{Next}
+use Rattle.rv_feed.specs.declared.order.NextTurn.{NextTurn}
 use Rattle.rv_feed.specs.Lane.{LaneValue}
-use Rattle.rv_feed.specs.SoFar.{place_of, IsPending, next_line, HasLine, HasLines, IsLeast}
+use Rattle.rv_feed.specs.SoFar.{next_turn_of, IsPending, next_line, HasLine, HasLines, IsLeast}
 use Rattle.rv_feed.proofs.LaneLemmas.{same_or_not, same-lane}
 
 -- a line stays while the lane's place does
-line-stays : (places places' : List ℕ) (m : LaneValue) (line : ℕ) → place_of places' m ≡ place_of places m → HasLine places m line → HasLine places' m line
+line-stays : (places places' : List ℕ) (m : LaneValue) (line : ℕ) → next_turn_of places' m ≡ next_turn_of places m → HasLine places m line → HasLine places' m line
 line-stays places places' m line same has = record {
   line_is = λ pend. has.line_is (subst (λ (n : ℕ). n < length m.work.turns) same pend) ∙ ap (slice_index (map (λ (t : Turn). t.line) m.work.turns)) (sym same);
   range = λ pend. has.range (subst (λ (n : ℕ). n < length m.work.turns) same pend);
@@ -57,7 +57,7 @@ module _ (lines : List ℕ) (lanes : List LaneValue) (apart : AllPairs (λ l m. 
       | inr n ↦
           let in_lanes : j < length lanes = rw (← length-set lanes k lane') lj in
           let there : get_or (set lanes k lane') j c ≡ get_or lanes j c = rw get_or-set_other refl in
-          let place_is : place_of places' (get_or lanes j c) ≡ place_of places (get_or lanes j c) = get_or-set_other places (get_or lanes k d).work.cpu (get_or lanes j c).work.cpu place' 0 (other-cpu j c in_lanes n) in
+          let place_is : next_turn_of places' (get_or lanes j c) ≡ next_turn_of places (get_or lanes j c) = get_or-set_other places (get_or lanes k d).work.cpu (get_or lanes j c).work.cpu place' 0 (other-cpu j c in_lanes n) in
           subst (λ (m : LaneValue). HasLine places' m (slice_index lines' m.work.cpu)) (sym there)
           (rw (other-line j c line in_lanes n) (line-stays places places' (get_or lanes j c) (slice_index lines (get_or lanes j c).work.cpu) place_is (before j c in_lanes)))
     ]
@@ -70,7 +70,7 @@ pub record IsBest (places : List ℕ) (lanes : List LaneValue) (best line count 
   pub found : (line ≡ 2 ^ 32) ⊎ ((best < count) × (best < length lanes) × ((d : LaneValue) → IsPending places (get_or lanes best d) × (next_line places (get_or lanes best d) ≡ line)))
 
 -- the next line of a lane is the least, where no next turn has a line below it
-pub least-from : (places lines : List ℕ) (lanes : List LaneValue) (next : Next) → HasLines places lines lanes → All (λ l. IsPending places l → next.line ≤ next_line places l) lanes → next.line ≤ 2 ^ 32
+pub least-from : (places lines : List ℕ) (lanes : List LaneValue) (next : NextTurn) → HasLines places lines lanes → All (λ l. IsPending places l → next.line ≤ next_line places l) lanes → next.line ≤ 2 ^ 32
     → next.lane < length lanes → ((d : LaneValue) → slice_index lines (get_or lanes next.lane d).work.cpu ≡ next.line) → IsLeast places lanes next
 least-from places lines lanes next has later few inside at = record {
   least = λ k d lt pending. let h = has k d lt in let is = h.line_is pending in let range = h.range pending in (later k d lt pending, omega arith);

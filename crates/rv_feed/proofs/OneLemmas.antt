@@ -13,7 +13,7 @@ use Rattle.rv_model.specs.declared.formula.Spec.{Spec}
 use Rattle.rv_model.specs.Setups.{Setup}
 use Rattle.rv_model.specs.declared.work.Change.{Change}
 use Rattle.rv_model.specs.Scripts.{played, Plays, control_acts}
-use Rattle.rv_model.specs.Histories.{Input, AreJudges, IsSound, IsLegal, IsOneHistory, IsEarnedBy, IsNoStop, Replays, IsInOrder, acts_of}
+use Rattle.rv_model.specs.Histories.{Input, AreJudges, IsSound, IsLegal, IsOneHistory, IsJustifiedBy, IsNoStop, Replays, IsInOrder, acts_of}
 use Rattle.rv_model.specs.Records.{records_of, sort_records, script_records, status_of, is_failure, is_stopped}
 use Rattle.rv_model.specs.Works.{Work}
 use Rattle.rv_model.proofs.CutLemmas.{at_each-weaker}
@@ -27,7 +27,7 @@ use Rattle.rv_feed.proofs.SortedLemmas.{any-sort}
 use Rattle.rv_feed.specs.Runs.{IsRunOf}
 
 -- nothing is asked of what is no stop
-earned-free : (before : List Entry) (seat : ℕ) (act : Act) → IsNoStop act → IsEarnedBy act seat before
+earned-free : (before : List Entry) (seat : ℕ) (act : Act) → IsNoStop act → IsJustifiedBy act seat before
 earned-free before seat (Deliver _ _) free = tt
 earned-free before seat (Stop _) free = absurd free
 earned-free before seat Look free = tt
@@ -104,8 +104,8 @@ one-of-run s panics h lanes lanes' specs are replays ran =
     let nobody : AtEach (λ before e. Any (λ w. e.seat ≡ 2 + w.cpu) (works_of lanes)) h = subst (AtEach (λ before e. Any (λ w. e.seat ≡ 2 + w.cpu) (works_of lanes))) (sym is) ran.nobody_else in
     let sound : IsSound s (judges_of s) h = record {
       replays = replays;
-      earned = at_each-weaker (λ before e. IsNoStop e.act) (λ before e. IsEarnedBy e.act e.seat before) (λ before e free. earned-free before e.seat e.act free) h (subst (AtEach (λ before e. IsNoStop e.act)) (sym is) ran.no_stop);
-      held = subst (AtEach _) (sym is) ran.held;
+      justified = at_each-weaker (λ before e. IsNoStop e.act) (λ before e. IsJustifiedBy e.act e.seat before) (λ before e free. earned-free before e.seat e.act free) h (subst (AtEach (λ before e. IsNoStop e.act)) (sym is) ran.no_stop);
+      permitted = subst (AtEach _) (sym is) ran.permitted;
     } in
     let control : acts_of 1 h ≡ [] = acts-none 1 h (at_each-weaker (λ before e. Any (λ w. e.seat ≡ 2 + w.cpu) (works_of lanes)) (λ before e. e.seat ≢ 1) (λ before e a. not_one e a) h nobody) in
     let nobody_else = at_each-weaker (λ before e. Any (λ w. e.seat ≡ 2 + w.cpu) (works_of lanes)) (λ before e. (e.seat ≡ 1) ⊎ Any (λ w. e.seat ≡ 2 + w.cpu) (works_of lanes)) (λ before e a. inr a) h nobody in

@@ -8,16 +8,16 @@ use Rattle.rv_model.specs.declared.work.Turn.{Turn}
 use Rattle.rv_model.specs.Cuts.{AtEach}
 use Rattle.rv_model.specs.Scripts.{Played, played, Plays}
 use Rattle.rv_model.specs.ScriptParts.{GoesOn}
-use Rattle.rv_model.specs.Histories.{IsNoStop, IsHeldBy, line_at}
+use Rattle.rv_model.specs.Histories.{IsNoStop, IsPermittedTo, line_at}
 use Rattle.rv_model.specs.Records.{script_records}
 use Rattle.rv_model.proofs.CutLemmas.{at_each-nil}
 use Rattle.rv_model.proofs.ScriptPartLemmas.{goes-nothing, goes-whole}
 use Rattle.rv_core.specs.Core.{CoreValue}
 use Rattle.rv_core.specs.Setup.{judges_of}
-use Rattle.rv_feed.specs.declared.order.Next.{Next}
+use Rattle.rv_feed.specs.declared.order.NextTurn.{NextTurn}
 use Rattle.rv_feed.specs.Lane.{LaneValue, FitsLane, FitLanes, works_of}
 use Rattle.rv_feed.specs.Order.{Whole, Ran}
-use Rattle.rv_feed.specs.SoFar.{place_of, IsPending, next_line, IsLeast, PlaysNext, Going, Ended, LaneSoFar, RunSoFar}
+use Rattle.rv_feed.specs.SoFar.{next_turn_of, IsPending, next_line, IsLeast, PlaysNext, Going, HasEnded, LaneSoFar, RunSoFar}
 use Rattle.rv_feed.proofs.LaneLemmas.{same_or_not}
 use Rattle.rv_feed.proofs.StepLemmas.{run-step}
 
@@ -38,7 +38,7 @@ run-start panics old lanes ok = record {
   lanes_are = λ k d lt. start (get_or lanes k d) (All-get_or (FitsLane old.setup) lanes k d lt ok.fit);
   nobody_else = at_each-nil (λ b e. Any (λ w. e.seat ≡ 2 + w.cpu) (works_of lanes));
   no_stop = at_each-nil (λ b e. IsNoStop e.act);
-  held = at_each-nil (λ b e. (e.seat < 67) × IsHeldBy e.act e.seat);
+  permitted = at_each-nil (λ b e. (e.seat < 67) × IsPermittedTo e.act e.seat);
   in_order = at_each-nil (λ before f. AtEach (λ earlier e. line_at (works_of lanes) earlier e ≤ line_at (works_of lanes) before f) before);
   below = at_each-nil (λ b e. line_at (works_of lanes) b e < 0);
 }
@@ -78,20 +78,20 @@ run-end panics old cur first lanes places from run none = record {
       (whole (get_or lanes k d) (All-get_or (LaneSoFar old.setup panics old.history run.more places from) lanes k d lt run.lanes_are) (All-get_or (λ l. IsPending places l → ⊥) lanes k d lt none));
   nobody_else = run.nobody_else;
   no_stop = run.no_stop;
-  held = run.held;
+  permitted = run.permitted;
   in_order = run.in_order;
 }
   where
-    finished : (l : LaneValue) (script : List Played) → place_of places l ≡ length l.work.turns → Going old.setup panics run.more l (place_of places l) script ⊎ Ended old.setup panics l (place_of places l) script
+    finished : (l : LaneValue) (script : List Played) → next_turn_of places l ≡ length l.work.turns → Going old.setup panics run.more l (next_turn_of places l) script ⊎ HasEnded old.setup panics l (next_turn_of places l) script
         → Plays old.setup panics l.work script × (script_records l.work.deliveries l.work.turns script ≡ l.records)
     finished l script all (inr e) = (e.plays, e.records)
     finished l script all (inl g) =
-        let done : take (place_of places l) l.work.turns ≡ l.work.turns = ap (λ (n : ℕ). take n l.work.turns) all ∙ take-all l.work.turns in
+        let done : take (next_turn_of places l) l.work.turns ≡ l.work.turns = ap (λ (n : ℕ). take n l.work.turns) all ∙ take-all l.work.turns in
         goes-whole old.setup panics l.work.deliveries l.work.turns script l.records (subst (λ (ts : List Turn). GoesOn old.setup panics l.work.deliveries ts script l.records) done g.goes)
 
     whole : (l : LaneValue) → LaneSoFar old.setup panics old.history run.more places from l → (IsPending places l → ⊥) → Whole old.setup panics old.history (old.history ++ run.more) l
     whole l it free =
-        let all : place_of places l ≡ length l.work.turns = let w = it.within in elim (same_or_not (place_of places l) (length l.work.turns)) [ inl e ↦ e | inr n ↦ absurd (free (grind arith)) ] in
+        let all : next_turn_of places l ≡ length l.work.turns = let w = it.within in elim (same_or_not (next_turn_of places l) (length l.work.turns)) [ inl e ↦ e | inr n ↦ absurd (free (grind arith)) ] in
         let f = finished l it.script all it.state in
         record { script = it.script; played_is = it.played_is; plays = f.0; records = f.1 }
 
@@ -105,7 +105,7 @@ pub record IsNext (places : List ℕ) (lanes : List LaneValue) (k line : ℕ) (d
   pub fits : line < 2 ^ 32
 
 -- a least line that is one is a lane's
-pub is-next : (places : List ℕ) (lanes : List LaneValue) (next : Next) (d : LaneValue) → IsLeast places lanes next → (next.line ≡ 2 ^ 32 → ⊥) → IsNext places lanes next.lane next.line d
+pub is-next : (places : List ℕ) (lanes : List LaneValue) (next : NextTurn) (d : LaneValue) → IsLeast places lanes next → (next.line ≡ 2 ^ 32 → ⊥) → IsNext places lanes next.lane next.line d
 is-next places lanes next d least some = go least.found
   where
     go : (next.line ≡ 2 ^ 32) ⊎ ((next.lane < length lanes) × ((d : LaneValue) → IsPending places (get_or lanes next.lane d) × (next_line places (get_or lanes next.lane d) ≡ next.line))) → IsNext places lanes next.lane next.line d
@@ -125,9 +125,9 @@ from-le panics old cur first lanes places from k line d run n =
     omega arith
 
 -- the lane with the least line played its next turn
-pub run-next : (panics : ℕ → Bool) (old cur new : CoreValue) (first lanes : List LaneValue) (places : List ℕ) (from : ℕ) (next : Next) (lane' : LaneValue) (place' : ℕ) (d : LaneValue)
+pub run-next : (panics : ℕ → Bool) (old cur new : CoreValue) (first lanes : List LaneValue) (places : List ℕ) (from : ℕ) (next : NextTurn) (lane' : LaneValue) (place' : ℕ) (d : LaneValue)
     → FitLanes old.setup first → RunSoFar panics old cur first lanes places from → IsLeast places lanes next → (next.line ≡ 2 ^ 32 → ⊥)
-    → PlaysNext panics cur new (get_or lanes next.lane d) lane' (place_of places (get_or lanes next.lane d)) place'
+    → PlaysNext panics cur new (get_or lanes next.lane d) lane' (next_turn_of places (get_or lanes next.lane d)) place'
     → RunSoFar panics old new first (set lanes next.lane lane') (set places (get_or lanes next.lane d).work.cpu place') (next.line + 1)
 run-next panics old cur new first lanes places from next lane' place' d ok run least some plays =
     let n = is-next places lanes next d least some in
@@ -140,9 +140,9 @@ run-next panics old cur new first lanes places from next lane' place' d ok run l
       lanes_are = run.lanes_are;
       nobody_else = run.nobody_else;
       no_stop = run.no_stop;
-      held = run.held;
+      permitted = run.permitted;
       in_order = run.in_order;
       below = run.below;
     } in
     run-step panics old run.more new first lanes places from next.lane next.line lane' place' d ok run' refl n.below least.least n.pending n.line_is
-    (subst (λ (v : CoreValue). PlaysNext panics v new (get_or lanes next.lane d) lane' (place_of places (get_or lanes next.lane d)) place') run.grows plays)
+    (subst (λ (v : CoreValue). PlaysNext panics v new (get_or lanes next.lane d) lane' (next_turn_of places (get_or lanes next.lane d)) place') run.grows plays)

@@ -5,7 +5,7 @@ use Rattle.std.proofs.lemmas.Bool.Decides.{nat_tests}
 use Rattle.std.proofs.lemmas.List.{reverse-append, map-append, get_or_at, get_or_append_left, length-append}
 use Rattle.std.proofs.lemmas.List.Elements.{All-nil, All-head, All-push}
 use Rattle.std.proofs.lemmas.List.Quantifiers.{Any-push}
-use Rattle.rv_model.specs.Seats.{is_in, is_among, known_of}
+use Rattle.rv_model.specs.Seats.{is_within, is_among, known_of}
 use Rattle.rv_model.specs.Setups.{Setup}
 use Rattle.rv_board.specs.Known.{known_by, part}
 use Rattle.rv_board.specs.RunSeats.{IsFirst}
@@ -21,9 +21,9 @@ use Rattle.rv_feed.specs.Lane.{LaneValue, FitsLane}
 -- ---- numbers
 
 -- a seat with number 0 has all numbers below its end
-all_known : (end : ℕ) (gone : List ℕ) (n : ℕ) → n < end → known_by 0 end gone n ≡ true
-unfolding known_by is_in is_among
-all_known end gone n lt = grind (arith, nat_tests)
+all_known : (end : ℕ) (joined_in : List ℕ) (n : ℕ) → n < end → known_by 0 end joined_in n ≡ true
+unfolding known_by is_within is_among
+all_known end joined_in n lt = grind (arith, nat_tests)
 
 -- ---- lanes
 
@@ -40,7 +40,7 @@ module _ (board : BoardId) where
     is_first = is;
     seated = All-nil (IsSeated board);
     lanes_are = sym (append-nil lanes);
-    cover = λ n lt. inl ((λ i. known_is first.part i n) ∙ (λ i. known_by (is.number i) first.part.end first.part.gone n) ∙ all_known first.part.end first.part.gone n lt);
+    cover = λ n lt. inl ((λ i. known_is first.part i n) ∙ (λ i. known_by (is.number i) first.part.end first.part.joined_in n) ∙ all_known first.part.end first.part.joined_in n lt);
   }
 
   -- all can be
@@ -72,7 +72,7 @@ module _ (board : BoardId) where
 
     -- the lane is seated
     pub seated-more : {G : Type 0} (end : ℕ) (all : List LaneValue) (fs : List (Feeder G)) (f : Feeder G) → AreSeated board end old all (left ++ l ∷ []) fs → f.lane ≡ l → f.seat ≡ seat_value (part (2 + l.work.cpu) old.part.end [] old.part.seen) old.board
-        → new ≡ seat_value (part old.part.number (2 + l.work.cpu) old.part.gone old.part.seen) old.board → AreSeated board end new all left (fs ++ f ∷ [])
+        → new ≡ seat_value (part old.part.number (2 + l.work.cpu) old.part.joined_in old.part.seen) old.board → AreSeated board end new all left (fs ++ f ∷ [])
     seated-more {G} end all fs f are lane seat first = record {
       is_first = record {
         board_is = ap (λ (s : SeatValue). s.board) first ∙ are.is_first.board_is;

@@ -8,8 +8,8 @@ use Rattle.rv_model.specs.declared.work.Turn.{Turn}
 use Rattle.rv_model.specs.Cuts.{AtEach}
 use Rattle.rv_model.specs.Setups.{Setup}
 use Rattle.rv_model.specs.Scripts.{Played, played, PlaysTurns}
-use Rattle.rv_model.specs.ScriptParts.{GoesOn, Ends, ScriptOr, turn_lists}
-use Rattle.rv_model.specs.Histories.{IsNoStop, IsHeldBy, IsHeld, look_count, looks_of, NoneOf, IsInOrder, line_at, line_in, work_of}
+use Rattle.rv_model.specs.ScriptParts.{GoesOn, EndsScript, ScriptOr, turn_lists}
+use Rattle.rv_model.specs.Histories.{IsNoStop, IsPermittedTo, IsPermitted, look_count, looks_of, NoneOf, IsInOrder, line_at, line_in, work_of}
 use Rattle.rv_model.specs.Records.{script_records}
 use Rattle.rv_model.specs.Works.{Work}
 use Rattle.rv_model.proofs.CutLemmas.{at_each-append, at_each-weaker}
@@ -18,8 +18,8 @@ use Rattle.rv_model.proofs.SeatLemmas.{looks_of-append, line-index}
 use Rattle.rv_core.specs.Core.{CoreValue}
 use Rattle.rv_core.specs.Setup.{judges_of}
 use Rattle.rv_feed.specs.Lane.{LaneValue, FitLanes, works_of}
-use Rattle.rv_feed.specs.Turns.{entries_of, PlaysTurn}
-use Rattle.rv_feed.specs.SoFar.{place_of, IsPending, next_line, PlaysNext, Going, LaneSoFar, RunSoFar}
+use Rattle.rv_feed.specs.Turns.{entries_played, PlaysTurn}
+use Rattle.rv_feed.specs.SoFar.{next_turn_of, IsPending, next_line, PlaysNext, Going, LaneSoFar, RunSoFar}
 use Rattle.rv_feed.proofs.EntryLemmas.{none-by, IsIn, by-at, one-at, one-looks, below-more, order-more}
 use Rattle.rv_feed.proofs.StayLemmas.{lane-stays}
 use Rattle.rv_feed.proofs.LaneLemmas.{works-set, work-at, work-is, same-lane, same_or_not, pairs-to, pairs-from, names-in, names-next}
@@ -28,7 +28,7 @@ module _ (panics : ℕ → Bool) (old : CoreValue) (more : List Entry) (new : Co
     (ok : FitLanes old.setup first) (run : RunSoFar panics old (record old { history = old.history ++ more }) first lanes places from) (more_is : run.more ≡ more) (lt : k < length lanes)
     (least : All (λ l. IsPending places l → (line ≤ next_line places l) × (next_line places l < 2 ^ 32)) lanes)
     (pending : IsPending places (get_or lanes k d)) (line_is : next_line places (get_or lanes k d) ≡ line)
-    (next : PlaysNext panics (record old { history = old.history ++ more }) new (get_or lanes k d) lane' (place_of places (get_or lanes k d)) place') where
+    (next : PlaysNext panics (record old { history = old.history ++ more }) new (get_or lanes k d) lane' (next_turn_of places (get_or lanes k d)) place') where
   -- the setup, the lane, its work, its seat, its place, the turn, what it plays and its entries, and all works
   abbrev s : Setup
   s = old.setup
@@ -43,7 +43,7 @@ module _ (panics : ℕ → Bool) (old : CoreValue) (more : List Entry) (new : Co
   seat = 2 + w.cpu
 
   abbrev p : ℕ
-  p = place_of places l
+  p = next_turn_of places l
 
   abbrev t : Turn
   t = next.turn
@@ -52,7 +52,7 @@ module _ (panics : ℕ → Bool) (old : CoreValue) (more : List Entry) (new : Co
   tp = next.plays
 
   abbrev es : List Entry
-  es = entries_of tp.ps
+  es = entries_played tp.ps
 
   abbrev works : List Work
   works = works_of first
@@ -123,7 +123,7 @@ module _ (panics : ℕ → Bool) (old : CoreValue) (more : List Entry) (new : Co
   places' = set places w.cpu place'
 
   -- the place of the lane is the new one
-  my_place : place_of places' after ≡ place'
+  my_place : next_turn_of places' after ≡ place'
   my_place = let in_places : w.cpu < length places = let c = run.count in let f = me.cpu in omega arith in rw get_or-set_same refl
 
   -- the turns up to and with this one
@@ -147,7 +147,7 @@ module _ (panics : ℕ → Bool) (old : CoreValue) (more : List Entry) (new : Co
   mine-on : (ends : Bool) → next.ends ≡ ends → LaneSoFar s panics old.history (more ++ es) places' (line + 1) after
   mine-on true e =
       let all : place' ≡ length w.turns = next.place_is ∙ rw e refl in
-      let script : Ends s panics w.deliveries (t ∷ []) tp.ps tp.rs = subst (λ (b : Bool). ScriptOr b s panics w.deliveries (t ∷ []) tp.ps tp.rs) e tp.script in
+      let script : EndsScript s panics w.deliveries (t ∷ []) tp.ps tp.rs = subst (λ (b : Bool). ScriptOr b s panics w.deliveries (t ∷ []) tp.ps tp.rs) e tp.script in
       let end = goes-end s panics w.deliveries (take p w.turns) (t ∷ []) me.script tp.ps l.records tp.rs going.goes script in
       let turns : (take p w.turns ++ t ∷ []) ++ drop (p + 1) w.turns ≡ w.turns = ap (λ (ts : List Turn). ts ++ drop (p + 1) w.turns) (sym up_to) ∙ take-append-drop (p + 1) w.turns in
       record {
@@ -167,7 +167,7 @@ module _ (panics : ℕ → Bool) (old : CoreValue) (more : List Entry) (new : Co
       }
   mine-on false e =
       let step : place' ≡ p + 1 = next.place_is ∙ rw e refl in
-      let q : place_of places' after ≡ p + 1 = my_place ∙ step in
+      let q : next_turn_of places' after ≡ p + 1 = my_place ∙ step in
       let script : GoesOn s panics w.deliveries (t ∷ []) tp.ps tp.rs = subst (λ (b : Bool). ScriptOr b s panics w.deliveries (t ∷ []) tp.ps tp.rs) e tp.script in
       let on = goes-join s panics w.deliveries (take p w.turns) (t ∷ []) me.script tp.ps l.records tp.rs going.goes script in
       let goes : GoesOn s panics w.deliveries (take (p + 1) w.turns) (me.script ++ tp.ps) (l.records ++ tp.rs) = subst (λ (ts : List Turn). GoesOn s panics w.deliveries ts (me.script ++ tp.ps) (l.records ++ tp.rs)) (sym up_to) on in
@@ -219,8 +219,8 @@ module _ (panics : ℕ → Bool) (old : CoreValue) (more : List Entry) (new : Co
       let none : NoneOf (2 + m.work.cpu) es = none-by seat (2 + m.work.cpu) tp.ps tp.did.by (λ e. cpus (omega arith)) in
       lane-stays s panics old.history more es places from line w.cpu place' m it none cpus (λ pend.
       let le = All-get_or (λ x. IsPending places x → (line ≤ next_line places x) × (next_line places x < 2 ^ 32)) lanes j c lj least pend in
-      let lines : line ≢ next_line places m = λ e. cpus (sym (ok.apart m.work w (get_or m.work.turns (place_of places m) t) t has_m has (Contains-get_or m.work.turns (place_of places m) t pend)
-      (subst (Contains w.turns) (sym (t_is t)) (Contains-get_or w.turns p t pending)) (sym (line-index m.work.turns (place_of places m) t pend) ∙ sym e ∙ sym t_line))) in
+      let lines : line ≢ next_line places m = λ e. cpus (sym (ok.apart m.work w (get_or m.work.turns (next_turn_of places m) t) t has_m has (Contains-get_or m.work.turns (next_turn_of places m) t pend)
+      (subst (Contains w.turns) (sym (t_is t)) (Contains-get_or w.turns p t pending)) (sym (line-index m.work.turns (next_turn_of places m) t pend) ∙ sym e ∙ sym t_line))) in
       let le0 = le.0 in
       grind arith)
 
@@ -242,8 +242,8 @@ module _ (panics : ℕ → Bool) (old : CoreValue) (more : List Entry) (new : Co
     lanes_are = lanes-on;
     nobody_else = at_each-append (λ b e. Any (λ v. e.seat ≡ 2 + v.cpu) works) es more (subst (AtEach (λ b e. Any (λ v. e.seat ≡ 2 + v.cpu) works)) more_is run.nobody_else) (λ b e a eq. (has.0, w, has.1, has.2, (at b e a eq).0));
     no_stop = at_each-append (λ b e. IsNoStop e.act) es more (subst (AtEach (λ b e. IsNoStop e.act)) more_is run.no_stop) (λ b e a eq. (at b e a eq).1);
-    held = at_each-append (λ b e. (e.seat < 67) × IsHeldBy e.act e.seat) es more (subst IsHeld more_is run.held)
-        (λ b e a eq. let i = at b e a eq in let i0 = i.0 in let f = me.cpu in (omega arith, subst (IsHeldBy e.act) (sym i.0) i.2));
+    permitted = at_each-append (λ b e. (e.seat < 67) × IsPermittedTo e.act e.seat) es more (subst IsPermitted more_is run.permitted)
+        (λ b e a eq. let i = at b e a eq in let i0 = i.0 in let f = me.cpu in (omega arith, subst (IsPermittedTo e.act) (sym i.0) i.2));
     in_order = order-more works line more es (subst (IsInOrder works) more_is run.in_order) before-line line-here;
     below = at_each-weaker (λ b e. line_at works b e ≤ line) (λ b e. line_at works b e < line + 1) (λ b e x. omega arith) (more ++ es) (below-more works line more es (subst (IsInOrder works) more_is run.in_order) before-line line-here);
   }

@@ -9,12 +9,12 @@ use Rattle.rv_model.specs.declared.work.Delivery.{Delivery}
 use Rattle.rv_model.specs.declared.work.Turn.{Turn}
 use Rattle.rv_model.specs.Numbers.{has_bit}
 use Rattle.rv_model.specs.Setups.{Setup}
-use Rattle.rv_model.specs.Scripts.{is_shown}
-use Rattle.rv_model.specs.ScriptParts.{Part, LastPart, GoesOn, Ends}
+use Rattle.rv_model.specs.Scripts.{is_enabled_by}
+use Rattle.rv_model.specs.ScriptParts.{TurnPart, LastPart, GoesOn, EndsScript}
 use Rattle.rv_model.proofs.ScriptPartLemmas.{part-nothing, part-join, last-join, turn-goes, turn-ends, turn-halted}
 use Rattle.rv_core.specs.Core.{CoreValue}
 use Rattle.rv_feed.specs.Lane.{LaneValue, AddsRecords}
-use Rattle.rv_feed.specs.Turns.{Did, LooksAt, Delivers, PlaysTurn, PartDone}
+use Rattle.rv_feed.specs.Turns.{Did, LooksAt, DeliversRecorded, PlaysTurn, PartDone}
 use Rattle.rv_feed.proofs.DoneLemmas.{did-nothing, did-join, no_looks-append}
 
 -- one more place
@@ -32,11 +32,11 @@ slice-split ds from place to le =
     sym (take-append-drop (place - from) (take (to - from) (drop from ds))) ∙ ap (λ (z : List Delivery). z ++ drop (place - from) (take (to - from) (drop from ds))) (take-take (place - from) (to - from) (drop from ds) (omega arith))
 
 -- a delivery that is shown
-pub filter-one : (word : ℕ) (d : Delivery) → is_shown word d ≡ true → filter (is_shown word) (d ∷ []) ≡ d ∷ []
+pub filter-one : (word : ℕ) (d : Delivery) → is_enabled_by word d ≡ true → filter (is_enabled_by word) (d ∷ []) ≡ d ∷ []
 filter-one word d shown = rw shown refl
 
 -- a delivery that is not
-pub filter-none : (word : ℕ) (d : Delivery) → is_shown word d ≡ false → filter (is_shown word) (d ∷ []) ≡ []
+pub filter-none : (word : ℕ) (d : Delivery) → is_enabled_by word d ≡ false → filter (is_enabled_by word) (d ∷ []) ≡ []
 filter-none word d hidden = rw hidden refl
 
 -- no record
@@ -72,50 +72,50 @@ module _ (panics : ℕ → Bool) (seat word : ℕ) (turn : Turn) (lane : LaneVal
 
   module _ (mid cur : CoreValue) (lane' : LaneValue) (place : ℕ) (done : PartDone mid cur panics seat word turn lane lane' place)
       (d : Delivery) (d_is : d ≡ get_or ds place d) (le : turn.from ≤ place) (lt : place < length ds) where
-    so_far : filter (is_shown word) (slice_range ds turn.from (place + 1)) ≡ filter (is_shown word) (slice_range ds turn.from place) ++ filter (is_shown word) (d ∷ [])
-    so_far = ap (filter (is_shown word)) (slice-more ds turn.from place d le lt ∙ ap (λ (x : Delivery). slice_range ds turn.from place ++ x ∷ []) (sym d_is)) ∙ filter-append (is_shown word) (slice_range ds turn.from place) (d ∷ [])
+    so_far : filter (is_enabled_by word) (slice_range ds turn.from (place + 1)) ≡ filter (is_enabled_by word) (slice_range ds turn.from place) ++ filter (is_enabled_by word) (d ∷ [])
+    so_far = ap (filter (is_enabled_by word)) (slice-more ds turn.from place d le lt ∙ ap (λ (x : Delivery). slice_range ds turn.from place ++ x ∷ []) (sym d_is)) ∙ filter-append (is_enabled_by word) (slice_range ds turn.from place) (d ∷ [])
 
     same_setup : cur.setup ≡ mid.setup
     same_setup = ap (λ (v : CoreValue). v.setup) done.did.grows
 
     -- the look does not show the delivery on
-    pub done-hidden : is_shown word d ≡ false → PartDone mid cur panics seat word turn lane lane' (place + 1)
+    pub done-hidden : is_enabled_by word d ≡ false → PartDone mid cur panics seat word turn lane lane' (place + 1)
     done-hidden hidden = record {
       ps = done.ps;
       rs = done.rs;
       did = done.did;
       quiet = done.quiet;
-      part = subst (λ (z : List Delivery). Part mid.setup panics word turn.line z done.ps done.rs) (sym (so_far ∙ ap (λ (z : List Delivery). filter (is_shown word) (slice_range ds turn.from place) ++ z) (filter-none word d hidden) ∙ append-nil (filter (is_shown word) (slice_range ds turn.from place)))) done.part;
+      part = subst (λ (z : List Delivery). TurnPart mid.setup panics word turn.line z done.ps done.rs) (sym (so_far ∙ ap (λ (z : List Delivery). filter (is_enabled_by word) (slice_range ds turn.from place) ++ z) (filter-none word d hidden) ∙ append-nil (filter (is_enabled_by word) (slice_range ds turn.from place)))) done.part;
       kept = done.kept;
       few = let f = done.few in omega arith;
     }
 
-    shown-so_far : is_shown word d ≡ true → filter (is_shown word) (slice_range ds turn.from (place + 1)) ≡ filter (is_shown word) (slice_range ds turn.from place) ++ d ∷ []
-    shown-so_far shown = so_far ∙ ap (λ (z : List Delivery). filter (is_shown word) (slice_range ds turn.from place) ++ z) (filter-one word d shown)
+    shown-so_far : is_enabled_by word d ≡ true → filter (is_enabled_by word) (slice_range ds turn.from (place + 1)) ≡ filter (is_enabled_by word) (slice_range ds turn.from place) ++ d ∷ []
+    shown-so_far shown = so_far ∙ ap (λ (z : List Delivery). filter (is_enabled_by word) (slice_range ds turn.from place) ++ z) (filter-one word d shown)
 
     -- it is made, and the script goes on
-    pub done-shown : (new : CoreValue) (lane'' : LaneValue) → is_shown word d ≡ true → Delivers cur new panics seat word turn.line d lane' lane'' false → PartDone mid new panics seat word turn lane lane'' (place + 1)
+    pub done-shown : (new : CoreValue) (lane'' : LaneValue) → is_enabled_by word d ≡ true → DeliversRecorded cur new panics seat word turn.line d lane' lane'' false → PartDone mid new panics seat word turn lane lane'' (place + 1)
     done-shown new lane'' shown v = record {
       ps = done.ps ++ v.ps;
       rs = done.rs ++ v.made ∷ [];
       did = did-join mid cur new seat done.ps v.ps done.did v.did;
       quiet = no_looks-append done.ps v.ps done.quiet v.quiet;
-      part = subst (λ (z : List Delivery). Part mid.setup panics word turn.line z (done.ps ++ v.ps) (done.rs ++ v.made ∷ [])) (sym (shown-so_far shown))
-          (part-join mid.setup panics word turn.line (filter (is_shown word) (slice_range ds turn.from place)) (d ∷ []) done.ps v.ps done.rs (v.made ∷ []) done.part
-          (subst (λ (s : Setup). Part s panics word turn.line (d ∷ []) v.ps (v.made ∷ [])) same_setup v.part));
+      part = subst (λ (z : List Delivery). TurnPart mid.setup panics word turn.line z (done.ps ++ v.ps) (done.rs ++ v.made ∷ [])) (sym (shown-so_far shown))
+          (part-join mid.setup panics word turn.line (filter (is_enabled_by word) (slice_range ds turn.from place)) (d ∷ []) done.ps v.ps done.rs (v.made ∷ []) done.part
+          (subst (λ (s : Setup). TurnPart s panics word turn.line (d ∷ []) v.ps (v.made ∷ [])) same_setup v.part));
       kept = adds-join lane lane' lane'' done.rs (v.made ∷ []) done.kept v.kept;
       few = let f = done.few in let l = length-append done.rs (v.made ∷ []) in omega arith;
     }
 
     -- it is made, and the script ends
-    pub done-ends : (old new : CoreValue) (lane'' : LaneValue) → (l : LooksAt old mid seat word) → has_bit word 34 ≡ false → seat ≡ 2 + lane.work.cpu → place < turn.to → is_shown word d ≡ true → Delivers cur new panics seat word turn.line d lane' lane'' true → PlaysTurn old new panics turn lane lane'' true
+    pub done-ends : (old new : CoreValue) (lane'' : LaneValue) → (l : LooksAt old mid seat word) → has_bit word 34 ≡ false → seat ≡ 2 + lane.work.cpu → place < turn.to → is_enabled_by word d ≡ true → DeliversRecorded cur new panics seat word turn.line d lane' lane'' true → PlaysTurn old new panics turn lane lane'' true
     done-ends old new lane'' l on seat_is before shown v =
         let s = mid.setup in
-        let front : List Delivery = filter (is_shown word) (slice_range ds turn.from place) in
-        let rest : List Delivery = filter (is_shown word) (drop ((place + 1) - turn.from) (slice_range ds turn.from turn.to)) in
-        let split : filter (is_shown word) (slice_range ds turn.from turn.to) ≡ (front ++ d ∷ []) ++ rest =
-        ap (filter (is_shown word)) (slice-split ds turn.from (place + 1) turn.to (omega arith))
-        ∙ filter-append (is_shown word) (slice_range ds turn.from (place + 1)) (drop ((place + 1) - turn.from) (slice_range ds turn.from turn.to))
+        let front : List Delivery = filter (is_enabled_by word) (slice_range ds turn.from place) in
+        let rest : List Delivery = filter (is_enabled_by word) (drop ((place + 1) - turn.from) (slice_range ds turn.from turn.to)) in
+        let split : filter (is_enabled_by word) (slice_range ds turn.from turn.to) ≡ (front ++ d ∷ []) ++ rest =
+        ap (filter (is_enabled_by word)) (slice-split ds turn.from (place + 1) turn.to (omega arith))
+        ∙ filter-append (is_enabled_by word) (slice_range ds turn.from (place + 1)) (drop ((place + 1) - turn.from) (slice_range ds turn.from turn.to))
         ∙ ap (λ (z : List Delivery). z ++ rest) (shown-so_far shown) in
         let last = last-join s panics word turn.line front (d ∷ []) done.ps v.ps done.rs (v.made ∷ []) done.part (subst (λ (s : Setup). LastPart s panics word turn.line (d ∷ []) v.ps (v.made ∷ [])) same_setup v.part) in
         let ends = turn-ends s panics ds turn l.entry l.act_is word on (front ++ d ∷ []) rest (done.ps ++ v.ps) (done.rs ++ v.made ∷ []) split last in
@@ -125,7 +125,7 @@ module _ (panics : ℕ → Bool) (seat word : ℕ) (turn : Turn) (lane : LaneVal
           rs = done.rs ++ v.made ∷ [];
           did = subst (λ (n : ℕ). Did old new n ((l.entry, Looked word) ∷ (done.ps ++ v.ps))) seat_is
               (did-join old mid new seat ((l.entry, Looked word) ∷ []) (done.ps ++ v.ps) l.did (did-join mid cur new seat done.ps v.ps done.did v.did));
-          script = subst (λ (s : Setup). Ends s panics ds (turn ∷ []) ((l.entry, Looked word) ∷ (done.ps ++ v.ps)) (done.rs ++ v.made ∷ [])) back ends;
+          script = subst (λ (s : Setup). EndsScript s panics ds (turn ∷ []) ((l.entry, Looked word) ∷ (done.ps ++ v.ps)) (done.rs ++ v.made ∷ [])) back ends;
           one = (l.act_is, no_looks-append done.ps v.ps done.quiet v.quiet);
           kept = adds-join lane lane' lane'' done.rs (v.made ∷ []) done.kept v.kept;
           few = let f = done.few in let l = length-append done.rs (v.made ∷ []) in omega arith;

@@ -9,12 +9,12 @@ use Rattle.rv_model.specs.declared.record.Record.{Record}
 use Rattle.rv_model.specs.declared.work.Delivery.{Delivery}
 use Rattle.rv_model.specs.declared.work.Turn.{Turn}
 use Rattle.rv_model.specs.Records.{outcome_of, failed_outcome, script_records}
-use Rattle.rv_model.specs.ScriptParts.{Part, PartOr, GoesOn, ScriptOr}
-use Rattle.rv_model.specs.Scripts.{Played, played, is_shown, fails, Makes, Plays}
+use Rattle.rv_model.specs.ScriptParts.{TurnPart, PartOr, GoesOn, ScriptOr}
+use Rattle.rv_model.specs.Scripts.{Played, played, is_enabled_by, fails, Makes, Plays}
 use Rattle.rv_core.specs.Setup.{judges_of}
 use Rattle.rv_board.specs.Seats.{BoardId, SeatValue, SeatGrows}
 use Rattle.rv_feed.specs.Lane.{LaneValue, AddsRecords, IsNewLane, FitsDelivery}
-use Rattle.rv_feed.specs.Turns.{entries_of}
+use Rattle.rv_feed.specs.Turns.{entries_played}
 
 -- ---- entries of one seat
 
@@ -24,7 +24,7 @@ played_by seat = played seat.board.setup (judges_of seat.board.setup) seat.part.
 
 -- the seat's list grows by these entries of its own, which have these answers
 pub record Adds (old new : SeatValue) (ps : List Played) : Type 0 where
-  pub grows : SeatGrows old new (entries_of ps)
+  pub grows : SeatGrows old new (entries_played ps)
   pub played_is : played_by new ≡ played_by old ++ ps
 
 -- the seat made the delivery, or stopped the slot in its place, and its entry and answer give the outcome
@@ -54,7 +54,7 @@ pub record FeedsPart (old cur : SeatValue) (panics : ℕ → Bool) (word : ℕ) 
   pub ps : List Played
   pub rs : List Record
   pub adds : Adds old cur ((look, Looked word) ∷ ps)
-  pub part : Part old.board.setup panics word turn.line (filter (is_shown word) (slice_range lane.work.deliveries turn.from place)) ps rs
+  pub part : TurnPart old.board.setup panics word turn.line (filter (is_enabled_by word) (slice_range lane.work.deliveries turn.from place)) ps rs
   pub kept : AddsRecords lane lane' rs
   pub few : length rs ≤ place - turn.from
 

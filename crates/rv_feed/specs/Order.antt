@@ -2,7 +2,7 @@
 use Rattle.std.specs.Prelude.{◌≡◌, ℕ, ◌+◌, Bool, List, ◌++◌, reverse, All, Any}
 use Rattle.rv_model.specs.declared.entry.Entry.{Entry}
 use Rattle.rv_model.specs.Cuts.{AtEach}
-use Rattle.rv_model.specs.Histories.{IsNoStop, IsHeld, IsInOrder}
+use Rattle.rv_model.specs.Histories.{IsNoStop, IsPermitted, IsInOrder}
 use Rattle.rv_model.specs.Records.{script_records}
 use Rattle.rv_model.specs.Scripts.{Played, played, Plays}
 use Rattle.rv_model.specs.Setups.{Setup}
@@ -25,5 +25,5 @@ pub record Ran (panics : ℕ → Bool) (old new : CoreValue) (lanes lanes' : Lis
   pub whole : All (Whole old.setup panics old.history new.history) lanes'
   pub nobody_else : AtEach (λ before e. Any (λ w. e.seat ≡ 2 + w.cpu) (works_of lanes)) more
   pub no_stop : AtEach (λ before e. IsNoStop e.act) more
-  pub held : IsHeld more
+  pub permitted : IsPermitted more
   pub in_order : IsInOrder (works_of lanes) more

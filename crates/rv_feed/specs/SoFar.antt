@@ -1,9 +1,9 @@
--- A run of all scripts, between two turns.
+-- Private: a run of all scripts, between two turns.
 use Rattle.std.specs.Prelude.{◌≡◌, ◌⊎◌, ℕ, ◌+◌, ◌^◌, ◌<◌, ◌≤◌, Bool, List, ◌++◌, map, take, length, reverse, All, AllPairs, Any, slice_index, slice_index_or, if◌then◌else◌}
 use Rattle.rv_model.specs.declared.entry.Entry.{Entry}
 use Rattle.rv_model.specs.declared.work.Turn.{Turn}
 use Rattle.rv_model.specs.Cuts.{AtEach}
-use Rattle.rv_model.specs.Histories.{IsNoStop, IsHeld, IsInOrder, line_at, looks_of}
+use Rattle.rv_model.specs.Histories.{IsNoStop, IsPermitted, IsInOrder, line_at, looks_of}
 use Rattle.rv_model.specs.Records.{script_records}
 use Rattle.rv_model.specs.ScriptParts.{GoesOn}
 use Rattle.rv_model.specs.Scripts.{Played, played, Plays}
@@ -11,21 +11,21 @@ use Rattle.rv_model.specs.Setups.{Setup}
 use Rattle.rv_model.specs.Works.{IsWork}
 use Rattle.rv_core.specs.Core.{CoreValue}
 use Rattle.rv_core.specs.Setup.{judges_of}
-use Rattle.rv_feed.specs.declared.order.Next.{Next}
+use Rattle.rv_feed.specs.declared.order.NextTurn.{NextTurn}
 use Rattle.rv_feed.specs.Lane.{LaneValue, FitsDelivery, works_of}
 use Rattle.rv_feed.specs.Turns.{PlaysTurn}
 
 -- the next turn of a lane; the places are by CPU
-abbrev pub place_of : List ℕ → LaneValue → ℕ
-place_of places lane = slice_index places lane.work.cpu
+abbrev pub next_turn_of : List ℕ → LaneValue → ℕ
+next_turn_of places lane = slice_index places lane.work.cpu
 
 -- it has a next turn
 abbrev pub IsPending : List ℕ → LaneValue → Type 0
-IsPending places lane = place_of places lane < length lane.work.turns
+IsPending places lane = next_turn_of places lane < length lane.work.turns
 
 -- the line of its next turn
 abbrev pub next_line : List ℕ → LaneValue → ℕ
-next_line places lane = slice_index (map (λ t. t.line) lane.work.turns) (place_of places lane)
+next_line places lane = slice_index (map (λ t. t.line) lane.work.turns) (next_turn_of places lane)
 
 -- the line of the lane's next turn, and 2 ^ 32 where it has none
 pub record HasLine (places : List ℕ) (lane : LaneValue) (line : ℕ) : Type 0 where
@@ -39,7 +39,7 @@ abbrev pub HasLines : List ℕ → List ℕ → List LaneValue → Type 0
 HasLines places lines lanes = All (λ l. HasLine places l (slice_index lines l.work.cpu)) lanes
 
 -- no pending lane has a smaller line
-pub record IsLeast (places : List ℕ) (lanes : List LaneValue) (next : Next) : Type 0 where
+pub record IsLeast (places : List ℕ) (lanes : List LaneValue) (next : NextTurn) : Type 0 where
   pub least : All (λ l. IsPending places l → (next.line ≤ next_line places l) × (next_line places l < 2 ^ 32)) lanes
   pub found : (next.line ≡ 2 ^ 32) ⊎ ((next.lane < length lanes) × ((d : LaneValue) → IsPending places (slice_index_or lanes next.lane d) × (next_line places (slice_index_or lanes next.lane d) ≡ next.line)))
 
@@ -59,7 +59,7 @@ pub record Going (s : Setup) (panics : ℕ → Bool) (more : List Entry) (lane :
   pub kept : (t : Turn) → place < length lane.work.turns → length lane.records ≤ (slice_index_or lane.work.turns place t).from
 
 -- the script has ended
-pub record Ended (s : Setup) (panics : ℕ → Bool) (lane : LaneValue) (place : ℕ) (script : List Played) : Type 0 where
+pub record HasEnded (s : Setup) (panics : ℕ → Bool) (lane : LaneValue) (place : ℕ) (script : List Played) : Type 0 where
   pub plays : Plays s panics lane.work script
   pub records : script_records lane.work.deliveries lane.work.turns script ≡ lane.records
   pub all : place ≡ length lane.work.turns
@@ -68,8 +68,8 @@ pub record Ended (s : Setup) (panics : ℕ → Bool) (lane : LaneValue) (place :
 pub record LaneSoFar (s : Setup) (panics : ℕ → Bool) (old more : List Entry) (places : List ℕ) (from : ℕ) (lane : LaneValue) : Type 0 where
   pub script : List Played
   pub played_is : played s (judges_of s) (2 + lane.work.cpu) (reverse (old ++ more)) ≡ played s (judges_of s) (2 + lane.work.cpu) (reverse old) ++ script
-  pub within : place_of places lane ≤ length lane.work.turns
-  pub state : Going s panics more lane (place_of places lane) script ⊎ Ended s panics lane (place_of places lane) script
+  pub within : next_turn_of places lane ≤ length lane.work.turns
+  pub state : Going s panics more lane (next_turn_of places lane) script ⊎ HasEnded s panics lane (next_turn_of places lane) script
   pub later : IsPending places lane → from ≤ next_line places lane
   pub room : length lane.work.deliveries ≤ lane.room
   pub cpu : lane.work.cpu < 64
@@ -86,6 +86,6 @@ pub record RunSoFar (panics : ℕ → Bool) (old new : CoreValue) (lanes lanes' 
   pub lanes_are : All (LaneSoFar old.setup panics old.history more places from) lanes'
   pub nobody_else : AtEach (λ before e. Any (λ w. e.seat ≡ 2 + w.cpu) (works_of lanes)) more
   pub no_stop : AtEach (λ before e. IsNoStop e.act) more
-  pub held : IsHeld more
+  pub permitted : IsPermitted more
   pub in_order : IsInOrder (works_of lanes) more
   pub below : AtEach (λ before e. line_at (works_of lanes) before e < from) more

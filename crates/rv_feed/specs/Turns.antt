@@ -6,9 +6,9 @@ use Rattle.rv_model.specs.declared.entry.Entry.{Entry}
 use Rattle.rv_model.specs.declared.record.Record.{Record}
 use Rattle.rv_model.specs.declared.work.Delivery.{Delivery}
 use Rattle.rv_model.specs.declared.work.Turn.{Turn}
-use Rattle.rv_model.specs.Histories.{IsNoStop, IsHeldBy, look_count}
-use Rattle.rv_model.specs.ScriptParts.{Part, PartOr, ScriptOr}
-use Rattle.rv_model.specs.Scripts.{Played, played, is_shown}
+use Rattle.rv_model.specs.Histories.{IsNoStop, IsPermittedTo, look_count}
+use Rattle.rv_model.specs.ScriptParts.{TurnPart, PartOr, ScriptOr}
+use Rattle.rv_model.specs.Scripts.{Played, played, is_enabled_by}
 use Rattle.rv_core.specs.Core.{CoreValue}
 use Rattle.rv_core.specs.Setup.{judges_of}
 use Rattle.rv_feed.specs.Lane.{LaneValue, AddsRecords}
@@ -16,19 +16,19 @@ use Rattle.rv_feed.specs.Lane.{LaneValue, AddsRecords}
 -- ---- entries of one seat
 
 -- the entries without their answers
-abbrev pub entries_of : List Played → List Entry
-entries_of [] = []
-entries_of (p ∷ ps) = p.0 ∷ entries_of ps
+abbrev pub entries_played : List Played → List Entry
+entries_played [] = []
+entries_played (p ∷ ps) = p.0 ∷ entries_played ps
 
 -- all are the seat's, it may do them, and none is a stop
 abbrev pub AllBy : ℕ → List Played → Type 0
 AllBy seat [] = Unit {0}
-AllBy seat (p ∷ ps) = ((p.0.seat ≡ seat) × IsNoStop p.0.act × IsHeldBy p.0.act seat) × AllBy seat ps
+AllBy seat (p ∷ ps) = ((p.0.seat ≡ seat) × IsNoStop p.0.act × IsPermittedTo p.0.act seat) × AllBy seat ps
 
 -- the history grows by these entries of the seat, which have these answers and are no stops
 pub record Did (old new : CoreValue) (seat : ℕ) (ps : List Played) : Type 0 where
-  pub grows : new ≡ record old { history = old.history ++ entries_of ps }
-  pub played_is : played old.setup (judges_of old.setup) seat (reverse (old.history ++ entries_of ps)) ≡ played old.setup (judges_of old.setup) seat (reverse old.history) ++ ps
+  pub grows : new ≡ record old { history = old.history ++ entries_played ps }
+  pub played_is : played old.setup (judges_of old.setup) seat (reverse (old.history ++ entries_played ps)) ≡ played old.setup (judges_of old.setup) seat (reverse old.history) ++ ps
   pub by : AllBy seat ps
 
 -- the seat looked, and saw this word
@@ -50,7 +50,7 @@ IsOneTurn (p ∷ ps) = (p.0.act ≡ Look) × NoLooks ps
 -- ---- a delivery, and a turn
 
 -- the delivery was made, with what follows it where the script ends, and the lane has its record
-pub record Delivers (old new : CoreValue) (panics : ℕ → Bool) (seat look line : ℕ) (d : Delivery) (lane lane' : LaneValue) (ends : Bool) : Type 0 where
+pub record DeliversRecorded (old new : CoreValue) (panics : ℕ → Bool) (seat look line : ℕ) (d : Delivery) (lane lane' : LaneValue) (ends : Bool) : Type 0 where
   pub ps : List Played
   pub made : Record
   pub did : Did old new seat ps
@@ -64,7 +64,7 @@ pub record PartDone (mid cur : CoreValue) (panics : ℕ → Bool) (seat word : �
   pub rs : List Record
   pub did : Did mid cur seat ps
   pub quiet : NoLooks ps
-  pub part : Part mid.setup panics word turn.line (filter (is_shown word) (slice_range lane.work.deliveries turn.from place)) ps rs
+  pub part : TurnPart mid.setup panics word turn.line (filter (is_enabled_by word) (slice_range lane.work.deliveries turn.from place)) ps rs
   pub kept : AddsRecords lane lane' rs
   pub few : length rs ≤ place - turn.from
 

@@ -3,7 +3,7 @@ ghost use Rattle.std.specs.Prelude.{◌≡◌, ◌+◌, ◌<◌, ◌≤◌, ◌�
 ghost use Rattle.rv_model.specs.declared.formula.Spec.{Spec};
 ghost use Rattle.rv_core.specs.Judged.{AllMean};
 ghost use Rattle.rv_board.specs.Known.{part};
-ghost use Rattle.rv_board.specs.RunSeats.{Holds, IsFirst};
+ghost use Rattle.rv_board.specs.RunSeats.{HasTakenIn, IsFirst};
 ghost use Rattle.rv_board.specs.Seats.{seat_value};
 ghost use Rattle.rv_feed.specs.Changes.{IsBelowHalt};
 ghost use Rattle.rv_feed.specs.Lane.{FitsLane, panics_of, works_of};
@@ -26,7 +26,7 @@ const ACTOR: u32 = 1;
 
 /// What a run at once came to: the lanes as they came, with their records, and the history.
 #[derive(Drop)]
-pub struct Fed {
+pub struct FedLanes {
     pub lanes: Vec<Lane>,
     pub closed: Closed,
 }
@@ -37,7 +37,7 @@ fn seat_lane<G: Gate>(board: &Board, seat: &mut Seat, lane: Lane, gate: &G) -> F
     requires range { (seat.old.part.number < 2 + lane.work.cpu) × (2 + lane.work.cpu < seat.old.part.end) }
     ensures lane { result.lane ≡ lane }
     ensures new { result.seat ≡ seat_value (part (2 + lane.work.cpu) seat.old.part.end [] seat.old.part.seen) seat.old.board }
-    ensures old { seat.new ≡ seat_value (part seat.old.part.number (2 + lane.work.cpu) seat.old.part.gone seat.old.part.seen) seat.old.board }
+    ensures old { seat.new ≡ seat_value (part seat.old.part.number (2 + lane.work.cpu) seat.old.part.joined_in seat.old.part.seen) seat.old.board }
 {
     let cpu = cpu_of(&lane);
     let own = board.split(seat, 2 + cpu);
@@ -94,8 +94,8 @@ pub fn join_all<G: Gate>(
     requires seats { All (λ f. f.seat.board ≡ board.now) feeders.items }
     requires room { length lanes.old.items + length feeders.items ≤ lanes.old.cap }
     ensures board { into.new.board ≡ board.now }
-    ensures into { Holds into.new into.old }
-    ensures seats { All (λ f. Holds into.new f.seat) feeders.items }
+    ensures into { HasTakenIn into.new into.old }
+    ensures seats { All (λ f. HasTakenIn into.new f.seat) feeders.items }
     ensures lanes { lanes.new.items ≡ lanes.old.items ++ lanes_of feeders.items }
 {
     while let Some(feeder) = feeders.pop() {
@@ -119,14 +119,14 @@ pub fn feed<R: Threads + Sync, G: Gate + Send>(
     mut lanes: Vec<Lane>,
     changes: Vec<Change>,
     gate: &G,
-) -> Result<Fed, AllocError>
+) -> Result<FedLanes, AllocError>
     requires fit { All (FitsLane setup) lanes.items }
     requires ascend { AllPairs (λ l m. l.work.cpu < m.work.cpu) lanes.items }
     requires changes { All IsBelowHalt changes.items }
     ensures legal { IfOk result (λ fed. (specs : List Spec) → AllMean specs setup.tables → IsLegalOf (input_with setup specs (panics_of reactors.now) lanes.items changes.items) (lane_records fed.lanes.items) fed.closed) }
     ensures works { IfOk result (λ fed. works_of fed.lanes.items ≡ works_of lanes.items) }
 {
-    setup.known();
+    setup.assert_invariant();
     let BoardStart { board, mut seat } = Board::new(alloc, setup)?;
     let mut feeders = seat_lanes(alloc, &board, &mut seat, &mut lanes, gate)?;
     let mut changer = Changer {
@@ -142,7 +142,7 @@ pub fn feed<R: Threads + Sync, G: Gate + Send>(
     } = changer;
     board.join(&mut seat, actor);
     join_all(&board, &mut seat, feeders, &mut lanes);
-    Ok(Fed {
+    Ok(FedLanes {
         lanes,
         closed: board.close(seat),
     })

@@ -7,12 +7,12 @@ ghost use Rattle.rv_feed.specs.Lane.{FitsDelivery, panics_of};
 ghost use Rattle.rv_feed.specs.Feeders.{FitsFeeder, RunsFeeder};
 ghost use Rattle.rv_feed.specs.Feeding.{Serves, FeedsDelivery, FeedsTurn, CanFeed, Feeds};
 
-use crate::lane::{Lane, cpu_of, delivery_at, keep, known, turn_at, turn_count};
+use crate::lane::{Lane, assert_invariant, cpu_of, delivery_at, keep, turn_at, turn_count};
 use crate::turn::halts;
 use rv_board::{Board, Seat};
 use rv_io::Gate;
 use rv_model::{
-    Answer, Delivered, Delivery, HALTED, REACTING, Reactor, Turn, has_switch, is_shown,
+    Answer, Delivered, Delivery, HALTED, REACTING, Reactor, Turn, has_switch, is_enabled_by,
 };
 
 /// A CPU's seat, its lane, and the gate that it passes.
@@ -103,7 +103,7 @@ fn play_turn<G: Gate>(
     }
     for place in turn.from..turn.to {
         let delivery = delivery_at(lane, place);
-        if is_shown(word, &delivery) {
+        if is_enabled_by(word, &delivery) {
             if deliver(board, seat, reactors, word, turn.line, place, lane, gate) {
                 return true;
             }
@@ -124,7 +124,7 @@ fn play<G: Gate>(
     requires lane { CanFeed board.now lane.old }
     ensures { Feeds (panics_of reactors.now) seat.old seat.new lane.old lane.new }
 {
-    known(lane);
+    assert_invariant(lane);
     seat.number();
     let cpu = cpu_of(lane);
     for place in 0..turn_count(lane) {

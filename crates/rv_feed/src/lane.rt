@@ -71,7 +71,7 @@ impl Lane {
 }
 
 /// What is known of every lane.
-pub(crate) fn known(lane: &Lane)
+pub(crate) fn assert_invariant(lane: &Lane)
     ensures { IsWork lane.now.work }
 {
     let _ = &lane.work.turns;

@@ -11,7 +11,7 @@ mod one;
 mod order;
 mod turn;
 
-pub use at_once::{Fed, feed, join_all, seat_lanes};
+pub use at_once::{FedLanes, feed, join_all, seat_lanes};
 pub use changer::Changer;
 pub use feeder::Feeder;
 pub use feeders::{run_feeders, run_halves};

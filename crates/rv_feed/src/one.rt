@@ -23,6 +23,6 @@ pub fn replay(
 {
     let mut core = Core::new(alloc, setup)?;
     run_in_order(&mut core, reactors, lanes);
-    core.known();
+    core.assert_invariant();
     Ok(core.close())
 }

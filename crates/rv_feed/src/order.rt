@@ -5,7 +5,7 @@ ghost use Rattle.rv_feed.specs.Lane.{LaneValue, FitLanes, FitsDelivery, panics_o
 ghost use Rattle.rv_feed.specs.Order.{Ran};
 ghost use Rattle.rv_feed.specs.SoFar.{IsPending, next_line, HasLines, IsLeast, PlaysNext};
 
-use crate::lane::{Lane, known, seat_of, turn_at, turn_count};
+use crate::lane::{Lane, assert_invariant, seat_of, turn_at, turn_count};
 use crate::turn::play_turn;
 use rv_core::Core;
 use rv_model::Reactor;
@@ -15,7 +15,7 @@ const NO_LINE: u64 = 1 << 32;
 
 /// A lane, and the line of its next turn.
 #[derive(Clone, Copy, Drop)]
-pub(crate) struct Next {
+pub(crate) struct NextTurn {
     pub lane: usize,
     pub line: u64,
 }
@@ -53,11 +53,11 @@ fn first_lines(lanes: &[Lane]) -> [u64; 64]
 }
 
 /// The lane whose next turn has the least line. The lines are by CPU.
-fn least(lanes: &[Lane], lines: &[u64; 64]) -> Next
+fn least(lanes: &[Lane], lines: &[u64; 64]) -> NextTurn
     requires { All (λ l. l.work.cpu < 64) lanes.now }
     ensures { (places : List ℕ) → HasLines places lines.now lanes.now → IsLeast places lanes.now result }
 {
-    let mut best = Next {
+    let mut best = NextTurn {
         lane: 0,
         line: NO_LINE,
     };
@@ -65,7 +65,7 @@ fn least(lanes: &[Lane], lines: &[u64; 64]) -> Next
         let lane = &lanes[at];
         let line = lines[seat_of(lane) as usize - 2];
         if line < best.line {
-            best = Next { lane: at, line };
+            best = NextTurn { lane: at, line };
         }
     }
     best
@@ -87,13 +87,13 @@ fn goes_on(lanes: &[Lane], lines: &[u64; 64], at: usize, line: u64) -> bool
 
 /// The lane whose next turn has the least line, where no next turn has a line below `from`.
 /// Mostly `from` is the next line of the lane that played last, or of the lane behind it.
-fn next_lane(lanes: &[Lane], lines: &[u64; 64], last: usize, from: u64) -> Next
+fn next_lane(lanes: &[Lane], lines: &[u64; 64], last: usize, from: u64) -> NextTurn
     requires cpu { All (λ l. l.work.cpu < 64) lanes.now }
     requires few { from ≤ 2 ^ 32 }
     ensures { (places : List ℕ) → HasLines places lines.now lanes.now → All (λ l. IsPending places l → from ≤ next_line places l) lanes.now → IsLeast places lanes.now result }
 {
     if goes_on(lanes, lines, last, from) {
-        return Next {
+        return NextTurn {
             lane: last,
             line: from,
         };
@@ -101,7 +101,7 @@ fn next_lane(lanes: &[Lane], lines: &[u64; 64], last: usize, from: u64) -> Next
     let behind = last.saturating_add(1);
     let other = if behind < lanes.len() { behind } else { 0 };
     if goes_on(lanes, lines, other, from) {
-        return Next {
+        return NextTurn {
             lane: other,
             line: from,
         };
@@ -117,7 +117,7 @@ fn play_next(core: &mut Core, reactors: &[Reactor], lane: &mut Lane, place: usiz
     requires room { length lane.old.work.deliveries ≤ lane.old.room }
     ensures { PlaysNext (panics_of reactors.now) core.old core.new lane.old lane.new place result }
 {
-    known(lane);
+    assert_invariant(lane);
     let count = turn_count(lane);
     let turn = turn_at(lane, place);
     if play_turn(core, reactors, lane, &turn) {

@@ -4,12 +4,12 @@ ghost use Rattle.rv_model.specs.declared.work.Delivery.{Delivery};
 ghost use Rattle.rv_model.specs.Numbers.{has_bit};
 ghost use Rattle.rv_model.specs.Scripts.{fails, hit_act};
 ghost use Rattle.rv_feed.specs.Lane.{panics_of, FitsDelivery};
-ghost use Rattle.rv_feed.specs.Turns.{LooksAt, Delivers, PlaysTurn};
+ghost use Rattle.rv_feed.specs.Turns.{LooksAt, DeliversRecorded, PlaysTurn};
 
 use crate::lane::{Lane, delivery_at, is_panic, keep, seat_of};
 use rv_core::Core;
 use rv_model::{
-    Act, Answer, Delivered, HALTED, Hit, REACTING, Reactor, Turn, fails, has_switch, is_shown,
+    Act, Answer, Delivered, HALTED, Hit, REACTING, Reactor, Turn, fails, has_switch, is_enabled_by,
 };
 
 /// Whether a delivery with this answer ends its script.
@@ -53,7 +53,7 @@ fn deliver(
     requires place { place < length lane.old.work.deliveries }
     requires fits { (d : Delivery) → FitsDelivery core.old.setup (slice_index_or lane.old.work.deliveries place d) }
     requires room { length lane.old.records < lane.old.room }
-    ensures { (d : Delivery) → Delivers core.old core.new (panics_of reactors.now) seat word line (slice_index_or lane.old.work.deliveries place d) lane.old lane.new result }
+    ensures { (d : Delivery) → DeliversRecorded core.old core.new (panics_of reactors.now) seat word line (slice_index_or lane.old.work.deliveries place d) lane.old lane.new result }
 {
     let delivery = delivery_at(lane, place);
     let slot = core.shape().slot(delivery.monitor, delivery.instance);
@@ -88,7 +88,7 @@ pub(crate) fn play_turn(core: &mut Core, reactors: &[Reactor], lane: &mut Lane, 
     }
     for place in turn.from..turn.to {
         let delivery = delivery_at(lane, place);
-        if is_shown(word, &delivery) {
+        if is_enabled_by(word, &delivery) {
             if deliver(core, seat, reactors, word, turn.line, place, lane) {
                 return true;
             }

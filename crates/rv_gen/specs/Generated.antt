@@ -3,7 +3,7 @@ use Rattle.std.specs.Prelude.{ℕ, ◌+◌, ◌*◌, ◌/◌, ◌%◌, List, [],
 use Rattle.rv_model.specs.declared.automaton.Edge.{Edge}
 use Rattle.rv_model.specs.Machine.{Machine}
 use Rattle.rv_model.specs.Numbers.{list_of}
-use Rattle.rv_gen.specs.declared.trace.Run.{Run}
+use Rattle.rv_gen.specs.declared.trace.GenTask.{GenTask}
 
 -- ---- the automata (Linux, Documentation/trace/rv, monitor_wip.rst and monitor_wwnr.rst)
 
@@ -59,11 +59,11 @@ abbrev pub second_pid : ℕ → ℕ
 second_pid cpu = first_pid cpu + 1
 
 -- the first task is t, and the second one u
-abbrev pub first_run : ℕ → Run
+abbrev pub first_run : ℕ → GenTask
 first_run cpu = record { comm = 116; pid = first_pid cpu }
 
 -- the second task of a CPU, with its name and pid
-abbrev pub second_run : ℕ → Run
+abbrev pub second_run : ℕ → GenTask
 second_run cpu = record { comm = 117; pid = second_pid cpu }
 
 -- a field, behind a blank
@@ -76,21 +76,21 @@ woken_text event cpu =
     event ++ codes ": comm=t" ++ field_text (codes "pid") (decimal (first_pid cpu)) ++ field_text (codes "prio") (codes "120") ++ field_text (codes "target_cpu") (cpu_text cpu)
 
 -- the task that goes, and its state
-abbrev pub prev_text : Run → List ℕ → List ℕ
+abbrev pub prev_text : GenTask → List ℕ → List ℕ
 prev_text run state =
     field_text (codes "prev_comm") (run.comm ∷ []) ++ field_text (codes "prev_pid") (decimal run.pid) ++ field_text (codes "prev_prio") (codes "120") ++ field_text (codes "prev_state") state
 
 -- the task that comes
-abbrev pub next_text : Run → List ℕ
+abbrev pub next_text : GenTask → List ℕ
 next_text run = field_text (codes "next_comm") (run.comm ∷ []) ++ field_text (codes "next_pid") (decimal run.pid) ++ field_text (codes "next_prio") (codes "120")
 
 -- one task goes, in this state, and another comes
-abbrev pub switch_text : Run → List ℕ → Run → List ℕ
+abbrev pub switch_text : GenTask → List ℕ → GenTask → List ℕ
 switch_text prev state next = codes "sched_switch:" ++ prev_text prev state ++ codes " ==>" ++ next_text next
 
 -- the events of a CPU in a block, in order
-abbrev pub events_of : ℕ → List (List ℕ)
-events_of cpu =
+abbrev pub block_events : ℕ → List (List ℕ)
+block_events cpu =
     codes "preempt_enable: caller=a parent=b"
     ∷ codes "preempt_disable: caller=a parent=b"
     ∷ woken_text (codes "sched_waking") cpu
@@ -110,11 +110,11 @@ abbrev pub six_digits : ℕ → List ℕ
 six_digits n = digit n 100000 ∷ digit n 10000 ∷ digit n 1000 ∷ digit n 100 ∷ digit n 10 ∷ digit n 1 ∷ []
 
 -- line i, from 0: the CPUs take turns, and so do each one's events
-abbrev pub line_text : ℕ → List ℕ
-line_text i =
+abbrev pub generated_line : ℕ → List ℕ
+generated_line i =
     codes "t-" ++ decimal (first_pid (i % 8)) ++ codes " [" ++ cpu_text (i % 8) ++ codes "] 100." ++ six_digits i ++ codes ": "
-    ++ slice_index_or (events_of (i % 8)) (i / 8 % 8) [] ++ codes "\n"
+    ++ slice_index_or (block_events (i % 8)) (i / 8 % 8) [] ++ codes "\n"
 
 -- so many blocks
 abbrev pub trace_text : ℕ → List ℕ
-trace_text blocks = flat_map line_text (list_of (λ i. i) (64 * blocks))
+trace_text blocks = flat_map generated_line (list_of (λ i. i) (64 * blocks))

@@ -1,6 +1,6 @@
 //! The lines of the trace.
 ghost use Rattle.std.specs.Prelude.{◌≡◌, ◌++◌, ◌<◌, [], OnOk, codes, decimal, slice_index_or};
-ghost use Rattle.rv_gen.specs.Generated.{cpu_text, first_pid, first_run, second_run, field_text, woken_text, prev_text, next_text, switch_text, events_of, digit, six_digits, line_text, trace_text};
+ghost use Rattle.rv_gen.specs.Generated.{cpu_text, first_pid, first_run, second_run, field_text, woken_text, prev_text, next_text, switch_text, block_events, digit, six_digits, generated_line, trace_text};
 
 use rv_text::Line;
 use std::alloc::AllocError;
@@ -10,7 +10,7 @@ const BLOCK: u64 = 64;
 
 /// A task, by its name and its pid.
 #[derive(Clone, Copy, Drop)]
-struct Run {
+struct GenTask {
     comm: u8,
     pid: u64,
 }
@@ -24,22 +24,22 @@ fn first_pid(cpu: u64) -> u64
 }
 
 /// The first task of a CPU.
-fn first_run(cpu: u64) -> Run
+fn first_run(cpu: u64) -> GenTask
     requires { cpu < 8 }
     ensures { result ≡ first_run cpu }
 {
-    Run {
+    GenTask {
         comm: b't',
         pid: first_pid(cpu),
     }
 }
 
 /// The second task of a CPU.
-fn second_run(cpu: u64) -> Run
+fn second_run(cpu: u64) -> GenTask
     requires { cpu < 8 }
     ensures { result ≡ second_run cpu }
 {
-    Run {
+    GenTask {
         comm: b'u',
         pid: first_pid(cpu) + 1,
     }
@@ -100,7 +100,7 @@ fn put_woken(out: &mut Line, event: &[u8], cpu: u64) -> Result<(), AllocError>
 }
 
 /// The task that goes, and its state.
-fn put_prev(out: &mut Line, run: Run, state: &[u8]) -> Result<(), AllocError>
+fn put_prev(out: &mut Line, run: GenTask, state: &[u8]) -> Result<(), AllocError>
     ensures { OnOk result (out.new ≡ out.old ++ prev_text run state.now) }
 {
     put_word(out, b"prev_comm", &[run.comm])?;
@@ -110,7 +110,7 @@ fn put_prev(out: &mut Line, run: Run, state: &[u8]) -> Result<(), AllocError>
 }
 
 /// The task that comes.
-fn put_next(out: &mut Line, run: Run) -> Result<(), AllocError>
+fn put_next(out: &mut Line, run: GenTask) -> Result<(), AllocError>
     ensures { OnOk result (out.new ≡ out.old ++ next_text run) }
 {
     put_word(out, b"next_comm", &[run.comm])?;
@@ -119,7 +119,7 @@ fn put_next(out: &mut Line, run: Run) -> Result<(), AllocError>
 }
 
 /// One task goes, in this state, and another comes.
-fn put_switch(out: &mut Line, prev: Run, state: &[u8], next: Run) -> Result<(), AllocError>
+fn put_switch(out: &mut Line, prev: GenTask, state: &[u8], next: GenTask) -> Result<(), AllocError>
     ensures { OnOk result (out.new ≡ out.old ++ switch_text prev state.now next) }
 {
     out.text(b"sched_switch:")?;
@@ -132,7 +132,7 @@ fn put_switch(out: &mut Line, prev: Run, state: &[u8], next: Run) -> Result<(), 
 fn put_event(out: &mut Line, number: u64, cpu: u64) -> Result<(), AllocError>
     requires cpu { cpu < 8 }
     requires number { number < 8 }
-    ensures { OnOk result (out.new ≡ out.old ++ slice_index_or (events_of cpu) number []) }
+    ensures { OnOk result (out.new ≡ out.old ++ slice_index_or (block_events cpu) number []) }
 {
     match number {
         0 | 3 => out.text(b"preempt_enable: caller=a parent=b"),
@@ -168,7 +168,7 @@ fn put_six_digits(out: &mut Line, n: u64) -> Result<(), AllocError>
 
 /// The line of this number.
 fn put_line(out: &mut Line, i: u64) -> Result<(), AllocError>
-    ensures { OnOk result (out.new ≡ out.old ++ line_text i) }
+    ensures { OnOk result (out.new ≡ out.old ++ generated_line i) }
 {
     let cpu = i % 8;
     out.text(b"t-")?;

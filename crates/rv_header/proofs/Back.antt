@@ -13,7 +13,7 @@ use Rattle.rv_dot.proofs.SetOrder.{all_from_members}
 use Rattle.rv_dot.proofs.MachineLaws.{edges_later}
 use Rattle.rv_header.specs.Naming.{is_header_name, has_no_tables}
 use Rattle.rv_header.specs.HeaderText.{tagged, enumerators, enum_text, struct_text, list_text, cells, row_text, function_text, marks, declarations, tables, header_text}
-use Rattle.rv_header.specs.Taking.{pieces, piece, quoted_in, members_in, rows_arcs, marked_by, name_in, states_in, events_in, rows_in, marks_in, are_few, file_in}
+use Rattle.rv_header.specs.Taking.{pieces, piece_from, quoted_in, members_in, rows_arcs, marked_by, name_in, state_names_in, events_in, rows_in, marks_in, are_few, file_in}
 use Rattle.rv_header.proofs.Cuts.{lacks, simple, cut, both_lack, all_lack, simple_lacks, and_then, dotless}
 use Rattle.rv_header.proofs.Listed.{quoted_back}
 use Rattle.rv_header.proofs.RowsBack.{rows_back}
@@ -103,13 +103,13 @@ module _ (name : List ℕ) (a : Machine) (named : is_header_name name ≡ true) 
       (both_lack 46 (list_text (marks a)) (codes ",\n};\n") (list_lacks (marks a) (all_simple_lack (marks a) marked)) refl)
 
   -- one piece of the text
-  piece_at : (place : ℕ) → piece 46 place (header_text name a) ≡ get_or all_pieces place []
-  unfolding piece
-  piece_at place = ap (λ (ps : List (List ℕ)). get_or ps place []) cut_back
+  piece_from_at : (place : ℕ) → piece_from 46 place (header_text name a) ≡ get_or all_pieces place []
+  unfolding piece_from
+  piece_from_at place = ap (λ (ps : List (List ℕ)). get_or ps place []) cut_back
 
   -- the name
   pub name_back : name_in (header_text name a) ≡ name
-  unfolding header_text piece
+  unfolding header_text piece_from
   name_back =
       let members : List ℕ = enumerators name (a.states ++ codes "state_max" ∷ []) in
       let second : List ℕ = enum_text name (codes "events") (a.events ++ codes "event_max" ∷ []) in
@@ -121,20 +121,20 @@ module _ (name : List ℕ) (a : Machine) (named : is_header_name name ≡ true) 
       ∙ ap (λ (ps : List (List ℕ)). drop 7 (get_or ps 1 [])) cuts
 
   -- the states
-  states_back : states_in (header_text name a) ≡ a.states
-  states_back = ap quoted_in (piece_at 1) ∙ quoted_back (codes "state_names = ") (codes ",\n\t") a.states refl refl states
+  states_back : state_names_in (header_text name a) ≡ a.states
+  states_back = ap quoted_in (piece_from_at 1) ∙ quoted_back (codes "state_names = ") (codes ",\n\t") a.states refl refl states
 
   -- the events
   events_back : events_in (header_text name a) ≡ a.events
-  events_back = ap quoted_in (piece_at 2) ∙ quoted_back (codes "event_names = ") (codes ",\n\t") a.events refl refl events
+  events_back = ap quoted_in (piece_from_at 2) ∙ quoted_back (codes "event_names = ") (codes ",\n\t") a.events refl refl events
 
   -- the states and their marks
-  marked_back : marked_by (states_in (header_text name a)) (marks_in (header_text name a)) ≡ states_marked a.marked a.states
+  marked_back : marked_by (state_names_in (header_text name a)) (marks_in (header_text name a)) ≡ states_marked a.marked a.states
   marked_back =
       let some : 0 < length (marks a) = omega (arith, as_many a.marked a.states, formed.some_state) in
       let found = marks_taken (marks a) some marked in
       ap (λ (ss : List (List ℕ)). marked_by ss (marks_in (header_text name a))) states_back
-      ∙ ap (λ (t : List ℕ). marked_by a.states (members_in (piece 123 1 t))) (piece_at 5)
+      ∙ ap (λ (t : List ℕ). marked_by a.states (members_in (piece_from 123 1 t))) (piece_from_at 5)
       ∙ ap (marked_by a.states) found.1 ∙ marks_back a.marked a.states found.0
 
   -- the rows
@@ -146,7 +146,7 @@ module _ (name : List ℕ) (a : Machine) (named : is_header_name name ≡ true) 
   rows_taken =
       let rest : List ℕ = codes "\n" ++ (function_text name a ++ codes "\t},\n\t") in
       let cuts : pieces 123 (codes "function = {\n" ++ (function_text name a ++ codes "\t},\n\t")) ≡ codes "function = " ∷ pieces 123 rest = cut 123 (codes "function = ") rest refl in
-      ap (λ (t : List ℕ). drop 2 (pieces 123 t)) (piece_at 3) ∙ ap (drop 2) cuts
+      ap (λ (t : List ℕ). drop 2 (pieces 123 t)) (piece_from_at 3) ∙ ap (drop 2) cuts
       ∙ ap (λ (t : List ℕ). drop 1 (pieces 123 (codes "\n" ++ (t ++ codes "\t},\n\t")))) (sym (flat_map-map row_text (λ (state : ℕ × List ℕ). cells name a state.0) (enumerate_from 0 a.states)))
 
   -- the edges, as the cells find them
@@ -162,10 +162,10 @@ module _ (name : List ℕ) (a : Machine) (named : is_header_name name ≡ true) 
       range e m = all_member (λ (x : Edge). (x.from < length a.states) × (x.event < length a.events) × (x.to < length a.states)) a.edges e formed.in_range m
 
   -- the arcs
-  arcs_back : rows_arcs (name_in (header_text name a)) (events_in (header_text name a)) (states_in (header_text name a)) (rows_in (header_text name a)) ≡ map (arc_named a.states a.events) a.edges
+  arcs_back : rows_arcs (name_in (header_text name a)) (events_in (header_text name a)) (state_names_in (header_text name a)) (rows_in (header_text name a)) ≡ map (arc_named a.states a.events) a.edges
   arcs_back =
-      ap (λ (n : List ℕ). rows_arcs n (events_in (header_text name a)) (states_in (header_text name a)) (rows_in (header_text name a))) name_back
-      ∙ ap (λ (es : List (List ℕ)). rows_arcs name es (states_in (header_text name a)) (rows_in (header_text name a))) events_back
+      ap (λ (n : List ℕ). rows_arcs n (events_in (header_text name a)) (state_names_in (header_text name a)) (rows_in (header_text name a))) name_back
+      ∙ ap (λ (es : List (List ℕ)). rows_arcs name es (state_names_in (header_text name a)) (rows_in (header_text name a))) events_back
       ∙ ap (λ (ss : List (List ℕ)). rows_arcs name a.events ss (rows_in (header_text name a))) states_back
       ∙ ap (rows_arcs name a.events a.states) rows_taken
       ∙ rows_back name a.events a.states (codes "\n") all_rows (codes "\t},\n\t") refl refl (rows_are name a plain states events marked 0 a.states)
@@ -177,6 +177,6 @@ module _ (name : List ℕ) (a : Machine) (named : is_header_name name ≡ true) 
   pub file_back : file_in (header_text name a) ≡ Some (dot_text a)
   unfolding file_in dot_text
   file_back =
-      let few_states : are_few 31 (states_in (header_text name a)) ≡ true = ap (are_few 31) states_back ∙ states_few a formed in
+      let few_states : are_few 31 (state_names_in (header_text name a)) ≡ true = ap (are_few 31) states_back ∙ states_few a formed in
       let few_events : are_few 64 (events_in (header_text name a)) ≡ true = ap (are_few 64) events_back ∙ events_few a formed in
       rw (few_states, few_events) (ap Some (same_drawing _ (slice_index_or a.states 0 []) _ (states_marked a.marked a.states) _ (map (arc_named a.states a.events) a.edges) (ap (λ (ss : List (List ℕ)). slice_index_or ss 0 []) states_back) marked_back arcs_back))

@@ -4,7 +4,7 @@ use Rattle.std.specs.Prelude.{map, codes}
 use Rattle.std.specs.List.{AllByRecursion, flat_map}
 use Rattle.rv_dot.specs.Canonical.{quoted}
 use Rattle.rv_header.specs.HeaderText.{list_text}
-use Rattle.rv_header.specs.Taking.{pieces, piece, seconds, quoted_in, member_in, members_in}
+use Rattle.rv_header.specs.Taking.{pieces, piece_from, seconds, quoted_in, member_in, members_in}
 use Rattle.rv_header.proofs.Cuts.{lacks, simple, cut, uncut, both_lack, simple_lacks}
 
 -- a comma and a blank, and the member
@@ -42,12 +42,12 @@ quoted_back front end (n ∷ names) h k all =
 
 -- the last member's piece
 last_piece : (x : List ℕ) → simple x ≡ true → member_in (32 ∷ (x ++ codes " }")) ≡ x
-unfolding piece
+unfolding piece_from
 last_piece x h = rw (cut 32 x (codes "}") (simple_lacks 32 refl x h)) refl
 
 -- the piece of a member that is not the last
 first_piece : (x : List ℕ) → simple x ≡ true → member_in (32 ∷ x) ≡ x
-unfolding piece
+unfolding piece_from
 first_piece x h = rw (uncut 32 x (simple_lacks 32 refl x h)) refl
 
 -- the last member, apart

@@ -7,7 +7,7 @@ use Rattle.rv_model.specs.WellFormed.{is_event_byte}
 use Rattle.rv_model.specs.Machine.{Machine}
 use Rattle.rv_dot.specs.Canonical.{quoted}
 use Rattle.rv_header.specs.HeaderText.{tagged, enumerators, enum_text, list_text, target_of, cell_text, cells, row_text, marks}
-use Rattle.rv_header.specs.Taking.{pieces, piece, members_in}
+use Rattle.rv_header.specs.Taking.{pieces, piece_from, members_in}
 use Rattle.rv_header.proofs.Cuts.{lacks, simple, cut, uncut, both_lack, all_lack, simple_lacks}
 use Rattle.rv_header.proofs.Listed.{later, members_back}
 use Rattle.rv_header.proofs.RowsBack.{IsRow}
@@ -64,8 +64,8 @@ all_simple_lack (t ∷ texts) h = (simple_lacks 46 refl t h.0, all_simple_lack t
 
 -- the marks in the last piece
 marks_here : (m : List ℕ) (ms : List (List ℕ)) → simple m ≡ true → AllByRecursion (λ n. simple n ≡ true) ms
-    → (more : List (List ℕ)) × (members_in (piece 123 1 (codes "final_states = " ++ list_text (m ∷ ms) ++ codes ",\n};\n")) ≡ m ∷ ms ++ more)
-unfolding piece
+    → (more : List (List ℕ)) × (members_in (piece_from 123 1 (codes "final_states = " ++ list_text (m ∷ ms) ++ codes ",\n};\n")) ≡ m ∷ ms ++ more)
+unfolding piece_from
 marks_here m ms h all =
     let found = members_back m ms (codes "\n};\n") h all in
     let rest : List ℕ = 32 ∷ (m ++ flat_map later ms ++ (codes " }" ++ 44 ∷ codes "\n};\n")) in
@@ -79,7 +79,7 @@ marks_here m ms h all =
     go (y ∷ ys) k = (simple_lacks 123 refl y k.0, go ys k.1)
 
 -- the same of any marks
-pub marks_taken : (ms : List (List ℕ)) → 0 < length ms → AllByRecursion (λ n. simple n ≡ true) ms → (more : List (List ℕ)) × (members_in (piece 123 1 (codes "final_states = " ++ list_text ms ++ codes ",\n};\n")) ≡ ms ++ more)
+pub marks_taken : (ms : List (List ℕ)) → 0 < length ms → AllByRecursion (λ n. simple n ≡ true) ms → (more : List (List ℕ)) × (members_in (piece_from 123 1 (codes "final_states = " ++ list_text ms ++ codes ",\n};\n")) ≡ ms ++ more)
 marks_taken [] lt all = absurd (omega (arith, lt))
 marks_taken (m ∷ ms) lt all = marks_here m ms all.0 all.1
 

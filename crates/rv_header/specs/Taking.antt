@@ -1,4 +1,4 @@
--- What the reader takes from the text of C tables: its pieces, and what they draw.
+-- Private: what the reader takes from the text of C tables: its pieces, and what they draw.
 use Rattle.std.specs.Prelude.{ℕ, Bool, ◌&&◌, nat_le, Option, Some, None, ◌+◌, ◌-◌, ◌==◌, codes, List, [], ◌∷◌, map, length, take, drop, slice_index_or, if◌then◌else◌}
 use Rattle.std.specs.List.{slice_split, list_all, flat_map, zip}
 use Rattle.std.specs.Str.{bytes_eq}
@@ -10,8 +10,8 @@ abbrev pub pieces : ℕ → List ℕ → List (List ℕ)
 pieces mark text = slice_split (λ b. b == mark) text
 
 -- one of them, or none
-unfoldable pub piece : ℕ → ℕ → List ℕ → List ℕ
-piece mark place text = slice_index_or (pieces mark text) place []
+unfoldable pub piece_from : ℕ → ℕ → List ℕ → List ℕ
+piece_from mark place text = slice_index_or (pieces mark text) place []
 
 -- every second one
 abbrev pub seconds : List (List ℕ) → List (List ℕ)
@@ -25,7 +25,7 @@ quoted_in text = seconds (pieces 34 text)
 
 -- a member of a list: what stands between its first two blanks
 abbrev pub member_in : List ℕ → List ℕ
-member_in text = piece 32 1 text
+member_in text = piece_from 32 1 text
 
 -- the members of a list: the pieces between commas
 unfoldable pub members_in : List ℕ → List (List ℕ)
@@ -57,30 +57,30 @@ marked_by states marks = map (λ p. state_by p.0 p.1) (zip states marks)
 
 -- the header's name, behind `states_`
 abbrev pub name_in : List ℕ → List ℕ
-name_in text = drop 7 (piece 32 1 text)
+name_in text = drop 7 (piece_from 32 1 text)
 
 -- the names of the states
-abbrev pub states_in : List ℕ → List (List ℕ)
-states_in text = quoted_in (piece 46 1 text)
+abbrev pub state_names_in : List ℕ → List (List ℕ)
+state_names_in text = quoted_in (piece_from 46 1 text)
 
 -- the names of the events
 abbrev pub events_in : List ℕ → List (List ℕ)
-events_in text = quoted_in (piece 46 2 text)
+events_in text = quoted_in (piece_from 46 2 text)
 
 -- the rows
 abbrev pub rows_in : List ℕ → List (List ℕ)
-rows_in text = drop 2 (pieces 123 (piece 46 3 text))
+rows_in text = drop 2 (pieces 123 (piece_from 46 3 text))
 
 -- the marks
 abbrev pub marks_in : List ℕ → List (List ℕ)
-marks_in text = members_in (piece 123 1 (piece 46 5 text))
+marks_in text = members_in (piece_from 123 1 (piece_from 46 5 text))
 
 -- what the text draws
 abbrev pub drawing_in : List ℕ → Drawing
 drawing_in text = record {
-  initial = slice_index_or (states_in text) 0 [];
-  states = marked_by (states_in text) (marks_in text);
-  arcs = rows_arcs (name_in text) (events_in text) (states_in text) (rows_in text);
+  initial = slice_index_or (state_names_in text) 0 [];
+  states = marked_by (state_names_in text) (marks_in text);
+  arcs = rows_arcs (name_in text) (events_in text) (state_names_in text) (rows_in text);
 }
 
 -- at most so many names, each of at most 64 bytes
@@ -89,4 +89,4 @@ are_few most names = nat_le (length names) most && list_all (λ name. nat_le (le
 
 -- the text of an automaton file that draws the same, where the names are as many and as long as an automaton's
 unfoldable pub file_in : List ℕ → Option (List ℕ)
-file_in text = if are_few 31 (states_in text) && are_few 64 (events_in text) then Some (drawing_text (drawing_in text)) else None
+file_in text = if are_few 31 (state_names_in text) && are_few 64 (events_in text) then Some (drawing_text (drawing_in text)) else None

@@ -2,7 +2,7 @@
 ghost use Rattle.std.specs.Prelude.{◌≡◌, ◌++◌, IfOk, OnOk, map, slice_index_or, [], codes};
 ghost use Rattle.std.specs.List.{flat_map, zip};
 ghost use Rattle.std.specs.Str.{bytes_eq};
-ghost use Rattle.rv_dot.specs.Canonical.{State, quoted, marker, marker_line, state_line, initial_line, node_line, arc_line, shape_of, drawing_text};
+ghost use Rattle.rv_dot.specs.Canonical.{State, quoted, marker, marker_line, state_line, initial_line, node_line, arc_line, drawn_shape, drawing_text};
 ghost use Rattle.rv_dot.specs.Sets.{bytes_of};
 ghost use Rattle.rv_header.specs.Taking.{untagged, cell_arcs, row_arcs, rows_arcs, members_in, state_by, marked_by};
 
@@ -42,7 +42,7 @@ fn put_marker_line(out: &mut Line, initial: &[u8]) -> Result<(), AllocError>
 }
 
 fn shape(is_marked: bool) -> &'static [u8]
-    ensures { result.now ≡ shape_of is_marked }
+    ensures { result.now ≡ drawn_shape is_marked }
 {
     if is_marked {
         b"doublecircle"
@@ -53,7 +53,7 @@ fn shape(is_marked: bool) -> &'static [u8]
 
 /// Appends the front of a state's declaration.
 fn put_shape(out: &mut Line, is_marked: bool) -> Result<(), AllocError>
-    ensures { OnOk result (out.new ≡ out.old ++ (codes "\t{node [shape = " ++ shape_of is_marked ++ codes "] ")) }
+    ensures { OnOk result (out.new ≡ out.old ++ (codes "\t{node [shape = " ++ drawn_shape is_marked ++ codes "] ")) }
 {
     out.text(b"\t{node [shape = ")?;
     out.text(shape(is_marked))?;

@@ -8,7 +8,9 @@ ghost use Rattle.rv_header.specs.Headers.{IsHeaderOf, Finds, Yields};
 use crate::drawing::{Drawing, drawn};
 use crate::naming::{has_no_tables, is_header_name};
 use crate::tables::written;
-use crate::taking::{are_short, behind, behind_two, members_in, piece, pieces, quoted_in, text_at};
+use crate::taking::{
+    are_short, behind, behind_two, members_in, piece_from, pieces, quoted_in, text_at,
+};
 use rv_dot::read_dot;
 use rv_model::{Automaton, Name};
 use rv_text::{HEADER_SYNTAX, Line, Refusal, Refused};
@@ -37,7 +39,7 @@ fn refused() -> Refused
 fn name_in<'a>(alloc: Global, bytes: &'a [u8]) -> Result<&'a [u8], AllocError>
     ensures { IfOk result (λ name. name.now ≡ name_in bytes.now) }
 {
-    let text = piece(alloc, bytes, b' ', 1)?;
+    let text = piece_from(alloc, bytes, b' ', 1)?;
     Ok(behind(text, b"states_".len()))
 }
 
@@ -49,7 +51,7 @@ fn are_few(names: &[&[u8]], most: usize) -> bool
 }
 
 /// The text of an automaton file that draws the same, where it is no longer than such a text may be.
-#[tactic(auto, unfolding(crate::specs::Taking::piece))]
+#[tactic(auto, unfolding(crate::specs::Taking::piece_from))]
 fn file_in(alloc: Global, bytes: &[u8], name: &[u8]) -> Result<Option<Line>, AllocError>
     requires { name.now ≡ name_in bytes.now }
     ensures { IfOk result (λ text. text ≡ file_in bytes.now) }
@@ -61,7 +63,7 @@ fn file_in(alloc: Global, bytes: &[u8], name: &[u8]) -> Result<Option<Line>, All
         return Ok(None);
     }
     let lines = pieces(alloc, text_at(&texts, 3), b'{')?;
-    let marks = members_in(alloc, piece(alloc, text_at(&texts, 5), b'{', 1)?)?;
+    let marks = members_in(alloc, piece_from(alloc, text_at(&texts, 5), b'{', 1)?)?;
     let drawing = Drawing {
         name,
         states: &states,

@@ -2,7 +2,7 @@
 ghost use Rattle.std.specs.Prelude.{◌≡◌, IfOk, map, slice_index_or, [], drop, nat_le, length};
 ghost use Rattle.std.specs.List.{list_all};
 ghost use Rattle.rv_dot.specs.Sets.{bytes_of};
-ghost use Rattle.rv_header.specs.Taking.{pieces, piece, quoted_in, members_in, seconds};
+ghost use Rattle.rv_header.specs.Taking.{pieces, piece_from, quoted_in, members_in, seconds};
 
 use std::alloc::{AllocError, Global};
 
@@ -32,14 +32,14 @@ pub(crate) fn text_at<'a>(texts: &[&'a [u8]], place: usize) -> &'a [u8]
 }
 
 /// One of the pieces, or an empty one.
-#[tactic(auto, unfolding(crate::specs::Taking::piece))]
-pub(crate) fn piece<'a>(
+#[tactic(auto, unfolding(crate::specs::Taking::piece_from))]
+pub(crate) fn piece_from<'a>(
     alloc: Global,
     text: &'a [u8],
     mark: u8,
     place: usize,
 ) -> Result<&'a [u8], AllocError>
-    ensures { IfOk result (λ found. found.now ≡ piece mark place text.now) }
+    ensures { IfOk result (λ found. found.now ≡ piece_from mark place text.now) }
 {
     let found = pieces(alloc, text, mark)?;
     Ok(text_at(&found, place))
@@ -75,7 +75,7 @@ pub(crate) fn members_in<'a>(alloc: Global, text: &'a [u8]) -> Result<Vec<&'a [u
     let texts = pieces(alloc, text, b',')?;
     let mut found = Vec::new(alloc);
     'texts: for text in &texts {
-        found.push(piece(alloc, *text, b' ', 1)?)?;
+        found.push(piece_from(alloc, *text, b' ', 1)?)?;
     }
     Ok(found)
 }

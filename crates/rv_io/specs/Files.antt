@@ -18,22 +18,22 @@ unfoldable pub front_read : List ℕ → List ℕ
 front_read bytes = take READ_LIMIT bytes
 
 -- a read of a name where the files are told: that file's bytes, cut, or what there is of them
-abbrev pub ReadsTold : Option (List ℕ) → ℕ → ℕ → Result (Vec ℕ Global) ReadError → Type 0
-ReadsTold (Some bytes) before now (Ok read) = read.items ≡ front_read bytes
-ReadsTold None before now (Ok read) = ⊥
-ReadsTold (Some bytes) before now (Err NoFile) = ⊥
-ReadsTold None before now (Err NoFile) = now ≡ before
-ReadsTold _ before now (Err Failed) = Rose before now
-ReadsTold _ before now (Err Memory) = Unit {0}
+abbrev pub ReadsKnown : Option (List ℕ) → ℕ → ℕ → Result (Vec ℕ Global) ReadError → Type 0
+ReadsKnown (Some bytes) before now (Ok read) = read.items ≡ front_read bytes
+ReadsKnown None before now (Ok read) = ⊥
+ReadsKnown (Some bytes) before now (Err NoFile) = ⊥
+ReadsKnown None before now (Err NoFile) = now ≡ before
+ReadsKnown _ before now (Err Failed) = Rose before now
+ReadsKnown _ before now (Err Memory) = Unit {0}
 
 -- a read where the files are not told: no error without a fault, but for want of memory
-abbrev pub ReadsUntold : ℕ → ℕ → Result (Vec ℕ Global) ReadError → Type 0
-ReadsUntold before now (Ok read) = Unit {0}
-ReadsUntold before now (Err NoFile) = Rose before now
-ReadsUntold before now (Err Failed) = Rose before now
-ReadsUntold before now (Err Memory) = Unit {0}
+abbrev pub ReadsOpaque : ℕ → ℕ → Result (Vec ℕ Global) ReadError → Type 0
+ReadsOpaque before now (Ok read) = Unit {0}
+ReadsOpaque before now (Err NoFile) = Rose before now
+ReadsOpaque before now (Err Failed) = Rose before now
+ReadsOpaque before now (Err Memory) = Unit {0}
 
 -- what a read of a name may answer, by what the store tells
 abbrev pub Reads : Option Files → List ℕ → ℕ → ℕ → Result (Vec ℕ Global) ReadError → Type 0
-Reads (Some files) name before now result = ReadsTold (files name) before now result
-Reads None name before now result = ReadsUntold before now result
+Reads (Some files) name before now result = ReadsKnown (files name) before now result
+Reads None name before now result = ReadsOpaque before now result

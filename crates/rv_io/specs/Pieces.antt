@@ -12,22 +12,22 @@ pub record IsPiece (bytes : List ℕ) (from : ℕ) (old new : List ℕ) (count :
   pub none : count ≡ 0 → (old ≡ []) ⊎ (length bytes ≤ from)
 
 -- a piece where the files are told: of that file's bytes, or what there is of them
-abbrev pub PiecesTold : Option (List ℕ) → ℕ → List ℕ → List ℕ → ℕ → ℕ → Result ℕ ReadError → Type 0
-PiecesTold (Some bytes) from old new before now (Ok count) = IsPiece bytes from old new count
-PiecesTold None from old new before now (Ok count) = ⊥
-PiecesTold (Some bytes) from old new before now (Err NoFile) = ⊥
-PiecesTold None from old new before now (Err NoFile) = (new ≡ old) × (now ≡ before)
-PiecesTold _ from old new before now (Err Failed) = (new ≡ old) × Rose before now
-PiecesTold _ from old new before now (Err Memory) = new ≡ old
+abbrev pub PiecesKnown : Option (List ℕ) → ℕ → List ℕ → List ℕ → ℕ → ℕ → Result ℕ ReadError → Type 0
+PiecesKnown (Some bytes) from old new before now (Ok count) = IsPiece bytes from old new count
+PiecesKnown None from old new before now (Ok count) = ⊥
+PiecesKnown (Some bytes) from old new before now (Err NoFile) = ⊥
+PiecesKnown None from old new before now (Err NoFile) = (new ≡ old) × (now ≡ before)
+PiecesKnown _ from old new before now (Err Failed) = (new ≡ old) × Rose before now
+PiecesKnown _ from old new before now (Err Memory) = new ≡ old
 
 -- a piece where the files are not told: no error without a fault, but for want of memory
-abbrev pub PiecesUntold : List ℕ → List ℕ → ℕ → ℕ → Result ℕ ReadError → Type 0
-PiecesUntold old new before now (Ok count) = (count ≤ length old) × (length new ≡ length old)
-PiecesUntold old new before now (Err NoFile) = (new ≡ old) × Rose before now
-PiecesUntold old new before now (Err Failed) = (new ≡ old) × Rose before now
-PiecesUntold old new before now (Err Memory) = new ≡ old
+abbrev pub PiecesOpaque : List ℕ → List ℕ → ℕ → ℕ → Result ℕ ReadError → Type 0
+PiecesOpaque old new before now (Ok count) = (count ≤ length old) × (length new ≡ length old)
+PiecesOpaque old new before now (Err NoFile) = (new ≡ old) × Rose before now
+PiecesOpaque old new before now (Err Failed) = (new ≡ old) × Rose before now
+PiecesOpaque old new before now (Err Memory) = new ≡ old
 
 -- what a piece of a name may be, by what the store tells
-abbrev pub Pieces : Option Files → List ℕ → ℕ → List ℕ → List ℕ → ℕ → ℕ → Result ℕ ReadError → Type 0
-Pieces (Some files) name from old new before now result = PiecesTold (files name) from old new before now result
-Pieces None name from old new before now result = PiecesUntold old new before now result
+abbrev pub ReadsPiece : Option Files → List ℕ → ℕ → List ℕ → List ℕ → ℕ → ℕ → Result ℕ ReadError → Type 0
+ReadsPiece (Some files) name from old new before now result = PiecesKnown (files name) from old new before now result
+ReadsPiece None name from old new before now result = PiecesOpaque old new before now result

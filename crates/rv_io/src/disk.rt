@@ -2,7 +2,7 @@
 ghost use Rattle.std.specs.Prelude.{◌≡◌, ◌≤◌, ◌⊎◌, None, take, length, IsOk, IsErrOf, IfOk, IfSome, OnErr};
 ghost use Rattle.rv_io.specs.Calls.{risen};
 ghost use Rattle.rv_io.specs.Files.{Reads};
-ghost use Rattle.rv_io.specs.Pieces.{Pieces};
+ghost use Rattle.rv_io.specs.Pieces.{ReadsPiece};
 ghost use Rattle.rv_io.specs.Reading.{ReadsMore};
 
 use crate::{READ_LIMIT, ReadError, Store};
@@ -217,7 +217,7 @@ impl<R: Files> Store for Disk<'_, R> {
         into: &mut [u8],
     ) -> Result<usize, ReadError>
         ensures later { self.old ≤ self.new }
-        ensures piece { Pieces None name.now from into.old into.new self.old self.new result }
+        ensures piece { ReadsPiece None name.now from into.old into.new self.old self.new result }
         ensures same { IsOk result ⊎ IsErrOf result ReadError.Memory → self.new ≡ self.old }
         ensures fault { IsErrOf result ReadError.NoFile ⊎ IsErrOf result ReadError.Failed → self.new ≡ risen self.old }
     {

@@ -3,7 +3,7 @@ ghost use Rattle.std.specs.Prelude.{◌≡◌, ◌≤◌, ◌↔◌, ◌∷◌, 
 ghost use Rattle.rv_io.specs.Calls.{is_listed};
 ghost use Rattle.rv_io.specs.Files.{Reads, front_read};
 ghost use Rattle.rv_io.specs.MemStores.{lookup, counted, Copies, CopiesPiece, IsReplaced};
-ghost use Rattle.rv_io.specs.Pieces.{Pieces};
+ghost use Rattle.rv_io.specs.Pieces.{ReadsPiece};
 
 use crate::calls::Calls;
 use crate::piece::piece_of;
@@ -202,7 +202,7 @@ impl Store for MemStore {
         into: &mut [u8],
     ) -> Result<usize, ReadError>
         ensures later { self.old.calls.faults ≤ self.new.calls.faults }
-        ensures piece { Pieces (Some (lookup self.old.files)) name.now from into.old into.new self.old.calls.faults self.new.calls.faults result }
+        ensures piece { ReadsPiece (Some (lookup self.old.files)) name.now from into.old into.new self.old.calls.faults self.new.calls.faults result }
         ensures failed { IsErrOf result ReadError.Failed ↔ IsTrue (is_listed self.old.calls) }
         ensures no_file { IsErrOf result ReadError.NoFile ↔ ((is_listed self.old.calls ≡ false) × (lookup self.old.files name.now ≡ None)) }
         ensures cut { IfOk result (λ count. IfSome self.old.most (λ most. count ≤ most)) }

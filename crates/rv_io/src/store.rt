@@ -1,7 +1,7 @@
 //! What gives files by their names.
 ghost use Rattle.std.specs.Prelude.{◌≡◌, ◌≤◌, ℕ, Option};
 ghost use Rattle.rv_io.specs.Files.{Files, Reads};
-ghost use Rattle.rv_io.specs.Pieces.{Pieces};
+ghost use Rattle.rv_io.specs.Pieces.{ReadsPiece};
 
 use std::alloc::Global;
 use thiserror::Error;
@@ -46,5 +46,5 @@ pub trait Store {
     ) -> Result<usize, ReadError>
         ensures kept { files self.new ≡ files self.old }
         ensures later { faults self.old ≤ faults self.new }
-        ensures piece { Pieces (files self.old) name.now from into.old into.new (faults self.old) (faults self.new) result };
+        ensures piece { ReadsPiece (files self.old) name.now from into.old into.new (faults self.old) (faults self.new) result };
 }

@@ -9,10 +9,10 @@ use Rattle.rv_model.specs.Histories.{changed}
 use Rattle.rv_model.specs.Setups.{Setup}
 use Rattle.rv_core.specs.Setup.{FitsAct}
 use Rattle.rv_journal.specs.declared.counted.Counted.{Counted}
-use Rattle.rv_journal.specs.declared.steps.Step.{Step}
-use Rattle.rv_journal.specs.declared.steps.Step.TheVariants.{Item}
+use Rattle.rv_journal.specs.declared.steps.MergeStep.{MergeStep}
+use Rattle.rv_journal.specs.declared.steps.MergeStep.TheVariants.{Item}
 use Rattle.rv_journal.specs.MergeSteps.{items_of, changes_on}
-use Rattle.rv_journal.specs.MergeStates.{Mark, mark, items_in, entries_in, entry_in, is_left, IsItemAct, AllTold, Divides, StandsAs, Lanes, IsUnderWay}
+use Rattle.rv_journal.specs.MergeStates.{Mark, mark, items_in, entries_in, entry_in, is_left, IsItemAct, AreKnownItems, Divides, StandsAs, Lanes, IsUnderWay}
 use Rattle.rv_journal.proofs.MarkLemmas.{filter_yes, filter_no, first-left, next-open}
 use Rattle.rv_journal.proofs.PlaceLemmas.{changes-marks, changes-snoc}
 
@@ -76,9 +76,9 @@ divides-on slot h front back c on many d =
     }
 
 -- the next item of a lane is an item's act, which fits
-pub next-told : (s : Setup) (whole : List Counted) (lanes : Lanes) → AllTold s whole → (history : List Entry) (rest : ℕ → List Step) → IsUnderWay s whole lanes history rest → (m : ℕ) → m < lanes.many → (c : Counted) (steps : List Step) → rest m ≡ Item c ∷ steps → IsItemAct c.entry.act × FitsAct s c.entry.act
-next-told s whole lanes told history rest u m low c steps at =
+pub next-told : (s : Setup) (whole : List Counted) (lanes : Lanes) → AreKnownItems s whole → (history : List Entry) (rest : ℕ → List MergeStep) → IsUnderWay s whole lanes history rest → (m : ℕ) → m < lanes.many → (c : Counted) (steps : List MergeStep) → rest m ≡ Item c ∷ steps → IsItemAct c.entry.act × FitsAct s c.entry.act
+next-told s whole lanes observed history rest u m low c steps at =
     let first = first-left (lanes.seat m) u.marks c (items_of steps) (sym (u.left m low) ∙ ap items_of at) in
     let cut : whole ≡ items_in first.front ++ c ∷ items_in first.back = sym u.marks_are ∙ (ap items_in first.is ∙ map-append (λ (x : Mark). x.item) first.front (mark false c ∷ first.back)) in
-    let t = told (items_in first.front) c (items_in first.back) cut in
+    let t = observed (items_in first.front) c (items_in first.back) cut in
     (t.item_act, t.fits)

@@ -22,12 +22,12 @@ use Rattle.rv_model.proofs.TableJudgeLemmas.{every_table_is_judged}
 use Rattle.rv_word.specs.Words.{set_in}
 use Rattle.rv_core.specs.Advance.{WhatFits, FitsTable}
 use Rattle.rv_core.specs.Core.{IsLive, slot_phase}
-use Rattle.rv_core.specs.Setup.{IsSetup, judges_of, table_at, place_of}
+use Rattle.rv_core.specs.Setup.{IsSetup, judges_of, table_at, word_index}
 use Rattle.rv_core.proofs.CoreLemmas.{table_at-is, judge-at, word_of-is}
 use Rattle.rv_core.proofs.LevelLemmas.{levels_are_bits}
 use Rattle.rv_core.proofs.TurnLemmas.{set_of, fits-start, turn-live}
 use Rattle.rv_core.proofs.WordLemmas.{Acts, live-same, phase_after-other}
-use Rattle.rv_verdicts.proofs.PastLemmas.{Each}
+use Rattle.rv_laws.proofs.PastLemmas.{Each}
 use Rattle.rv_journal.specs.Whole.{is_start_run, shows_failure, is_failed_entry}
 use Rattle.rv_journal.proofs.TotalLemmas.{same_or_not}
 
@@ -108,7 +108,7 @@ pub record FitsPast (s : Setup) (past : List Entry) (e : Entry) : Type 0 where
   pub fits : FitsEntry s e.act
 
 -- an act on a slot wants what fits
-acts-on : (s : Setup) (i : ℕ) (act : Act) → FitsEntry s act → place_of act ≡ i + 1 → Acts (table_at s i) (start_of s i) act
+acts-on : (s : Setup) (i : ℕ) (act : Act) → FitsEntry s act → word_index act ≡ i + 1 → Acts (table_at s i) (start_of s i) act
 acts-on s i (Deliver slot hit) f e =
     let same : slot ≡ i = omega arith in
     let fits : FitsTable (table_at s i) hit = subst (λ (n : ℕ). FitsTable (table_at s n) hit) same f.1 in
@@ -134,7 +134,7 @@ module _ (s : Setup) (k : IsSetup s) where
   live-next past e i lt fits live =
       let j : Judge = table_judge (table_at s i) in
       let on : ℕ → Bool = level (start_of s i) (e ∷ past) i in
-      elim (same_or_not (place_of e.act) (i + 1)) [
+      elim (same_or_not (word_index e.act) (i + 1)) [
         | inl same ↦ live-same (table_at s i) (table_at-is s k i lt) j (judges-it i lt) (start_of s i) on i e.act (slot_phase s past i) (acts-on s i e.act fits same) live same
         | inr other ↦ subst (IsLive j) (sym (phase_after-other j on i e.act (slot_phase s past i) other)) live
       ]

@@ -10,7 +10,7 @@ use Rattle.rv_model.specs.Setups.{Setup}
 use Rattle.rv_model.specs.Judging.{Judge}
 use Rattle.rv_model.specs.Histories.{IsSound, changed, is_on}
 use Rattle.rv_model.specs.Seats.{entries_of}
-use Rattle.rv_core.specs.Setup.{place_of}
+use Rattle.rv_core.specs.Setup.{word_index}
 use Rattle.rv_journal.specs.CountedWords.{is_deliver, counts, count_on, entries_by, most_entries}
 
 -- how many pass a test, with one entry more
@@ -37,7 +37,7 @@ pub count-snoc : (slot : ℕ) (history : List Entry) (e : Entry) → count_on sl
 count-snoc slot history e = passed (counts slot) history e
 
 -- an act on another word is not on the slot
-not-on : (slot : ℕ) (act : Act) → place_of act ≢ suc slot → is_on slot act ≡ false
+not-on : (slot : ℕ) (act : Act) → word_index act ≢ suc slot → is_on slot act ≡ false
 not-on slot (Deliver other hit) ne = grind (arith, nat_tests)
 not-on slot (Stop other) ne = grind (arith, nat_tests)
 not-on slot (Clear other) ne = grind (arith, nat_tests)
@@ -47,7 +47,7 @@ not-on slot (Raise bits) ne = refl
 not-on slot (Lower bits) ne = refl
 
 -- what is on another word is not counted
-pub counts-other : (slot : ℕ) (e : Entry) → place_of e.act ≢ suc slot → counts slot e ≡ false
+pub counts-other : (slot : ℕ) (e : Entry) → word_index e.act ≢ suc slot → counts slot e ≡ false
 counts-other slot e ne = on (is_deliver e.act) (is_on slot e.act) (not-on slot e.act ne)
   where
     on : (a b : Bool) → b ≡ false → (a && (b && not (e.before == e.after))) ≡ false
@@ -120,7 +120,7 @@ all_below k (e ∷ es) held =
 -- no history is so long that a count would not fit
 pub few-entries : (k : Setup) (js : List Judge) (history : List Entry) → IsSound k js history → ((n : ℕ) → entries_by n history ≤ most_entries) → length history ≤ 268000000
 few-entries k js history sound few =
-    let all = all_below 67 history (λ a e b is. (sound.held a e b is).0) in
+    let all = all_below 67 history (λ a e b is. (sound.permitted a e b is).0) in
     let some_more = below_few 67 most_entries history few in
     omega arith
 

@@ -13,28 +13,28 @@ use Rattle.rv_model.specs.Setups.{Setup}
 use Rattle.rv_model.specs.SharedWords.{answer_at}
 use Rattle.rv_model.specs.Works.{NamesEach}
 use Rattle.rv_core.specs.Setup.{judges_of}
-use Rattle.rv_board.specs.Deliveries.{Delivers}
+use Rattle.rv_board.specs.Deliveries.{DeliversOrStops}
 use Rattle.rv_board.specs.Seats.{BoardId, SeatValue, SeatGrows}
 use Rattle.rv_board.proofs.GrowLemmas.{same_known, grows_none, grows_then}
 use Rattle.rv_board.proofs.Knowing.{none_before, none_after}
 use Rattle.rv_journal.specs.declared.counted.Counted.{Counted}
 use Rattle.rv_journal.specs.CountedSeats.{CountedValue, Counts}
-use Rattle.rv_journal.specs.CountedLanes.{CountedLaneValue, IsNewCountedLane, slot_at, EndsAs, IsTold, AllToldAfter, entries_told, FeedsCounted, KeepsTold}
+use Rattle.rv_journal.specs.CountedLanes.{CountedLaneValue, IsNewCountedLane, slot_at, EndsAs, IsObserved, AllObservedAfter, entries_observed, FeedsCounted, KeepsObserved}
 use Rattle.rv_journal.proofs.CountedStepLemmas.{snoc-front, snoc-last}
 
 -- ---- one delivery
 
 -- it ends as the board's call says, by its entry at the end of the list
-ends-as : (old new : SeatValue) (d : Delivery) (told : Counted) (outcome : Delivered) → told.outcome ≡ outcome → (counts : Counts old new (slot_at old.board.setup d) told) → Delivers old new (slot_at old.board.setup d) d.hit outcome
-    → SeatGrows old new (told.entry ∷ []) × EndsAs old.board.setup (slot_at old.board.setup d) d ((old.part.seen ++ counts.earlier) ++ counts.since) counts.since told.entry outcome
-ends-as old new d told (Done answer) is counts made =
-    let same : made.entry ≡ told.entry = snoc-last made.before ((old.part.seen ++ counts.earlier) ++ counts.since) made.entry told.entry (sym made.list ∙ counts.list) in
-    let front : made.before ≡ (old.part.seen ++ counts.earlier) ++ counts.since = snoc-front made.before ((old.part.seen ++ counts.earlier) ++ counts.since) made.entry told.entry (sym made.list ∙ counts.list) in (
+ends-as : (old new : SeatValue) (d : Delivery) (observed : Counted) (outcome : Delivered) → observed.outcome ≡ outcome → (counts : Counts old new (slot_at old.board.setup d) observed) → DeliversOrStops old new (slot_at old.board.setup d) d.hit outcome
+    → SeatGrows old new (observed.entry ∷ []) × EndsAs old.board.setup (slot_at old.board.setup d) d ((old.part.seen ++ counts.earlier) ++ counts.since) counts.since observed.entry outcome
+ends-as old new d observed (Done answer) is counts made =
+    let same : made.entry ≡ observed.entry = snoc-last made.before ((old.part.seen ++ counts.earlier) ++ counts.since) made.entry observed.entry (sym made.list ∙ counts.list) in
+    let front : made.before ≡ (old.part.seen ++ counts.earlier) ++ counts.since = snoc-front made.before ((old.part.seen ++ counts.earlier) ++ counts.since) made.entry observed.entry (sym made.list ∙ counts.list) in (
       subst (λ (e : Entry). SeatGrows old new (e ∷ [])) same made.acts.grows,
       (ap (λ (e : Entry). e.act) (sym same) ∙ made.acts.act_is, made.answer_is ∙ (λ i. answer_at old.board.setup (judges_of old.board.setup) (reverse (front i)) (same i) ((same i).act))),
     )
-ends-as old new d told Racing is counts given =
-    let same : given.entry ≡ told.entry = snoc-last (old.part.seen ++ given.added) ((old.part.seen ++ counts.earlier) ++ counts.since) given.entry told.entry (sym given.list ∙ counts.list) in (
+ends-as old new d observed Racing is counts given =
+    let same : given.entry ≡ observed.entry = snoc-last (old.part.seen ++ given.added) ((old.part.seen ++ counts.earlier) ++ counts.since) given.entry observed.entry (sym given.list ∙ counts.list) in (
       subst (λ (e : Entry). SeatGrows old new (e ∷ [])) same given.acts.grows,
       (ap (λ (e : Entry). e.act) (sym same) ∙ given.acts.act_is, counts.racing is),
     )
@@ -44,12 +44,12 @@ pub none-more : (known : ℕ → Bool) (list more : List Entry) → entries_of k
 none-more known list more none = filter-append (λ (e : Entry). known e.seat) list more ∙ (ap (λ (z : List Entry). entries_of known list ++ z) none ∙ append-nil (entries_of known list))
 
 -- what the board's call tells is so in the seat's list
-pub fed-one : (old new : CountedValue) (d : Delivery) (told : Counted) → Counts old.seat new.seat (slot_at old.seat.board.setup d) told → Delivers old.seat new.seat (slot_at old.seat.board.setup d) d.hit told.outcome → new.left + 1 ≡ old.left
-    → FeedsCounted old new (d ∷ []) (told ∷ [])
-fed-one old new d told counts delivers left =
-    let does = ends-as old.seat new.seat d told told.outcome refl counts delivers in record {
+pub fed-one : (old new : CountedValue) (d : Delivery) (observed : Counted) → Counts old.seat new.seat (slot_at old.seat.board.setup d) observed → DeliversOrStops old.seat new.seat (slot_at old.seat.board.setup d) d.hit observed.outcome → new.left + 1 ≡ old.left
+    → FeedsCounted old new (d ∷ []) (observed ∷ [])
+fed-one old new d observed counts delivers left =
+    let does = ends-as old.seat new.seat d observed observed.outcome refl counts delivers in record {
       grows = does.0;
-      told = (
+      observed = (
         record {
           earlier = old.seat.part.seen ++ counts.earlier;
           unseen = counts.earlier;
@@ -72,13 +72,13 @@ fed-one old new d told counts delivers left =
 
 module _ (s : Setup) (known : ℕ → Bool) where
   -- what was told is so in every list that goes on from the list
-  told-longer : (seen list more own : List Entry) (d : Delivery) (told : Counted) → IsTold s known seen list own d told → IsTold s known seen (list ++ more) own d told
-  told-longer seen list more own d told i = record {
+  told-longer : (seen list more own : List Entry) (d : Delivery) (observed : Counted) → IsObserved s known seen list own d observed → IsObserved s known seen (list ++ more) own d observed
+  told-longer seen list more own d observed i = record {
     earlier = i.earlier;
     unseen = i.unseen;
     since = i.since;
     later = i.later ++ more;
-    list_is = ap (λ z. z ++ more) i.list_is ∙ append_assoc (i.earlier ++ i.since) (told.entry ∷ i.later) more;
+    list_is = ap (λ z. z ++ more) i.list_is ∙ append_assoc (i.earlier ++ i.since) (observed.entry ∷ i.later) more;
     least = i.least;
     own_are = i.own_are;
     others = i.others;
@@ -88,8 +88,8 @@ module _ (s : Setup) (known : ℕ → Bool) where
   }
 
   -- and behind every front of what was seen
-  told-since : (seen more list own : List Entry) (d : Delivery) (told : Counted) → IsTold s known (seen ++ more) list own d told → IsTold s known seen list own d told
-  told-since seen more list own d told i = record {
+  told-since : (seen more list own : List Entry) (d : Delivery) (observed : Counted) → IsObserved s known (seen ++ more) list own d observed → IsObserved s known seen list own d observed
+  told-since seen more list own d observed i = record {
     earlier = i.earlier;
     unseen = more ++ i.unseen;
     since = i.since;
@@ -104,45 +104,45 @@ module _ (s : Setup) (known : ℕ → Bool) where
   }
 
   -- of each
-  all-longer : (seen list more own : List Entry) (ds : List Delivery) (cs : List Counted) → AllToldAfter s known seen list own ds cs → AllToldAfter s known seen (list ++ more) own ds cs
+  all-longer : (seen list more own : List Entry) (ds : List Delivery) (cs : List Counted) → AllObservedAfter s known seen list own ds cs → AllObservedAfter s known seen (list ++ more) own ds cs
   all-longer seen list more own [] [] all = tt
   all-longer seen list more own [] (c ∷ cs) all = absurd all
   all-longer seen list more own (d ∷ ds) [] all = absurd all
   all-longer seen list more own (d ∷ ds) (c ∷ cs) all = (told-longer seen list more own d c all.0, all-longer seen list more (own ++ c.entry ∷ []) ds cs all.1)
 
   -- one more, behind the entries of all before it
-  told-push : (seen list own : List Entry) (ds : List Delivery) (cs : List Counted) (d : Delivery) (c : Counted) → AllToldAfter s known seen list own ds cs → IsTold s known seen list (own ++ entries_told cs) d c → AllToldAfter s known seen list own (ds ++ d ∷ []) (cs ++ c ∷ [])
-  told-push seen list own [] [] d c all one = (subst (λ (z : List Entry). IsTold s known seen list z d c) (append-nil own) one, tt)
+  told-push : (seen list own : List Entry) (ds : List Delivery) (cs : List Counted) (d : Delivery) (c : Counted) → AllObservedAfter s known seen list own ds cs → IsObserved s known seen list (own ++ entries_observed cs) d c → AllObservedAfter s known seen list own (ds ++ d ∷ []) (cs ++ c ∷ [])
+  told-push seen list own [] [] d c all one = (subst (λ (z : List Entry). IsObserved s known seen list z d c) (append-nil own) one, tt)
   told-push seen list own [] (y ∷ cs) d c all one = absurd all
   told-push seen list own (x ∷ ds) [] d c all one = absurd all
   told-push seen list own (x ∷ ds) (y ∷ cs) d c all one =
-      (all.0, told-push seen list (own ++ y.entry ∷ []) ds cs d c all.1 (subst (λ (z : List Entry). IsTold s known seen list z d c) (sym (append_assoc own (y.entry ∷ []) (entries_told cs))) one))
+      (all.0, told-push seen list (own ++ y.entry ∷ []) ds cs d c all.1 (subst (λ (z : List Entry). IsObserved s known seen list z d c) (sym (append_assoc own (y.entry ∷ []) (entries_observed cs))) one))
 
 -- no delivery adds nothing
 pub fed-none : (old : CountedValue) → IsSound old.seat.board.setup (judges_of old.seat.board.setup) old.seat.part.seen → FeedsCounted old old [] []
-fed-none old sound = record { grows = grows_none old.seat sound; told = tt; left = omega arith }
+fed-none old sound = record { grows = grows_none old.seat sound; observed = tt; left = omega arith }
 
 -- one delivery after others
-pub fed-more : (a b c : CountedValue) (ds : List Delivery) (cs : List Counted) (d : Delivery) (told : Counted) → FeedsCounted a b ds cs → FeedsCounted b c (d ∷ []) (told ∷ []) → FeedsCounted a c (ds ++ d ∷ []) (cs ++ told ∷ [])
-fed-more a b c ds cs d told one two =
-    let own : entries_told (cs ++ told ∷ []) ≡ entries_told cs ++ told.entry ∷ [] = map-append (λ (t : Counted). t.entry) cs (told ∷ []) in
-    let known = same_known a.seat b.seat (entries_told cs) one.grows in
+pub fed-more : (a b c : CountedValue) (ds : List Delivery) (cs : List Counted) (d : Delivery) (observed : Counted) → FeedsCounted a b ds cs → FeedsCounted b c (d ∷ []) (observed ∷ []) → FeedsCounted a c (ds ++ d ∷ []) (cs ++ observed ∷ [])
+fed-more a b c ds cs d observed one two =
+    let own : entries_observed (cs ++ observed ∷ []) ≡ entries_observed cs ++ observed.entry ∷ [] = map-append (λ (t : Counted). t.entry) cs (observed ∷ []) in
+    let known = same_known a.seat b.seat (entries_observed cs) one.grows in
     let setup : b.seat.board.setup ≡ a.seat.board.setup = ap (λ (x : BoardId). x.setup) one.grows.board in
     let s = a.seat.board.setup in
     let knows : ℕ → Bool = known_of a.seat.part in
     let before : List Entry = entries_of knows a.seat.part.seen in
-    let so_far : entries_of (known_of b.seat.part) b.seat.part.seen ≡ before ++ entries_told cs =
+    let so_far : entries_of (known_of b.seat.part) b.seat.part.seen ≡ before ++ entries_observed cs =
     (λ i. entries_of (known i) (one.grows.grows.list i)) ∙ (filter-append (λ (e : Entry). knows e.seat) a.seat.part.seen one.grows.grows.rest ∙ ap (λ (z : List Entry). before ++ z) one.grows.grows.known) in
-    let own_then : IsTold s knows (a.seat.part.seen ++ one.grows.grows.rest) c.seat.part.seen (before ++ entries_told cs) d told =
-    subst (λ (z : (Setup × (ℕ → Bool)) × (List Entry × List Entry)). IsTold z.0.0 z.0.1 z.1.0 c.seat.part.seen z.1.1 d told) (λ i. ((setup i, known i), (one.grows.grows.list i, so_far i))) two.told.0 in
-    let last : IsTold s knows a.seat.part.seen c.seat.part.seen (before ++ entries_told cs) d told = told-since s knows a.seat.part.seen one.grows.grows.rest c.seat.part.seen (before ++ entries_told cs) d told own_then in
-    let first_ones : AllToldAfter s knows a.seat.part.seen c.seat.part.seen before ds cs =
-    subst (λ (l : List Entry). AllToldAfter s knows a.seat.part.seen l before ds cs) (sym two.grows.grows.list) (all-longer s knows a.seat.part.seen b.seat.part.seen two.grows.grows.rest before ds cs one.told) in
+    let own_then : IsObserved s knows (a.seat.part.seen ++ one.grows.grows.rest) c.seat.part.seen (before ++ entries_observed cs) d observed =
+    subst (λ (z : (Setup × (ℕ → Bool)) × (List Entry × List Entry)). IsObserved z.0.0 z.0.1 z.1.0 c.seat.part.seen z.1.1 d observed) (λ i. ((setup i, known i), (one.grows.grows.list i, so_far i))) two.observed.0 in
+    let last : IsObserved s knows a.seat.part.seen c.seat.part.seen (before ++ entries_observed cs) d observed = told-since s knows a.seat.part.seen one.grows.grows.rest c.seat.part.seen (before ++ entries_observed cs) d observed own_then in
+    let first_ones : AllObservedAfter s knows a.seat.part.seen c.seat.part.seen before ds cs =
+    subst (λ (l : List Entry). AllObservedAfter s knows a.seat.part.seen l before ds cs) (sym two.grows.grows.list) (all-longer s knows a.seat.part.seen b.seat.part.seen two.grows.grows.rest before ds cs one.observed) in
     let count = length-append ds (d ∷ []) in
     let first = one.left in
     let second = two.left in record {
-      grows = subst (SeatGrows a.seat c.seat) (sym own) (grows_then a.seat b.seat c.seat (entries_told cs) [] told.entry one.grows two.grows);
-      told = told-push s knows a.seat.part.seen c.seat.part.seen before ds cs d told first_ones last;
+      grows = subst (SeatGrows a.seat c.seat) (sym own) (grows_then a.seat b.seat c.seat (entries_observed cs) [] observed.entry one.grows two.grows);
+      observed = told-push s knows a.seat.part.seen c.seat.part.seen before ds cs d observed first_ones last;
       left = omega arith;
     }
 
@@ -177,20 +177,20 @@ next-turn place count at turns turn low is names =
 pub fed-start : (old : CountedValue) (lane : CountedLaneValue) → IsSound old.seat.board.setup (judges_of old.seat.board.setup) old.seat.part.seen → IsNewCountedLane lane.work lane → NamesEach 0 lane.work.turns (length lane.work.deliveries) → FedTurns old old lane lane 0
 fed-start old lane sound new names = record {
   place = 0;
-  fed = record { feeds = subst (FeedsCounted old old []) (sym new.nothing_told) (fed-none old sound); work_is = refl; room = new.room; count = ap length new.nothing_told };
+  fed = record { feeds = subst (FeedsCounted old old []) (sym new.nothing_observed) (fed-none old sound); work_is = refl; room = new.room; count = ap length new.nothing_observed };
   names = names;
 }
 
 -- one more delivery was made
-pub fed-next : (old cur next : CountedValue) (lane lane' lane'' : CountedLaneValue) (place : ℕ) (d : Delivery) (told : Counted) → FedTo old cur lane lane' place → place < length lane.work.deliveries → d ≡ get_or lane.work.deliveries place d
-    → FeedsCounted cur next (d ∷ []) (told ∷ []) → KeepsTold lane' lane'' told → FedTo old next lane lane'' (place + 1)
-fed-next old cur next lane lane' lane'' place d told fed low is feeds kept =
+pub fed-next : (old cur next : CountedValue) (lane lane' lane'' : CountedLaneValue) (place : ℕ) (d : Delivery) (observed : Counted) → FedTo old cur lane lane' place → place < length lane.work.deliveries → d ≡ get_or lane.work.deliveries place d
+    → FeedsCounted cur next (d ∷ []) (observed ∷ []) → KeepsObserved lane' lane'' observed → FedTo old next lane lane'' (place + 1)
+fed-next old cur next lane lane' lane'' place d observed fed low is feeds kept =
     let more : take place lane.work.deliveries ++ d ∷ [] ≡ take (place + 1) lane.work.deliveries = ap (λ (x : Delivery). take place lane.work.deliveries ++ x ∷ []) is ∙ sym (take_more lane.work.deliveries place d low) in
-    let all = fed-more old cur next (take place lane.work.deliveries) lane'.counted d told fed.feeds feeds in
+    let all = fed-more old cur next (take place lane.work.deliveries) lane'.counted d observed fed.feeds feeds in
     let room = fed.room in
     let wider = kept.room in
     let count = fed.count in
-    let longer : length lane''.counted ≡ length lane'.counted + 1 = ap length kept.counted_is ∙ length-append lane'.counted (told ∷ []) in record {
+    let longer : length lane''.counted ≡ length lane'.counted + 1 = ap length kept.counted_is ∙ length-append lane'.counted (observed ∷ []) in record {
       feeds = subst (λ (z : List Delivery × List Counted). FeedsCounted old next z.0 z.1) (λ i. (more i, sym kept.counted_is i)) all;
       work_is = kept.work_is ∙ fed.work_is;
       room = omega arith;

@@ -17,7 +17,7 @@ use Rattle.rv_board.specs.Rule.{width, first_view}
 use Rattle.rv_board.proofs.SplitLemmas.{opens_with}
 use Rattle.rv_board.proofs.WordSteps.{opening-is}
 use Rattle.rv_journal.specs.declared.words.Width.{Width}
-use Rattle.rv_journal.specs.CountedWords.{IsNarrow, counted_word, rows_at, counted_at, also_counted, KeptCounted}
+use Rattle.rv_journal.specs.CountedWords.{FitsCountedWord, counted_word, rows_at, counted_at, also_counted, KeptCounted}
 use Rattle.rv_journal.specs.CountedSeats.{no_width, IsWidth, AreWidths}
 use Rattle.rv_journal.specs.Openings.{OpensCounted}
 use Rattle.rv_journal.proofs.WidthLemmas.{one-below, packed-narrow}
@@ -64,7 +64,7 @@ module _ (s : Setup) (widths : List Width) (fits : FitsShape s) (are : AreWidths
   some-rows = let w = width-at in let begins = w.begins in omega arith
 
   -- the opening word takes 32 bits
-  pub opening-narrow : IsNarrow (rows_at s slot) (packed 1 (start_of s slot))
+  pub opening-narrow : FitsCountedWord (rows_at s slot) (packed 1 (start_of s slot))
   opening-narrow = packed-narrow (rows_at s slot) 1 (start_of s slot) (one-below (rows_at s slot) some-rows) start-fits
 
   -- it is the word of an empty history
@@ -83,7 +83,7 @@ opens-counted s widths k are rows = record {
   counted = record {
     rows = rows;
     begins = λ slot low. (width-at s widths k.fits are slot low).begins;
-    narrow_words = λ slot low. subst (IsNarrow (rows_at s slot)) (sym (opening-word s widths k.fits are slot low k)) (opening-narrow s widths k.fits are slot low);
+    narrow_words = λ slot low. subst (FitsCountedWord (rows_at s slot)) (sym (opening-word s widths k.fits are slot low k)) (opening-narrow s widths k.fits are slot low);
     few = λ n. omega arith;
   };
 }

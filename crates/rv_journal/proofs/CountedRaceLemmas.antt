@@ -17,7 +17,7 @@ use Rattle.rv_board.specs.Steps.{Saw}
 use Rattle.rv_board.proofs.Knowing.{none_append}
 use Rattle.rv_board.proofs.SoundLemmas.{changes, filter_append}
 use Rattle.rv_board.proofs.RaceLemmas.{Lost}
-use Rattle.rv_journal.specs.CountedWords.{counted_word, word_in, count_on, rows_at, counted_at, IsCounted}
+use Rattle.rv_journal.specs.CountedWords.{counted_word, word_in, count_on, rows_at, counted_at, FitsCounts}
 use Rattle.rv_journal.specs.CountedSteps.{SawCounted}
 use Rattle.rv_journal.proofs.CountLemmas.{count-append, counted-changes}
 use Rattle.rv_journal.proofs.CountedWordLemmas.{at-slot, slot-word, found-word}
@@ -40,7 +40,7 @@ counted-word-changes s history more slot sound ne = dite (ℕ_discrete (word_of 
 pub record LostCounted (u w : View) (slot lost raw : ℕ) : Type 0 where
   pub plain : Lost u w slot lost (word_in (rows_at u.setup slot) raw)
   pub raw_is : raw ≡ counted_at u.setup w.part.seen (slot + 1)
-  pub counted : IsCounted u.setup w.part.seen
+  pub counted : FitsCounts u.setup w.part.seen
 
 module _ (slot : ℕ) where
   -- at the first load no try is lost
@@ -49,7 +49,7 @@ module _ (slot : ℕ) where
       let saw = s.0 in
       let setup : u.setup ≡ v.setup = ap (λ (z : View). z.setup) saw.same in
       let sound : IsSound u.setup (judges_of u.setup) u.part.seen = subst (λ (k : Setup). IsSound k (judges_of k) u.part.seen) (sym setup) saw.sound in
-      let counted : IsCounted u.setup u.part.seen = subst (λ (k : Setup). IsCounted k u.part.seen) (sym setup) s.1 in
+      let counted : FitsCounts u.setup u.part.seen = subst (λ (k : Setup). FitsCounts k u.part.seen) (sym setup) s.1 in
       let is : raw ≡ counted_at u.setup u.part.seen (slot + 1) = saw.word ∙ ap (λ (k : Setup). counted_at k u.part.seen (slot + 1)) (sym setup) in record {
         plain = record {
           same = subst (λ (z : View). z ≡ with_seen z z.part.seen) (sym saw.same) refl;
@@ -72,7 +72,7 @@ module _ (slot : ℕ) where
       let setup : w.setup ≡ u.setup = ap (λ (z : View). z.setup) p.same in
       let here : found ≡ counted_at u.setup x.part.seen (slot + 1) = saw.word ∙ ap (λ (k : Setup). counted_at k x.part.seen (slot + 1)) setup in
       let sound : IsSound u.setup (judges_of u.setup) x.part.seen = subst (λ (k : Setup). IsSound k (judges_of k) x.part.seen) setup saw.sound in
-      let counted : IsCounted u.setup x.part.seen = subst (λ (k : Setup). IsCounted k x.part.seen) setup s.1 in
+      let counted : FitsCounts u.setup x.part.seen = subst (λ (k : Setup). FitsCounts k x.part.seen) setup s.1 in
       let moved : counted_at u.setup (w.part.seen ++ saw.rest) (slot + 1) ≢ counted_at u.setup w.part.seen (slot + 1) = λ same. ne (here ∙ (ap (λ (h : List Entry). counted_at u.setup h (slot + 1)) saw.list ∙ (same ∙ sym l.raw_is))) in
       let one = counted-word-changes u.setup w.part.seen saw.rest slot (subst (IsSound u.setup (judges_of u.setup)) saw.list sound) moved in
       let before = p.count in

@@ -3,7 +3,7 @@ use Rattle.std.proofs.Common.{◌≡◌, ℕ, suc, ◌+◌, ◌<◌, ◌≤◌, 
 use Rattle.std.proofs.lemmas.Bool.Decides.{nat_tests}
 use Rattle.rv_model.specs.Setups.{Setup}
 use Rattle.rv_model.specs.Histories.{IsSound}
-use Rattle.rv_model.specs.Seats.{is_in, entries_of}
+use Rattle.rv_model.specs.Seats.{is_within, entries_of}
 use Rattle.rv_core.specs.Setup.{judges_of}
 use Rattle.rv_board.specs.declared.view.View.{View}
 use Rattle.rv_board.specs.Rule.{first_view, cut_left, cut_right, joined}
@@ -11,19 +11,19 @@ use Rattle.rv_board.specs.Steps.{Ours}
 use Rattle.rv_board.proofs.Knowing.{none_of}
 use Rattle.rv_board.proofs.NumberLemmas.{range_left, range_right}
 use Rattle.rv_board.proofs.CallLemmas.{usable_first}
-use Rattle.rv_journal.specs.CountedWords.{entries_by, most_entries, IsCounted}
+use Rattle.rv_journal.specs.CountedWords.{entries_by, most_entries, FitsCounts}
 use Rattle.rv_journal.specs.CountedSteps.{SawCounted}
 use Rattle.rv_journal.specs.CountedSeats.{IsCountedSeat}
 use Rattle.rv_journal.proofs.CountLemmas.{by-none}
 use Rattle.rv_journal.proofs.CountedCallLemmas.{room-begun, unused-begun}
 
 -- the first seat
-pub seat-first : (k : Setup) (me : Ours) → me ≡ (first_view k, []) → IsCounted k [] → IsCountedSeat 0 67 most_entries me
+pub seat-first : (k : Setup) (me : Ours) → me ≡ (first_view k, []) → FitsCounts k [] → IsCountedSeat 0 67 most_entries me
 seat-first k me is counted = subst (IsCountedSeat 0 67 most_entries) (sym is) record { usable = usable_first k (first_view k, []) refl; counted = counted; room = omega arith; unused = refl }
 
 -- the number of a cut may be handed on
-in-cut : (number at end : ℕ) → number < at → at < end → is_in (suc number) end at ≡ true
-unfolding is_in
+in-cut : (number at end : ℕ) → number < at → at < end → is_within (suc number) end at ≡ true
+unfolding is_within
 in-cut number at end low high = grind (arith, nat_tests)
 
 module _ (number end left at : ℕ) (me : Ours) (c : IsCountedSeat number end left me) (low : me.0.part.number < at) (high : at < me.0.part.end) where
@@ -36,19 +36,19 @@ module _ (number end left at : ℕ) (me : Ours) (c : IsCountedSeat number end le
         usable = record { number_is = u.number_is; end_is = refl; has = low; small = omega arith; left = refl; right = refl; empty = u.empty; sound = u.sound };
         counted = c.counted;
         room = c.room;
-        unused = none_of (is_in (suc me.0.part.number) me.0.part.end) (is_in (suc me.0.part.number) at) me.0.part.seen (λ n t. range_left (suc me.0.part.number) at me.0.part.end n (omega arith) t) c.unused;
+        unused = none_of (is_within (suc me.0.part.number) me.0.part.end) (is_within (suc me.0.part.number) at) me.0.part.seen (λ n t. range_left (suc me.0.part.number) at me.0.part.end n (omega arith) t) c.unused;
       }
 
   -- the new seat has made no entry
   pub seat-above : (me' : Ours) → me' ≡ (cut_right at me.0, []) → IsCountedSeat at end most_entries me'
   seat-above me' is =
       let u = c.usable in
-      let none : entries_by at me.0.part.seen ≡ 0 = by-none (is_in (suc me.0.part.number) me.0.part.end) at me.0.part.seen (in-cut me.0.part.number at me.0.part.end low high) c.unused in
+      let none : entries_by at me.0.part.seen ≡ 0 = by-none (is_within (suc me.0.part.number) me.0.part.end) at me.0.part.seen (in-cut me.0.part.number at me.0.part.end low high) c.unused in
       subst (IsCountedSeat at end most_entries) (sym is) record {
         usable = record { number_is = refl; end_is = u.end_is; has = high; small = u.small; left = refl; right = refl; empty = refl; sound = u.sound };
         counted = c.counted;
         room = omega arith;
-        unused = none_of (is_in (suc me.0.part.number) me.0.part.end) (is_in (suc at) me.0.part.end) me.0.part.seen (λ n t. range_right (suc me.0.part.number) (suc at) me.0.part.end n (omega arith) t) c.unused;
+        unused = none_of (is_within (suc me.0.part.number) me.0.part.end) (is_within (suc at) me.0.part.end) me.0.part.seen (λ n t. range_right (suc me.0.part.number) (suc at) me.0.part.end n (omega arith) t) c.unused;
       }
 
 -- a seat that another was joined into, after its load
@@ -74,7 +74,7 @@ seat-joined number end left m m' w found c s held =
         empty = held;
         sound = subst (λ (z : Setup). IsSound z (judges_of z) m'.0.part.seen) (sym k) saw.sound;
       };
-      counted = subst (λ (z : Setup). IsCounted z m'.0.part.seen) (sym k) s.1;
+      counted = subst (λ (z : Setup). FitsCounts z m'.0.part.seen) (sym k) s.1;
       room = subst (λ (z : ℕ). entries_by z m'.0.part.seen + left ≤ most_entries) (sym n) all;
-      unused = subst (λ (z : ℕ × ℕ). entries_of (is_in (suc z.0) z.1) m'.0.part.seen ≡ []) (λ i. (sym n i, sym e i)) (unused-begun m'.0.part.seen m.0.part saw.left c.unused);
+      unused = subst (λ (z : ℕ × ℕ). entries_of (is_within (suc z.0) z.1) m'.0.part.seen ≡ []) (λ i. (sym n i, sym e i)) (unused-begun m'.0.part.seen m.0.part saw.left c.unused);
     }

@@ -13,7 +13,7 @@ use Rattle.rv_model.specs.declared.entry.Act.TheVariants.{Deliver, Stop}
 use Rattle.rv_model.specs.declared.entry.Entry.{Entry}
 use Rattle.rv_model.specs.declared.hit.Hit.{Hit}
 use Rattle.rv_model.specs.Setups.{Setup}
-use Rattle.rv_core.specs.Setup.{place_of, table_at}
+use Rattle.rv_core.specs.Setup.{word_index, table_at}
 use Rattle.rv_board.specs.declared.view.View.{View}
 use Rattle.rv_board.specs.Known.{knows}
 use Rattle.rv_board.specs.Rule.{width, with_seen}
@@ -22,8 +22,8 @@ use Rattle.rv_board.proofs.Knowing.{knows_own}
 use Rattle.rv_board.proofs.WordSteps.{place-within, Acted, acts}
 use Rattle.rv_board.proofs.ViewLemmas.{St}
 use Rattle.rv_board.proofs.KeepLemmas.{CanMake, sees_with, makes_with}
-use Rattle.rv_journal.specs.CountedWords.{IsNarrow, IsBelow, rows_at, counted_at, entries_by, most_entries, IsCounted, also_counted, KeptCounted}
-use Rattle.rv_journal.specs.CountedSteps.{SawCounted, MadeCounted, Sees, Tries, Stops, next_counted}
+use Rattle.rv_journal.specs.CountedWords.{FitsCountedWord, IsBelow, rows_at, counted_at, entries_by, most_entries, FitsCounts, also_counted, KeptCounted}
+use Rattle.rv_journal.specs.CountedSteps.{SawCounted, MadeCounted, IsCountedLoad, IsCountedExchange, IsCountedStop, next_counted}
 use Rattle.rv_journal.proofs.CountLemmas.{by-append, by-none}
 use Rattle.rv_journal.proofs.WidthLemmas.{rows-few}
 use Rattle.rv_journal.proofs.CountedWordLemmas.{counted-elsewhere, narrow-small, zero-narrow, hit-narrow, hit-leaves, stop-leaves, counted-made}
@@ -33,10 +33,10 @@ sees-at : (k : Setup) (id : ℕ) (me : Ours) (i : ℕ) → i < width k → me.0.
     → KeptCounted k (stepped s i (slice_index s.words i) id me.1 (with_seen me.0 r.history) keeps) × SawCounted me.0 (with_seen me.0 r.history) i (slice_index s.words i)
 sees-at k id me i inside setup has s r at =
     let t = sees_with counted_at (also_counted k) k id me i inside setup has s r at r.further in
-    (t.0, (t.1, subst (λ (z : Setup). IsCounted z r.history) (sym setup) r.further))
+    (t.0, (t.1, subst (λ (z : Setup). FitsCounts z r.history) (sym setup) r.further))
 
 -- the same, as it is asked for
-pub sees : (k : Setup) (slots id : ℕ) (me : Ours) (i : ℕ) → i < width k → me.0.setup ≡ k → me.0.part.number < me.0.part.end → Allows (KeptCounted k) slots id me i (λ n. n) (Sees (step slots i 0 0 none) me)
+pub sees : (k : Setup) (slots id : ℕ) (me : Ours) (i : ℕ) → i < width k → me.0.setup ≡ k → me.0.part.number < me.0.part.end → Allows (KeptCounted k) slots id me i (λ n. n) (IsCountedLoad (step slots i 0 0 none) me)
 sees k slots id me i inside setup has s r _ at _ = let t = sees-at k id me i inside setup has s r at in (with_seen me.0 r.history, keeps, tt, t.0, (t.1, refl))
 
 -- what ends with an entry has one
@@ -65,37 +65,37 @@ snoc-last (a ∷ as_more) (b ∷ bs) x y e = let tail : as_more ++ x ∷ [] ≡ 
 has-room : (k : Setup) (id : ℕ) (v : View) (s : St) (r : KeptCounted k s) → get_elem? s.views id ≡ some v → v.part.number < v.part.end → entries_by v.part.number v.part.seen < most_entries → entries_by v.part.number r.history < most_entries
 has-room k id v s r at has room =
     let b = (r.fits id v at).begun in
-    let own = knows_own v.part.number v.part.end v.part.gone has in
+    let own = knows_own v.part.number v.part.end v.part.joined_in has in
     let rest : entries_by v.part.number b.rest ≡ 0 = by-none (knows v.part) v.part.number b.rest own b.none in
     let all : entries_by v.part.number r.history ≡ entries_by v.part.number v.part.seen + entries_by v.part.number b.rest = ap (entries_by v.part.number) b.whole ∙ by-append v.part.number v.part.seen b.rest in
     omega arith
 
 -- a step that makes an act on a slot, whose word takes 32 bits
-makes-at : (k : Setup) (id : ℕ) (me : Ours) (slot : ℕ) (act : Act) (n : ℕ) → place_of act ≡ slot + 1 → slot < sum k.shape → CanMake k me.0 act → entries_by me.0.part.number me.0.part.seen < most_entries
+makes-at : (k : Setup) (id : ℕ) (me : Ours) (slot : ℕ) (act : Act) (n : ℕ) → word_index act ≡ slot + 1 → slot < sum k.shape → CanMake k me.0 act → entries_by me.0.part.number me.0.part.seen < most_entries
     → (s : St) (r : KeptCounted k s) → get_elem? s.views id ≡ some me.0
-    → IsNarrow (rows_at k slot) (made_after k me.0.part.number act r.history).after
+    → FitsCountedWord (rows_at k slot) (made_after k me.0.part.number act r.history).after
     → (Acted k r.history me.0.part.number act → n ≡ counted_at k (r.history ++ made_after k me.0.part.number act r.history ∷ []) (slot + 1))
-    → KeptCounted k (stepped s (place_of act) n id me.1 (with_seen me.0 (r.history ++ made_after k me.0.part.number act r.history ∷ [])) keeps)
-    × MadeCounted me.0 (with_seen me.0 (r.history ++ made_after k me.0.part.number act r.history ∷ [])) act (slice_index s.words (place_of act))
+    → KeptCounted k (stepped s (word_index act) n id me.1 (with_seen me.0 (r.history ++ made_after k me.0.part.number act r.history ∷ [])) keeps)
+    × MadeCounted me.0 (with_seen me.0 (r.history ++ made_after k me.0.part.number act r.history ∷ [])) act (slice_index s.words (word_index act))
 makes-at k id me slot act n at low can room s r there is leaves =
     let x : Entry = made_after k me.0.part.number act r.history in
     let small = narrow-small (rows_at k slot) x.after (rows-few (table_at k slot) (r.further.rows slot low)) is in
     let does : Acted k r.history me.0.part.number act = acts k r.history me.0.part.number act r.machine r.sound.replays can.fits can.bits small in
-    let gives : n ≡ counted_at k (r.history ++ x ∷ []) (place_of act) = leaves does ∙ ap (counted_at k (r.history ++ x ∷ [])) (sym at) in
-    let more : IsCounted k (r.history ++ x ∷ []) = counted-made k r.history me.0.part.number slot act at r.further does (has-room k id me.0 s r there can.has room) is in
+    let gives : n ≡ counted_at k (r.history ++ x ∷ []) (word_index act) = leaves does ∙ ap (counted_at k (r.history ++ x ∷ [])) (sym at) in
+    let more : FitsCounts k (r.history ++ x ∷ []) = counted-made k r.history me.0.part.number slot act at r.further does (has-room k id me.0 s r there can.has room) is in
     let t = makes_with counted_at (also_counted k) k id me act n can s r there does gives (λ j inside ne. counted-elsewhere k r.history x j (λ e. ne (sym e)) (does.others j inside ne)) more in
     let same : r.history ≡ me.0.part.seen ++ t.1.rest = snoc-front r.history (me.0.part.seen ++ t.1.rest) x (made_after me.0.setup me.0.part.number act (me.0.part.seen ++ t.1.rest)) t.1.list in (
       t.0,
       record {
         made = t.1;
-        before = subst (λ (z : Setup × List Entry). IsCounted z.0 z.1) (λ i. (sym can.setup i, same i)) r.further;
-        after = subst (λ (z : Setup). IsCounted z (r.history ++ x ∷ [])) (sym can.setup) more;
+        before = subst (λ (z : Setup × List Entry). FitsCounts z.0 z.1) (λ i. (sym can.setup i, same i)) r.further;
+        after = subst (λ (z : Setup). FitsCounts z (r.history ++ x ∷ [])) (sym can.setup) more;
       },
     )
 
 -- a compare-exchange that delivers where it finds what the next word was computed from
 pub tries : (k : Setup) (slots id : ℕ) (me : Ours) (slot old new : ℕ) (hit : Hit) → slot < sum k.shape → CanMake k me.0 (Deliver slot hit) → entries_by me.0.part.number me.0.part.seen < most_entries → IsBelow (32 - rows_at k slot) hit.what
-    → new ≡ next_counted (table_at k slot) (rows_at k slot) old hit → Allows (KeptCounted k) slots id me (slot + 1) (λ n. either (n == old) new n) (Tries (step slots (slot + 1) old new (some (Deliver slot hit))) me)
+    → new ≡ next_counted (table_at k slot) (rows_at k slot) old hit → Allows (KeptCounted k) slots id me (slot + 1) (λ n. either (n == old) new n) (IsCountedExchange (step slots (slot + 1) old new (some (Deliver slot hit))) me)
 tries k slots id me slot old new hit low can room below is s r _ at _ = on (found == old) refl
   where
     found : ℕ
@@ -104,7 +104,7 @@ tries k slots id me slot old new hit low can room below is s r _ at _ = on (foun
     inside : slot + 1 < width k
     inside = place-within k (Deliver slot hit) can.fits
 
-    on : (b : Bool) → (found == old) ≡ b → (w : View) × (a : table.Act Act) × Valid s.homes me.1 a × KeptCounted k (stepped s (slot + 1) (either (found == old) new found) id me.1 w a) × Tries (step slots (slot + 1) old new (some (Deliver slot hit))) me found (w, carried_after me.1 a)
+    on : (b : Bool) → (found == old) ≡ b → (w : View) × (a : table.Act Act) × Valid s.homes me.1 a × KeptCounted k (stepped s (slot + 1) (either (found == old) new found) id me.1 w a) × IsCountedExchange (step slots (slot + 1) old new (some (Deliver slot hit))) me found (w, carried_after me.1 a)
     on true same =
         let is_old : found ≡ old = grind (arith, nat_tests) in
         let raw : old ≡ counted_at k r.history (slot + 1) = sym is_old ∙ r.words (slot + 1) inside in
@@ -126,7 +126,7 @@ stops-at k slots id me slot low can room s r _ at _ =
     (with_seen me.0 (r.history ++ made_after k me.0.part.number (Stop slot) r.history ∷ []), keeps, tt, t.0, (t.1, refl))
 
 -- the same, as it is asked for
-pub stops : (k : Setup) (slots id : ℕ) (me : Ours) (slot : ℕ) → slot < sum k.shape → CanMake k me.0 (Stop slot) → entries_by me.0.part.number me.0.part.seen < most_entries → Allows (KeptCounted k) slots id me (slot + 1) (λ n. bit_and n 4294967295) (Stops (step slots (slot + 1) 4294967295 0 none) me)
+pub stops : (k : Setup) (slots id : ℕ) (me : Ours) (slot : ℕ) → slot < sum k.shape → CanMake k me.0 (Stop slot) → entries_by me.0.part.number me.0.part.seen < most_entries → Allows (KeptCounted k) slots id me (slot + 1) (λ n. bit_and n 4294967295) (IsCountedStop (step slots (slot + 1) 4294967295 0 none) me)
 stops k slots id me slot low can room =
     let back : slot ≡ (slot + 1) - 1 = omega arith in
     subst (λ (z : ℕ). Allows (KeptCounted k) slots id me (slot + 1) (λ n. bit_and n 4294967295) (λ found m'. MadeCounted me.0 m'.0 (Stop z) found × (m'.1 ≡ me.1))) back (stops-at k slots id me slot low can room)

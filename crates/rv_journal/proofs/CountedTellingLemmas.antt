@@ -9,7 +9,7 @@ use Rattle.rv_model.specs.declared.record.Delivered.TheVariants.{Racing}
 use Rattle.rv_model.specs.Setups.{Setup}
 use Rattle.rv_model.specs.Histories.{IsSound}
 use Rattle.rv_model.specs.Seats.{entries_of}
-use Rattle.rv_core.specs.Setup.{place_of, table_at, judges_of}
+use Rattle.rv_core.specs.Setup.{word_index, table_at, judges_of}
 use Rattle.rv_core.specs.Advance.{advanced}
 use Rattle.rv_board.specs.declared.view.View.{View}
 use Rattle.rv_board.specs.Known.{knows}
@@ -50,15 +50,15 @@ module _ (old : SeatValue) (u w x : View) (slot begun lost raw found : ℕ) (s :
     front-sound = sound-front w.setup (judges_of w.setup) (w.part.seen ++ m.made.rest) (made_after w.setup w.part.number act (w.part.seen ++ m.made.rest) ∷ []) (subst (IsSound w.setup (judges_of w.setup)) m.made.list m.made.sound)
 
     -- the count that was found is the slot's, just before the entry
-    count-found : place_of act ≡ slot + 1 → count_in found ≡ count_on slot (w.part.seen ++ m.made.rest)
+    count-found : word_index act ≡ slot + 1 → count_in found ≡ count_on slot (w.part.seen ++ m.made.rest)
     count-found at =
         found-count w.setup (w.part.seen ++ m.made.rest) 0 slot m.before (subst (λ (k : Setup). slot < sum k.shape) (sym setup-is) low) found front-sound
         (m.made.word ∙ ap (counted_at w.setup (w.part.seen ++ m.made.rest)) at)
 
     -- what the call tells of its entry and the counts
-    pub counts-by : (table : TableId) (told : Counted) → place_of act ≡ slot + 1 → told.entry ≡ made_after w.setup w.part.number act (w.part.seen ++ m.made.rest) → told.first ≡ count_in begun → told.count ≡ count_in found → (told.outcome ≡ Racing → 3 ≤ lost)
-        → Counts old (seat_value x.part (board_id table x.setup)) slot told
-    counts-by table told at entry-is first-is count-is racing = record {
+    pub counts-by : (table : TableId) (observed : Counted) → word_index act ≡ slot + 1 → observed.entry ≡ made_after w.setup w.part.number act (w.part.seen ++ m.made.rest) → observed.first ≡ count_in begun → observed.count ≡ count_in found → (observed.outcome ≡ Racing → 3 ≤ lost)
+        → Counts old (seat_value x.part (board_id table x.setup)) slot observed
+    counts-by table observed at entry-is first-is count-is racing = record {
       earlier = s.0.rest;
       since = l.plain.rest ++ m.made.rest;
       list = m.made.list ∙ (λ i. front-is i ++ sym entry-is i ∷ []);

@@ -7,17 +7,17 @@ use Rattle.rv_model.specs.declared.entry.Entry.{Entry}
 use Rattle.rv_model.specs.declared.hit.Hit.{Hit}
 use Rattle.rv_model.specs.declared.hit.What.{What}
 use Rattle.rv_model.specs.declared.hit.What.TheVariants.{Da, Ltl, Nothing}
-use Rattle.rv_journal.specs.declared.names.Kind.TheVariants as kinds
-use Rattle.rv_journal.specs.declared.names.Verb.TheVariants as verbs
-use Rattle.rv_journal.specs.EntryTexts.{mode_word, what_words, act_words, entry_words, IsWhat, IsAct, Runs, IsNoEnd, IsEntry}
+use Rattle.rv_journal.specs.declared.names.LetterKind.TheVariants as kinds
+use Rattle.rv_journal.specs.declared.names.ActVerb.TheVariants as verbs
+use Rattle.rv_journal.specs.EntryTexts.{mode_word, what_words, act_words, entry_words, IsWhat, IsAct, RunsLetter, IsNoEnd, IsEntry}
 use Rattle.rv_journal.specs.PieceReadings.{most_8, most_32, most_64}
-use Rattle.rv_journal.specs.EntryReadings.{off_from, pulse_from, what_of, what_from, hit_from, run_from, deliver_from, numbered_from, act_of, act_from, ended, acted_from, before_from, after_from, entry_from}
+use Rattle.rv_journal.specs.EntryReadings.{off_from, pulse_from, what_of, what_from, hit_from, run_from, deliver_from, numbered_from, act_of, act_from, all_words_read, acted_from, before_from, after_from, entry_from}
 use Rattle.rv_journal.proofs.NumberLemmas.{number_from-decimal}
 use Rattle.rv_journal.proofs.ThenLemmas.{then-some}
 use Rattle.rv_journal.proofs.NameLemmas.{verb-first, kind-first, mode-first}
 
 -- what is run
-what-read : (what : What) (rest : List (List ℕ)) → IsWhat what → Runs what → what_from (what_words what ++ rest) ≡ Some (what, rest)
+what-read : (what : What) (rest : List (List ℕ)) → IsWhat what → RunsLetter what → what_from (what_words what ++ rest) ≡ Some (what, rest)
 what-read (Da event) rest is runs =
     then-some what_of (kind-first kinds.Da (decimal event ∷ rest))
     ∙ then-some (λ event rest. Some (Da event, rest)) (number_from-decimal most_8 event rest (omega arith) (omega arith))
@@ -62,4 +62,4 @@ entry-read e is =
     then-some acted_from (number_from-decimal most_32 e.seat (act_words e.act ++ ends) (omega arith) (omega arith))
     ∙ then-some (before_from e.seat) (act-read e.act ends is.act is.no_end)
     ∙ then-some (after_from e.seat e.act) (number_from-decimal most_64 e.before (decimal e.after ∷ []) (omega arith) (omega arith))
-    ∙ then-some (λ after rest. ended (record { seat = e.seat; act = e.act; before = e.before; after = after }) rest) (number_from-decimal most_64 e.after [] (omega arith) (omega arith))
+    ∙ then-some (λ after rest. all_words_read (record { seat = e.seat; act = e.act; before = e.before; after = after }) rest) (number_from-decimal most_64 e.after [] (omega arith) (omega arith))

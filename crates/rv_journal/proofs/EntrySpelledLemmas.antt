@@ -8,13 +8,13 @@ use Rattle.rv_model.specs.declared.hit.Hit.{Hit}
 use Rattle.rv_model.specs.declared.hit.Mode.{Mode}
 use Rattle.rv_model.specs.declared.hit.What.{What}
 use Rattle.rv_model.specs.declared.hit.What.TheVariants.{Da, Ltl}
-use Rattle.rv_journal.specs.declared.names.Kind.{Kind}
-use Rattle.rv_journal.specs.declared.names.Kind.TheVariants as kinds
-use Rattle.rv_journal.specs.declared.names.Verb.{Verb}
-use Rattle.rv_journal.specs.declared.names.Verb.TheVariants as verbs
+use Rattle.rv_journal.specs.declared.names.LetterKind.{LetterKind}
+use Rattle.rv_journal.specs.declared.names.LetterKind.TheVariants as kinds
+use Rattle.rv_journal.specs.declared.names.ActVerb.{ActVerb}
+use Rattle.rv_journal.specs.declared.names.ActVerb.TheVariants as verbs
 use Rattle.rv_journal.specs.EntryTexts.{mode_word, what_words, act_words, entry_words}
 use Rattle.rv_journal.specs.PieceReadings.{most_8, most_32, most_64, number_from, first_by, mode_in, kind_in, verb_in}
-use Rattle.rv_journal.specs.EntryReadings.{off_from, pulse_from, what_of, what_from, hit_from, run_from, deliver_from, numbered_from, act_of, act_from, ended, acted_from, before_from, after_from, entry_from}
+use Rattle.rv_journal.specs.EntryReadings.{off_from, pulse_from, what_of, what_from, hit_from, run_from, deliver_from, numbered_from, act_of, act_from, all_words_read, acted_from, before_from, after_from, entry_from}
 use Rattle.rv_journal.proofs.NumberLemmas.{number_from-some}
 use Rattle.rv_journal.proofs.ThenLemmas.{then-parts, same-read, no-read, first-some}
 use Rattle.rv_journal.proofs.NameLemmas.{verb_word, kind_word, mode-spelled, kind-spelled, verb-spelled}
@@ -24,11 +24,11 @@ mode-words : (words : List (List ℕ)) (mode : Mode) (rest : List (List ℕ)) �
 mode-words words mode rest is = let f = first-some mode_in words mode rest is in f.1 ∙ ap (λ (w : List ℕ). w ∷ rest) (mode-spelled f.0 mode f.2)
 
 -- a kind
-kind-words : (words : List (List ℕ)) (kind : Kind) (rest : List (List ℕ)) → first_by kind_in words ≡ Some (kind, rest) → words ≡ kind_word kind ∷ rest
+kind-words : (words : List (List ℕ)) (kind : LetterKind) (rest : List (List ℕ)) → first_by kind_in words ≡ Some (kind, rest) → words ≡ kind_word kind ∷ rest
 kind-words words kind rest is = let f = first-some kind_in words kind rest is in f.1 ∙ ap (λ (w : List ℕ). w ∷ rest) (kind-spelled f.0 kind f.2)
 
 -- the name of an act
-verb-words : (words : List (List ℕ)) (verb : Verb) (rest : List (List ℕ)) → first_by verb_in words ≡ Some (verb, rest) → words ≡ verb_word verb ∷ rest
+verb-words : (words : List (List ℕ)) (verb : ActVerb) (rest : List (List ℕ)) → first_by verb_in words ≡ Some (verb, rest) → words ≡ verb_word verb ∷ rest
 verb-words words verb rest is = let f = first-some verb_in words verb rest is in f.1 ∙ ap (λ (w : List ℕ). w ∷ rest) (verb-spelled f.0 verb f.2)
 
 -- words in front of others
@@ -36,7 +36,7 @@ front : (word : List ℕ) {xs ys : List (List ℕ)} → xs ≡ ys → word ∷ x
 front word is = ap (λ (l : List (List ℕ)). word ∷ l) is
 
 -- what is run, of its kind
-kind-of-words : (kind : Kind) (words : List (List ℕ)) (what : What) (rest : List (List ℕ)) → what_of kind words ≡ Some (what, rest) → kind_word kind ∷ words ≡ what_words what ++ rest
+kind-of-words : (kind : LetterKind) (words : List (List ℕ)) (what : What) (rest : List (List ℕ)) → what_of kind words ≡ Some (what, rest) → kind_word kind ∷ words ≡ what_words what ++ rest
 kind-of-words kinds.Da words what rest is =
     let n = then-parts (number_from most_8 words) (λ event rest. Some (Da event, rest)) (what, rest) is in
     let s = same-read (Da n.x) what n.words rest n.second in
@@ -79,7 +79,7 @@ numbered-words name most make words act rest spelled is =
     ∙ ap (λ (ws : List (List ℕ)). ws ++ rest) (sym (spelled a.x)) ∙ ap (λ (x : Act). act_words x ++ rest) s.0
 
 -- an act of its name
-verb-of-words : (verb : Verb) (words : List (List ℕ)) (act : Act) (rest : List (List ℕ)) → act_of verb words ≡ Some (act, rest) → verb_word verb ∷ words ≡ act_words act ++ rest
+verb-of-words : (verb : ActVerb) (words : List (List ℕ)) (act : Act) (rest : List (List ℕ)) → act_of verb words ≡ Some (act, rest) → verb_word verb ∷ words ≡ act_words act ++ rest
 verb-of-words verbs.Deliver words act rest is = deliver-words words act rest is
 verb-of-words verbs.Stop words act rest is = numbered-words (codes "stop") most_32 Stop words act rest (λ n. refl) is
 verb-of-words verbs.Look words act rest is = let s = same-read Look act words rest is in front (codes "look") s.1 ∙ ap (λ (x : Act). act_words x ++ rest) s.0
@@ -95,9 +95,9 @@ act-words words act rest is =
     verb-words words v.x v.words v.first ∙ verb-of-words v.x v.words act rest v.second
 
 -- no word is left behind an entry
-pub ended-none : (x : Entry) (words : List (List ℕ)) (e : Entry) → ended x words ≡ Some e → (x ≡ e) × (words ≡ [])
-ended-none x [] e is = (let same : x ≡ e = cc in same, refl)
-ended-none x (word ∷ words) e is = absurd (no-read _ is)
+pub all_words_read-none : (x : Entry) (words : List (List ℕ)) (e : Entry) → all_words_read x words ≡ Some e → (x ≡ e) × (words ≡ [])
+all_words_read-none x [] e is = (let same : x ≡ e = cc in same, refl)
+all_words_read-none x (word ∷ words) e is = absurd (no-read _ is)
 
 -- an entry
 pub entry-spelled : (words : List (List ℕ)) (e : Entry) → entry_from words ≡ Some e → words ≡ entry_words e
@@ -105,9 +105,9 @@ entry-spelled words e is =
     let a = then-parts (number_from most_32 words) acted_from e is in
     let b = then-parts (act_from a.words) (before_from a.x) e a.second in
     let c = then-parts (number_from most_64 b.words) (after_from a.x b.x) e b.second in
-    let d = then-parts (number_from most_64 c.words) (λ after rest. ended (record { seat = a.x; act = b.x; before = c.x; after = after }) rest) e c.second in
+    let d = then-parts (number_from most_64 c.words) (λ after rest. all_words_read (record { seat = a.x; act = b.x; before = c.x; after = after }) rest) e c.second in
     let x : Entry = record { seat = a.x; act = b.x; before = c.x; after = d.x } in
-    let s = ended-none x d.words e d.second in
+    let s = all_words_read-none x d.words e d.second in
     number_from-some most_32 words a.x a.words a.first
     ∙ front (decimal a.x) (act-words a.words b.x b.words b.first
     ∙ ap (λ (r : List (List ℕ)). act_words b.x ++ r) (number_from-some most_64 b.words c.x c.words c.first

@@ -16,7 +16,7 @@ use Rattle.rv_model.specs.declared.work.Delivery.{Delivery}
 use Rattle.rv_model.specs.declared.work.Turn.{Turn}
 use Rattle.rv_model.specs.Histories.{Input}
 use Rattle.rv_model.specs.Numbers.{has_bit}
-use Rattle.rv_model.specs.Scripts.{Played, played, is_shown, fails, hit_act, Makes, Delivers, PlaysTurns, turns_of}
+use Rattle.rv_model.specs.Scripts.{Played, played, is_enabled_by, fails, hit_act, Makes, Delivers, PlaysTurns, turns_of}
 use Rattle.rv_model.specs.Setups.{Setup, slot_of}
 use Rattle.rv_model.specs.SharedWords.{answer_at}
 use Rattle.rv_model.specs.Works.{Work}
@@ -24,9 +24,9 @@ use Rattle.rv_model.proofs.AgreeLemmas.{match-one}
 use Rattle.rv_model.proofs.SeatLemmas.{played-cut}
 use Rattle.rv_core.specs.Advance.{WhatFits}
 use Rattle.rv_core.specs.Setup.{judges_of}
-use Rattle.rv_verdicts.specs.Exits.{has_failed, has_stop, exit_of}
-use Rattle.rv_verdicts.proofs.OwnerLemmas.{by-cpu, plays}
-use Rattle.rv_verdicts.proofs.PastLemmas.{Each, each-of}
+use Rattle.rv_laws.specs.Exits.{has_failed, has_stop, exit_of}
+use Rattle.rv_laws.proofs.OwnerLemmas.{by-cpu, plays}
+use Rattle.rv_laws.proofs.PastLemmas.{Each, each-of}
 use Rattle.rv_journal.specs.CountedLanes.{FitsCounted}
 use Rattle.rv_journal.specs.CountedWords.{IsBelow}
 use Rattle.rv_journal.specs.Running.{FitsCountedWork, recorded_input}
@@ -78,8 +78,8 @@ module _ (s : Setup) (panics : ℕ → Bool) where
   plays-fit (turn ∷ turns) fits (p ∷ ps) (look, is, answer, h) =
       match-one (has_bit look 34) _ _ (All PlayedFits (p ∷ ps)) h
       (λ none. look-fits p ps is (subst (All PlayedFits) (sym none) (All-nil PlayedFits)))
-      (λ more. look-fits p ps is (delivers-fit look (filter (is_shown look) turn) (PlaysTurns s panics turns) (plays-fit turns (All-tail (All DeliversFit) turn turns fits))
-      (All-filter (is_shown look) DeliversFit turn (All-head (All DeliversFit) turn turns fits)) ps more))
+      (λ more. look-fits p ps is (delivers-fit look (filter (is_enabled_by look) turn) (PlaysTurns s panics turns) (plays-fit turns (All-tail (All DeliversFit) turn turns fits))
+      (All-filter (is_enabled_by look) DeliversFit turn (All-head (All DeliversFit) turn turns fits)) ps more))
 
   -- the deliveries of each turn are deliveries of the work
   turns-fit : (turns : List Turn) (ds : List Delivery) → All DeliversFit ds → All (All DeliversFit) (map (λ t. slice_range ds t.from t.to) turns)

@@ -6,9 +6,9 @@ use Rattle.std.proofs.Math.Seq.{drop-cons}
 use Rattle.rv_model.specs.declared.work.Turn.{Turn}
 use Rattle.rv_model.specs.Works.{NamesEach}
 use Rattle.rv_journal.specs.declared.counted.Counted.{Counted}
-use Rattle.rv_journal.specs.declared.steps.Cursor.{Cursor}
-use Rattle.rv_journal.specs.declared.steps.Step.{Step}
-use Rattle.rv_journal.specs.declared.steps.Step.TheVariants.{Opens, Item}
+use Rattle.rv_journal.specs.declared.steps.LaneProgress.{LaneProgress}
+use Rattle.rv_journal.specs.declared.steps.MergeStep.{MergeStep}
+use Rattle.rv_journal.specs.declared.steps.MergeStep.TheVariants.{TurnLook, Item}
 use Rattle.rv_journal.specs.CountedLanes.{CountedLaneValue}
 use Rattle.rv_journal.specs.MergeSteps.{items_of, item_steps, steps_from, rest_of, Ahead, IsCursor, GoesTo}
 
@@ -34,17 +34,17 @@ range-cons xs d from to lt in' =
 -- ---- steps
 
 -- a step of a turn that comes next
-pub steps-opens : (items : List Counted) (place : ℕ) (turn : Turn) (turns : List Turn) → turn.from ≡ place → steps_from items place (turn ∷ turns) ≡ Opens ∷ steps_from items place turns
+pub steps-opens : (items : List Counted) (place : ℕ) (turn : Turn) (turns : List Turn) → turn.from ≡ place → steps_from items place (turn ∷ turns) ≡ TurnLook ∷ steps_from items place turns
 steps-opens items place turn turns at =
-    subst (λ (n : ℕ). item_steps (slice_range items place n) ++ Opens ∷ steps_from items n turns ≡ Opens ∷ steps_from items place turns) (sym at)
-    (ap (λ (z : List Counted). item_steps z ++ Opens ∷ steps_from items place turns) (range-none items place))
+    subst (λ (n : ℕ). item_steps (slice_range items place n) ++ TurnLook ∷ steps_from items n turns ≡ TurnLook ∷ steps_from items place turns) (sym at)
+    (ap (λ (z : List Counted). item_steps z ++ TurnLook ∷ steps_from items place turns) (range-none items place))
 
 -- a step of an item that comes next
 pub steps-item : (items : List Counted) (place : ℕ) (d : Counted) (turns : List Turn) → place < length items → Ahead (suc place) turns (length items) → steps_from items place turns ≡ Item (get_or items place d) ∷ steps_from items (suc place) turns
 steps-item items place d [] in' ahead = ap item_steps (drop-cons items place d in')
 steps-item items place d (turn ∷ turns) in' ahead =
     let before = ahead.0 in
-    ap (λ (z : List Counted). item_steps z ++ Opens ∷ steps_from items turn.from turns) (range-cons items d place turn.from (omega arith) in')
+    ap (λ (z : List Counted). item_steps z ++ TurnLook ∷ steps_from items turn.from turns) (range-cons items d place turn.from (omega arith) in')
 
 -- no step is left behind the last item
 pub steps-none : (items : List Counted) (place : ℕ) → length items ≤ place → steps_from items place [] ≡ []
@@ -78,9 +78,9 @@ ahead-end place (turn ∷ turns) count ahead end' apart =
     absurd (omega arith)
 
 -- the items of steps
-pub items-append : (a b : List Step) → items_of (a ++ b) ≡ items_of a ++ items_of b
+pub items-append : (a b : List MergeStep) → items_of (a ++ b) ≡ items_of a ++ items_of b
 items-append [] b = refl
-items-append (Opens ∷ a) b = items-append a b
+items-append (TurnLook ∷ a) b = items-append a b
 items-append (Item c ∷ a) b = ap (λ (z : List Counted). c ∷ z) (items-append a b)
 
 -- the steps of items and of no turn have just these items
@@ -93,15 +93,15 @@ pub steps-items : (items : List Counted) (place : ℕ) (turns : List Turn) → A
 steps-items items place [] ahead = items-steps (drop place items)
 steps-items items place (turn ∷ turns) ahead =
     let rest = steps-items items turn.from turns (ahead-opens turn.from turn turns (length items) refl ahead.1) in
-    items-append (item_steps (slice_range items place turn.from)) (Opens ∷ steps_from items turn.from turns)
+    items-append (item_steps (slice_range items place turn.from)) (TurnLook ∷ steps_from items turn.from turns)
     ∙ (ap (λ (z : List Counted). z ++ items_of (steps_from items turn.from turns)) (items-steps (slice_range items place turn.from))
     ∙ (ap (λ (z : List Counted). slice_range items place turn.from ++ z) rest ∙ sym (drop_split items place turn.from ahead.0)))
 
 -- ---- cursors
 
 -- a turn opens
-pub opens-next : (lane : CountedLaneValue) (cursor : Cursor) (d : Turn) → IsCursor lane cursor → cursor.turns < length lane.work.turns → (get_or lane.work.turns cursor.turns d).from ≡ cursor.items
-    → GoesTo lane cursor Opens (record { turns = cursor.turns + 1; items = cursor.items })
+pub opens-next : (lane : CountedLaneValue) (cursor : LaneProgress) (d : Turn) → IsCursor lane cursor → cursor.turns < length lane.work.turns → (get_or lane.work.turns cursor.turns d).from ≡ cursor.items
+    → GoesTo lane cursor TurnLook (record { turns = cursor.turns + 1; items = cursor.items })
 opens-next lane cursor d ahead in' at =
     let turn : Turn = get_or lane.work.turns cursor.turns d in
     let more : List Turn = drop (suc cursor.turns) lane.work.turns in
@@ -109,16 +109,16 @@ opens-next lane cursor d ahead in' at =
     let ahead' : Ahead cursor.items (turn ∷ more) (length lane.counted) = subst (λ (z : List Turn). Ahead cursor.items z (length lane.counted)) cut ahead in
     let one : suc cursor.turns ≡ cursor.turns + 1 = sym (add-one cursor.turns) in
     record {
-      steps = ap (steps_from lane.counted cursor.items) cut ∙ (steps-opens lane.counted cursor.items turn more at ∙ ap (λ (n : ℕ). Opens ∷ steps_from lane.counted cursor.items (drop n lane.work.turns)) one);
+      steps = ap (steps_from lane.counted cursor.items) cut ∙ (steps-opens lane.counted cursor.items turn more at ∙ ap (λ (n : ℕ). TurnLook ∷ steps_from lane.counted cursor.items (drop n lane.work.turns)) one);
       is_cursor = subst (λ (n : ℕ). Ahead cursor.items (drop n lane.work.turns) (length lane.counted)) one (ahead-opens cursor.items turn more (length lane.counted) at ahead'.1);
     }
 
 -- no turn opens here
-abbrev pub NoTurn : CountedLaneValue → Cursor → Type 0
+abbrev pub NoTurn : CountedLaneValue → LaneProgress → Type 0
 NoTurn lane cursor = (turn : Turn) (more : List Turn) → drop cursor.turns lane.work.turns ≡ turn ∷ more → turn.from ≢ cursor.items
 
 -- an item comes
-pub item-next : (lane : CountedLaneValue) (cursor : Cursor) (d : Counted) → IsCursor lane cursor → NoTurn lane cursor → cursor.items < length lane.counted
+pub item-next : (lane : CountedLaneValue) (cursor : LaneProgress) (d : Counted) → IsCursor lane cursor → NoTurn lane cursor → cursor.items < length lane.counted
     → GoesTo lane cursor (Item (get_or lane.counted cursor.items d)) (record { turns = cursor.turns; items = cursor.items + 1 })
 item-next lane cursor d ahead none in' =
     let next = ahead-item cursor.items (drop cursor.turns lane.work.turns) (length lane.counted) ahead in' none in
@@ -129,16 +129,16 @@ item-next lane cursor d ahead none in' =
     }
 
 -- the lane is at its end
-pub end-next : (lane : CountedLaneValue) (cursor : Cursor) → IsCursor lane cursor → NoTurn lane cursor → length lane.counted ≤ cursor.items → rest_of lane cursor ≡ []
+pub end-next : (lane : CountedLaneValue) (cursor : LaneProgress) → IsCursor lane cursor → NoTurn lane cursor → length lane.counted ≤ cursor.items → rest_of lane cursor ≡ []
 end-next lane cursor ahead none end' =
     ap (steps_from lane.counted cursor.items) (ahead-end cursor.items (drop cursor.turns lane.work.turns) (length lane.counted) ahead end' none) ∙ steps-none lane.counted cursor.items end'
 
 -- no turn opens where none is left
-pub no-turn_left : (lane : CountedLaneValue) (cursor : Cursor) → length lane.work.turns ≤ cursor.turns → NoTurn lane cursor
+pub no-turn_left : (lane : CountedLaneValue) (cursor : LaneProgress) → length lane.work.turns ≤ cursor.turns → NoTurn lane cursor
 no-turn_left lane cursor le = λ turn more eq. absurd (let none : turn ∷ more ≡ [] = sym eq ∙ drop-all lane.work.turns cursor.turns le in cc)
 
 -- nor where the next one comes later
-pub no-turn_yet : (lane : CountedLaneValue) (cursor : Cursor) (d : Turn) → cursor.turns < length lane.work.turns → (get_or lane.work.turns cursor.turns d).from ≢ cursor.items → NoTurn lane cursor
+pub no-turn_yet : (lane : CountedLaneValue) (cursor : LaneProgress) (d : Turn) → cursor.turns < length lane.work.turns → (get_or lane.work.turns cursor.turns d).from ≢ cursor.items → NoTurn lane cursor
 no-turn_yet lane cursor d in' ne = λ turn more eq.
     (let cut : turn ∷ more ≡ get_or lane.work.turns cursor.turns d ∷ drop (suc cursor.turns) lane.work.turns = sym eq ∙ drop-cons lane.work.turns cursor.turns d in' in
     let it : turn ≡ get_or lane.work.turns cursor.turns d = cc in

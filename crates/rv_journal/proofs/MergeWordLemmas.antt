@@ -15,7 +15,7 @@ use Rattle.rv_model.specs.SharedWords.{switch, switches_of, word_of, word_on}
 use Rattle.rv_model.specs.Histories.{FitsWords, Replays, is_on, changed}
 use Rattle.rv_model.proofs.CutLemmas.{reverse-cut}
 use Rattle.rv_model.proofs.NumberLemmas.{number_of-same, number_of-bits}
-use Rattle.rv_core.specs.Setup.{IsSetup, place_of, judges_of}
+use Rattle.rv_core.specs.Setup.{IsSetup, word_index, judges_of}
 use Rattle.rv_core.proofs.WordLemmas.{packed-other}
 use Rattle.rv_journal.specs.MergeStates.{IsMergedAct}
 
@@ -28,7 +28,7 @@ word_by word (e ∷ changes) = word_by e.after changes
 
 module _ (s : Setup) where
   -- an act that is not on the slot has another place
-  elsewhere : (slot : ℕ) (act : Act) → is_on slot act ≡ false → place_of act ≢ slot + 1
+  elsewhere : (slot : ℕ) (act : Act) → is_on slot act ≡ false → word_index act ≢ slot + 1
   elsewhere slot (Deliver other hit) out = λ e. let same : other ≡ slot = omega arith in let equal : (other == slot) ≡ true = grind (arith, nat_tests) in cc
   elsewhere slot (Stop other) out = λ e. let same : other ≡ slot = omega arith in let equal : (other == slot) ≡ true = grind (arith, nat_tests) in cc
   elsewhere slot (Clear other) out = λ e. let same : other ≡ slot = omega arith in let equal : (other == slot) ≡ true = grind (arith, nat_tests) in cc

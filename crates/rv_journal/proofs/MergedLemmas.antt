@@ -17,8 +17,8 @@ use Rattle.rv_model.specs.Setups.{Setup}
 use Rattle.rv_model.specs.Works.{Work, IsWork}
 use Rattle.rv_core.specs.Setup.{IsSetup, judges_of}
 use Rattle.rv_journal.specs.declared.counted.Counted.{Counted}
-use Rattle.rv_journal.specs.declared.steps.Step.{Step}
-use Rattle.rv_journal.specs.declared.steps.Step.TheVariants.{Opens, Item}
+use Rattle.rv_journal.specs.declared.steps.MergeStep.{MergeStep}
+use Rattle.rv_journal.specs.declared.steps.MergeStep.TheVariants.{TurnLook, Item}
 use Rattle.rv_journal.specs.CountedLanes.{CountedLaneValue}
 use Rattle.rv_journal.specs.MergeSteps.{items_of}
 use Rattle.rv_journal.specs.MergeStates.{Mark, mark, items_in, entries_in, entry_in, IsItemAct, StandsAs, step_entries, IsUnderWay}
@@ -91,9 +91,9 @@ no-look_act (Clear _) is = absurd is
 no-look_act (End _) is = absurd is
 
 -- but for looks, the entries of steps are those of their items
-without-looks : (n switches : ℕ) (steps : List Step) → ((b : List Counted) (c : Counted) (a : List Counted) → items_of steps ≡ b ++ c ∷ a → IsItemAct c.entry.act) → filter (λ e. not (is_look_act e.act)) (step_entries n switches steps) ≡ entries_in (items_of steps)
+without-looks : (n switches : ℕ) (steps : List MergeStep) → ((b : List Counted) (c : Counted) (a : List Counted) → items_of steps ≡ b ++ c ∷ a → IsItemAct c.entry.act) → filter (λ e. not (is_look_act e.act)) (step_entries n switches steps) ≡ entries_in (items_of steps)
 without-looks n switches [] all = refl
-without-looks n switches (Opens ∷ steps) all = without-looks n switches steps all
+without-looks n switches (TurnLook ∷ steps) all = without-looks n switches steps all
 without-looks n switches (Item c ∷ steps) all =
     let act = no-look_act c.entry.act (all [] c (items_of steps) refl) in
     let yes' : not (is_look_act c.entry.act) ≡ true = ap not act in
@@ -101,7 +101,7 @@ without-looks n switches (Item c ∷ steps) all =
     ∙ ap (λ (z : List Entry). c.entry ∷ z) (without-looks n switches steps (λ b x a eq. all (c ∷ b) x a (ap (λ (z : List Counted). c ∷ z) eq)))
 
 module _ (s : Setup) (seen : List Entry) (lanes : List CountedLaneValue) (can : CanMerge s seen lanes) (k : IsSetup s) (numbers : All (λ l. All NumbersFit l.counted) lanes) (works : All (λ l. IsWork l.work) lanes)
-    (items : List Counted) (entries_are : entries_in items ≡ seen) (history : List Entry) (rest : ℕ → List Step) (u : IsUnderWay s items (lanes_of lanes) history rest) (ended : (l : ℕ) → l < length lanes → rest l ≡ []) (placed : AllPlaced u.marks) where
+    (items : List Counted) (entries_are : entries_in items ≡ seen) (history : List Entry) (rest : ℕ → List MergeStep) (u : IsUnderWay s items (lanes_of lanes) history rest) (ended : (l : ℕ) → l < length lanes → rest l ≡ []) (placed : AllPlaced u.marks) where
   -- the lane at a place
   abbrev lane_at : ℕ → CountedLaneValue
   lane_at l = get_or lanes l no_lane
@@ -110,13 +110,13 @@ module _ (s : Setup) (seen : List Entry) (lanes : List CountedLaneValue) (can : 
   list-at : (l : ℕ) → l < length lanes → entries_of (λ n. n == seat_of (lane_at l)) history ≡ step_entries (seat_of (lane_at l)) s.switches ((lanes_of lanes).script l)
   list-at l lt =
       sym (append-nil (entries_of (λ n. n == seat_of (lane_at l)) history))
-      ∙ (ap (λ (z : List Step). entries_of (λ n. n == seat_of (lane_at l)) history ++ step_entries (seat_of (lane_at l)) s.switches z) (sym (ended l lt)) ∙ u.lists l lt)
+      ∙ (ap (λ (z : List MergeStep). entries_of (λ n. n == seat_of (lane_at l)) history ++ step_entries (seat_of (lane_at l)) s.switches z) (sym (ended l lt)) ∙ u.lists l lt)
 
   -- so it has played its script
   plays-at : (l : ℕ) → l < length lanes → Plays s (λ _. false) (lane_at l).work (played s (judges_of s) (seat_of (lane_at l)) (reverse history))
   plays-at l lt =
       let fit = fits-at s seen lanes can k numbers l lt in
-      plays-steps s (seat_of (lane_at l)) s.switches (lane_at l).work.deliveries (lane_at l).counted fit.served (served-length s (lane_at l).work.deliveries (lane_at l).counted fit.served) fit.shown (All-weaker (FitsSetup s) (λ (d : Delivery). is_end d.hit.mode ≡ false) (λ d f. f.hit.0) (lane_at l).work.deliveries fit.fit) can.running
+      plays-steps s (seat_of (lane_at l)) s.switches (lane_at l).work.deliveries (lane_at l).counted fit.served (served-length s (lane_at l).work.deliveries (lane_at l).counted fit.served) fit.enabled (All-weaker (FitsSetup s) (λ (d : Delivery). is_end d.hit.mode ≡ false) (λ d f. f.hit.0) (lane_at l).work.deliveries fit.fit) can.running
       (lane_at l).work.turns 0 (names-at s seen lanes can k numbers works l lt) (played s (judges_of s) (seat_of (lane_at l)) (reverse history))
       (played-is s (judges_of s) (seat_of (lane_at l)) history ∙ list-at l lt) (looks-tell s (judges_of s) (seat_of (lane_at l)) history)
 
@@ -167,9 +167,9 @@ module _ (s : Setup) (seen : List Entry) (lanes : List CountedLaneValue) (can : 
   seats-all seat = elim (find (λ l. seat_of (lane_at l)) seat (length lanes)) [
     | inl found ↦ subst (λ (n : ℕ). filter (λ e. not (is_look_act e.act)) (entries_of (λ m. m == n) history) ≡ entries_of (λ m. m == n) seen) found.2 (own found.0 found.1)
     | inr none ↦
-        let gone : entries_of (λ n. n == seat) history ≡ [] = none-of seat history (λ b e a eq is. (let o = u.others b e a eq in none o.0 o.1 (sym o.2 ∙ is))) in
+        let joined_in : entries_of (λ n. n == seat) history ≡ [] = none-of seat history (λ b e a eq is. (let o = u.others b e a eq in none o.0 o.1 (sym o.2 ∙ is))) in
         let gone' : entries_of (λ n. n == seat) seen ≡ [] = none-of seat seen (λ b e a eq is. (let o = can.no_other b e a eq in none o.0 o.2 (ap (λ (x : CountedLaneValue). seat_of x) (get_or_default lanes o.0 no_lane o.1 o.2 ∙ o.3) ∙ (sym o.4 ∙ is)))) in
-        ap (filter (λ (e : Entry). not (is_look_act e.act))) gone ∙ sym gone'
+        ap (filter (λ (e : Entry). not (is_look_act e.act))) joined_in ∙ sym gone'
   ]
     where
       own : (l : ℕ) → l < length lanes → filter (λ e. not (is_look_act e.act)) (entries_of (λ m. m == seat_of (lane_at l)) history) ≡ entries_of (λ m. m == seat_of (lane_at l)) seen

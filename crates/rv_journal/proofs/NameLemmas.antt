@@ -5,10 +5,10 @@ use Rattle.std.proofs.lemmas.Slice.Eq.{bytes_eq-Decides}
 use Rattle.rv_model.specs.declared.hit.Mode.{Mode}
 use Rattle.rv_model.specs.declared.hit.Mode.TheVariants as modes
 use Rattle.rv_model.specs.Scripts.{is_end}
-use Rattle.rv_journal.specs.declared.names.Kind.{Kind}
-use Rattle.rv_journal.specs.declared.names.Kind.TheVariants as kinds
-use Rattle.rv_journal.specs.declared.names.Verb.{Verb}
-use Rattle.rv_journal.specs.declared.names.Verb.TheVariants as verbs
+use Rattle.rv_journal.specs.declared.names.LetterKind.{LetterKind}
+use Rattle.rv_journal.specs.declared.names.LetterKind.TheVariants as kinds
+use Rattle.rv_journal.specs.declared.names.ActVerb.{ActVerb}
+use Rattle.rv_journal.specs.declared.names.ActVerb.TheVariants as verbs
 use Rattle.rv_journal.specs.EntryTexts.{mode_word}
 use Rattle.rv_journal.specs.PieceReadings.{first_by, mode_in, kind_in, verb_in}
 use Rattle.rv_journal.proofs.ThenLemmas.{no-read}
@@ -22,7 +22,7 @@ if-word {Y} word name this other y = on (bytes_eq word name) refl
     on false differs is = inr is
 
 -- the name of an act
-abbrev pub verb_word : Verb → List ℕ
+abbrev pub verb_word : ActVerb → List ℕ
 verb_word verbs.Deliver = codes "deliver"
 verb_word verbs.Stop = codes "stop"
 verb_word verbs.Look = codes "look"
@@ -32,7 +32,7 @@ verb_word verbs.Clear = codes "clear"
 verb_word verbs.End = codes "end"
 
 -- the name of a kind
-abbrev pub kind_word : Kind → List ℕ
+abbrev pub kind_word : LetterKind → List ℕ
 kind_word kinds.Da = codes "da"
 kind_word kinds.Ltl = codes "ltl"
 
@@ -41,11 +41,11 @@ one-mode : (a b : Mode) → Some a ≡ Some b → mode_word a ≡ mode_word b
 one-mode a b is = let same : a ≡ b = cc in ap mode_word same
 
 -- of two kinds that are one
-one-kind : (a b : Kind) → Some a ≡ Some b → kind_word a ≡ kind_word b
+one-kind : (a b : LetterKind) → Some a ≡ Some b → kind_word a ≡ kind_word b
 one-kind a b is = let same : a ≡ b = cc in ap kind_word same
 
 -- of two acts that are one
-one-verb : (a b : Verb) → Some a ≡ Some b → verb_word a ≡ verb_word b
+one-verb : (a b : ActVerb) → Some a ≡ Some b → verb_word a ≡ verb_word b
 one-verb a b is = let same : a ≡ b = cc in ap verb_word same
 
 -- the mode that is read has the word
@@ -64,7 +64,7 @@ mode-spelled word mode is =
     ]
 
 -- the kind
-pub kind-spelled : (word : List ℕ) (kind : Kind) → kind_in word ≡ Some kind → word ≡ kind_word kind
+pub kind-spelled : (word : List ℕ) (kind : LetterKind) → kind_in word ≡ Some kind → word ≡ kind_word kind
 unfolding kind_in
 kind-spelled word kind is =
     elim (if-word word (codes "da") (Some kinds.Da) _ kind is) [
@@ -76,7 +76,7 @@ kind-spelled word kind is =
     ]
 
 -- the act
-pub verb-spelled : (word : List ℕ) (verb : Verb) → verb_in word ≡ Some verb → word ≡ verb_word verb
+pub verb-spelled : (word : List ℕ) (verb : ActVerb) → verb_in word ≡ Some verb → word ≡ verb_word verb
 unfolding verb_in
 verb-spelled word verb is =
     elim (if-word word (codes "deliver") (Some verbs.Deliver) _ verb is) [
@@ -103,7 +103,7 @@ verb-spelled word verb is =
     ]
 
 -- the name of an act, among words
-pub verb-first : (verb : Verb) (words : List (List ℕ)) → first_by verb_in (verb_word verb ∷ words) ≡ Some (verb, words)
+pub verb-first : (verb : ActVerb) (words : List (List ℕ)) → first_by verb_in (verb_word verb ∷ words) ≡ Some (verb, words)
 unfolding verb_in
 verb-first verbs.Deliver words = refl
 verb-first verbs.Stop words = refl
@@ -114,7 +114,7 @@ verb-first verbs.Clear words = refl
 verb-first verbs.End words = refl
 
 -- the name of a kind
-pub kind-first : (kind : Kind) (words : List (List ℕ)) → first_by kind_in (kind_word kind ∷ words) ≡ Some (kind, words)
+pub kind-first : (kind : LetterKind) (words : List (List ℕ)) → first_by kind_in (kind_word kind ∷ words) ≡ Some (kind, words)
 unfolding kind_in
 kind-first kinds.Da words = refl
 kind-first kinds.Ltl words = refl

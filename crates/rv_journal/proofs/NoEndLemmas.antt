@@ -13,10 +13,10 @@ use Rattle.rv_model.specs.Setups.{Setup}
 use Rattle.rv_model.specs.Table.{Table, of_events, of_labels}
 use Rattle.rv_core.specs.Advance.{FitsKind}
 use Rattle.rv_core.specs.Setup.{FitsAct, table_at}
-use Rattle.rv_journal.specs.EntryTexts.{Runs, IsNoEnd}
+use Rattle.rv_journal.specs.EntryTexts.{RunsLetter, IsNoEnd}
 
 -- what fits a table is run
-runs : (t : Table) (m : Mode) (what : What) → FitsKind t m what → Runs what
+runs : (t : Table) (m : Mode) (what : What) → FitsKind t m what → RunsLetter what
 runs t m (Da event) fits = tt
 runs t m (Ltl on off pulse) fits = tt
 runs (of_events n rows) m Nothing fits = absurd fits

@@ -8,7 +8,7 @@ use Rattle.rv_model.specs.declared.entry.Act.{Act}
 use Rattle.rv_model.specs.declared.entry.Act.TheVariants.{Deliver, Stop, Look, Raise, Lower, Clear, End}
 use Rattle.rv_model.specs.declared.entry.Entry.{Entry}
 use Rattle.rv_model.specs.Cuts.{AtEach}
-use Rattle.rv_model.specs.Histories.{FitsWords, IsEarnedBy, IsHeldBy, NoneOf, changed}
+use Rattle.rv_model.specs.Histories.{FitsWords, IsJustifiedBy, IsPermittedTo, NoneOf, changed}
 use Rattle.rv_model.specs.Setups.{Setup}
 use Rattle.rv_model.specs.SharedWords.{word_of}
 use Rattle.rv_core.specs.Advance.{acted}
@@ -18,7 +18,7 @@ use Rattle.rv_board.specs.Rule.{IsMachine}
 use Rattle.rv_board.proofs.SoundLemmas.{filter_append}
 use Rattle.rv_journal.specs.declared.counted.Counted.{Counted}
 use Rattle.rv_journal.specs.MergeSteps.{slot_in, changes_on}
-use Rattle.rv_journal.specs.MergeStates.{Mark, mark, items_in, entries_in, entry_in, IsItemAct, IsMergedAct, IsTold, Divides, LastBy}
+use Rattle.rv_journal.specs.MergeStates.{Mark, mark, items_in, entries_in, entry_in, IsItemAct, IsMergedAct, IsKnownItem, Divides, LastBy}
 use Rattle.rv_journal.proofs.MarkLemmas.{cut_alike, filter_yes, filter_no}
 use Rattle.rv_journal.proofs.SlotActLemmas.{on-slot_in, word-after}
 use Rattle.rv_journal.proofs.MergeWordLemmas.{same-word, switches-are}
@@ -65,7 +65,7 @@ same-entries slot history front back d many =
 -- ---- words
 
 -- an item's entry fits where its slot has the same changes as before it in the whole list
-pub fits-there : (s : Setup) (before history : List Entry) (c : Counted) → IsTold s before c → (all : (AtEach (FitsWords s (judges_of s)) before)) → IsMachine s history → AtEach (FitsWords s (judges_of s)) history
+pub fits-there : (s : Setup) (before history : List Entry) (c : Counted) → IsKnownItem s before c → (all : (AtEach (FitsWords s (judges_of s)) before)) → IsMachine s history → AtEach (FitsWords s (judges_of s)) history
     → filter (changed (slot_in c.entry.act)) history ≡ filter (changed (slot_in c.entry.act)) before → FitsWords s (judges_of s) history c.entry
 fits-there s before history c t all m replays same =
     let slot : ℕ = slot_in c.entry.act in
@@ -88,11 +88,11 @@ look-fits s seat history k acts = let is = sym (switches-are s history k acts) i
 -- ---- Stops
 
 -- a Stop of an item is earned where the seat's last entry comes early enough
-pub earned-there : (s : Setup) (before history : List Entry) (c : Counted) → IsTold s before c → changes_on (slot_in c.entry.act) before ≡ changes_on (slot_in c.entry.act) history
-    → ((slot : ℕ) → c.entry.act ≡ Stop slot → LastBy slot c.entry.seat c.first history) → IsEarnedBy c.entry.act c.entry.seat history
+pub earned-there : (s : Setup) (before history : List Entry) (c : Counted) → IsKnownItem s before c → changes_on (slot_in c.entry.act) before ≡ changes_on (slot_in c.entry.act) history
+    → ((slot : ℕ) → c.entry.act ≡ Stop slot → LastBy slot c.entry.seat c.first history) → IsJustifiedBy c.entry.act c.entry.seat history
 earned-there s before history c t many last = by c.entry.act refl
   where
-    by : (act : Act) → c.entry.act ≡ act → IsEarnedBy act c.entry.seat history
+    by : (act : Act) → c.entry.act ≡ act → IsJustifiedBy act c.entry.seat history
     by (Deliver slot hit) is = tt
     by Look is = tt
     by (Raise _) is = tt
@@ -112,7 +112,7 @@ earned-there s before history c t many last = by c.entry.act refl
         record { until = l.until; since = l.since; is = l.is; none = l.none; three = omega arith }
 
 -- an item's act is held
-pub held-item : (act : Act) (seat : ℕ) → IsItemAct act → IsHeldBy act seat
+pub held-item : (act : Act) (seat : ℕ) → IsItemAct act → IsPermittedTo act seat
 held-item (Deliver slot hit) seat is = tt
 held-item (Stop slot) seat is = tt
 held-item Look seat is = absurd is

@@ -12,24 +12,24 @@ use Rattle.rv_model.proofs.CutLemmas.{at_each-snoc, at_each-front}
 use Rattle.rv_core.specs.Setup.{FitsAct, judges_of}
 use Rattle.rv_board.proofs.SoundLemmas.{sound-snoc}
 use Rattle.rv_journal.specs.declared.counted.Counted.{Counted}
-use Rattle.rv_journal.specs.declared.steps.Step.{Step}
-use Rattle.rv_journal.specs.declared.steps.Step.TheVariants.{Opens, Item}
-use Rattle.rv_journal.specs.MergeSteps.{items_of, slot_in, rank, leaves, changes_on, held_by, MayPlace}
-use Rattle.rv_journal.specs.MergeStates.{Mark, mark, items_in, entries_in, is_left, IsMergedAct, IsTold, AllTold, Divides, StandsAs, LastBy, NextIsEarned, Lanes, IsUnderWay}
+use Rattle.rv_journal.specs.declared.steps.MergeStep.{MergeStep}
+use Rattle.rv_journal.specs.declared.steps.MergeStep.TheVariants.{TurnLook, Item}
+use Rattle.rv_journal.specs.MergeSteps.{items_of, slot_in, version, leaves, changes_on, held_by, MayPlace}
+use Rattle.rv_journal.specs.MergeStates.{Mark, mark, items_in, entries_in, is_left, IsMergedAct, IsKnownItem, AreKnownItems, Divides, StandsAs, LastBy, NextIsJustified, Lanes, IsUnderWay}
 use Rattle.rv_journal.proofs.MarkLemmas.{same, earlier, later, compare, first-left, FirstLeft}
 use Rattle.rv_journal.proofs.SlotActLemmas.{slot_in-is, machine-snoc}
 use Rattle.rv_journal.proofs.PlaceLemmas.{same-entries, fits-there, look_entry, look-fits, earned-there, held-item, merged-item}
 use Rattle.rv_journal.proofs.UnderWayLemmas.{told-replays, lists-next, others-next, quiet-next, earned-next}
 use Rattle.rv_journal.proofs.AddedLemmas.{changes-calm, changes-more, stands-longer, divides-calm, items-placed, left-placed, left-other, divides-off, divides-on}
 
-module _ (s : Setup) (whole : List Counted) (lanes : Lanes) (told : AllTold s whole) (apart : (l m : ℕ) → l < lanes.many → m < lanes.many → lanes.seat l ≡ lanes.seat m → l ≡ m)
-    (history : List Entry) (rest rest' : ℕ → List Step) (u : IsUnderWay s whole lanes history rest) (m : ℕ) (steps : List Step) (low : m < lanes.many) (here : rest' m ≡ steps) (others : (l : ℕ) → l ≢ m → rest' l ≡ rest l) where
+module _ (s : Setup) (whole : List Counted) (lanes : Lanes) (observed : AreKnownItems s whole) (apart : (l m : ℕ) → l < lanes.many → m < lanes.many → lanes.seat l ≡ lanes.seat m → l ≡ m)
+    (history : List Entry) (rest rest' : ℕ → List MergeStep) (u : IsUnderWay s whole lanes history rest) (m : ℕ) (steps : List MergeStep) (low : m < lanes.many) (here : rest' m ≡ steps) (others : (l : ℕ) → l ≢ m → rest' l ≡ rest l) where
   -- this lane or another
   same_or_other : (l : ℕ) → (l ≡ m) ⊎ (l ≢ m)
   same_or_other l = grind arith
 
   -- with a look the merge is under way
-  pub look-placed : rest m ≡ Opens ∷ steps → lanes.seat m < 67 → IsUnderWay s whole lanes (history ++ look_entry (lanes.seat m) s.switches ∷ []) rest'
+  pub look-placed : rest m ≡ TurnLook ∷ steps → lanes.seat m < 67 → IsUnderWay s whole lanes (history ++ look_entry (lanes.seat m) s.switches ∷ []) rest'
   look-placed at small =
       let e : Entry = look_entry (lanes.seat m) s.switches in
       let next : List Entry = history ++ e ∷ [] in
@@ -43,15 +43,15 @@ module _ (s : Setup) (whole : List Counted) (lanes : Lanes) (told : AllTold s wh
           | inr ne ↦ ap items_of (others l ne) ∙ u.left l lt
         ];
         divides = λ slot. divides-calm slot history e u.marks refl (u.divides slot);
-        quiet = quiet-next s lanes apart history rest rest' m Opens steps low at here others e refl refl old;
-        earned = earned-next s lanes apart history rest rest' m Opens steps low at here others e refl refl old u.earned;
+        quiet = quiet-next s lanes apart history rest rest' m TurnLook steps low at here others e refl refl old;
+        justified = earned-next s lanes apart history rest rest' m TurnLook steps low at here others e refl refl old u.justified;
         stands = λ before c after eq. stands-longer history (entries_in (items_in before)) e c.entry (u.stands before c after eq);
         machine = machine-snoc s history e u.machine tt tt tt;
         sound = sound-snoc s (judges_of s) history e u.sound (look-fits s (lanes.seat m) history u.machine.is_setup u.acts) tt small tt;
         acts = at_each-snoc (λ before x. IsMergedAct x.act) history e u.acts tt;
         fits = at_each-snoc (λ before x. FitsAct s x.act) history e u.fits tt;
-        others = others-next s lanes apart history rest rest' m Opens steps low at here others e refl refl u.others;
-        lists = lists-next s lanes apart history rest rest' m Opens steps low at here others e refl refl u.lists;
+        others = others-next s lanes apart history rest rest' m TurnLook steps low at here others e refl refl u.others;
+        lists = lists-next s lanes apart history rest rest' m TurnLook steps low at here others e refl refl u.lists;
       }
 
   -- ---- an item
@@ -65,8 +65,8 @@ module _ (s : Setup) (whole : List Counted) (lanes : Lanes) (told : AllTold s wh
     cut = sym u.marks_are ∙ (ap items_in first.is ∙ map-append (λ (x : Mark). x.item) first.front (mark false c ∷ first.back))
 
     -- what is told at it
-    told_is : IsTold s (entries_in (items_in first.front)) c
-    told_is = told (items_in first.front) c (items_in first.back) cut
+    told_is : IsKnownItem s (entries_in (items_in first.front)) c
+    told_is = observed (items_in first.front) c (items_in first.back) cut
 
     -- its slot has as many changes before it as in the history
     many_is : changes_on (slot_in c.entry.act) (entries_in (items_in first.front)) ≡ changes_on (slot_in c.entry.act) history
@@ -83,7 +83,7 @@ module _ (s : Setup) (whole : List Counted) (lanes : Lanes) (told : AllTold s wh
     -- the entries before it replay
     replays : AtEach (FitsWords s (judges_of s)) (entries_in (items_in first.front))
     replays = at_each-front (FitsWords s (judges_of s)) (entries_in (items_in first.front)) (c.entry ∷ entries_in (items_in first.back))
-        (subst (AtEach (FitsWords s (judges_of s))) (ap entries_in cut ∙ map-append (λ (x : Counted). x.entry) (items_in first.front) (c ∷ items_in first.back)) (told-replays s whole told))
+        (subst (AtEach (FitsWords s (judges_of s))) (ap entries_in cut ∙ map-append (λ (x : Counted). x.entry) (items_in first.front) (c ∷ items_in first.back)) (told-replays s whole observed))
 
     -- its words fit the history
     fits : FitsWords s (judges_of s) history c.entry
@@ -119,11 +119,11 @@ module _ (s : Setup) (whole : List Counted) (lanes : Lanes) (told : AllTold s wh
         go true on =
             let own = on-own slot on in
             let n = ap length (changes-more slot history c.entry on) ∙ length-append (filter (changed slot) history) (c.entry ∷ []) in
-            let rank_is : rank c ≡ changes_on slot history = subst (λ (k : ℕ). rank c ≡ changes_on k history) own.0 may.0 in
-            let none : (l : ℕ) → l < lanes.many → held_by slot (rank c) (rest l) ≡ 0 = subst (λ (k : ℕ). (l : ℕ) → l < lanes.many → held_by k (rank c) (rest l) ≡ 0) own.0 (may.1 own.1) in
+            let rank_is : version c ≡ changes_on slot history = subst (λ (k : ℕ). version c ≡ changes_on k history) own.0 may.0 in
+            let none : (l : ℕ) → l < lanes.many → held_by slot (version c) (rest l) ≡ 0 = subst (λ (k : ℕ). (l : ℕ) → l < lanes.many → held_by k (version c) (rest l) ≡ 0) own.0 (may.1 own.1) in
             elim (decide r (changes_on slot history)) [
               | inl less ↦ u.quiet slot r less
-              | inr more ↦ let it : rank c ≡ r = omega arith in subst (λ (k : ℕ). (l : ℕ) → l < lanes.many → held_by slot k (rest l) ≡ 0) it none
+              | inr more ↦ let it : version c ≡ r = omega arith in subst (λ (k : ℕ). (l : ℕ) → l < lanes.many → held_by slot k (rest l) ≡ 0) it none
             ]
           where
             decide : (a b : ℕ) → (a < b) ⊎ (b ≤ a)
@@ -157,7 +157,7 @@ module _ (s : Setup) (whole : List Counted) (lanes : Lanes) (told : AllTold s wh
 
     -- a Stop of it is earned
     earned_is : (slot : ℕ) → c.entry.act ≡ Stop slot → LastBy slot c.entry.seat c.first history
-    earned_is slot is = subst (λ (n : ℕ). LastBy slot n c.first history) (sym first.own) ((subst (NextIsEarned (lanes.seat m) history) at (u.earned m low)) slot is)
+    earned_is slot is = subst (λ (n : ℕ). LastBy slot n c.first history) (sym first.own) ((subst (NextIsJustified (lanes.seat m) history) at (u.justified m low)) slot is)
 
     -- the merge is under way with it
     pub item-placed : IsUnderWay s whole lanes (history ++ c.entry ∷ []) rest'
@@ -167,7 +167,7 @@ module _ (s : Setup) (whole : List Counted) (lanes : Lanes) (told : AllTold s wh
       left = left-next;
       divides = divides-next;
       quiet = quiet-next s lanes apart history rest rest' m (Item c) steps low at here others c.entry first.own refl old;
-      earned = earned-next s lanes apart history rest rest' m (Item c) steps low at here others c.entry first.own refl old u.earned;
+      justified = earned-next s lanes apart history rest rest' m (Item c) steps low at here others c.entry first.own refl old u.justified;
       stands = stands-next;
       machine = machine-snoc s history c.entry u.machine (merged-item c.entry.act told_is.item_act) told_is.fits told_is.bits;
       sound = sound-snoc s (judges_of s) history c.entry u.sound fits (earned-there s (entries_in (items_in first.front)) history c told_is many_is earned_is) told_is.low (held-item c.entry.act c.entry.seat told_is.item_act);

@@ -14,7 +14,7 @@ use Rattle.rv_model.specs.declared.work.Delivery.{Delivery}
 use Rattle.rv_model.specs.declared.work.Turn.{Turn}
 use Rattle.rv_model.specs.Judging.{Judge}
 use Rattle.rv_model.specs.Numbers.{has_bit}
-use Rattle.rv_model.specs.Scripts.{Played, played, is_shown, fails, is_end, hit_act, MakesHit, Makes, Delivers, PlaysTurns}
+use Rattle.rv_model.specs.Scripts.{Played, played, is_enabled_by, fails, is_end, hit_act, MakesHit, Makes, Delivers, PlaysTurns}
 use Rattle.rv_model.specs.Seats.{entries_of}
 use Rattle.rv_model.specs.Setups.{Setup, slot_of}
 use Rattle.rv_model.specs.SharedWords.{answer_at}
@@ -129,7 +129,7 @@ no_counted : Counted
 no_counted = record { entry = record { seat = 0; act = Look; before = 0; after = 0 }; first = 0; count = 0; outcome = Racing }
 
 -- ---- scripts
-module _ (s : Setup) (seat look : ℕ) (ds : List Delivery) (items : List Counted) (served : AllServed s ds items) (many : length items ≡ length ds) (shown : All (λ d. is_shown look d ≡ true) ds) (going : All (λ d. is_end d.hit.mode ≡ false) ds) (running : has_bit look 34 ≡ false) where
+module _ (s : Setup) (seat look : ℕ) (ds : List Delivery) (items : List Counted) (served : AllServed s ds items) (many : length items ≡ length ds) (enabled : All (λ d. is_enabled_by look d ≡ true) ds) (going : All (λ d. is_end d.hit.mode ≡ false) ds) (running : has_bit look 34 ≡ false) where
   -- no reactor is panic
   abbrev panics : ℕ → Bool
   panics = λ _. false
@@ -140,7 +140,7 @@ module _ (s : Setup) (seat look : ℕ) (ds : List Delivery) (items : List Counte
 
   -- what plays the steps from a place on, plays the deliveries from there up to another place, and then the turns
   abbrev Goes : ℕ → ℕ → List Turn → Type 0
-  Goes place to turns = (ps : List Played) → acted_in ps ≡ step_entries seat look (steps_from items place turns) → LooksTell ps → Delivers s panics look (filter (is_shown look) (slice_range ds place to)) (PlaysTurns s panics (lists turns)) ps
+  Goes place to turns = (ps : List Played) → acted_in ps ≡ step_entries seat look (steps_from items place turns) → LooksTell ps → Delivers s panics look (filter (is_enabled_by look) (slice_range ds place to)) (PlaysTurns s panics (lists turns)) ps
 
   -- it holds from an item on where it holds from behind that item on
   one-item : (place to : ℕ) (turns : List Turn) → place < to → to ≤ length items → Ahead (suc place) turns (length items) → Goes (suc place) to turns → Goes place to turns
@@ -155,9 +155,9 @@ module _ (s : Setup) (seat look : ℕ) (ds : List Delivery) (items : List Counte
       let all : p.0 ∷ acted_in ps ≡ c.entry ∷ step_entries seat look (steps_from items (suc place) turns) = is ∙ ap (step_entries seat look) steps in
       let head : p.0 ≡ c.entry = cc in
       let tail : acted_in ps ≡ step_entries seat look (steps_from items (suc place) turns) = cc in
-      let on : is_shown look d ≡ true = All-get_or (λ (x : Delivery). is_shown look x ≡ true) ds place no_delivery in' shown in
-      let shown_are : filter (is_shown look) (slice_range ds place to) ≡ d ∷ filter (is_shown look) (slice_range ds (suc place) to) =
-      ap (filter (is_shown look)) (range-cons ds no_delivery place to lt in') ∙ filter_yes (is_shown look) d (slice_range ds (suc place) to) on in
+      let on : is_enabled_by look d ≡ true = All-get_or (λ (x : Delivery). is_enabled_by look x ≡ true) ds place no_delivery in' enabled in
+      let shown_are : filter (is_enabled_by look) (slice_range ds place to) ≡ d ∷ filter (is_enabled_by look) (slice_range ds (suc place) to) =
+      ap (filter (is_enabled_by look)) (range-cons ds no_delivery place to lt in') ∙ filter_yes (is_enabled_by look) d (slice_range ds (suc place) to) on in
       let goes : is_end d.hit.mode ≡ false = All-get_or (λ (x : Delivery). is_end x.hit.mode ≡ false) ds place no_delivery in' going in
       let makes : Makes s d p = subst (MakesHit (slot_of s.shape d.monitor d.instance) d.hit) (sym (ap (λ (e : Entry). e.act) head)) (serves-makes s d c.entry.act goes (served-at s ds items no_delivery no_counted place served (omega arith))) in
       subst (λ (z : List Delivery). Delivers s panics look z (PlaysTurns s panics (lists turns)) (p ∷ ps)) (sym shown_are)
@@ -183,9 +183,9 @@ module _ (s : Setup) (seat look : ℕ) (ds : List Delivery) (items : List Counte
       let head : p.0 ≡ opened = cc in
       let tail : acted_in ps ≡ step_entries seat look (steps_from items place turns) = cc in
       let act : p.0.act ≡ Look = ap (λ (e : Entry). e.act) head in
-      let told : p.1 ≡ Looked look = tells.0 act ∙ ap (λ (e : Entry). Looked e.after) head in
-      let after : Goes turn.to turn.to turns = λ qs is' tells'. subst (λ (z : List Delivery). Delivers s panics look (filter (is_shown look) z) (PlaysTurns s panics (lists turns)) qs) (sym (range-none ds turn.to)) (plays-steps turns turn.to names.2 qs is' tells') in
+      let observed : p.1 ≡ Looked look = tells.0 act ∙ ap (λ (e : Entry). Looked e.after) head in
+      let after : Goes turn.to turn.to turns = λ qs is' tells'. subst (λ (z : List Delivery). Delivers s panics look (filter (is_enabled_by look) z) (PlaysTurns s panics (lists turns)) qs) (sym (range-none ds turn.to)) (plays-steps turns turn.to names.2 qs is' tells') in
       let within = names-within turn.to turns (length items) names.2 in
       let goes = goes-items (turn.to - turn.from) turn.from turn.to turns (omega arith) within (λ q lt. ahead-names q turn.to turns (length items) names.2 lt) after in
       let tail' : acted_in ps ≡ step_entries seat look (steps_from items turn.from turns) = tail ∙ ap (λ (n : ℕ). step_entries seat look (steps_from items n turns)) (sym from) in
-      (look, act, told, match_false (has_bit look 34) _ _ running (goes ps tail' tells.1))
+      (look, act, observed, match_false (has_bit look 34) _ _ running (goes ps tail' tells.1))

@@ -7,25 +7,25 @@ use Rattle.std.proofs.lemmas.List.Elements.{filter-append}
 use Rattle.rv_model.specs.declared.entry.Entry.{Entry}
 use Rattle.rv_model.specs.Setups.{Setup}
 use Rattle.rv_journal.specs.declared.counted.Counted.{Counted}
-use Rattle.rv_journal.specs.declared.steps.Step.{Step}
-use Rattle.rv_journal.specs.declared.steps.Step.TheVariants.{Opens, Item}
+use Rattle.rv_journal.specs.declared.steps.MergeStep.{MergeStep}
+use Rattle.rv_journal.specs.declared.steps.MergeStep.TheVariants.{TurnLook, Item}
 use Rattle.rv_journal.specs.MergeSteps.{items_of, MayPlace, CannotGo}
-use Rattle.rv_journal.specs.MergeStates.{Mark, mark, items_in, is_left, AllTold, Lanes, IsUnderWay}
+use Rattle.rv_journal.specs.MergeStates.{Mark, mark, items_in, is_left, AreKnownItems, Lanes, IsUnderWay}
 use Rattle.rv_journal.proofs.MarkLemmas.{filter_yes, AllPlaced, FirstOpen, all-or_first, placed-none}
-use Rattle.rv_journal.proofs.FirstOpenLemmas.{rank-le, rank-ge}
+use Rattle.rv_journal.proofs.FirstOpenLemmas.{version-le, version-ge}
 use Rattle.rv_journal.proofs.GapLemmas.{leaving-none, losing-none}
 
-module _ (s : Setup) (whole : List Counted) (lanes : Lanes) (told : AllTold s whole)
+module _ (s : Setup) (whole : List Counted) (lanes : Lanes) (observed : AreKnownItems s whole)
     (owned : (before : List Counted) (c : Counted) (after : List Counted) → whole ≡ before ++ c ∷ after → (l : ℕ) × (l < lanes.many) × (c.entry.seat ≡ lanes.seat l))
-    (history : List Entry) (rest : ℕ → List Step) (u : IsUnderWay s whole lanes history rest)
+    (history : List Entry) (rest : ℕ → List MergeStep) (u : IsUnderWay s whole lanes history rest)
     (stuck : (l : ℕ) → l < lanes.many → CannotGo lanes.many history rest (rest l)) where
   -- a lane that is left no item is at its end
   ended : (l : ℕ) → l < lanes.many → items_of (rest l) ≡ [] → rest l ≡ []
   ended l lt none = by (rest l) refl
     where
-      by : (steps : List Step) → rest l ≡ steps → rest l ≡ []
+      by : (steps : List MergeStep) → rest l ≡ steps → rest l ≡ []
       by [] is = is
-      by (Opens ∷ steps) is = absurd ((subst (CannotGo lanes.many history rest) is (stuck l lt)) tt)
+      by (TurnLook ∷ steps) is = absurd ((subst (CannotGo lanes.many history rest) is (stuck l lt)) tt)
       by (Item c ∷ steps) is = absurd (let no : c ∷ items_of steps ≡ [] = sym (ap items_of is) ∙ none in cc)
 
   module _ (f : FirstOpen u.marks) where
@@ -43,19 +43,19 @@ module _ (s : Setup) (whole : List Counted) (lanes : Lanes) (told : AllTold s wh
         ∙ (ap (λ (z : List Mark). z ++ filter (is_left n) (mark false f.item ∷ f.back)) (placed-none n f.front f.placed) ∙ filter_yes (is_left n) (mark false f.item) f.back in')))
 
     -- it may be placed where it is the lane's next step
-    may : (steps : List Step) → rest lane.0 ≡ Item f.item ∷ steps → MayPlace lanes.many history rest (Item f.item)
+    may : (steps : List MergeStep) → rest lane.0 ≡ Item f.item ∷ steps → MayPlace lanes.many history rest (Item f.item)
     may steps at = (
-      (let le = rank-le s whole lanes told history rest u f in let ge = rank-ge s whole lanes told history rest u f lane.0 lane.1 steps at in omega arith),
-      λ differs l lt. (let a = leaving-none s whole lanes told history rest u stuck f differs l lt in let b = losing-none s whole lanes told history rest u stuck f differs l lt in omega arith),
+      (let le = version-le s whole lanes observed history rest u f in let ge = version-ge s whole lanes observed history rest u f lane.0 lane.1 steps at in omega arith),
+      λ differs l lt. (let a = leaving-none s whole lanes observed history rest u stuck f differs l lt in let b = losing-none s whole lanes observed history rest u stuck f differs l lt in omega arith),
     )
 
     -- so the first that is not placed could go
     not-stuck : ⊥
     not-stuck = by (rest lane.0) refl
       where
-        by : (steps : List Step) → rest lane.0 ≡ steps → ⊥
+        by : (steps : List MergeStep) → rest lane.0 ≡ steps → ⊥
         by [] is = let no : [] ≡ f.item ∷ items_in (filter (is_left (lanes.seat lane.0)) f.back) = sym (ap items_of is) ∙ items-are in cc
-        by (Opens ∷ steps) is = (subst (CannotGo lanes.many history rest) is (stuck lane.0 lane.1)) tt
+        by (TurnLook ∷ steps) is = (subst (CannotGo lanes.many history rest) is (stuck lane.0 lane.1)) tt
         by (Item x ∷ steps) is =
             let both : x ∷ items_of steps ≡ f.item ∷ items_in (filter (is_left (lanes.seat lane.0)) f.back) = sym (ap items_of is) ∙ items-are in
             let it : x ≡ f.item = cc in

@@ -13,14 +13,14 @@ use Rattle.rv_model.specs.Seats.{known_of, entries_of}
 use Rattle.rv_model.specs.Setups.{Setup}
 use Rattle.rv_model.specs.Works.{Work}
 use Rattle.rv_core.specs.Setup.{judges_of}
-use Rattle.rv_board.specs.RunSeats.{Holds}
-use Rattle.rv_board.specs.Seats.{BoardId, SeatValue, Follows}
+use Rattle.rv_board.specs.RunSeats.{HasTakenIn}
+use Rattle.rv_board.specs.Seats.{BoardId, SeatValue, ExtendsSeen}
 use Rattle.rv_board.proofs.ListLemmas.{kept-holds, map-reverse, All-reverse, Any-reverse, Any-map, zip-with, zip-right, zip-map}
 use Rattle.rv_board.proofs.RunSeatLemmas.{later-own}
 use Rattle.rv_journal.specs.declared.feeding.CountedFeeder.{CountedFeeder}
 use Rattle.rv_journal.specs.CountedFeeders.{FitsCountedFeeder, RunsCounted}
-use Rattle.rv_journal.specs.CountedLanes.{CountedLaneValue, FitsCounted, AllToldAfter, FeedsCounted, entries_told}
-use Rattle.rv_journal.specs.Merging.{FitsSetup, IsPartOf, FitsLane, CanMerge, IsMergeOf, seat_of, works_of}
+use Rattle.rv_journal.specs.CountedLanes.{CountedLaneValue, FitsCounted, AllObservedAfter, FeedsCounted, entries_observed}
+use Rattle.rv_journal.specs.Merging.{FitsSetup, IsSeatPartOf, FitsLane, CanMerge, IsMergeOf, seat_of, works_of}
 use Rattle.rv_journal.specs.Running.{FitsCountedWork, recorded_input, IsCountedSeated, lanes_in, works_in, AreCountedSeated, AreJoined}
 use Rattle.rv_journal.proofs.PartLemmas.{is-part, all-served}
 
@@ -32,7 +32,7 @@ module _ {G : Type 0} (board : BoardId) (h : List Entry) where
     own : (before : List Entry) (e : Entry) (after : List Entry) → h ≡ before ++ e ∷ after → known_of old.seat.seat.part e.seat ≡ true → e.seat ≡ seat_of new.lane
 
   -- a feeder that ran, and whose seat was joined
-  is-recorded : (old new : CountedFeeder G) → RunsCounted old new → IsCountedSeated board old → Follows h new.seat.seat.part → IsRecorded old new
+  is-recorded : (old new : CountedFeeder G) → RunsCounted old new → IsCountedSeated board old → ExtendsSeen h new.seat.seat.part → IsRecorded old new
   is-recorded old new runs seated later =
       let fresh = seated.fresh in
       let work : old.lane.work ≡ new.lane.work = sym runs.work_is in
@@ -45,12 +45,12 @@ module _ {G : Type 0} (board : BoardId) (h : List Entry) where
         fits = record {
           cpu = fit.cpu;
           fit = All-weaker (FitsCounted board.setup) (FitsSetup board.setup) (λ d f. record { monitor = f.monitor; instance_fits = f.instance_fits; hit = f.hit }) new.lane.work.deliveries fit.fit;
-          shown = fit.shown;
+          enabled = fit.enabled;
           served = all-served board.setup (known_of old.seat.seat.part) old.seat.seat.part.seen new.seat.seat.part.seen (entries_of (known_of old.seat.seat.part) old.seat.seat.part.seen) new.lane.work.deliveries new.lane.counted
-              (subst (λ (s : Setup). AllToldAfter s (known_of old.seat.seat.part) old.seat.seat.part.seen new.seat.seat.part.seen (entries_of (known_of old.seat.seat.part) old.seat.seat.part.seen) new.lane.work.deliveries new.lane.counted) on feeds.told);
-          part = subst (λ (n : ℕ). IsPartOf h n new.lane.counted) number (is-part old.seat new.seat h fresh.seen fresh.has later new.lane.work.deliveries new.lane.counted feeds);
+              (subst (λ (s : Setup). AllObservedAfter s (known_of old.seat.seat.part) old.seat.seat.part.seen new.seat.seat.part.seen (entries_of (known_of old.seat.seat.part) old.seat.seat.part.seen) new.lane.work.deliveries new.lane.counted) on feeds.observed);
+          part = subst (λ (n : ℕ). IsSeatPartOf h n new.lane.counted) number (is-part old.seat new.seat h fresh.seen fresh.has later new.lane.work.deliveries new.lane.counted feeds);
         };
-        own = λ before e after cut knows. later-own old.seat.seat new.seat.seat h fresh.seen later (entries_told new.lane.counted) runs.feeds.grows before e after cut knows ∙ number;
+        own = λ before e after cut knows. later-own old.seat.seat new.seat.seat h fresh.seen later (entries_observed new.lane.counted) runs.feeds.grows before e after cut knows ∙ number;
       }
 
   -- all feeders ran, from seats that had all numbers, and the history follows all seats
@@ -59,15 +59,15 @@ module _ {G : Type 0} (board : BoardId) (h : List Entry) where
     pub seated : All (IsCountedSeated board) fs
     pub works_are : works ≡ works_in fs
     pub ran : AllZip RunsCounted fs fs'
-    pub feeders_in : All (λ f. Follows h f.seat.seat.part) fs'
+    pub feeders_in : All (λ f. ExtendsSeen h f.seat.seat.part) fs'
     pub seen : first.part.seen ≡ []
-    pub first_in : Follows h first.part
+    pub first_in : ExtendsSeen h first.part
     pub cover : (n : ℕ) → n < 67 → (known_of first.part n ≡ true) ⊎ Any (λ f. known_of f.seat.seat.part n ≡ true) fs
 
   module _ (first : SeatValue) (works : List Work) (fs fs' : List (CountedFeeder G)) (are : AreRecorded first works fs fs') where
     -- each feeder's part is in the history
     all-recorded : AllZip IsRecorded fs fs'
-    all-recorded = zip-with RunsCounted (IsCountedSeated board) (λ f. Follows h f.seat.seat.part) IsRecorded is-recorded fs fs' are.ran are.seated are.feeders_in
+    all-recorded = zip-with RunsCounted (IsCountedSeated board) (λ f. ExtendsSeen h f.seat.seat.part) IsRecorded is-recorded fs fs' are.ran are.seated are.feeders_in
 
     -- each lane fits
     lanes-fit : All (FitsLane board.setup h) (lanes_in fs')
@@ -85,7 +85,7 @@ module _ {G : Type 0} (board : BoardId) (h : List Entry) where
 
     -- every entry is a lane's
     nobody-else : AtEach (λ before e. Any (λ l. e.seat ≡ seat_of l) (lanes_in fs')) h
-    nobody-else before e after cut = elim (are.cover e.seat (are.sound.held before e after cut).0) [
+    nobody-else before e after cut = elim (are.cover e.seat (are.sound.permitted before e after cut).0) [
       | inl knows ↦ absurd (nothing knows)
       | inr any ↦ of_lanes (over fs fs' all-recorded any.0 any.1 any.2 any.3 any.4)
     ]
@@ -153,7 +153,7 @@ module _ {G : Type 0} (board : BoardId) where
     seated = are.seated;
     works_are = are.works_are;
     ran = ran;
-    feeders_in = All-weaker (λ (f : CountedFeeder G). Holds last f.seat.seat) (λ (f : CountedFeeder G). Follows last.part.seen f.seat.seat.part) (λ f holds. holds.follows) fs' joined.seats;
+    feeders_in = All-weaker (λ (f : CountedFeeder G). HasTakenIn last f.seat.seat) (λ (f : CountedFeeder G). ExtendsSeen last.part.seen f.seat.seat.part) (λ f holds. holds.follows) fs' joined.seats;
     seen = are.is_first.seen;
     first_in = joined.into.follows;
     cover = are.cover;

@@ -4,15 +4,15 @@ use Rattle.std.specs.Prelude.{MatchOption}
 use Rattle.rv_model.specs.declared.entry.Entry.{Entry}
 use Rattle.rv_model.specs.Histories.{is_on}
 use Rattle.rv_journal.specs.declared.counted.Counted.{Counted}
-use Rattle.rv_journal.specs.declared.steps.Cursor.{Cursor}
-use Rattle.rv_journal.specs.declared.steps.Gap.{Gap}
-use Rattle.rv_journal.specs.declared.steps.Next.{Next}
-use Rattle.rv_journal.specs.declared.steps.Step.{Step}
-use Rattle.rv_journal.specs.declared.steps.Step.TheVariants.{Opens, Item}
+use Rattle.rv_journal.specs.declared.steps.LaneProgress.{LaneProgress}
+use Rattle.rv_journal.specs.declared.steps.VersionInterval.{VersionInterval}
+use Rattle.rv_journal.specs.declared.steps.NextStep.{NextStep}
+use Rattle.rv_journal.specs.declared.steps.MergeStep.{MergeStep}
+use Rattle.rv_journal.specs.declared.steps.MergeStep.TheVariants.{TurnLook, Item}
 use Rattle.rv_journal.specs.CountedLanes.{CountedLaneValue}
 use Rattle.rv_journal.specs.MergeSteps.{rest_of, IsCursor, GoesTo, step_entry, slot_in, held_by, total, MayPlace}
 use Rattle.rv_journal.specs.MergeStates.{IsUnderWay}
-use Rattle.rv_journal.specs.MergeWaits.{Waits, waits_at, Fallen, step_waits, next_waits, changes_after}
+use Rattle.rv_journal.specs.MergePending.{Pending, pending_at, Fallen, step_pending, next_pending, changes_after}
 use Rattle.rv_journal.specs.Merging.{lanes_of, seat_of}
 use Rattle.rv_journal.specs.MergeRuns.{Run, lane_at, cursor_at, first_cursor, rests, steps_left, IsMerging}
 use Rattle.rv_journal.proofs.SlotActLemmas.{is_on-slot, slot-below}
@@ -22,8 +22,8 @@ use Rattle.rv_journal.proofs.WholeLemmas.{lanes-apart, fits-at}
 use Rattle.rv_journal.proofs.TotalLemmas.{same_or_not, total-less, first_lost, held-step, next-first}
 use Rattle.rv_journal.proofs.SlotChangeLemmas.{step-changes, step-slots}
 
-module _ (run : Run) (lanes : List CountedLaneValue) (placed : List Entry) (cursors : List Cursor) (changes : List ℕ) (waits : Waits) (m : IsMerging run lanes placed cursors changes waits)
-    (place : ℕ) (low : place < length lanes) (step : Step) (cursor : Cursor) (goes : GoesTo (lane_at lanes place) (cursor_at cursors place) step cursor) (may : MayPlace (length lanes) placed (rests lanes cursors) step) where
+module _ (run : Run) (lanes : List CountedLaneValue) (placed : List Entry) (cursors : List LaneProgress) (changes : List ℕ) (pending : Pending) (m : IsMerging run lanes placed cursors changes pending)
+    (place : ℕ) (low : place < length lanes) (step : MergeStep) (cursor : LaneProgress) (goes : GoesTo (lane_at lanes place) (cursor_at cursors place) step cursor) (may : MayPlace (length lanes) placed (rests lanes cursors) step) where
   -- the lane has the steps behind its cursor left
   here : rests lanes (set cursors place cursor) place ≡ rest_of (lane_at lanes place) cursor
   here = let n = m.many in ap (rest_of (lane_at lanes place)) (get_or-set_same cursors place cursor first_cursor (omega arith))
@@ -41,19 +41,19 @@ module _ (run : Run) (lanes : List CountedLaneValue) (placed : List Entry) (curs
   low-seat = let cpu = (fits-at run.setup run.seen lanes m.given.can m.given.is_setup m.given.numbers place low).cpu in omega arith
 
   -- the merge goes on
-  under_way : (x : Step) → step ≡ x → IsUnderWay run.setup m.whole (lanes_of lanes) (placed ++ step_entry (seat_of (lane_at lanes place)) run.setup.switches x ∷ []) (rests lanes (set cursors place cursor))
-  under_way Opens is =
-      look-placed run.setup m.whole (lanes_of lanes) m.given.told apart placed (rests lanes cursors) (rests lanes (set cursors place cursor)) m.under_way place (rest_of (lane_at lanes place) cursor) low here others
-      (goes.steps ∙ ap (λ (z : Step). z ∷ rest_of (lane_at lanes place) cursor) is) low-seat
+  under_way : (x : MergeStep) → step ≡ x → IsUnderWay run.setup m.whole (lanes_of lanes) (placed ++ step_entry (seat_of (lane_at lanes place)) run.setup.switches x ∷ []) (rests lanes (set cursors place cursor))
+  under_way TurnLook is =
+      look-placed run.setup m.whole (lanes_of lanes) m.given.observed apart placed (rests lanes cursors) (rests lanes (set cursors place cursor)) m.under_way place (rest_of (lane_at lanes place) cursor) low here others
+      (goes.steps ∙ ap (λ (z : MergeStep). z ∷ rest_of (lane_at lanes place) cursor) is) low-seat
   under_way (Item c) is =
-      item-placed run.setup m.whole (lanes_of lanes) m.given.told apart placed (rests lanes cursors) (rests lanes (set cursors place cursor)) m.under_way place (rest_of (lane_at lanes place) cursor) low here others c
-      (goes.steps ∙ ap (λ (z : Step). z ∷ rest_of (lane_at lanes place) cursor) is) (subst (MayPlace (length lanes) placed (rests lanes cursors)) is may)
+      item-placed run.setup m.whole (lanes_of lanes) m.given.observed apart placed (rests lanes cursors) (rests lanes (set cursors place cursor)) m.under_way place (rest_of (lane_at lanes place) cursor) low here others c
+      (goes.steps ∙ ap (λ (z : MergeStep). z ∷ rest_of (lane_at lanes place) cursor) is) (subst (MayPlace (length lanes) placed (rests lanes cursors)) is may)
 
   -- an item is on a slot of the setup
   item-known : (c : Counted) → step ≡ Item c → (is_on (slot_in c.entry.act) c.entry.act ≡ true) × (slot_in c.entry.act < sum run.setup.shape)
   item-known c is =
-      let told = next-told run.setup m.whole (lanes_of lanes) m.given.told placed (rests lanes cursors) m.under_way place low c (rest_of (lane_at lanes place) cursor) (goes.steps ∙ ap (λ (z : Step). z ∷ rest_of (lane_at lanes place) cursor) is) in
-      (is_on-slot c.entry.act told.0, slot-below run.setup c.entry.act told.0 told.1)
+      let observed = next-told run.setup m.whole (lanes_of lanes) m.given.observed placed (rests lanes cursors) m.under_way place low c (rest_of (lane_at lanes place) cursor) (goes.steps ∙ ap (λ (z : MergeStep). z ∷ rest_of (lane_at lanes place) cursor) is) in
+      (is_on-slot c.entry.act observed.0, slot-below run.setup c.entry.act observed.0 observed.1)
 
   -- the cursors are the lanes'
   cursors-next : (l : ℕ) → l < length lanes → IsCursor (lane_at lanes l) (cursor_at (set cursors place cursor) l)
@@ -64,22 +64,22 @@ module _ (run : Run) (lanes : List CountedLaneValue) (placed : List Entry) (curs
   ]
 
   -- what the lane holds falls by the step
-  held-less : (g : Gap) → total (λ l. held_by g.slot g.rank (rests lanes cursors l)) (length lanes) ≡ total (λ l. held_by g.slot g.rank (rests lanes (set cursors place cursor) l)) (length lanes) + (step_waits g step + first_lost g (rest_of (lane_at lanes place) cursor))
+  held-less : (g : VersionInterval) → total (λ l. held_by g.slot g.version (rests lanes cursors l)) (length lanes) ≡ total (λ l. held_by g.slot g.version (rests lanes (set cursors place cursor) l)) (length lanes) + (step_pending g step + first_lost g (rest_of (lane_at lanes place) cursor))
   held-less g =
-      total-less (λ l. held_by g.slot g.rank (rests lanes cursors l)) (λ l. held_by g.slot g.rank (rests lanes (set cursors place cursor) l)) (length lanes) place (step_waits g step + first_lost g (rest_of (lane_at lanes place) cursor)) low
-      (ap (held_by g.slot g.rank) goes.steps ∙ (held-step g step (rest_of (lane_at lanes place) cursor) ∙ ap (λ (z : List Step). held_by g.slot g.rank z + (step_waits g step + first_lost g (rest_of (lane_at lanes place) cursor))) (sym here)))
-      (λ l ne. ap (held_by g.slot g.rank) (sym (others l ne)))
+      total-less (λ l. held_by g.slot g.version (rests lanes cursors l)) (λ l. held_by g.slot g.version (rests lanes (set cursors place cursor) l)) (length lanes) place (step_pending g step + first_lost g (rest_of (lane_at lanes place) cursor)) low
+      (ap (held_by g.slot g.version) goes.steps ∙ (held-step g step (rest_of (lane_at lanes place) cursor) ∙ ap (λ (z : List MergeStep). held_by g.slot g.version z + (step_pending g step + first_lost g (rest_of (lane_at lanes place) cursor))) (sym here)))
+      (λ l ne. ap (held_by g.slot g.version) (sym (others l ne)))
 
-  module _ (next : Option Next) (then' : MatchOption next (rest_of (lane_at lanes place) cursor ≡ []) (λ n. GoesTo (lane_at lanes place) cursor n.step n.cursor)) where
+  module _ (next : Option NextStep) (then' : MatchOption next (rest_of (lane_at lanes place) cursor ≡ []) (λ n. GoesTo (lane_at lanes place) cursor n.step n.cursor)) where
     -- it is there to be released
-    pub enough-waits : (g : Gap) → step_waits g step + next_waits g next ≤ waits_at waits g
+    pub enough-waits : (g : VersionInterval) → step_pending g step + next_pending g next ≤ pending_at pending g
     enough-waits g =
         let all = m.waits_are g in
         let less = held-less g in
         let first = next-first g (lane_at lanes place) cursor next then' in
         omega arith
 
-    module _ (waits' : Waits) (fallen : Fallen waits waits' (λ g. step_waits g step + next_waits g next)) where
+    module _ (waits' : Pending) (fallen : Fallen pending waits' (λ g. step_pending g step + next_pending g next)) where
       -- the merge goes on with the step placed
       pub next-merging : IsMerging run lanes (placed ++ step_entry (seat_of (lane_at lanes place)) run.setup.switches step ∷ []) (set cursors place cursor) (changes_after changes step) waits'
       next-merging = record {

@@ -5,7 +5,7 @@ use Rattle.std.proofs.lemmas.Bool.Decides.{nat_tests}
 use Rattle.std.proofs.lemmas.List.{reverse-append, map-append, get_or_at, get_or_append_left, length-append}
 use Rattle.std.proofs.lemmas.List.Elements.{All-nil, All-head, All-push}
 use Rattle.std.proofs.lemmas.List.Quantifiers.{Any-push}
-use Rattle.rv_model.specs.Seats.{is_in, is_among, known_of}
+use Rattle.rv_model.specs.Seats.{is_within, is_among, known_of}
 use Rattle.rv_model.specs.Setups.{Setup}
 use Rattle.rv_model.specs.Works.{Work}
 use Rattle.rv_board.specs.Known.{known_by, part}
@@ -21,14 +21,14 @@ use Rattle.rv_journal.specs.Running.{FitsCountedWork, IsCountedSeated, IsSeatedF
 
 -- the first seat of a board has all numbers
 all_known : (n : ℕ) → n < 67 → known_by 0 67 [] n ≡ true
-unfolding known_by is_in is_among
+unfolding known_by is_within is_among
 all_known n lt = grind (arith, nat_tests)
 
 -- ---- one work
 
 -- its feeder has the numbers from its CPU's on
 pub seated-for : {G : Type 0} (board : BoardId) (old new : SeatValue) (w : Work) (f : CountedFeeder G) (number : ℕ) → IsFirst board old → FitsCountedWork board.setup w → 2 + w.cpu < old.part.end → IsNewCountedLane w f.lane → number ≡ 2 + w.cpu
-    → f.seat ≡ counted_value (seat_value (part number old.part.end [] old.part.seen) old.board) 4000000 → new ≡ seat_value (part old.part.number number old.part.gone old.part.seen) old.board → IsSeatedFor board old new w f
+    → f.seat ≡ counted_value (seat_value (part number old.part.end [] old.part.seen) old.board) 4000000 → new ≡ seat_value (part old.part.number number old.part.joined_in old.part.seen) old.board → IsSeatedFor board old new w f
 seated-for {G} board old new w f number first fits below lane at seat rest =
     let is : f.lane.work ≡ w = lane.work_is in
     let mine : f.seat.seat.part.number ≡ 2 + w.cpu = ap (λ (s : CountedValue). s.seat.part.number) seat ∙ at in

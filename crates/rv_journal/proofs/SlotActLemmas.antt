@@ -15,7 +15,7 @@ use Rattle.rv_model.specs.Histories.{is_on}
 use Rattle.rv_model.proofs.TableJudgeLemmas.{every_table_is_judged}
 use Rattle.rv_core.specs.Advance.{acted}
 use Rattle.rv_core.specs.Core.{IsLive, slot_phase}
-use Rattle.rv_core.specs.Setup.{IsSetup, FitsAct, ActFits, place_of, table_at, judges_of}
+use Rattle.rv_core.specs.Setup.{IsSetup, FitsAct, ActFits, word_index, table_at, judges_of}
 use Rattle.rv_core.proofs.CoreLemmas.{table_at-is, word_of-is}
 use Rattle.rv_core.proofs.TurnLemmas.{fits-start}
 use Rattle.rv_core.proofs.WordLemmas.{Acts, acted-same, live-same, phase_after-other}
@@ -60,7 +60,7 @@ is_on-slot (Clear _) is = absurd is
 is_on-slot (End _) is = absurd is
 
 -- the slot's place is behind the switches
-pub place-slot_in : (act : Act) → IsItemAct act → place_of act ≡ slot_in act + 1
+pub place-slot_in : (act : Act) → IsItemAct act → word_index act ≡ slot_in act + 1
 place-slot_in (Deliver slot hit) is = refl
 place-slot_in (Stop slot) is = refl
 place-slot_in Look is = absurd is
@@ -106,10 +106,10 @@ module _ (s : Setup) where
   pub machine-snoc : (history : List Entry) (e : Entry) → IsMachine s history → IsMergedAct e.act → FitsAct s e.act → ActFits s e.act → IsMachine s (history ++ e ∷ [])
   machine-snoc history e m is fits bits = record {
     is_setup = m.is_setup;
-    live = λ i low. subst (λ (past : List Entry). IsLive (table_judge (table_at s i)) (slot_phase s past i)) (sym (reverse-append history (e ∷ []))) (at i low (same_or_not (place_of e.act) (i + 1)));
+    live = λ i low. subst (λ (past : List Entry). IsLive (table_judge (table_at s i)) (slot_phase s past i)) (sym (reverse-append history (e ∷ []))) (at i low (same_or_not (word_index e.act) (i + 1)));
   }
     where
-      item : (act : Act) (i : ℕ) → IsMergedAct act → place_of act ≡ i + 1 → IsItemAct act
+      item : (act : Act) (i : ℕ) → IsMergedAct act → word_index act ≡ i + 1 → IsItemAct act
       item (Deliver slot hit) i is same = tt
       item (Stop slot) i is same = tt
       item Look i is same = absurd (omega arith)
@@ -118,7 +118,7 @@ module _ (s : Setup) where
       item (Clear _) i is same = absurd is
       item (End _) i is same = absurd is
 
-      at : (i : ℕ) → i < sum s.shape → (place_of e.act ≡ i + 1) ⊎ (place_of e.act ≢ i + 1) → IsLive (table_judge (table_at s i)) (slot_phase s (e ∷ reverse history) i)
+      at : (i : ℕ) → i < sum s.shape → (word_index e.act ≡ i + 1) ⊎ (word_index e.act ≢ i + 1) → IsLive (table_judge (table_at s i)) (slot_phase s (e ∷ reverse history) i)
       at i low (inl same) =
           let it = item e.act i is same in
           let there : slot_in e.act ≡ i = (let p = place-slot_in e.act it in omega arith) in

@@ -4,17 +4,17 @@ use Rattle.std.specs.Prelude.{filter}
 use Rattle.rv_model.specs.declared.entry.Entry.{Entry}
 use Rattle.rv_model.specs.Histories.{is_on, changed}
 use Rattle.rv_journal.specs.declared.counted.Counted.{Counted}
-use Rattle.rv_journal.specs.declared.steps.Step.{Step}
-use Rattle.rv_journal.specs.declared.steps.Step.TheVariants.{Opens, Item}
+use Rattle.rv_journal.specs.declared.steps.MergeStep.{MergeStep}
+use Rattle.rv_journal.specs.declared.steps.MergeStep.TheVariants.{TurnLook, Item}
 use Rattle.rv_journal.specs.MergeSteps.{step_entry, slot_in, leaves, changes_on}
-use Rattle.rv_journal.specs.MergeWaits.{changes_after}
+use Rattle.rv_journal.specs.MergePending.{changes_after}
 use Rattle.rv_journal.proofs.SlotActLemmas.{slot_in-is}
 use Rattle.rv_journal.proofs.AddedLemmas.{changes-calm, changes-more}
 use Rattle.rv_journal.proofs.TotalLemmas.{same_or_not}
 
 -- a look changes none
-look-changes : (slot : ℕ) (placed : List Entry) (seat switches : ℕ) → changes_on slot (placed ++ step_entry seat switches Opens ∷ []) ≡ changes_on slot placed
-look-changes slot placed seat switches = ap length (changes-calm slot placed (step_entry seat switches Opens) refl)
+look-changes : (slot : ℕ) (placed : List Entry) (seat switches : ℕ) → changes_on slot (placed ++ step_entry seat switches TurnLook ∷ []) ≡ changes_on slot placed
+look-changes slot placed seat switches = ap length (changes-calm slot placed (step_entry seat switches TurnLook) refl)
 
 module _ (changes : List ℕ) (placed : List Entry) (slots : ℕ) (many : length changes ≡ slots) (are : (slot : ℕ) → slot < slots → get_or changes slot 0 ≡ changes_on slot placed) where
   -- with an item, as many as before and its own
@@ -55,13 +55,13 @@ module _ (changes : List ℕ) (placed : List Entry) (slots : ℕ) (many : length
               elsewhere false n = n
 
   -- with any step
-  pub step-changes : (seat switches : ℕ) (step : Step) → (item : (c : Counted) → step ≡ Item c → (is_on (slot_in c.entry.act) c.entry.act ≡ true) × (slot_in c.entry.act < slots)) → (slot : ℕ) → slot < slots → get_or (changes_after changes step) slot 0 ≡ changes_on slot (placed ++ step_entry seat switches step ∷ [])
-  step-changes seat switches Opens item slot lt = are slot lt ∙ sym (look-changes slot placed seat switches)
+  pub step-changes : (seat switches : ℕ) (step : MergeStep) → (item : (c : Counted) → step ≡ Item c → (is_on (slot_in c.entry.act) c.entry.act ≡ true) × (slot_in c.entry.act < slots)) → (slot : ℕ) → slot < slots → get_or (changes_after changes step) slot 0 ≡ changes_on slot (placed ++ step_entry seat switches step ∷ [])
+  step-changes seat switches TurnLook item slot lt = are slot lt ∙ sym (look-changes slot placed seat switches)
   step-changes seat switches (Item c) item slot lt = let i = item c refl in item-changes c i.0 i.1 slot lt
 
   -- they stay as many
-  pub step-slots : (step : Step) → length (changes_after changes step) ≡ slots
-  step-slots Opens = many
+  pub step-slots : (step : MergeStep) → length (changes_after changes step) ≡ slots
+  step-slots TurnLook = many
   step-slots (Item c) = by (leaves c.entry) refl
     where
       by : (b : Bool) → leaves c.entry ≡ b → length (changes_after changes (Item c)) ≡ slots

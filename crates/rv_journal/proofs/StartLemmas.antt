@@ -14,7 +14,7 @@ use Rattle.rv_board.proofs.SoundLemmas.{sound-empty}
 use Rattle.rv_journal.specs.declared.counted.Counted.{Counted}
 use Rattle.rv_journal.specs.CountedLanes.{CountedLaneValue}
 use Rattle.rv_journal.specs.MergeSteps.{items_of, steps_from}
-use Rattle.rv_journal.specs.MergeStates.{Mark, mark, items_in, entry_in, is_left, IsMergedAct, NextIsEarned, IsUnderWay}
+use Rattle.rv_journal.specs.MergeStates.{Mark, mark, items_in, entry_in, is_left, IsMergedAct, NextIsJustified, IsUnderWay}
 use Rattle.rv_journal.specs.Merging.{CanMerge, AllServed, NumbersFit, no_lane, seat_of, lanes_of}
 use Rattle.rv_journal.proofs.MarkLemmas.{filter_yes, filter_no}
 use Rattle.rv_journal.proofs.MergeStepLemmas.{steps-items, steps-opens, steps-none, first-cursor}
@@ -57,9 +57,9 @@ none-placed (i ∷ items) [] c after eq = let first : mark false i ≡ mark true
 none-placed (i ∷ items) (x ∷ before) c after eq = let tail : map (mark false) items ≡ before ++ mark true c ∷ after = cc in none-placed items before c after tail
 
 -- a lane's first step is a look
-first-look : (n : ℕ) (items : List Counted) (turns : List Turn) → NamesEach 0 turns (length items) → NextIsEarned n [] (steps_from items 0 turns)
-first-look n items [] names = subst (NextIsEarned n []) (sym (steps-none items 0 (let z : 0 ≡ length items = names in omega arith))) tt
-first-look n items (turn ∷ turns) names = subst (NextIsEarned n []) (sym (steps-opens items 0 turn turns names.0)) tt
+first-look : (n : ℕ) (items : List Counted) (turns : List Turn) → NamesEach 0 turns (length items) → NextIsJustified n [] (steps_from items 0 turns)
+first-look n items [] names = subst (NextIsJustified n []) (sym (steps-none items 0 (let z : 0 ≡ length items = names in omega arith))) tt
+first-look n items (turn ∷ turns) names = subst (NextIsJustified n []) (sym (steps-opens items 0 turn turns names.0)) tt
 
 module _ (s : Setup) (seen : List Entry) (lanes : List CountedLaneValue) (can : CanMerge s seen lanes) (k : IsSetup s) (numbers : All (λ l. All NumbersFit l.counted) lanes) (works : All (λ l. IsWork l.work) lanes) where
   -- the turns of a lane name its items
@@ -82,7 +82,7 @@ module _ (s : Setup) (seen : List Entry) (lanes : List CountedLaneValue) (can : 
         left = λ l lt. script-items l lt ∙ (sym ((whole s seen lanes can k numbers).parts l lt [] (get_or lanes l no_lane).counted refl refl) ∙ sym (left-all (seat_of (get_or lanes l no_lane)) items));
         divides = λ slot. record { done = []; todo = filter (λ c. changed slot c.entry) items; marks_are = todo-all slot items; history_is = refl };
         quiet = λ slot r lt. absurd (omega arith);
-        earned = λ l lt. first-look (seat_of (get_or lanes l no_lane)) (get_or lanes l no_lane).counted (get_or lanes l no_lane).work.turns (names-at l lt);
+        justified = λ l lt. first-look (seat_of (get_or lanes l no_lane)) (get_or lanes l no_lane).counted (get_or lanes l no_lane).work.turns (names-at l lt);
         stands = λ before c after eq. absurd (none-placed items before c after eq);
         machine = machine-empty s seen lanes can k numbers;
         sound = sound-empty s (judges_of s);

@@ -13,8 +13,8 @@ use Rattle.rv_board.specs.Rule.{IsMachine}
 use Rattle.rv_journal.specs.declared.counted.Counted.{Counted}
 use Rattle.rv_journal.specs.CountedLanes.{CountedLaneValue}
 use Rattle.rv_journal.specs.CountedWords.{count_on}
-use Rattle.rv_journal.specs.MergeSteps.{slot_in, rank, changes_on}
-use Rattle.rv_journal.specs.MergeStates.{entries_in, LostAt, AllTold}
+use Rattle.rv_journal.specs.MergeSteps.{slot_in, version, changes_on}
+use Rattle.rv_journal.specs.MergeStates.{entries_in, LostAt, AreKnownItems}
 use Rattle.rv_journal.specs.Merging.{IsLost, CanMerge, NumbersFit}
 use Rattle.rv_journal.proofs.SlotActLemmas.{machine-snoc}
 use Rattle.rv_journal.proofs.PlaceLemmas.{merged-item}
@@ -107,7 +107,7 @@ module _ (s : Setup) (seen : List Entry) (lanes : List CountedLaneValue) (can : 
           omega arith
 
   -- the whole list is told
-  pub all-told : AllTold s all_items
+  pub all-told : AreKnownItems s all_items
   all-told before c after eq =
       let known = (whole s seen lanes can k numbers).known before c after eq in
       let cut = seen-cut before c after eq in
@@ -123,8 +123,8 @@ module _ (s : Setup) (seen : List Entry) (lanes : List CountedLaneValue) (can : 
         fits = known.fits;
         bits = known.bits;
         small = known.small;
-        low = (can.sound.held (entries_in before) c.entry (entries_in after) cut).0;
-        rank_is = (let r : rank c ≡ c.count + stop_count c.entry.before = refl in omega arith);
+        low = (can.sound.permitted (entries_in before) c.entry (entries_in after) cut).0;
+        rank_is = (let r : version c ≡ c.count + stop_count c.entry.before = refl in omega arith);
         lost = λ slot is. lost-is slot c.entry.seat c.first (entries_in before) (c.entry ∷ entries_in after) cut (known.lost slot is);
       }
 

@@ -1,14 +1,14 @@
 -- Sums over lanes, and what a step takes from what its lane holds.
 use Rattle.std.proofs.Common.{◌≡◌, ◌≢◌, ℕ, zero, suc, ◌+◌, ◌<◌, ◌≤◌, List, [], ◌∷◌, ◌⊎◌, inl, inr, Option, None, Some, refl, sym, ap, subst, arith}
 use Rattle.std.specs.Prelude.{MatchOption}
-use Rattle.rv_journal.specs.declared.steps.Cursor.{Cursor}
-use Rattle.rv_journal.specs.declared.steps.Gap.{Gap}
-use Rattle.rv_journal.specs.declared.steps.Next.{Next}
-use Rattle.rv_journal.specs.declared.steps.Step.{Step}
-use Rattle.rv_journal.specs.declared.steps.Step.TheVariants.{Opens, Item}
+use Rattle.rv_journal.specs.declared.steps.LaneProgress.{LaneProgress}
+use Rattle.rv_journal.specs.declared.steps.VersionInterval.{VersionInterval}
+use Rattle.rv_journal.specs.declared.steps.NextStep.{NextStep}
+use Rattle.rv_journal.specs.declared.steps.MergeStep.{MergeStep}
+use Rattle.rv_journal.specs.declared.steps.MergeStep.TheVariants.{TurnLook, Item}
 use Rattle.rv_journal.specs.CountedLanes.{CountedLaneValue}
 use Rattle.rv_journal.specs.MergeSteps.{items_of, rest_of, GoesTo, behind, losing, held_by, total}
-use Rattle.rv_journal.specs.MergeWaits.{step_waits, lost_step, next_waits}
+use Rattle.rv_journal.specs.MergePending.{step_pending, lost_step, next_pending}
 
 -- ---- sums over lanes
 
@@ -51,24 +51,24 @@ total-none f (suc n) all = let rest = total-none f n (λ l lt. all l (omega arit
 -- ---- what a step takes from what a lane holds
 
 -- what the first step was lost from
-abbrev pub first_lost : Gap → List Step → ℕ
+abbrev pub first_lost : VersionInterval → List MergeStep → ℕ
 first_lost g [] = 0
 first_lost g (step ∷ steps) = lost_step g step
 
 -- a lane holds so much less behind its step
-pub held-step : (g : Gap) (step : Step) (steps : List Step) → held_by g.slot g.rank (step ∷ steps) ≡ held_by g.slot g.rank steps + (step_waits g step + first_lost g steps)
+pub held-step : (g : VersionInterval) (step : MergeStep) (steps : List MergeStep) → held_by g.slot g.version (step ∷ steps) ≡ held_by g.slot g.version steps + (step_pending g step + first_lost g steps)
 held-step g step steps = by step steps
   where
-    losing-first : (xs : List Step) → losing g.slot g.rank (items_of xs) ≡ losing g.slot g.rank (items_of (behind xs)) + first_lost g xs
+    losing-first : (xs : List MergeStep) → losing g.slot g.version (items_of xs) ≡ losing g.slot g.version (items_of (behind xs)) + first_lost g xs
     losing-first [] = refl
-    losing-first (Opens ∷ xs) = omega arith
+    losing-first (TurnLook ∷ xs) = omega arith
     losing-first (Item d ∷ xs) = omega arith
 
-    by : (x : Step) (xs : List Step) → held_by g.slot g.rank (x ∷ xs) ≡ held_by g.slot g.rank xs + (step_waits g x + first_lost g xs)
-    by Opens xs = let l = losing-first xs in omega arith
+    by : (x : MergeStep) (xs : List MergeStep) → held_by g.slot g.version (x ∷ xs) ≡ held_by g.slot g.version xs + (step_pending g x + first_lost g xs)
+    by TurnLook xs = let l = losing-first xs in omega arith
     by (Item d) xs = let l = losing-first xs in omega arith
 
 -- the next step is the first of those that are left
-pub next-first : (g : Gap) (lane : CountedLaneValue) (cursor : Cursor) (next : Option Next) → MatchOption next (rest_of lane cursor ≡ []) (λ n. GoesTo lane cursor n.step n.cursor) → next_waits g next ≡ first_lost g (rest_of lane cursor)
+pub next-first : (g : VersionInterval) (lane : CountedLaneValue) (cursor : LaneProgress) (next : Option NextStep) → MatchOption next (rest_of lane cursor ≡ []) (λ n. GoesTo lane cursor n.step n.cursor) → next_pending g next ≡ first_lost g (rest_of lane cursor)
 next-first g lane cursor None none = ap (first_lost g) (sym none)
 next-first g lane cursor (Some n) goes = ap (first_lost g) (sym goes.steps)

@@ -13,10 +13,10 @@ use Rattle.rv_model.specs.Setups.{Setup}
 use Rattle.rv_model.proofs.CutLemmas.{at_each-snoc}
 use Rattle.rv_core.specs.Setup.{judges_of}
 use Rattle.rv_journal.specs.declared.counted.Counted.{Counted}
-use Rattle.rv_journal.specs.declared.steps.Step.{Step}
-use Rattle.rv_journal.specs.declared.steps.Step.TheVariants.{Opens, Item}
+use Rattle.rv_journal.specs.declared.steps.MergeStep.{MergeStep}
+use Rattle.rv_journal.specs.declared.steps.MergeStep.TheVariants.{TurnLook, Item}
 use Rattle.rv_journal.specs.MergeSteps.{items_of, step_entry, behind, changes_on, leaves_in, lost_in, leaving, losing, held_by}
-use Rattle.rv_journal.specs.MergeStates.{entries_in, AllTold, Mark, mark, items_in, NextIsEarned, Lanes, step_entries}
+use Rattle.rv_journal.specs.MergeStates.{entries_in, AreKnownItems, Mark, mark, items_in, NextIsJustified, Lanes, step_entries}
 use Rattle.rv_journal.proofs.MarkLemmas.{filter_yes, filter_no}
 use Rattle.rv_journal.proofs.PlaceLemmas.{last-longer}
 
@@ -62,27 +62,27 @@ mark-cut (m ∷ marks) (x ∷ front) c back eq =
     record { before = m ∷ r.before; placed = r.placed; after = r.after; is = ap (λ (z : List Mark). m ∷ z) r.is; front_is = (let f : items_in r.before ≡ front = r.front_is in cc) }
 
 -- the whole list replays
-pub told-replays : (s : Setup) (items : List Counted) → AllTold s items → Replays s (judges_of s) (entries_in items)
-told-replays s items told before e after eq =
+pub told-replays : (s : Setup) (items : List Counted) → AreKnownItems s items → Replays s (judges_of s) (entries_in items)
+told-replays s items observed before e after eq =
     let r = item-cut items before e after eq in
-    let t = told r.front r.item r.back r.is in
+    let t = observed r.front r.item r.back r.is in
     subst (λ (z : Entry). FitsWords s (judges_of s) before z) r.entry_is (subst (λ (z : List Entry). FitsWords s (judges_of s) z r.item.entry) r.front_is t.words)
 
 -- ---- what holds a gap
 
 -- fewer are lost behind the first
-losing-behind : (slot r : ℕ) (steps : List Step) → losing slot r (items_of (behind steps)) ≤ losing slot r (items_of steps)
+losing-behind : (slot r : ℕ) (steps : List MergeStep) → losing slot r (items_of (behind steps)) ≤ losing slot r (items_of steps)
 losing-behind slot r [] = omega arith
-losing-behind slot r (Opens ∷ steps) = omega arith
+losing-behind slot r (TurnLook ∷ steps) = omega arith
 losing-behind slot r (Item c ∷ steps) = omega arith
 
 -- a lane holds no more after a step
-pub held-less : (slot r : ℕ) (step : Step) (steps : List Step) → held_by slot r (step ∷ steps) ≡ 0 → held_by slot r steps ≡ 0
-held-less slot r Opens steps none = let less = losing-behind slot r steps in let n : leaving slot r (items_of steps) + losing slot r (items_of steps) ≡ 0 = none in omega arith
+pub held-less : (slot r : ℕ) (step : MergeStep) (steps : List MergeStep) → held_by slot r (step ∷ steps) ≡ 0 → held_by slot r steps ≡ 0
+held-less slot r TurnLook steps none = let less = losing-behind slot r steps in let n : leaving slot r (items_of steps) + losing slot r (items_of steps) ≡ 0 = none in omega arith
 held-less slot r (Item c) steps none = let less = losing-behind slot r steps in let n : (leaves_in slot r c + leaving slot r (items_of steps)) + losing slot r (items_of steps) ≡ 0 = none in omega arith
 
 -- a Stop that is not the next step is held
-pub held-stop : (slot : ℕ) (step : Step) (c : Counted) (steps : List Step) → c.entry.act ≡ Stop slot → 1 ≤ held_by slot c.first (step ∷ Item c ∷ steps)
+pub held-stop : (slot : ℕ) (step : MergeStep) (c : Counted) (steps : List MergeStep) → c.entry.act ≡ Stop slot → 1 ≤ held_by slot c.first (step ∷ Item c ∷ steps)
 held-stop slot step c steps is =
     let yes' : (slot == slot) ≡ true = grind (arith, nat_tests) in
     let yes'' : (c.first == c.first) ≡ true = grind (arith, nat_tests) in
@@ -102,7 +102,7 @@ module _ (s : Setup) (lanes : Lanes) where
   seat = lanes.seat
 
   -- what the seats have placed, and what is left to them, is all that they have
-  lists-snoc : (h : List Entry) (e : Entry) (m : ℕ) (steps steps' script : List Step) (step : Step) (n : ℕ) → (b : Bool) → (e.seat == n) ≡ b → (b ≡ true → (steps ≡ step ∷ steps') × (e ≡ step_entry n s.switches step)) → (b ≡ false → steps ≡ steps')
+  lists-snoc : (h : List Entry) (e : Entry) (m : ℕ) (steps steps' script : List MergeStep) (step : MergeStep) (n : ℕ) → (b : Bool) → (e.seat == n) ≡ b → (b ≡ true → (steps ≡ step ∷ steps') × (e ≡ step_entry n s.switches step)) → (b ≡ false → steps ≡ steps')
       → entries_of (λ k. k == n) h ++ step_entries n s.switches steps ≡ step_entries n s.switches script
       → entries_of (λ k. k == n) (h ++ e ∷ []) ++ step_entries n s.switches steps' ≡ step_entries n s.switches script
   lists-snoc h e m steps steps' script step n true is own other all =
@@ -116,10 +116,10 @@ module _ (s : Setup) (lanes : Lanes) where
       let p : Entry → Bool = λ x. x.seat == n in
       let none : filter p (e ∷ []) ≡ [] = filter_no p e [] is in
       ap (λ (z : List Entry). z ++ step_entries n s.switches steps') (filter-append p h (e ∷ []) ∙ (ap (λ (z : List Entry). filter p h ++ z) none ∙ append-nil (filter p h)))
-      ∙ (ap (λ (z : List Step). filter p h ++ step_entries n s.switches z) (sym (other refl)) ∙ all)
+      ∙ (ap (λ (z : List MergeStep). filter p h ++ step_entries n s.switches z) (sym (other refl)) ∙ all)
 
   module _ (apart : (l m : ℕ) → l < many → m < many → seat l ≡ seat m → l ≡ m)
-      (history : List Entry) (rest rest' : ℕ → List Step) (m : ℕ) (step : Step) (steps : List Step)
+      (history : List Entry) (rest rest' : ℕ → List MergeStep) (m : ℕ) (step : MergeStep) (steps : List MergeStep)
       (low : m < many) (at : rest m ≡ step ∷ steps) (here : rest' m ≡ steps) (others : (l : ℕ) → l ≢ m → rest' l ≡ rest l)
       (e : Entry) (own : e.seat ≡ seat m) (entry_is : e ≡ step_entry (seat m) s.switches step) where
     -- the history with the entry
@@ -140,7 +140,7 @@ module _ (s : Setup) (lanes : Lanes) where
     lists-next all l lt = elim (same_or_other l) [
       | inl is ↦ subst (λ (k : ℕ). entries_of (λ n. n == seat k) next ++ step_entries (seat k) s.switches (rest' k) ≡ step_entries (seat k) s.switches (lanes.script k)) (sym is)
           (let yes' : (e.seat == seat m) ≡ true = grind (arith, nat_tests) in
-          lists-snoc history e m (rest m) (rest' m) (lanes.script m) step (seat m) true yes' (λ _. (at ∙ ap (λ (z : List Step). step ∷ z) (sym here), entry_is)) (λ no. absurd (cc)) (all m low))
+          lists-snoc history e m (rest m) (rest' m) (lanes.script m) step (seat m) true yes' (λ _. (at ∙ ap (λ (z : List MergeStep). step ∷ z) (sym here), entry_is)) (λ no. absurd (cc)) (all m low))
       | inr ne ↦
           let off = other-seat l lt ne in
           let no : (e.seat == seat l) ≡ false = grind (arith, nat_tests) in
@@ -154,22 +154,22 @@ module _ (s : Setup) (lanes : Lanes) where
     -- what was quiet stays quiet
     pub quiet-next : ((slot r : ℕ) → r < changes_on slot next → (l : ℕ) → l < many → held_by slot r (rest l) ≡ 0) → (slot r : ℕ) → r < changes_on slot next → (l : ℕ) → l < many → held_by slot r (rest' l) ≡ 0
     quiet-next old slot r lt l low' = elim (same_or_other l) [
-      | inl is ↦ subst (λ (k : ℕ). held_by slot r (rest' k) ≡ 0) (sym is) (subst (λ (z : List Step). held_by slot r z ≡ 0) (sym here) (held-less slot r step steps (subst (λ (z : List Step). held_by slot r z ≡ 0) at (old slot r lt m low))))
-      | inr ne ↦ subst (λ (z : List Step). held_by slot r z ≡ 0) (sym (others l ne)) (old slot r lt l low')
+      | inl is ↦ subst (λ (k : ℕ). held_by slot r (rest' k) ≡ 0) (sym is) (subst (λ (z : List MergeStep). held_by slot r z ≡ 0) (sym here) (held-less slot r step steps (subst (λ (z : List MergeStep). held_by slot r z ≡ 0) at (old slot r lt m low))))
+      | inr ne ↦ subst (λ (z : List MergeStep). held_by slot r z ≡ 0) (sym (others l ne)) (old slot r lt l low')
     ]
 
     -- an earned next step of another lane stays so
-    earned-other : (n : ℕ) (xs : List Step) → e.seat ≢ n → NextIsEarned n history xs → NextIsEarned n next xs
+    earned-other : (n : ℕ) (xs : List MergeStep) → e.seat ≢ n → NextIsJustified n history xs → NextIsJustified n next xs
     earned-other n [] other x = tt
-    earned-other n (Opens ∷ xs) other x = tt
+    earned-other n (TurnLook ∷ xs) other x = tt
     earned-other n (Item d ∷ xs) other x = λ slot is. last-longer slot n d.first history e other (x slot is)
 
     -- and that of this lane is earned, since it was held
-    earned-own : ((slot r : ℕ) → r < changes_on slot next → held_by slot r (step ∷ steps) ≡ 0) → (xs : List Step) → steps ≡ xs → NextIsEarned (seat m) next xs
+    earned-own : ((slot r : ℕ) → r < changes_on slot next → held_by slot r (step ∷ steps) ≡ 0) → (xs : List MergeStep) → steps ≡ xs → NextIsJustified (seat m) next xs
     earned-own old [] is = tt
-    earned-own old (Opens ∷ xs) is = tt
+    earned-own old (TurnLook ∷ xs) is = tt
     earned-own old (Item d ∷ xs) is = λ slot act.
-        let held : 1 ≤ held_by slot d.first (step ∷ steps) = subst (λ (z : List Step). 1 ≤ held_by slot d.first (step ∷ z)) (sym is) (held-stop slot step d xs act) in
+        let held : 1 ≤ held_by slot d.first (step ∷ steps) = subst (λ (z : List MergeStep). 1 ≤ held_by slot d.first (step ∷ z)) (sym is) (held-stop slot step d xs act) in
         let few : changes_on slot next ≤ d.first = bound (changes_on slot next) d.first (held_by slot d.first (step ∷ steps)) held (old slot d.first) in
         record { until = next; since = []; is = sym (append-nil next); none = tt; few = few }
       where
@@ -180,9 +180,9 @@ module _ (s : Setup) (lanes : Lanes) where
             decide a b = grind arith
 
     -- so the next step of each lane is earned
-    pub earned-next : ((slot r : ℕ) → r < changes_on slot next → (l : ℕ) → l < many → held_by slot r (rest l) ≡ 0) → ((l : ℕ) → l < many → NextIsEarned (seat l) history (rest l)) → (l : ℕ) → l < many → NextIsEarned (seat l) next (rest' l)
+    pub earned-next : ((slot r : ℕ) → r < changes_on slot next → (l : ℕ) → l < many → held_by slot r (rest l) ≡ 0) → ((l : ℕ) → l < many → NextIsJustified (seat l) history (rest l)) → (l : ℕ) → l < many → NextIsJustified (seat l) next (rest' l)
     earned-next old all l lt = elim (same_or_other l) [
-      | inl is ↦ subst (λ (k : ℕ). NextIsEarned (seat k) next (rest' k)) (sym is) (subst (NextIsEarned (seat m) next) (sym here)
-          (earned-own (λ slot r less. subst (λ (z : List Step). held_by slot r z ≡ 0) at (old slot r less m low)) steps refl))
-      | inr ne ↦ subst (NextIsEarned (seat l) next) (sym (others l ne)) (earned-other (seat l) (rest l) (other-seat l lt ne) (all l lt))
+      | inl is ↦ subst (λ (k : ℕ). NextIsJustified (seat k) next (rest' k)) (sym is) (subst (NextIsJustified (seat m) next) (sym here)
+          (earned-own (λ slot r less. subst (λ (z : List MergeStep). held_by slot r z ≡ 0) at (old slot r less m low)) steps refl))
+      | inr ne ↦ subst (NextIsJustified (seat l) next) (sym (others l ne)) (earned-other (seat l) (rest l) (other-seat l lt ne) (all l lt))
     ]

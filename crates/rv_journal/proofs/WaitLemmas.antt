@@ -5,9 +5,9 @@ use Rattle.std.specs.Prelude.{All}
 use Rattle.std.proofs.Math.Seq.{take-suc}
 use Rattle.std.proofs.lemmas.List.{take_all}
 use Rattle.rv_journal.specs.declared.counted.Counted.{Counted}
-use Rattle.rv_journal.specs.declared.steps.Gap.{Gap}
+use Rattle.rv_journal.specs.declared.steps.VersionInterval.{VersionInterval}
 use Rattle.rv_journal.specs.MergeSteps.{leaving, losing}
-use Rattle.rv_journal.specs.MergeWaits.{gap, same_gap, item_waits, lane_waits}
+use Rattle.rv_journal.specs.MergePending.{interval, same_interval, item_pending, lane_pending}
 
 -- ---- sums
 
@@ -22,27 +22,27 @@ losing-append slot r [] b = omega arith
 losing-append slot r (c ∷ a) b = let rest = losing-append slot r a b in omega arith
 
 -- with one item more
-pub lane_waits-more : (g : Gap) (items : List Counted) (i : ℕ) (c : Counted) → i < length items → lane_waits g (take (i + 1) items) ≡ lane_waits g (take i items) + item_waits g (get_or items i c)
-lane_waits-more g items i c lt =
+pub lane_pending-more : (g : VersionInterval) (items : List Counted) (i : ℕ) (c : Counted) → i < length items → lane_pending g (take (i + 1) items) ≡ lane_pending g (take i items) + item_pending g (get_or items i c)
+lane_pending-more g items i c lt =
     let more : take (i + 1) items ≡ take i items ++ get_or items i c ∷ [] = ap (λ (n : ℕ). take n items) (add-one i) ∙ take-suc items i c lt in
-    let a = ap (leaving g.slot g.rank) more ∙ leaving-append g.slot g.rank (take i items) (get_or items i c ∷ []) in
-    let b = ap (losing g.slot g.rank) more ∙ losing-append g.slot g.rank (take i items) (get_or items i c ∷ []) in
+    let a = ap (leaving g.slot g.version) more ∙ leaving-append g.slot g.version (take i items) (get_or items i c ∷ []) in
+    let b = ap (losing g.slot g.version) more ∙ losing-append g.slot g.version (take i items) (get_or items i c ∷ []) in
     omega arith
 
 -- so a count that has grown by the items so far grows by one more
-pub grown-more : (g : Gap) (items : List Counted) (i : ℕ) (c : Counted) (first had now : ℕ) → i < length items → had ≡ first + lane_waits g (take i items) → now ≡ had + item_waits g (get_or items i c) → now ≡ first + lane_waits g (take (i + 1) items)
-grown-more g items i c first had now lt so more = let sum = lane_waits-more g items i c lt in omega arith
+pub grown-more : (g : VersionInterval) (items : List Counted) (i : ℕ) (c : Counted) (first had now : ℕ) → i < length items → had ≡ first + lane_pending g (take i items) → now ≡ had + item_pending g (get_or items i c) → now ≡ first + lane_pending g (take (i + 1) items)
+grown-more g items i c first had now lt so more = let sum = lane_pending-more g items i c lt in omega arith
 
 -- ---- gaps
 
 -- the same gap, or another one
-same-or_other : (a b : Gap) → (a ≡ b) ⊎ (same_gap a b ≡ false)
-same-or_other a b = by (a.slot == b.slot) refl (a.rank == b.rank) refl
+same-or_other : (a b : VersionInterval) → (a ≡ b) ⊎ (same_interval a b ≡ false)
+same-or_other a b = by (a.slot == b.slot) refl (a.version == b.version) refl
   where
-    by : (p : Bool) → (a.slot == b.slot) ≡ p → (q : Bool) → (a.rank == b.rank) ≡ q → (a ≡ b) ⊎ (same_gap a b ≡ false)
+    by : (p : Bool) → (a.slot == b.slot) ≡ p → (q : Bool) → (a.version == b.version) ≡ q → (a ≡ b) ⊎ (same_interval a b ≡ false)
     by false e q f = inr (rw e refl)
     by true e false f = inr (rw (e, f) refl)
-    by true e true f = let x : a.slot ≡ b.slot = grind (arith, nat_tests) in let y : a.rank ≡ b.rank = grind (arith, nat_tests) in inl (λ i. gap (x i) (y i))
+    by true e true f = let x : a.slot ≡ b.slot = grind (arith, nat_tests) in let y : a.version ≡ b.version = grind (arith, nat_tests) in inl (λ i. interval (x i) (y i))
 
 -- ---- lists
 

@@ -25,7 +25,7 @@ use Rattle.rv_word.specs.Words.{packed, set_in, atoms_in}
 use Rattle.rv_core.specs.Advance.{levels_after, letter_by, begins, goes_on, from_waiting, set_turn, moved, advanced}
 use Rattle.rv_core.proofs.LevelLemmas.{levels_are_bits}
 use Rattle.rv_board.proofs.Knowing.{not_true}
-use Rattle.rv_journal.specs.CountedWords.{IsNarrow, IsBelow}
+use Rattle.rv_journal.specs.CountedWords.{FitsCountedWord, IsBelow}
 
 -- ---- rows
 
@@ -121,19 +121,19 @@ levels-below n (Ltl on off pulse) levels is low =
     or_lt n (bit_and levels (bit_not w32 off)) on (omega arith) is.0
 
 -- the word of a set and levels in range
-pub packed-narrow : (wide set levels : ℕ) → set < 2 ^ wide → levels < 2 ^ (32 - wide) → IsNarrow wide (packed set levels)
+pub packed-narrow : (wide set levels : ℕ) → set < 2 ^ wide → levels < 2 ^ (32 - wide) → FitsCountedWord wide (packed set levels)
 packed-narrow wide set levels low few =
     let small : 2 ^ (32 - wide) ≤ 2 ^ 32 = pow_mono {i = 32 - wide} {j = 32} (let l : 32 - wide ≤ 32 = omega arith in l) in
     let h = levels_are_bits.halves set levels (omega arith) in
     record { set = rw h.0 low; levels = rw h.1 few }
 
 -- what a hit makes of a word
-pub advanced-narrow : (t : Table) → IsRows t → first_row t < row_count t → (word : ℕ) (hit : Hit) → IsBelow (32 - row_count t) hit.what → IsNarrow (row_count t) word → IsNarrow (row_count t) (advanced t word hit).1
+pub advanced-narrow : (t : Table) → IsRows t → first_row t < row_count t → (word : ℕ) (hit : Hit) → IsBelow (32 - row_count t) hit.what → FitsCountedWord (row_count t) word → FitsCountedWord (row_count t) (advanced t word hit).1
 advanced-narrow t it start word hit below is = on (set_in word == 0)
   where
     levels : ℕ
     levels = levels_after hit.what (atoms_in word)
 
-    on : (b : Bool) → IsNarrow (row_count t) (cond {A = Answer × ℕ} b (Passed, word) (moved t (set_in word) levels hit)).1
+    on : (b : Bool) → FitsCountedWord (row_count t) (cond {A = Answer × ℕ} b (Passed, word) (moved t (set_in word) levels hit)).1
     on true = is
     on false = packed-narrow (row_count t) ((set_turn t (set_in word) hit.mode (letter_by hit.what levels)).1) levels (turn-below t it start (set_in word) hit.mode (letter_by hit.what levels)) (levels-below (32 - row_count t) hit.what (atoms_in word) below is.levels)

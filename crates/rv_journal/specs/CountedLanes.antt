@@ -26,7 +26,7 @@ pub record CountedLaneValue : Type 0 where
 -- nothing was told, and there is room for one of each delivery
 pub record IsNewCountedLane (work : Work) (lane : CountedLaneValue) : Type 0 where
   pub work_is : lane.work ≡ work
-  pub nothing_told : lane.counted ≡ []
+  pub nothing_observed : lane.counted ≡ []
   pub room : length work.deliveries ≤ lane.room
 
 -- the slot of a delivery
@@ -46,38 +46,38 @@ EndsAs s slot d before since entry (Done answer) = (entry.act ≡ Deliver slot d
 EndsAs s slot d before since entry Racing = (entry.act ≡ Stop slot) × (3 ≤ length (filter (changed slot) since))
 
 -- what the delivery told is so in the list: its first load comes behind all that was seen, and behind these entries, which are all of known numbers before its own
-pub record IsTold (s : Setup) (known : ℕ → Bool) (seen list own : List Entry) (d : Delivery) (told : Counted) : Type 0 where
+pub record IsObserved (s : Setup) (known : ℕ → Bool) (seen list own : List Entry) (d : Delivery) (observed : Counted) : Type 0 where
   pub earlier : List Entry
   pub unseen : List Entry
   pub since : List Entry
   pub later : List Entry
-  pub list_is : list ≡ (earlier ++ since) ++ told.entry ∷ later
+  pub list_is : list ≡ (earlier ++ since) ++ observed.entry ∷ later
   pub least : earlier ≡ seen ++ unseen
   pub own_are : entries_of known earlier ≡ own
   pub others : entries_of known since ≡ []
-  pub first : told.first ≡ count_on (slot_at s d) earlier
-  pub count : told.count ≡ count_on (slot_at s d) (earlier ++ since)
-  pub ends : EndsAs s (slot_at s d) d (earlier ++ since) since told.entry told.outcome
+  pub first : observed.first ≡ count_on (slot_at s d) earlier
+  pub count : observed.count ≡ count_on (slot_at s d) (earlier ++ since)
+  pub ends : EndsAs s (slot_at s d) d (earlier ++ since) since observed.entry observed.outcome
 
 -- the entries of what was told
-abbrev pub entries_told : List Counted → List Entry
-entries_told counted = map (λ told. told.entry) counted
+abbrev pub entries_observed : List Counted → List Entry
+entries_observed counted = map (λ observed. observed.entry) counted
 
 -- so is what each of these deliveries told, behind what was seen, these entries of known numbers and those of the deliveries before it
-abbrev pub AllToldAfter : Setup → (ℕ → Bool) → List Entry → List Entry → List Entry → List Delivery → List Counted → Type 0
-AllToldAfter s known seen list own [] [] = Unit {0}
-AllToldAfter s known seen list own [] (told ∷ counted) = ⊥
-AllToldAfter s known seen list own (d ∷ deliveries) [] = ⊥
-AllToldAfter s known seen list own (d ∷ deliveries) (told ∷ counted) = IsTold s known seen list own d told × AllToldAfter s known seen list (own ++ told.entry ∷ []) deliveries counted
+abbrev pub AllObservedAfter : Setup → (ℕ → Bool) → List Entry → List Entry → List Entry → List Delivery → List Counted → Type 0
+AllObservedAfter s known seen list own [] [] = Unit {0}
+AllObservedAfter s known seen list own [] (observed ∷ counted) = ⊥
+AllObservedAfter s known seen list own (d ∷ deliveries) [] = ⊥
+AllObservedAfter s known seen list own (d ∷ deliveries) (observed ∷ counted) = IsObserved s known seen list own d observed × AllObservedAfter s known seen list (own ++ observed.entry ∷ []) deliveries counted
 
 -- the seat's list grows by one entry for each of these deliveries, in order, and the lane has what each of them told
 pub record FeedsCounted (old new : CountedValue) (deliveries : List Delivery) (counted : List Counted) : Type 0 where
-  pub grows : SeatGrows old.seat new.seat (entries_told counted)
-  pub told : AllToldAfter old.seat.board.setup (known_of old.seat.part) old.seat.part.seen new.seat.part.seen (entries_of (known_of old.seat.part) old.seat.part.seen) deliveries counted
+  pub grows : SeatGrows old.seat new.seat (entries_observed counted)
+  pub observed : AllObservedAfter old.seat.board.setup (known_of old.seat.part) old.seat.part.seen new.seat.part.seen (entries_of (known_of old.seat.part) old.seat.part.seen) deliveries counted
   pub left : new.left + length deliveries ≡ old.left
 
 -- what the lane keeps of one delivery more
-pub record KeepsTold (lane lane' : CountedLaneValue) (told : Counted) : Type 0 where
+pub record KeepsObserved (lane lane' : CountedLaneValue) (observed : Counted) : Type 0 where
   pub work_is : lane'.work ≡ lane.work
-  pub counted_is : lane'.counted ≡ lane.counted ++ told ∷ []
+  pub counted_is : lane'.counted ≡ lane.counted ++ observed ∷ []
   pub room : lane.room ≤ lane'.room

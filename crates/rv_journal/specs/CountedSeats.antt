@@ -7,7 +7,7 @@ use Rattle.rv_model.specs.declared.entry.Act.{Act}
 use Rattle.rv_model.specs.declared.entry.Entry.{Entry}
 use Rattle.rv_model.specs.declared.record.Delivered.TheVariants.{Racing}
 use Rattle.rv_model.specs.Histories.{changed}
-use Rattle.rv_model.specs.Seats.{is_in, known_of, entries_of}
+use Rattle.rv_model.specs.Seats.{is_within, known_of, entries_of}
 use Rattle.rv_model.specs.Setups.{Setup}
 use Rattle.rv_model.specs.Table.{Table, first_row}
 use Rattle.rv_table.specs.Rows.{row_count}
@@ -16,7 +16,7 @@ use Rattle.rv_board.specs.declared.view.View.{View}
 use Rattle.rv_board.specs.Seats.{SeatValue, coded_seat, IsUsable}
 use Rattle.rv_journal.specs.declared.counted.Counted.{Counted}
 use Rattle.rv_journal.specs.declared.words.Width.{Width}
-use Rattle.rv_journal.specs.CountedWords.{count_on, entries_by, most_entries, IsCounted}
+use Rattle.rv_journal.specs.CountedWords.{count_on, entries_by, most_entries, FitsCounts}
 
 -- what a seat knows, and how many entries it may still make
 pub record CountedValue : Type 0 where
@@ -34,9 +34,9 @@ counted_value seat left = record { seat = seat; left = left }
 -- a seat between two calls
 pub record IsCountedSeat (number end left : ℕ) (me : Me Act View) : Type 0 where
   pub usable : IsUsable number end me
-  pub counted : IsCounted me.0.setup me.0.part.seen
+  pub counted : FitsCounts me.0.setup me.0.part.seen
   pub room : entries_by me.0.part.number me.0.part.seen + left ≤ most_entries
-  pub unused : entries_of (is_in (suc me.0.part.number) me.0.part.end) me.0.part.seen ≡ []
+  pub unused : entries_of (is_within (suc me.0.part.number) me.0.part.end) me.0.part.seen ≡ []
 
 -- ---- widths
 
@@ -59,12 +59,12 @@ pub record AreWidths (s : Setup) (widths : List Width) : Type 0 where
 -- ---- deliveries
 
 -- the list grows to what was there at the call's first load, then up to the call's own entry, at its end; the counts are the slot's
-pub record Counts (old new : SeatValue) (slot : ℕ) (told : Counted) : Type 0 where
+pub record Counts (old new : SeatValue) (slot : ℕ) (observed : Counted) : Type 0 where
   pub earlier : List Entry
   pub since : List Entry
-  pub list : new.part.seen ≡ ((old.part.seen ++ earlier) ++ since) ++ told.entry ∷ []
+  pub list : new.part.seen ≡ ((old.part.seen ++ earlier) ++ since) ++ observed.entry ∷ []
   pub others : entries_of (known_of old.part) (earlier ++ since) ≡ []
-  pub first : told.first ≡ count_on slot (old.part.seen ++ earlier)
-  pub count : told.count ≡ count_on slot ((old.part.seen ++ earlier) ++ since)
+  pub first : observed.first ≡ count_on slot (old.part.seen ++ earlier)
+  pub count : observed.count ≡ count_on slot ((old.part.seen ++ earlier) ++ since)
   -- where it was stopped, three entries changed the slot's word since the first load
-  pub racing : told.outcome ≡ Racing → 3 ≤ length (filter (changed slot) since)
+  pub racing : observed.outcome ≡ Racing → 3 ≤ length (filter (changed slot) since)

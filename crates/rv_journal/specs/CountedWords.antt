@@ -20,17 +20,17 @@ use Rattle.rv_board.specs.Rule.{Kept}
 -- ---- words
 
 -- an instance's word in 32 bits: the set of rows, and the levels above it
-abbrev pub narrow : ℕ → ℕ → ℕ
-narrow wide word = atoms_in word * 2 ^ wide + set_in word
+abbrev pub word_in_32 : ℕ → ℕ → ℕ
+word_in_32 wide word = atoms_in word * 2 ^ wide + set_in word
 
 -- it takes no more, where the set takes so many bits
-pub record IsNarrow (wide word : ℕ) : Type 0 where
+pub record FitsCountedWord (wide word : ℕ) : Type 0 where
   pub set : set_in word < 2 ^ wide
   pub levels : atoms_in word < 2 ^ (32 - wide)
 
 -- and above a count
 abbrev pub counted_word : ℕ → ℕ → ℕ → ℕ
-counted_word wide word count = narrow wide word * 2 ^ 32 + count
+counted_word wide word count = word_in_32 wide word * 2 ^ 32 + count
 
 -- the instance's word of a counted word
 abbrev pub word_in : ℕ → ℕ → ℕ
@@ -73,15 +73,15 @@ abbrev pub most_entries : ℕ
 most_entries = 4000000
 
 -- each slot's word takes 32 bits, and no number has too many entries, so no count is too large
-pub record IsCounted (s : Setup) (history : List Entry) : Type 0 where
+pub record FitsCounts (s : Setup) (history : List Entry) : Type 0 where
   pub rows : (slot : ℕ) → slot < sum s.shape → IsRows (table_at s slot)
   pub begins : (slot : ℕ) → slot < sum s.shape → first_row (table_at s slot) < rows_at s slot
-  pub narrow_words : (slot : ℕ) → slot < sum s.shape → IsNarrow (rows_at s slot) (word_of s (judges_of s) (reverse history) slot)
+  pub narrow_words : (slot : ℕ) → slot < sum s.shape → FitsCountedWord (rows_at s slot) (word_of s (judges_of s) (reverse history) slot)
   pub few : (n : ℕ) → entries_by n history ≤ most_entries
 
 -- of a board whatever its seats know
 abbrev pub also_counted : Setup → List Entry → List View → Type 0
-also_counted s history views = IsCounted s history
+also_counted s history views = FitsCounts s history
 
 -- the rule of a counted board
 abbrev pub KeptCounted : Setup → State Act View → Type 0

@@ -76,14 +76,14 @@ IsAct (Clear slot) = slot < 2 ^ 32
 IsAct (End slot) = slot < 2 ^ 32
 
 -- something is run
-abbrev pub Runs : What → Type 0
-Runs (Da event) = Unit {0}
-Runs (Ltl on off pulse) = Unit {0}
-Runs Nothing = ⊥
+abbrev pub RunsLetter : What → Type 0
+RunsLetter (Da event) = Unit {0}
+RunsLetter (Ltl on off pulse) = Unit {0}
+RunsLetter Nothing = ⊥
 
 -- what is delivered is no end
 abbrev pub IsNoEnd : Act → Type 0
-IsNoEnd (Deliver slot hit) = (is_end hit.mode ≡ false) × Runs hit.what
+IsNoEnd (Deliver slot hit) = (is_end hit.mode ≡ false) × RunsLetter hit.what
 IsNoEnd _ = Unit {0}
 
 -- all its numbers are those of an entry, and what it delivers is no end

@@ -8,10 +8,10 @@ pub mod EntryTexts
 pub mod MergeRuns
 pub mod MergeStates
 pub mod MergeSteps
-pub mod MergeWaits
+pub mod MergePending
 pub mod Merging
 pub mod Openings
 pub mod Running
 pub mod PieceReadings
-pub mod Shown
+pub mod Enabled
 pub mod Whole

@@ -10,9 +10,9 @@ use Rattle.rv_model.specs.Setups.{Setup}
 use Rattle.rv_core.specs.Setup.{judges_of, FitsAct, ActFits}
 use Rattle.rv_board.specs.Rule.{IsMachine}
 use Rattle.rv_journal.specs.declared.counted.Counted.{Counted}
-use Rattle.rv_journal.specs.declared.steps.Step.{Step}
-use Rattle.rv_journal.specs.declared.steps.Step.TheVariants.{Opens, Item}
-use Rattle.rv_journal.specs.MergeSteps.{items_of, step_entry, slot_in, rank, changes_on, held_by}
+use Rattle.rv_journal.specs.declared.steps.MergeStep.{MergeStep}
+use Rattle.rv_journal.specs.declared.steps.MergeStep.TheVariants.{TurnLook, Item}
+use Rattle.rv_journal.specs.MergeSteps.{items_of, step_entry, slot_in, version, changes_on, held_by}
 
 -- ---- the whole list
 
@@ -36,7 +36,7 @@ pub record LostAt (slot seat first : ℕ) (before : List Entry) : Type 0 where
   pub three : 3 ≤ changes_on slot since
 
 -- what is known of an item of the whole list, by the entries before it
-pub record IsTold (s : Setup) (before : List Entry) (c : Counted) : Type 0 where
+pub record IsKnownItem (s : Setup) (before : List Entry) (c : Counted) : Type 0 where
   pub machine : IsMachine s before
   pub words : FitsWords s (judges_of s) before c.entry
   pub item_act : IsItemAct c.entry.act
@@ -44,12 +44,12 @@ pub record IsTold (s : Setup) (before : List Entry) (c : Counted) : Type 0 where
   pub bits : ActFits s c.entry.act
   pub small : c.entry.after < 2 ^ 64
   pub low : c.entry.seat < 67
-  pub rank_is : rank c ≡ changes_on (slot_in c.entry.act) before
+  pub rank_is : version c ≡ changes_on (slot_in c.entry.act) before
   pub lost : (slot : ℕ) → c.entry.act ≡ Stop slot → LostAt slot c.entry.seat c.first before
 
 -- that is known of each
-abbrev pub AllTold : Setup → List Counted → Type 0
-AllTold s items = (before : List Counted) (c : Counted) (after : List Counted) → items ≡ before ++ c ∷ after → IsTold s (entries_in before) c
+abbrev pub AreKnownItems : Setup → List Counted → Type 0
+AreKnownItems s items = (before : List Counted) (c : Counted) (after : List Counted) → items ≡ before ++ c ∷ after → IsKnownItem s (entries_in before) c
 
 -- ---- marks: which items of the whole list are placed
 
@@ -99,10 +99,10 @@ pub record LastBy (slot seat first : ℕ) (history : List Entry) : Type 0 where
   pub few : changes_on slot until ≤ first
 
 -- where the next step is a Stop, the lane's last entry comes no later than the changes that the Stop was lost from
-abbrev pub NextIsEarned : ℕ → List Entry → List Step → Type 0
-NextIsEarned seat history [] = Unit {0}
-NextIsEarned seat history (Opens ∷ steps) = Unit {0}
-NextIsEarned seat history (Item c ∷ steps) = (slot : ℕ) → c.entry.act ≡ Stop slot → LastBy slot seat c.first history
+abbrev pub NextIsJustified : ℕ → List Entry → List MergeStep → Type 0
+NextIsJustified seat history [] = Unit {0}
+NextIsJustified seat history (TurnLook ∷ steps) = Unit {0}
+NextIsJustified seat history (Item c ∷ steps) = (slot : ℕ) → c.entry.act ≡ Stop slot → LastBy slot seat c.first history
 
 -- the act delivers, stops or looks
 abbrev pub IsMergedAct : Act → Type 0
@@ -112,23 +112,23 @@ IsMergedAct Look = Unit {0}
 IsMergedAct _ = ⊥
 
 -- the entries of steps, by their seat and the switches
-abbrev pub step_entries : ℕ → ℕ → List Step → List Entry
+abbrev pub step_entries : ℕ → ℕ → List MergeStep → List Entry
 step_entries seat switches steps = map (step_entry seat switches) steps
 
 -- the lanes, by how many they are: each one's seat, and all of its steps
 pub record Lanes : Type 0 where
   pub many : ℕ
   pub seat : ℕ → ℕ
-  pub script : ℕ → List Step
+  pub script : ℕ → List MergeStep
 
 -- a history that is being merged, by the whole list, the lanes, and the steps that are left to each of them
-pub record IsUnderWay (s : Setup) (whole : List Counted) (lanes : Lanes) (history : List Entry) (rest : ℕ → List Step) : Type 0 where
+pub record IsUnderWay (s : Setup) (whole : List Counted) (lanes : Lanes) (history : List Entry) (rest : ℕ → List MergeStep) : Type 0 where
   pub marks : List Mark
   pub marks_are : items_in marks ≡ whole
   pub left : (l : ℕ) → l < lanes.many → items_of (rest l) ≡ items_in (filter (is_left (lanes.seat l)) marks)
   pub divides : (slot : ℕ) → Divides slot history marks
   pub quiet : (slot r : ℕ) → r < changes_on slot history → (l : ℕ) → l < lanes.many → held_by slot r (rest l) ≡ 0
-  pub earned : (l : ℕ) → l < lanes.many → NextIsEarned (lanes.seat l) history (rest l)
+  pub justified : (l : ℕ) → l < lanes.many → NextIsJustified (lanes.seat l) history (rest l)
   pub stands : (before : List Mark) (c : Counted) (after : List Mark) → marks ≡ before ++ mark true c ∷ after → StandsAs history (entries_in (items_in before)) c.entry
   pub machine : IsMachine s history
   pub sound : IsSound s (judges_of s) history

@@ -8,7 +8,7 @@ use Rattle.rv_model.specs.Cuts.{AtEach}
 use Rattle.rv_model.specs.Histories.{Input, IsSound, IsLegal, NoneOf, changed}
 use Rattle.rv_model.specs.Numbers.{has_bit}
 use Rattle.rv_model.specs.Records.{is_look_act}
-use Rattle.rv_model.specs.Scripts.{is_shown}
+use Rattle.rv_model.specs.Scripts.{is_enabled_by}
 use Rattle.rv_model.specs.Seats.{entries_of}
 use Rattle.rv_model.specs.Setups.{Setup, slot_of}
 use Rattle.rv_model.specs.Works.{Work}
@@ -41,7 +41,7 @@ pub record IsCountedIn (seen : List Entry) (seat : ℕ) (earlier : List Entry) (
   pub lost : (slot : ℕ) → c.entry.act ≡ Stop slot → IsLost slot seat c.first before
 
 -- the items are the seat's part of the history, with its counts
-pub record IsPartOf (seen : List Entry) (seat : ℕ) (items : List Counted) : Type 0 where
+pub record IsSeatPartOf (seen : List Entry) (seat : ℕ) (items : List Counted) : Type 0 where
   pub entries_are : entries_in items ≡ entries_of (λ n. n == seat) seen
   pub each : (front : List Counted) (c : Counted) (back : List Counted) → items ≡ front ++ c ∷ back → IsCountedIn seen seat (entries_in front) c
 
@@ -84,9 +84,9 @@ lanes_of lanes = record {
 pub record FitsLane (s : Setup) (seen : List Entry) (lane : CountedLaneValue) : Type 0 where
   pub cpu : lane.work.cpu < 64
   pub fit : All (FitsSetup s) lane.work.deliveries
-  pub shown : All (λ d. is_shown s.switches d ≡ true) lane.work.deliveries
+  pub enabled : All (λ d. is_enabled_by s.switches d ≡ true) lane.work.deliveries
   pub served : AllServed s lane.work.deliveries lane.counted
-  pub part : IsPartOf seen (seat_of lane) lane.counted
+  pub part : IsSeatPartOf seen (seat_of lane) lane.counted
 
 -- a sound history has no other entries than those of the lanes, which are of different CPUs, and the switches have no halted bit
 pub record CanMerge (s : Setup) (seen : List Entry) (lanes : List CountedLaneValue) : Type 0 where

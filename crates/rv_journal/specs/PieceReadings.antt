@@ -1,13 +1,13 @@
--- The pieces of a text, which stand between its blanks, and what one of them is: a number or a name.
+-- Private: the pieces of a text, which stand between its blanks, and what one of them is: a number or a name.
 use Rattle.std.specs.Prelude.{◌≡◌, ℕ, ◌&&◌, ◌==◌, nat_le, bytes_eq, List, [], ◌∷◌, Option, Some, None, if◌then◌else◌, codes, decimal}
 use Rattle.std.specs.Option.{option_and_then, option_map}
 use Rattle.rv_text.specs.Decimal.{decimal_of}
 use Rattle.rv_model.specs.declared.hit.Mode.{Mode}
 use Rattle.rv_model.specs.declared.hit.Mode.TheVariants.{Event, Start, StartRun}
-use Rattle.rv_journal.specs.declared.names.Kind.{Kind}
-use Rattle.rv_journal.specs.declared.names.Kind.TheVariants as kinds
-use Rattle.rv_journal.specs.declared.names.Verb.{Verb}
-use Rattle.rv_journal.specs.declared.names.Verb.TheVariants as verbs
+use Rattle.rv_journal.specs.declared.names.LetterKind.{LetterKind}
+use Rattle.rv_journal.specs.declared.names.LetterKind.TheVariants as kinds
+use Rattle.rv_journal.specs.declared.names.ActVerb.{ActVerb}
+use Rattle.rv_journal.specs.declared.names.ActVerb.TheVariants as verbs
 
 -- a byte in front of the first piece
 abbrev pub begin_with : ℕ → List (List ℕ) → List (List ℕ)
@@ -29,14 +29,14 @@ abbrev pub Reading : Type 0 → Type 0
 Reading X = Option (X × List (List ℕ))
 
 -- the answer is what the words begin with, and the words behind it are left
-abbrev pub Reads : {X : Type 0} → (List (List ℕ) → Reading X) → List (List ℕ) → List (List ℕ) → Option X → Type 0
-Reads reads old new None = reads old ≡ None
-Reads reads old new (Some x) = reads old ≡ Some (x, new)
+abbrev pub ReadsWords : {X : Type 0} → (List (List ℕ) → Reading X) → List (List ℕ) → List (List ℕ) → Option X → Type 0
+ReadsWords reads old new None = reads old ≡ None
+ReadsWords reads old new (Some x) = reads old ≡ Some (x, new)
 
 -- reads on behind what was read
-abbrev pub and_then : {X Y : Type 0} → Reading X → (X → List (List ℕ) → Option Y) → Option Y
-and_then None next = None
-and_then (Some read) next = next read.0 read.1
+abbrev pub then_read : {X Y : Type 0} → Reading X → (X → List (List ℕ) → Option Y) → Option Y
+then_read None next = None
+then_read (Some read) next = next read.0 read.1
 
 -- the number that is at most so large and has this word
 unfoldable pub number_in : ℕ → List ℕ → Option ℕ
@@ -73,11 +73,11 @@ mode_in word =
     else if bytes_eq word (codes "start_run") then Some StartRun else None
 
 -- what kind of letter is run
-unfoldable pub kind_in : List ℕ → Option Kind
+unfoldable pub kind_in : List ℕ → Option LetterKind
 kind_in word = if bytes_eq word (codes "da") then Some kinds.Da else if bytes_eq word (codes "ltl") then Some kinds.Ltl else None
 
 -- what is done
-unfoldable pub verb_in : List ℕ → Option Verb
+unfoldable pub verb_in : List ℕ → Option ActVerb
 verb_in word =
     if bytes_eq word (codes "deliver") then Some verbs.Deliver
     else if bytes_eq word (codes "stop") then Some verbs.Stop

@@ -4,12 +4,12 @@ use Rattle.std.proofs.Common.{◌⊎◌}
 use Rattle.rv_model.specs.declared.entry.Entry.{Entry}
 use Rattle.rv_model.specs.declared.formula.Spec.{Spec}
 use Rattle.rv_model.specs.Histories.{Input, IsLegal, AreJudges}
-use Rattle.rv_model.specs.Scripts.{is_shown}
+use Rattle.rv_model.specs.Scripts.{is_enabled_by}
 use Rattle.rv_model.specs.Seats.{known_of}
 use Rattle.rv_model.specs.Setups.{Setup}
 use Rattle.rv_model.specs.Works.{Work}
 use Rattle.rv_core.specs.Setup.{judges_of}
-use Rattle.rv_board.specs.RunSeats.{IsFirst, IsFresh, Holds}
+use Rattle.rv_board.specs.RunSeats.{IsFirst, IsFresh, HasTakenIn}
 use Rattle.rv_board.specs.Seats.{BoardId, SeatValue}
 use Rattle.rv_journal.specs.declared.feeding.CountedFeeder.{CountedFeeder}
 use Rattle.rv_journal.specs.CountedFeeders.{FitsCountedFeeder}
@@ -23,7 +23,7 @@ pub record FitsCountedWork (s : Setup) (w : Work) : Type 0 where
   pub cpu : w.cpu < 64
   pub few : length w.deliveries ≤ most_entries
   pub fit : All (FitsCounted s) w.deliveries
-  pub shown : All (λ d. is_shown s.switches d ≡ true) w.deliveries
+  pub enabled : All (λ d. is_enabled_by s.switches d ≡ true) w.deliveries
 
 -- the input of a run of these works, with no reactor that is panic and no changes
 abbrev pub recorded_input : Setup → List Spec → List Work → Input
@@ -73,6 +73,6 @@ module _ {G : Type 0} where
   -- the seat, which is of the board, holds what it did, and the seats of all feeders, whose lanes came back
   pub record AreJoined (board : BoardId) (old new : SeatValue) (fs : List (CountedFeeder G)) (lanes : List CountedLaneValue) : Type 0 where
     pub board_is : new.board ≡ board
-    pub into : Holds new old
-    pub seats : All (λ f. Holds new f.seat.seat) fs
+    pub into : HasTakenIn new old
+    pub seats : All (λ f. HasTakenIn new f.seat.seat) fs
     pub lanes_are : lanes ≡ lanes_in fs

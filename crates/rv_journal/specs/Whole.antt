@@ -17,8 +17,8 @@ abbrev pub is_waiting : ℕ → Bool
 is_waiting word = set_in word == 1
 
 -- an instance that is stopped has no row
-abbrev pub is_stopped : ℕ → Bool
-is_stopped word = set_in word == 0
+abbrev pub has_no_row : ℕ → Bool
+has_no_row word = set_in word == 0
 
 -- the hit begins a run whose first letter it is
 abbrev pub is_start_run : Mode → Bool
@@ -27,7 +27,7 @@ is_start_run _ = false
 
 -- a run ended, or did not begin though its first letter came: what waits behind a hit was not stopped before, and it ran before unless the hit is a first letter
 abbrev pub shows_failure : Mode → ℕ → ℕ → Bool
-shows_failure mode before after = is_waiting after && (not (is_stopped before) && (not (is_waiting before) || is_start_run mode))
+shows_failure mode before after = is_waiting after && (not (has_no_row before) && (not (is_waiting before) || is_start_run mode))
 
 -- the entry is a delivery that failed
 abbrev pub is_failed_entry : Entry → Act → Bool

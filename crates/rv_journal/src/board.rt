@@ -59,13 +59,13 @@ fn opening_words(alloc: Global, setup: &Setup, _widths: &[Width]) -> Result<Vec<
     requires { AreWidths setup.now _widths.now }
     ensures { IfOk result (λ words. OpensCounted setup.now words.items) }
 {
-    setup.known();
+    setup.assert_invariant();
     let slots = setup.shape.slots();
     let mut words = Vec::new(alloc);
     words.push(setup.switches)?;
     for slot in 0..slots {
         let table = setup.table(slot);
-        table.known();
+        table.assert_invariant();
         let rows = rows_of(setup, slot);
         words.push(counted_word(rows, setup.opening(slot), 0))?;
     }

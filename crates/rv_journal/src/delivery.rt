@@ -2,13 +2,13 @@
 ghost use Rattle.std.specs.Prelude.{◌≡◌, ◌+◌, ◌-◌, ◌<◌, sum};
 ghost use Rattle.rv_core.specs.Advance.{FitsTable};
 ghost use Rattle.rv_core.specs.Setup.{table_at};
-ghost use Rattle.rv_board.specs.Deliveries.{Delivers};
+ghost use Rattle.rv_board.specs.Deliveries.{DeliversOrStops};
 ghost use Rattle.rv_journal.specs.CountedWords.{IsBelow, rows_at};
 ghost use Rattle.rv_journal.specs.CountedSeats.{Counts};
 
 use crate::board::{CountedBoard, rows_of};
 use crate::counted::Counted;
-use crate::rule::{Seeing, Stopping, Trying};
+use crate::rule::{CountedExchange, CountedLoad, CountedStop};
 use crate::seat::CountedSeat;
 use crate::words::{COUNT, count_after, count_in, counted_word, word_in};
 use rv_core::advance;
@@ -35,7 +35,7 @@ impl CountedBoard {
         requires hit { FitsTable (table_at self.now.setup slot) hit.now }
         requires levels { IsBelow (32 - rows_at self.now.setup slot) hit.now.what }
         requires left { 0 < seat.old.left }
-        ensures delivers { Delivers seat.old.seat seat.new.seat slot hit.now result.outcome }
+        ensures delivers { DeliversOrStops seat.old.seat seat.new.seat slot hit.now result.outcome }
         ensures counts { Counts seat.old.seat seat.new.seat slot result }
         ensures left { seat.new.left + 1 ≡ seat.old.left }
     {
@@ -45,7 +45,7 @@ impl CountedBoard {
         let table = self.setup.table(slot);
         let rows = rows_of(&self.setup, slot);
         seat.left -= 1;
-        let mut raw = shared.load::<Seeing>(&mut seat.token, place);
+        let mut raw = shared.load::<CountedLoad>(&mut seat.token, place);
         let first = count_in(raw);
         for lost in 0..TRIES {
             let before = word_in(rows, raw);
@@ -53,7 +53,7 @@ impl CountedBoard {
             let next = advance(table, before, hit);
             let after = count_after(count, before, next.word);
             gate.between(cpu, lost);
-            let found = shared.compare_exchange_with::<Trying>(
+            let found = shared.compare_exchange_with::<CountedExchange>(
                 &mut seat.token,
                 place,
                 raw,
@@ -75,7 +75,7 @@ impl CountedBoard {
             }
             raw = found;
         }
-        let found = shared.fetch_and::<Stopping>(&mut seat.token, place, COUNT);
+        let found = shared.fetch_and::<CountedStop>(&mut seat.token, place, COUNT);
         Counted {
             entry: Entry {
                 seat: seat.number,

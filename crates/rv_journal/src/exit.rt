@@ -4,7 +4,7 @@ ghost use Rattle.std.specs.List.{list_any};
 ghost use Rattle.rv_model.specs.Setups.{Setup};
 ghost use Rattle.rv_model.specs.Works.{Work};
 ghost use Rattle.rv_core.specs.Setup.{judges_of};
-ghost use Rattle.rv_verdicts.specs.Exits.{exit_of, is_stop, has_stop};
+ghost use Rattle.rv_laws.specs.Exits.{exit_of, is_stop, has_stop};
 ghost use Rattle.rv_journal.specs.Whole.{is_failed_entry, shows_failure, IsWholeRun};
 
 use rv_model::{Act, Entry, Mode};

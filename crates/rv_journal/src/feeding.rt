@@ -7,7 +7,7 @@ ghost use Rattle.rv_journal.specs.CountedFeeders.{FitsCountedFeeder, RunsCounted
 
 use crate::board::CountedBoard;
 use crate::counted::Counted;
-use crate::lane::{CountedLane, cpu_of, delivery_at, keep, known, turn_at, turn_count};
+use crate::lane::{CountedLane, assert_invariant, cpu_of, delivery_at, keep, turn_at, turn_count};
 use crate::seat::CountedSeat;
 use rv_io::Gate;
 use rv_model::Delivery;
@@ -47,7 +47,7 @@ fn feed<G: Gate>(board: &CountedBoard, seat: &mut CountedSeat, lane: &mut Counte
     ensures feeds { FeedsCounted seat.old seat.new lane.old.work.deliveries lane.new.counted }
     ensures work { lane.new.work ≡ lane.old.work }
 {
-    known(lane);
+    assert_invariant(lane);
     seat.number();
     let cpu = cpu_of(lane);
     for place in 0..turn_count(lane) {

@@ -3,7 +3,7 @@ ghost use Rattle.std.specs.Prelude.{◌≡◌, ◌<◌, length, slice_index_or, 
 ghost use Rattle.rv_model.specs.declared.work.Delivery.{Delivery};
 ghost use Rattle.rv_model.specs.declared.work.Turn.{Turn};
 ghost use Rattle.rv_model.specs.Works.{IsWork};
-ghost use Rattle.rv_journal.specs.CountedLanes.{IsNewCountedLane, KeepsTold};
+ghost use Rattle.rv_journal.specs.CountedLanes.{IsNewCountedLane, KeepsObserved};
 
 use crate::counted::Counted;
 use rv_model::{CpuWork, Delivery, Turn};
@@ -36,7 +36,7 @@ impl CountedLane {
 }
 
 /// What is known of every lane.
-pub(crate) fn known(lane: &CountedLane)
+pub(crate) fn assert_invariant(lane: &CountedLane)
     ensures { IsWork lane.now.work }
 {
     let _ = &lane.work.turns;
@@ -45,7 +45,7 @@ pub(crate) fn known(lane: &CountedLane)
 /// Keeps what a delivery told, for which there is room.
 pub(crate) fn keep(lane: &mut CountedLane, told: Counted)
     requires { length lane.old.counted < lane.old.room }
-    ensures { KeepsTold lane.old lane.new told }
+    ensures { KeepsObserved lane.old lane.new told }
 {
     match lane.counted.push(told) {
         Ok(()) => (),

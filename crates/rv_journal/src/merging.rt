@@ -5,15 +5,15 @@ ghost use Rattle.std.specs.Prelude.{◌≡◌, ◌+◌, ◌<◌, ◌^◌, ◌↔
 ghost use Rattle.rv_model.specs.declared.entry.Entry.{Entry};
 ghost use Rattle.rv_model.specs.Works.{IsWork};
 ghost use Rattle.rv_journal.specs.MergeSteps.{rest_of, IsCursor, GoesTo};
-ghost use Rattle.rv_journal.specs.MergeRuns.{run_of, lane_at, IsMerging, InSlots, IsReadyAt, CannotGoAt, IsLowestReady, NoneReady, steps_left};
-ghost use Rattle.rv_journal.specs.MergeWaits.{is_ready, changes_after};
+ghost use Rattle.rv_journal.specs.MergeRuns.{merge_run, lane_at, IsMerging, InSlots, IsReadyAt, CannotGoAt, IsLowestReady, NoneReady, steps_left};
+ghost use Rattle.rv_journal.specs.MergePending.{is_ready, changes_after};
 ghost use Rattle.rv_journal.specs.Merging.{CanMerge, IsMergeOf, NumbersFit, seat_of};
 
 use crate::lane::{CountedLane, cpu_of};
+use crate::observed::{assert_observed, items, seat_of};
+use crate::pending::{Pending, hold_items, release_pending, waiting};
 use crate::seat::CountedSeat;
-use crate::steps::{Cursor, Next, Step, entry_of, gap_of, leaves, slot_of};
-use crate::told::{items, known, seat_of};
-use crate::waits::{Waits, hold_items, settle, waiting};
+use crate::steps::{LaneProgress, MergeStep, NextStep, entry_of, interval_of, leaves, slot_of};
 use rv_core::Setup;
 use rv_model::Entry;
 use std::alloc::{AllocError, Global};
@@ -25,20 +25,20 @@ pub struct Merging {
     /// What is placed.
     pub placed: Vec<Entry>,
     /// How far each lane has come.
-    pub cursors: Vec<Cursor>,
+    pub cursors: Vec<LaneProgress>,
     /// How many placed entries changed the word of each slot.
     pub changes: Vec<u64>,
     /// For how many things each gap has to stay open.
-    pub waits: Waits,
+    pub waits: Pending,
 }
 
 /// What is known of all lanes.
-fn known_lanes(lanes: &[CountedLane])
+fn assert_lanes(lanes: &[CountedLane])
     ensures works { All (λ l. IsWork l.work) lanes.now }
     ensures numbers { All (λ l. All NumbersFit l.counted) lanes.now }
 {
     for lane in lanes {
-        known(lane);
+        assert_observed(lane);
     }
 }
 
@@ -57,12 +57,12 @@ fn switches_of(setup: &Setup) -> u64
 }
 
 /// The step's change of its slot is counted.
-fn count(changes: &mut Vec<u64>, step: &Step)
+fn count(changes: &mut Vec<u64>, step: &MergeStep)
     requires slot { InSlots (length changes.old.items) step.now }
     requires room { (slot : ℕ) → slice_index changes.old.items slot + 1 < 2 ^ 64 }
     ensures { changes.new.items ≡ changes_after changes.old.items step.now }
 {
-    if let Step::Item(item) = step
+    if let MergeStep::Item(item) = step
         && !leaves(&item.entry)
     {
         changes[slot_of(&item.entry.act) as usize] += 1;
@@ -70,7 +70,7 @@ fn count(changes: &mut Vec<u64>, step: &Step)
 }
 
 /// The next step of the lane at this place, which has come so far.
-fn next_from(cursor: &Cursor, lanes: &[CountedLane], place: usize) -> Option<Next>
+fn next_from(cursor: &LaneProgress, lanes: &[CountedLane], place: usize) -> Option<NextStep>
     requires low { place < length lanes.now }
     requires cursor { IsCursor (lane_at lanes.now place) cursor.now }
     ensures { MatchOption result (rest_of (lane_at lanes.now place) cursor.now ≡ []) (λ next. GoesTo (lane_at lanes.now place) cursor.now next.step next.cursor) }
@@ -111,15 +111,15 @@ impl Merging {
     fn new(alloc: Global, setup: &Setup, lanes: &[CountedLane]) -> Result<Merging, AllocError>
         ghost seen: { List Entry }
         requires { CanMerge setup.now seen lanes.now }
-        ensures { IfOk result (λ m. IsMerging (run_of setup.now seen) lanes.now m.placed.items m.cursors.items m.changes.items m.waits) }
+        ensures { IfOk result (λ m. IsMerging (merge_run setup.now seen) lanes.now m.placed.items m.cursors.items m.changes.items m.waits) }
     {
-        setup.known();
-        known_lanes(lanes);
+        setup.assert_invariant();
+        assert_lanes(lanes);
         let mut waits = HashMap::new(alloc);
         let mut cursors = Vec::new(alloc);
         for lane in lanes {
             hold_items(&mut waits, items(lane))?;
-            cursors.push(Cursor { turns: 0, items: 0 })?;
+            cursors.push(LaneProgress { turns: 0, items: 0 })?;
         }
         let changes = vec![in alloc; 0; slots_of(setup)]?;
         Ok(Merging {
@@ -131,15 +131,15 @@ impl Merging {
     }
 
     /// Whether the step may be placed now.
-    fn is_ready(&self, step: &Step) -> bool
+    fn is_ready(&self, step: &MergeStep) -> bool
         requires { InSlots (length self.now.changes.items) step.now }
         ensures { result ≡ is_ready self.now.changes.items self.now.waits step.now }
     {
         match step {
-            Step::Opens => true,
-            Step::Item(item) => {
-                let gap = gap_of(item);
-                self.changes[gap.slot as usize] == gap.rank
+            MergeStep::TurnLook => true,
+            MergeStep::Item(item) => {
+                let gap = interval_of(item);
+                self.changes[gap.slot as usize] == gap.version
                     && (leaves(&item.entry) || waiting(&self.waits, gap) == 0)
             }
         }
@@ -148,7 +148,7 @@ impl Merging {
     /// Whether the next step of the lane at this place may be placed now.
     fn is_ready_at(&self, _setup: &Setup, lanes: &[CountedLane], place: usize) -> bool
         ghost seen: { List Entry }
-        requires merging { IsMerging (run_of _setup.now seen) lanes.now self.now.placed.items self.now.cursors.items self.now.changes.items self.now.waits }
+        requires merging { IsMerging (merge_run _setup.now seen) lanes.now self.now.placed.items self.now.cursors.items self.now.changes.items self.now.waits }
         requires low { place < length lanes.now }
         ensures ready { result ≡ true → IsReadyAt lanes.now self.now.placed.items self.now.cursors.items place }
         ensures unready { result ≡ false → CannotGoAt lanes.now self.now.placed.items self.now.cursors.items place }
@@ -162,7 +162,7 @@ impl Merging {
     /// The lane of the lowest CPU whose next step is ready.
     fn ready_lane(&self, setup: &Setup, lanes: &[CountedLane]) -> Option<usize>
         ghost seen: { List Entry }
-        requires { IsMerging (run_of setup.now seen) lanes.now self.now.placed.items self.now.cursors.items self.now.changes.items self.now.waits }
+        requires { IsMerging (merge_run setup.now seen) lanes.now self.now.placed.items self.now.cursors.items self.now.changes.items self.now.waits }
         ensures { MatchOption result (NoneReady lanes.now self.now.placed.items self.now.cursors.items) (IsLowestReady lanes.now self.now.placed.items self.now.cursors.items) }
     {
         let mut lowest = None;
@@ -182,16 +182,16 @@ impl Merging {
         place: usize,
     ) -> Result<(), AllocError>
         ghost seen: { List Entry }
-        requires merging { IsMerging (run_of setup.now seen) lanes.now self.old.placed.items self.old.cursors.items self.old.changes.items self.old.waits }
+        requires merging { IsMerging (merge_run setup.now seen) lanes.now self.old.placed.items self.old.cursors.items self.old.changes.items self.old.waits }
         requires ready { IsReadyAt lanes.now self.old.placed.items self.old.cursors.items place }
-        ensures merging { OnOk result (IsMerging (run_of setup.now seen) lanes.now self.new.placed.items self.new.cursors.items self.new.changes.items self.new.waits) }
+        ensures merging { OnOk result (IsMerging (merge_run setup.now seen) lanes.now self.new.placed.items self.new.cursors.items self.new.changes.items self.new.waits) }
         ensures fewer { OnOk result (steps_left lanes.now self.new.cursors.items < steps_left lanes.now self.old.cursors.items) }
     {
         let Some(next) = next_from(&self.cursors[place], lanes, place) else {
             unreachable!()
         };
         let then = next_from(&next.cursor, lanes, place);
-        settle(&mut self.waits, &next.step, &then)?;
+        release_pending(&mut self.waits, &next.step, &then)?;
         let seat = seat_at(lanes, place);
         self.placed
             .push(entry_of(&next.step, seat, switches_of(setup)))?;

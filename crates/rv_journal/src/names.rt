@@ -6,7 +6,7 @@ use rv_model::Mode;
 
 /// What is done.
 #[derive(Clone, Copy, Debug, Drop, PartialEq, Eq)]
-pub(crate) enum Verb {
+pub(crate) enum ActVerb {
     Deliver,
     Stop,
     Look,
@@ -18,7 +18,7 @@ pub(crate) enum Verb {
 
 /// What kind of letter is run: an automaton's event, or a rule's atoms.
 #[derive(Clone, Copy, Debug, Drop, PartialEq, Eq)]
-pub(crate) enum Kind {
+pub(crate) enum LetterKind {
     Da,
     Ltl,
 }
@@ -41,13 +41,13 @@ pub(crate) fn mode_in(word: &[u8]) -> Option<Mode>
 
 /// The kind that bindings write so.
 #[tactic(auto, unfolding(crate::specs::PieceReadings::kind_in))]
-pub(crate) fn kind_in(word: &[u8]) -> Option<Kind>
+pub(crate) fn kind_in(word: &[u8]) -> Option<LetterKind>
     ensures { result ≡ kind_in word.now }
 {
     if word == b"da".as_slice() {
-        Some(Kind::Da)
+        Some(LetterKind::Da)
     } else if word == b"ltl".as_slice() {
-        Some(Kind::Ltl)
+        Some(LetterKind::Ltl)
     } else {
         None
     }
@@ -55,23 +55,23 @@ pub(crate) fn kind_in(word: &[u8]) -> Option<Kind>
 
 /// What an act is called.
 #[tactic(auto, unfolding(crate::specs::PieceReadings::verb_in))]
-pub(crate) fn verb_in(word: &[u8]) -> Option<Verb>
+pub(crate) fn verb_in(word: &[u8]) -> Option<ActVerb>
     ensures { result ≡ verb_in word.now }
 {
     if word == b"deliver".as_slice() {
-        Some(Verb::Deliver)
+        Some(ActVerb::Deliver)
     } else if word == b"stop".as_slice() {
-        Some(Verb::Stop)
+        Some(ActVerb::Stop)
     } else if word == b"look".as_slice() {
-        Some(Verb::Look)
+        Some(ActVerb::Look)
     } else if word == b"raise".as_slice() {
-        Some(Verb::Raise)
+        Some(ActVerb::Raise)
     } else if word == b"lower".as_slice() {
-        Some(Verb::Lower)
+        Some(ActVerb::Lower)
     } else if word == b"clear".as_slice() {
-        Some(Verb::Clear)
+        Some(ActVerb::Clear)
     } else if word == b"end".as_slice() {
-        Some(Verb::End)
+        Some(ActVerb::End)
     } else {
         None
     }

@@ -1,8 +1,8 @@
 //! The pieces of a line, one at a time: what stands between its blanks.
 ghost use Rattle.std.specs.Prelude.{◌≡◌, ◌≤◌, [], ◌∷◌, ℕ, List, IfSome, IfNone};
-ghost use Rattle.rv_journal.specs.PieceReadings.{pieces_of, number_in, number_from, first_by, mode_in, kind_in, verb_in, Reads};
+ghost use Rattle.rv_journal.specs.PieceReadings.{pieces_of, number_in, number_from, first_by, mode_in, kind_in, verb_in, ReadsWords};
 
-use crate::names::{Kind, Verb, kind_in, mode_in, verb_in};
+use crate::names::{ActVerb, LetterKind, kind_in, mode_in, verb_in};
 use memchr::memchr;
 use rv_model::Mode;
 use rv_text::decimal;
@@ -67,7 +67,7 @@ impl<'a> Pieces<'a> {
 
     /// The number that is the next piece, where it is at most so large.
     pub(crate) fn next_number(&mut self, most: u64) -> Option<u64>
-        ensures number { Reads (number_from most) self.old self.new result }
+        ensures number { ReadsWords (number_from most) self.old self.new result }
         ensures range { IfSome result (λ n. n ≤ most) }
     {
         let word = self.next_piece()?;
@@ -76,23 +76,23 @@ impl<'a> Pieces<'a> {
 
     /// The mode that is the next piece.
     pub(crate) fn next_mode(&mut self) -> Option<Mode>
-        ensures { Reads (first_by mode_in) self.old self.new result }
+        ensures { ReadsWords (first_by mode_in) self.old self.new result }
     {
         let word = self.next_piece()?;
         mode_in(word)
     }
 
     /// The kind that is the next piece.
-    pub(crate) fn next_kind(&mut self) -> Option<Kind>
-        ensures { Reads (first_by kind_in) self.old self.new result }
+    pub(crate) fn next_kind(&mut self) -> Option<LetterKind>
+        ensures { ReadsWords (first_by kind_in) self.old self.new result }
     {
         let word = self.next_piece()?;
         kind_in(word)
     }
 
     /// The name of an act that is the next piece.
-    pub(crate) fn next_verb(&mut self) -> Option<Verb>
-        ensures { Reads (first_by verb_in) self.old self.new result }
+    pub(crate) fn next_verb(&mut self) -> Option<ActVerb>
+        ensures { ReadsWords (first_by verb_in) self.old self.new result }
     {
         let word = self.next_piece()?;
         verb_in(word)

@@ -2,16 +2,16 @@
 ghost use Rattle.std.specs.Prelude.{◌≡◌, Some, IfSome};
 ghost use Rattle.rv_model.specs.declared.entry.Entry.{Entry as Told};
 ghost use Rattle.rv_journal.specs.EntryTexts.{entry_text, IsEntry};
-ghost use Rattle.rv_journal.specs.PieceReadings.{most_32, number_from, Reads};
+ghost use Rattle.rv_journal.specs.PieceReadings.{most_32, number_from, ReadsWords};
 ghost use Rattle.rv_journal.specs.EntryReadings.{event_from, sets_from, what_from, deliver_from, act_from, entry_from};
 
-use crate::names::{Kind, Verb};
+use crate::names::{ActVerb, LetterKind};
 use crate::pieces::Pieces;
 use rv_model::{Act, Entry, Hit, What};
 
 /// A number of 32 bits.
 fn small(words: &mut Pieces<'_>) -> Option<u32>
-    ensures { Reads (number_from most_32) words.old words.new result }
+    ensures { ReadsWords (number_from most_32) words.old words.new result }
 {
     let n = words.next_number(u32::MAX as u64)?;
     Some(n as u32)
@@ -19,7 +19,7 @@ fn small(words: &mut Pieces<'_>) -> Option<u32>
 
 /// An automaton's event.
 fn event(words: &mut Pieces<'_>) -> Option<What>
-    ensures { Reads event_from words.old words.new result }
+    ensures { ReadsWords event_from words.old words.new result }
 {
     let event = words.next_number(u8::MAX as u64)?;
     Some(What::Da { event: event as u8 })
@@ -27,7 +27,7 @@ fn event(words: &mut Pieces<'_>) -> Option<What>
 
 /// What becomes of a rule's atoms.
 fn sets(words: &mut Pieces<'_>) -> Option<What>
-    ensures { Reads sets_from words.old words.new result }
+    ensures { ReadsWords sets_from words.old words.new result }
 {
     let on = small(words)?;
     let off = small(words)?;
@@ -37,18 +37,18 @@ fn sets(words: &mut Pieces<'_>) -> Option<What>
 
 /// What is run, by its kind.
 fn what(words: &mut Pieces<'_>) -> Option<What>
-    ensures { Reads what_from words.old words.new result }
+    ensures { ReadsWords what_from words.old words.new result }
 {
     let kind = words.next_kind()?;
     match kind {
-        Kind::Da => event(words),
-        Kind::Ltl => sets(words),
+        LetterKind::Da => event(words),
+        LetterKind::Ltl => sets(words),
     }
 }
 
 /// A delivery, behind its name.
 fn deliver(words: &mut Pieces<'_>) -> Option<Act>
-    ensures { Reads deliver_from words.old words.new result }
+    ensures { ReadsWords deliver_from words.old words.new result }
 {
     let slot = small(words)?;
     let mode = words.next_mode()?;
@@ -61,29 +61,29 @@ fn deliver(words: &mut Pieces<'_>) -> Option<Act>
 
 /// An act, by its name.
 fn act(words: &mut Pieces<'_>) -> Option<Act>
-    ensures { Reads act_from words.old words.new result }
+    ensures { ReadsWords act_from words.old words.new result }
 {
     let verb = words.next_verb()?;
     match verb {
-        Verb::Deliver => deliver(words),
-        Verb::Stop => {
+        ActVerb::Deliver => deliver(words),
+        ActVerb::Stop => {
             let stopped = small(words)?;
             Some(Act::Stop { slot: stopped })
         }
-        Verb::Look => Some(Act::Look),
-        Verb::Raise => {
+        ActVerb::Look => Some(Act::Look),
+        ActVerb::Raise => {
             let raised = words.next_number(u64::MAX)?;
             Some(Act::Raise { bits: raised })
         }
-        Verb::Lower => {
+        ActVerb::Lower => {
             let lowered = words.next_number(u64::MAX)?;
             Some(Act::Lower { bits: lowered })
         }
-        Verb::Clear => {
+        ActVerb::Clear => {
             let cleared = small(words)?;
             Some(Act::Clear { slot: cleared })
         }
-        Verb::End => {
+        ActVerb::End => {
             let ended = small(words)?;
             Some(Act::End { slot: ended })
         }

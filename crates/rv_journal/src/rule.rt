@@ -20,30 +20,30 @@ impl TableRule<Act, View, Setup> for CountedLaw {
 }
 
 /// A load that makes no entry.
-pub(crate) struct Seeing;
+pub(crate) struct CountedLoad;
 
-impl Play<Act, View> for Seeing {
-    ghost use Rattle.rv_journal.specs.CountedSteps.{Sees};
+impl Play<Act, View> for CountedLoad {
+    ghost use Rattle.rv_journal.specs.CountedSteps.{IsCountedLoad};
 
-    ghost then = { Sees };
+    ghost then = { IsCountedLoad };
 }
 
 /// A compare-exchange, which makes the act that it is told where it wins.
-pub(crate) struct Trying;
+pub(crate) struct CountedExchange;
 
-impl Play<Act, View> for Trying {
-    ghost use Rattle.rv_journal.specs.CountedSteps.{Tries};
+impl Play<Act, View> for CountedExchange {
+    ghost use Rattle.rv_journal.specs.CountedSteps.{IsCountedExchange};
 
-    ghost then = { Tries };
+    ghost then = { IsCountedExchange };
 }
 
 /// A slot's word of which the count alone is kept.
-pub(crate) struct Stopping;
+pub(crate) struct CountedStop;
 
-impl Play<Act, View> for Stopping {
-    ghost use Rattle.rv_journal.specs.CountedSteps.{Stops};
+impl Play<Act, View> for CountedStop {
+    ghost use Rattle.rv_journal.specs.CountedSteps.{IsCountedStop};
 
-    ghost then = { Stops };
+    ghost then = { IsCountedStop };
 }
 
 /// The number at which a view is cut. Each call picks it.

@@ -117,7 +117,7 @@ pub fn record_run<R: Threads + Sync, G: Gate + Send>(
     ensures closed { IfOk result (λ recorded. recorded.closed ≡ recorded.entries.items) }
     ensures entries { IfOk result (λ recorded. All IsEntry recorded.entries.items) }
 {
-    setup.known();
+    setup.assert_invariant();
     let CountedStart { board, mut seat } = CountedBoard::new(alloc, setup, widths)?;
     let mut feeders = seat_works(alloc, &board, &mut seat, works, gate)?;
     run_counted(rt, &board, feeders.as_mut_slice());

@@ -6,7 +6,7 @@ ghost use Rattle.rv_board.specs.Seats.{seat_value, Joins, Closes};
 ghost use Rattle.rv_journal.specs.CountedSeats.{counted_value};
 
 use crate::board::CountedBoard;
-use crate::rule::{CountedLaw, Cut, Cutting, Joining, Seeing};
+use crate::rule::{CountedLaw, CountedLoad, Cut, Cutting, Joining};
 use crate::seat::{CountedSeat, MAX_ENTRIES};
 use atomic_table::{Seat as Token, Shared};
 use rv_board::View;
@@ -34,7 +34,7 @@ impl CountedBoard {
     pub fn split(&self, seat: &mut CountedSeat, number: u32) -> CountedSeat
         requires board { seat.old.seat.board ≡ self.now }
         requires range { (seat.old.seat.part.number < number) × (number < seat.old.seat.part.end) }
-        ensures old { seat.new ≡ counted_value (seat_value (part seat.old.seat.part.number number seat.old.seat.part.gone seat.old.seat.part.seen) seat.old.seat.board) seat.old.left }
+        ensures old { seat.new ≡ counted_value (seat_value (part seat.old.seat.part.number number seat.old.seat.part.joined_in seat.old.seat.part.seen) seat.old.seat.board) seat.old.left }
         ensures new { result ≡ counted_value (seat_value (part number seat.old.seat.part.end [] seat.old.seat.part.seen) seat.old.seat.board) 4000000 }
     {
         let end = seat.end;
@@ -63,7 +63,7 @@ impl CountedBoard {
         } = from;
         let shared = &self.table.shared;
         shared.join_seat::<Joining>(&mut into.token, token);
-        shared.load::<Seeing>(&mut into.token, 0);
+        shared.load::<CountedLoad>(&mut into.token, 0);
     }
 
     /// The history, of which the seat had seen the beginning. It is whole where the seat knows all numbers.
@@ -71,7 +71,7 @@ impl CountedBoard {
         requires { seat.seat.board ≡ self }
         ensures { Closes seat.seat result }
     {
-        self.table.shared.load::<Seeing>(&mut seat.token, 0);
+        self.table.shared.load::<CountedLoad>(&mut seat.token, 0);
         Closed::of(&seat)
     }
 }

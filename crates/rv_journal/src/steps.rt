@@ -1,25 +1,25 @@
 //! What the lanes put into the merged history, one step after another.
 ghost use Rattle.std.specs.Prelude.{◌≡◌, [], MatchOption};
 ghost use Rattle.rv_journal.specs.MergeSteps.{rest_of, IsCursor, GoesTo, slot_in, leaves, step_entry};
-ghost use Rattle.rv_journal.specs.MergeWaits.{gap_in, lost_gap};
+ghost use Rattle.rv_journal.specs.MergePending.{interval_in, lost_interval};
 
 use crate::counted::Counted;
 use crate::lane::{CountedLane, turn_at, turn_count};
-use crate::told::{item_at, item_count};
+use crate::observed::{item_at, item_count};
 use rv_model::{Act, Entry};
 
 /// What a lane puts into the merged history next.
 #[derive(Clone, Copy, Debug, Drop, PartialEq, Eq)]
-pub enum Step {
+pub enum MergeStep {
     /// A turn opens, with a look.
-    Opens,
+    TurnLook,
     /// A delivery, or the stop in its place.
     Item(Counted),
 }
 
 /// How far a lane has come.
 #[derive(Clone, Copy, Debug, Drop, PartialEq, Eq)]
-pub struct Cursor {
+pub struct LaneProgress {
     /// Turns that are open.
     pub turns: usize,
     /// Items that are placed.
@@ -28,29 +28,29 @@ pub struct Cursor {
 
 /// A lane's next step, and how far it has come with it.
 #[derive(Clone, Copy, Debug, Drop, PartialEq, Eq)]
-pub struct Next {
-    pub step: Step,
-    pub cursor: Cursor,
+pub struct NextStep {
+    pub step: MergeStep,
+    pub cursor: LaneProgress,
 }
 
 /// The stretch of a slot's history after so many entries that changed its word.
 #[derive(Clone, Copy, Debug, Drop, PartialEq, Eq, Hash)]
-pub struct Gap {
+pub struct VersionInterval {
     pub slot: u32,
-    pub rank: u64,
+    pub version: u64,
 }
 
-impl Cursor {
+impl LaneProgress {
     /// The lane's next step, if one is left.
-    pub fn next(&self, lane: &CountedLane) -> Option<Next>
+    pub fn next(&self, lane: &CountedLane) -> Option<NextStep>
         requires { IsCursor lane.now self.now }
         ensures { MatchOption result (rest_of lane.now self.now ≡ []) (λ next. GoesTo lane.now self.now next.step next.cursor) }
     {
         if self.turns < turn_count(lane) {
             if turn_at(lane, self.turns).from as usize == self.items {
-                return Some(Next {
-                    step: Step::Opens,
-                    cursor: Cursor {
+                return Some(NextStep {
+                    step: MergeStep::TurnLook,
+                    cursor: LaneProgress {
                         turns: self.turns + 1,
                         items: self.items,
                     },
@@ -60,9 +60,9 @@ impl Cursor {
         if self.items >= item_count(lane) {
             return None;
         }
-        Some(Next {
-            step: Step::Item(item_at(lane, self.items)),
-            cursor: Cursor {
+        Some(NextStep {
+            step: MergeStep::Item(item_at(lane, self.items)),
+            cursor: LaneProgress {
                 turns: self.turns,
                 items: self.items + 1,
             },
@@ -85,24 +85,24 @@ pub fn slot_of(act: &Act) -> u32
 
 /// The gap in which the item's entry found its slot. A word of 0 is that of a stopped instance, whose Stop no count
 /// tells.
-pub fn gap_of(item: &Counted) -> Gap
-    ensures { result ≡ gap_in item.now }
+pub fn interval_of(item: &Counted) -> VersionInterval
+    ensures { result ≡ interval_in item.now }
 {
     let stopped = if item.entry.before == 0 { 1 } else { 0 };
-    Gap {
+    VersionInterval {
         slot: slot_of(&item.entry.act),
-        rank: item.count as u64 + stopped,
+        version: item.count as u64 + stopped,
     }
 }
 
 /// The gap that has to stay open until a Stop is the next step of its lane.
-pub fn lost_from(item: &Counted) -> Option<Gap>
-    ensures { result ≡ lost_gap item.now.entry.act item.now.first }
+pub fn lost_from(item: &Counted) -> Option<VersionInterval>
+    ensures { result ≡ lost_interval item.now.entry.act item.now.first }
 {
     match item.entry.act {
-        Act::Stop { slot } => Some(Gap {
+        Act::Stop { slot } => Some(VersionInterval {
             slot,
-            rank: item.first as u64,
+            version: item.first as u64,
         }),
         _ => None,
     }
@@ -116,16 +116,16 @@ pub fn leaves(entry: &Entry) -> bool
 }
 
 /// The entry of a step, by the seat and the switches.
-pub fn entry_of(step: &Step, seat: u32, switches: u64) -> Entry
+pub fn entry_of(step: &MergeStep, seat: u32, switches: u64) -> Entry
     ensures { result ≡ step_entry seat switches step.now }
 {
     match step {
-        Step::Opens => Entry {
+        MergeStep::TurnLook => Entry {
             seat,
             act: Act::Look,
             before: switches,
             after: switches,
         },
-        Step::Item(item) => item.entry,
+        MergeStep::Item(item) => item.entry,
     }
 }

@@ -1,6 +1,6 @@
 //! Words with a count in their low half, and an instance's word in their high half.
 ghost use Rattle.std.specs.Prelude.{◌≡◌, ◌≤◌, ◌<◌, ◌+◌, ◌^◌, ◌==◌, if◌then◌else◌};
-ghost use Rattle.rv_journal.specs.CountedWords.{IsNarrow, counted_word, word_in, count_in};
+ghost use Rattle.rv_journal.specs.CountedWords.{FitsCountedWord, counted_word, word_in, count_in};
 
 use rv_word::{atoms_of, pack, set_of};
 
@@ -18,7 +18,7 @@ pub(crate) const COUNT: u64 = 0xffff_ffff;
 /// The counted word of an instance's word.
 pub(crate) fn counted_word(rows: u32, word: u64, count: u32) -> u64
     requires rows { rows ≤ 32 }
-    requires narrow { IsNarrow rows word }
+    requires narrow { FitsCountedWord rows word }
     ensures { result ≡ counted_word rows word count }
 {
     let narrow = ((atoms_of(word) as u64) << rows) + set_of(word) as u64;

@@ -6,10 +6,10 @@ use Rattle.std.proofs.lemmas.List.Folds.{list_any-append}
 use Rattle.rv_model.specs.Ltl.{Ltl, True, Atom, Not, And, Or, Imply, Equivalent}
 use Rattle.rv_model.specs.Meaning.{true_on}
 use Rattle.rv_labels.specs.declared.cube.Cube.{Cube}
-use Rattle.rv_labels.specs.Cubes.{cubes_of, joined}
+use Rattle.rv_labels.specs.Cubes.{cubes_of, cube_unions}
 use Rattle.rv_labels.specs.Holding.{meets}
 use Rattle.rv_labels.specs.Sizes.{size_of, cubes_if_few}
-use Rattle.rv_labels.proofs.MeetLemmas.{meets_whole, meets_need, meets_forbid, any_joined}
+use Rattle.rv_labels.proofs.MeetLemmas.{meets_whole, meets_need, meets_forbid, any_cube_unions}
 
 -- a truth value at true, and its denial at false
 abbrev pub by_sign : Bool → Bool → Bool
@@ -56,22 +56,22 @@ cubes_say True false x = meets_whole x false
 cubes_say (Atom a) true x = or_false (meets x _) ∙ meets_need x a
 cubes_say (Atom a) false x = or_false (meets x _) ∙ meets_forbid x a
 cubes_say (Not f) sign x = cubes_say f (not sign) x ∙ by_not sign (true_on x f)
-cubes_say (And f g) true x = any_joined x (cubes_of f true) (cubes_of g true) ∙ ap₂ (λ a b. a && b) (cubes_say f true x) (cubes_say g true x)
+cubes_say (And f g) true x = any_cube_unions x (cubes_of f true) (cubes_of g true) ∙ ap₂ (λ a b. a && b) (cubes_say f true x) (cubes_say g true x)
 cubes_say (And f g) false x = list_any-append (meets x) (cubes_of f false) (cubes_of g false) ∙ ap₂ (λ a b. a || b) (cubes_say f false x) (cubes_say g false x) ∙ deny_and (true_on x f) (true_on x g)
 cubes_say (Or f g) true x = list_any-append (meets x) (cubes_of f true) (cubes_of g true) ∙ ap₂ (λ a b. a || b) (cubes_say f true x) (cubes_say g true x)
-cubes_say (Or f g) false x = any_joined x (cubes_of f false) (cubes_of g false) ∙ ap₂ (λ a b. a && b) (cubes_say f false x) (cubes_say g false x) ∙ deny_or (true_on x f) (true_on x g)
+cubes_say (Or f g) false x = any_cube_unions x (cubes_of f false) (cubes_of g false) ∙ ap₂ (λ a b. a && b) (cubes_say f false x) (cubes_say g false x) ∙ deny_or (true_on x f) (true_on x g)
 cubes_say (Imply f g) true x = list_any-append (meets x) (cubes_of f false) (cubes_of g true) ∙ ap₂ (λ a b. a || b) (cubes_say f false x) (cubes_say g true x)
-cubes_say (Imply f g) false x = any_joined x (cubes_of f true) (cubes_of g false) ∙ ap₂ (λ a b. a && b) (cubes_say f true x) (cubes_say g false x) ∙ deny_imply (true_on x f) (true_on x g)
+cubes_say (Imply f g) false x = any_cube_unions x (cubes_of f true) (cubes_of g false) ∙ ap₂ (λ a b. a && b) (cubes_say f true x) (cubes_say g false x) ∙ deny_imply (true_on x f) (true_on x g)
 cubes_say (Equivalent f g) true x =
-    list_any-append (meets x) (joined (cubes_of f true) (cubes_of g true)) (joined (cubes_of f false) (cubes_of g false))
+    list_any-append (meets x) (cube_unions (cubes_of f true) (cubes_of g true)) (cube_unions (cubes_of f false) (cubes_of g false))
     ∙ ap₂ (λ a b. a || b)
-    (any_joined x (cubes_of f true) (cubes_of g true) ∙ ap₂ (λ a b. a && b) (cubes_say f true x) (cubes_say g true x))
-    (any_joined x (cubes_of f false) (cubes_of g false) ∙ ap₂ (λ a b. a && b) (cubes_say f false x) (cubes_say g false x))
+    (any_cube_unions x (cubes_of f true) (cubes_of g true) ∙ ap₂ (λ a b. a && b) (cubes_say f true x) (cubes_say g true x))
+    (any_cube_unions x (cubes_of f false) (cubes_of g false) ∙ ap₂ (λ a b. a && b) (cubes_say f false x) (cubes_say g false x))
 cubes_say (Equivalent f g) false x =
-    list_any-append (meets x) (joined (cubes_of f true) (cubes_of g false)) (joined (cubes_of f false) (cubes_of g true))
+    list_any-append (meets x) (cube_unions (cubes_of f true) (cubes_of g false)) (cube_unions (cubes_of f false) (cubes_of g true))
     ∙ ap₂ (λ a b. a || b)
-    (any_joined x (cubes_of f true) (cubes_of g false) ∙ ap₂ (λ a b. a && b) (cubes_say f true x) (cubes_say g false x))
-    (any_joined x (cubes_of f false) (cubes_of g true) ∙ ap₂ (λ a b. a && b) (cubes_say f false x) (cubes_say g true x))
+    (any_cube_unions x (cubes_of f true) (cubes_of g false) ∙ ap₂ (λ a b. a && b) (cubes_say f true x) (cubes_say g false x))
+    (any_cube_unions x (cubes_of f false) (cubes_of g true) ∙ ap₂ (λ a b. a && b) (cubes_say f false x) (cubes_say g true x))
     ∙ deny_equivalent (true_on x f) (true_on x g)
 cubes_say _ true x = meets_whole x false
 cubes_say _ false x = meets_whole x true

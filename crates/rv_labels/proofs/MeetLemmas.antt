@@ -9,7 +9,7 @@ use Rattle.std.proofs.lemmas.Bool.Decides.{Decides-eqb, Decides-and, Decides-lik
 use Rattle.std.proofs.lemmas.List.Folds.{list_any-append, Any-from_list_any, list_any-from_Any}
 use Rattle.rv_model.specs.Numbers.{has_bit}
 use Rattle.rv_labels.specs.declared.cube.Cube.{Cube}
-use Rattle.rv_labels.specs.Cubes.{cube_of, union_of, is_possible, unions_with, joined, whole_if}
+use Rattle.rv_labels.specs.Cubes.{cube_of, union_of, is_possible, unions_with, cube_unions, whole_if}
 use Rattle.rv_labels.specs.Holding.{Meets, meets}
 use Rattle.rv_labels.proofs.AtomLemmas.{has_or, has_none, has_same, only_same, within_from, within_to, apart_from, apart_to}
 
@@ -96,11 +96,11 @@ module _ (x : ℕ) where
       spread false b c = refl
 
   -- a letter meets some cube of joined lists exactly where it meets some cube of each
-  pub any_joined : (cs ds : List Cube) → list_any (meets x) (joined cs ds) ≡ (list_any (meets x) cs && list_any (meets x) ds)
-  any_joined [] ds = refl
-  any_joined (c ∷ cs) ds =
-      list_any-append (meets x) (unions_with ds c) (joined cs ds)
-      ∙ ap₂ (λ a b. a || b) (any_possible (map (union_of c) ds) ∙ any_unions c ds) (any_joined cs ds)
+  pub any_cube_unions : (cs ds : List Cube) → list_any (meets x) (cube_unions cs ds) ≡ (list_any (meets x) cs && list_any (meets x) ds)
+  any_cube_unions [] ds = refl
+  any_cube_unions (c ∷ cs) ds =
+      list_any-append (meets x) (unions_with ds c) (cube_unions cs ds)
+      ∙ ap₂ (λ a b. a || b) (any_possible (map (union_of c) ds) ∙ any_unions c ds) (any_cube_unions cs ds)
       ∙ spread (meets x c) (list_any (meets x) cs) (list_any (meets x) ds)
     where
       spread : (a b c : Bool) → ((a && c) || (b && c)) ≡ ((a || b) && c)

@@ -5,7 +5,7 @@ use Rattle.std.proofs.lemmas.List.{length-map}
 use Rattle.std.proofs.lemmas.Nat.{mul-le}
 use Rattle.rv_model.specs.Ltl.{Ltl, True, Atom, Not, And, Or, Imply, Equivalent}
 use Rattle.rv_labels.specs.declared.cube.Cube.{Cube}
-use Rattle.rv_labels.specs.Cubes.{cubes_of, joined, unions_with, union_of, is_possible, whole_if}
+use Rattle.rv_labels.specs.Cubes.{cubes_of, cube_unions, unions_with, union_of, is_possible, whole_if}
 use Rattle.rv_labels.specs.Sizes.{size_of, one_if}
 
 -- to leave some out makes no list longer
@@ -18,14 +18,14 @@ length_filter p (c ∷ cs) = go (p c) (length_filter p cs)
     go false rest = omega arith
 
 -- joined lists have at most the product
-length_joined : (cs ds : List Cube) → length (joined cs ds) ≤ length cs * length ds
-length_joined [] ds = omega arith
-length_joined (c ∷ cs) ds =
-    grind (arith, length-append (unions_with ds c) (joined cs ds), length_filter is_possible (map (union_of c) ds), length-map ds (union_of c), length_joined cs ds)
+length_cube_unions : (cs ds : List Cube) → length (cube_unions cs ds) ≤ length cs * length ds
+length_cube_unions [] ds = omega arith
+length_cube_unions (c ∷ cs) ds =
+    grind (arith, length-append (unions_with ds c) (cube_unions cs ds), length_filter is_possible (map (union_of c) ds), length-map ds (union_of c), length_cube_unions cs ds)
 
 -- joined lists are no longer than the product of what bounds them
-joined_within : (cs ds : List Cube) (m n : ℕ) → length cs ≤ m → length ds ≤ n → length (joined cs ds) ≤ m * n
-joined_within cs ds m n h k = let a = length_joined cs ds in let b = mul-le (length cs) (length ds) m n h k in omega arith
+cube_unions_within : (cs ds : List Cube) (m n : ℕ) → length cs ≤ m → length ds ≤ n → length (cube_unions cs ds) ≤ m * n
+cube_unions_within cs ds m n h k = let a = length_cube_unions cs ds in let b = mul-le (length cs) (length ds) m n h k in omega arith
 
 -- nor is one after the other longer than the sum
 append_within : (cs ds : List Cube) (m n : ℕ) → length cs ≤ m → length ds ≤ n → length (cs ++ ds) ≤ m + n
@@ -41,14 +41,14 @@ pub cubes_within : (f : Ltl) (sign : Bool) → length (cubes_of f sign) ≤ size
 cubes_within True sign = whole_within sign
 cubes_within (Atom a) sign = omega arith
 cubes_within (Not f) sign = cubes_within f (not sign)
-cubes_within (And f g) true = joined_within _ _ _ _ (cubes_within f true) (cubes_within g true)
+cubes_within (And f g) true = cube_unions_within _ _ _ _ (cubes_within f true) (cubes_within g true)
 cubes_within (And f g) false = append_within _ _ _ _ (cubes_within f false) (cubes_within g false)
 cubes_within (Or f g) true = append_within _ _ _ _ (cubes_within f true) (cubes_within g true)
-cubes_within (Or f g) false = joined_within _ _ _ _ (cubes_within f false) (cubes_within g false)
+cubes_within (Or f g) false = cube_unions_within _ _ _ _ (cubes_within f false) (cubes_within g false)
 cubes_within (Imply f g) true = append_within _ _ _ _ (cubes_within f false) (cubes_within g true)
-cubes_within (Imply f g) false = joined_within _ _ _ _ (cubes_within f true) (cubes_within g false)
-cubes_within (Equivalent f g) true = append_within _ _ _ _ (joined_within _ _ _ _ (cubes_within f true) (cubes_within g true)) (joined_within _ _ _ _ (cubes_within f false) (cubes_within g false))
-cubes_within (Equivalent f g) false = append_within _ _ _ _ (joined_within _ _ _ _ (cubes_within f true) (cubes_within g false)) (joined_within _ _ _ _ (cubes_within f false) (cubes_within g true))
+cubes_within (Imply f g) false = cube_unions_within _ _ _ _ (cubes_within f true) (cubes_within g false)
+cubes_within (Equivalent f g) true = append_within _ _ _ _ (cube_unions_within _ _ _ _ (cubes_within f true) (cubes_within g true)) (cube_unions_within _ _ _ _ (cubes_within f false) (cubes_within g false))
+cubes_within (Equivalent f g) false = append_within _ _ _ _ (cube_unions_within _ _ _ _ (cubes_within f true) (cubes_within g false)) (cube_unions_within _ _ _ _ (cubes_within f false) (cubes_within g true))
 cubes_within _ sign = whole_within (not sign)
 
 -- a list that is no longer than 0 is empty
@@ -57,16 +57,16 @@ empty [] h = refl
 empty (c ∷ cs) h = absurd (omega arith)
 
 -- nothing is joined to the empty list
-joined_none : (cs : List Cube) → joined cs [] ≡ []
-joined_none [] = refl
-joined_none (c ∷ cs) = joined_none cs
+cube_unions_none : (cs : List Cube) → cube_unions cs [] ≡ []
+cube_unions_none [] = refl
+cube_unions_none (c ∷ cs) = cube_unions_none cs
 
 -- where one of two lists is counted as empty, the joined lists are empty
-pub none_joined : (f : Ltl) (s : Bool) (g : Ltl) (t : Bool) (m n : ℕ) → m ≡ min 65 (size_of f s) → n ≡ min 65 (size_of g t) → (m ≡ 0) ⊎ (n ≡ 0) → joined (cubes_of f s) (cubes_of g t) ≡ []
-none_joined f s g t m n h k (inl e) = ap (λ cs. joined cs (cubes_of g t)) (empty (cubes_of f s) (omega (arith, cubes_within f s)))
-none_joined f s g t m n h k (inr e) = ap (λ ds. joined (cubes_of f s) ds) (empty (cubes_of g t) (omega (arith, cubes_within g t))) ∙ joined_none (cubes_of f s)
+pub none_cube_unions : (f : Ltl) (s : Bool) (g : Ltl) (t : Bool) (m n : ℕ) → m ≡ min 65 (size_of f s) → n ≡ min 65 (size_of g t) → (m ≡ 0) ⊎ (n ≡ 0) → cube_unions (cubes_of f s) (cubes_of g t) ≡ []
+none_cube_unions f s g t m n h k (inl e) = ap (λ cs. cube_unions cs (cubes_of g t)) (empty (cubes_of f s) (omega (arith, cubes_within f s)))
+none_cube_unions f s g t m n h k (inr e) = ap (λ ds. cube_unions (cubes_of f s) ds) (empty (cubes_of g t) (omega (arith, cubes_within g t))) ∙ cube_unions_none (cubes_of f s)
 
 -- lists that are not made are joined to nothing, which is right where they are joined to nothing
-pub joined_if : (wanted : Bool) (cs ds : List Cube) → (wanted ≡ false → joined cs ds ≡ []) → joined (cond wanted cs []) (cond wanted ds []) ≡ joined cs ds
-joined_if true cs ds h = refl
-joined_if false cs ds h = sym (h refl)
+pub cube_unions_if : (wanted : Bool) (cs ds : List Cube) → (wanted ≡ false → cube_unions cs ds ≡ []) → cube_unions (cond wanted cs []) (cond wanted ds []) ≡ cube_unions cs ds
+cube_unions_if true cs ds h = refl
+cube_unions_if false cs ds h = sym (h refl)

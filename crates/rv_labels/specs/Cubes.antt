@@ -21,8 +21,8 @@ abbrev pub unions_with : List Cube → Cube → List Cube
 unions_with right c = filter is_possible (map (union_of c) right)
 
 -- the unions of a cube of the left list and one of the right list, the left one outermost, without those that no letter meets
-abbrev pub joined : List Cube → List Cube → List Cube
-joined left right = flat_map (unions_with right) left
+abbrev pub cube_unions : List Cube → List Cube → List Cube
+cube_unions left right = flat_map (unions_with right) left
 
 -- the cube that every letter meets, or none
 abbrev pub whole_if : Bool → List Cube
@@ -35,11 +35,11 @@ cubes_of True sign = whole_if sign
 cubes_of (Atom a) sign = cube_of a sign ∷ []
 cubes_of (Not f) sign = cubes_of f (not sign)
 cubes_of (Or f g) true = cubes_of f true ++ cubes_of g true
-cubes_of (Or f g) false = joined (cubes_of f false) (cubes_of g false)
-cubes_of (And f g) true = joined (cubes_of f true) (cubes_of g true)
+cubes_of (Or f g) false = cube_unions (cubes_of f false) (cubes_of g false)
+cubes_of (And f g) true = cube_unions (cubes_of f true) (cubes_of g true)
 cubes_of (And f g) false = cubes_of f false ++ cubes_of g false
 cubes_of (Imply f g) true = cubes_of f false ++ cubes_of g true
-cubes_of (Imply f g) false = joined (cubes_of f true) (cubes_of g false)
-cubes_of (Equivalent f g) true = joined (cubes_of f true) (cubes_of g true) ++ joined (cubes_of f false) (cubes_of g false)
-cubes_of (Equivalent f g) false = joined (cubes_of f true) (cubes_of g false) ++ joined (cubes_of f false) (cubes_of g true)
+cubes_of (Imply f g) false = cube_unions (cubes_of f true) (cubes_of g false)
+cubes_of (Equivalent f g) true = cube_unions (cubes_of f true) (cubes_of g true) ++ cube_unions (cubes_of f false) (cubes_of g false)
+cubes_of (Equivalent f g) false = cube_unions (cubes_of f true) (cubes_of g false) ++ cube_unions (cubes_of f false) (cubes_of g true)
 cubes_of _ sign = whole_if (not sign)

@@ -2,7 +2,7 @@
 //! Two lists are made to be joined only where neither is counted as empty, so that none is longer than the size of the whole.
 ghost use Rattle.std.specs.Prelude.{◌≡◌, [], ◌∷◌, IfOk, false, if◌then◌else◌};
 ghost use Rattle.rv_model.specs.Formulas.{ltl};
-ghost use Rattle.rv_labels.specs.Cubes.{whole_if, cubes_of, joined};
+ghost use Rattle.rv_labels.specs.Cubes.{whole_if, cubes_of, cube_unions};
 ghost use Rattle.rv_labels.specs.Labels.{IsLabel};
 
 use crate::cube::{Cube, of_atom};
@@ -31,15 +31,15 @@ fn whole(alloc: Global, some: bool) -> Result<Vec<Cube>, AllocError>
 }
 
 // Whether neither list is counted as empty; where one is, so are the joined lists.
-#[tactic(auto, using(crate::proofs::SizeLemmas::none_joined))]
+#[tactic(auto, using(crate::proofs::SizeLemmas::none_cube_unions))]
 fn are_some(left: &Formula, left_sign: bool, right: &Formula, right_sign: bool) -> bool
-    ensures { result ≡ false → joined (cubes_of (ltl left.now) left_sign) (cubes_of (ltl right.now) right_sign) ≡ [] }
+    ensures { result ≡ false → cube_unions (cubes_of (ltl left.now) left_sign) (cubes_of (ltl right.now) right_sign) ≡ [] }
 {
     size(left, left_sign) != 0 && size(right, right_sign) != 0
 }
 
 /// The cubes of a label or of its negation, if they are wanted.
-#[tactic(auto, using(crate::proofs::SizeLemmas::joined_if))]
+#[tactic(auto, using(crate::proofs::SizeLemmas::cube_unions_if))]
 pub fn expand(
     alloc: Global,
     label: &Formula,

@@ -1,6 +1,6 @@
 //! Lists of cubes, one after the other or joined.
 ghost use Rattle.std.specs.Prelude.{◌≡◌, ◌++◌, IfOk, OnOk, if◌then◌else◌};
-ghost use Rattle.rv_labels.specs.Cubes.{unions_with, joined};
+ghost use Rattle.rv_labels.specs.Cubes.{unions_with, cube_unions};
 
 use crate::cube::{Cube, is_free, union};
 use std::alloc::{AllocError, Global};
@@ -20,7 +20,7 @@ fn add_unions(out: &mut Vec<Cube>, left: Cube, right: &[Cube]) -> Result<(), All
 
 /// The unions of a cube of the first list and one of the second, the first one outermost.
 pub fn join(alloc: Global, left: &[Cube], right: &[Cube]) -> Result<Vec<Cube>, AllocError>
-    ensures { IfOk result (λ cubes. cubes.items ≡ joined left.now right.now) }
+    ensures { IfOk result (λ cubes. cubes.items ≡ cube_unions left.now right.now) }
 {
     let mut out = Vec::new(alloc);
     for cube in left {
@@ -36,7 +36,7 @@ pub fn combine(
     right: Vec<Cube>,
     together: bool,
 ) -> Result<Vec<Cube>, AllocError>
-    ensures { IfOk result (λ cubes. cubes.items ≡ (if together then joined left.items right.items else left.items ++ right.items)) }
+    ensures { IfOk result (λ cubes. cubes.items ≡ (if together then cube_unions left.items right.items else left.items ++ right.items)) }
 {
     if together {
         return join(alloc, &left, &right);

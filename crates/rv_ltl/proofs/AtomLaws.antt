@@ -2,7 +2,7 @@
 use Rattle.std.proofs.Common.{◌≡◌, ℕ, zero, suc, true, List, [], ◌⊎◌, ◌↔◌, Some, None, refl, sym, ap, subst, ◌∙◌, inl, inr}
 use Rattle.rv_ltl.specs.Grammar.{Expr}
 use Rattle.rv_ltl.specs.File.{Def}
-use Rattle.rv_ltl.specs.Reach.{Mentions, Uses, Reaches, Step, Then, IsAtom}
+use Rattle.rv_ltl.specs.Reach.{Mentions, Uses, NameReaches, Step, Then, IsAtom}
 use Rattle.rv_ltl.specs.Replace.{body_of, replaced, value_of}
 use Rattle.rv_ltl.specs.Atoms.{Has, Rises}
 use Rattle.rv_ltl.specs.Weights.{def_at}
@@ -14,7 +14,7 @@ use Rattle.rv_ltl.proofs.Collecting.{names_rise, names_made, names_only}
 
 -- a name that is not defined, and is the name itself or is reached
 abbrev IsLast : List Def → ℕ → ℕ → Type 0
-IsLast ds x y = (body_of ds y ≡ None) × ((x ≡ y) ⊎ Reaches ds x y)
+IsLast ds x y = (body_of ds y ≡ None) × ((x ≡ y) ⊎ NameReaches ds x y)
 
 -- what an undefined name stands for mentions no other name
 free_last : (ds : List Def) (n x : ℕ) (f : Expr) (y : ℕ) → body_of ds x ≡ None → value_of ds n x ≡ Some f → Mentions f y → IsLast ds x y
@@ -52,7 +52,7 @@ value_by ds zero x e f b h = let v = value_zero ds x e b in absurd cc
 value_by ds (suc n) x e f b h = (n, sym (value_defined ds n x e b) ∙ h)
 
 -- what is reached and is not defined stands there
-reached_value : (ds : List Def) {x y : ℕ} → Reaches ds x y → body_of ds y ≡ None → (n : ℕ) (f : Expr) → value_of ds n x ≡ Some f → Mentions f y
+reached_value : (ds : List Def) {x y : ℕ} → NameReaches ds x y → body_of ds y ≡ None → (n : ℕ) (f : Expr) → value_of ds n x ≡ Some f → Mentions f y
 reached_value ds (Step {x = x} {y = y} u) none n f h =
     let s = value_by ds n x u.0 f u.1 h in
     replaced_has (value_of ds s.0) u.0 f y (Expr.Name y) y s.1 u.2 (value_free ds s.0 y none) refl

@@ -9,10 +9,10 @@ use Rattle.rv_ltl.specs.declared.unread.Unread.TheVariants.{Memory, Syntax}
 use Rattle.rv_ltl.specs.Unreads.{Fails}
 use Rattle.rv_ltl.specs.Grammar.{Expr, Paren, One, Two}
 use Rattle.rv_ltl.specs.Parse.{Reader, front, operator, chain_at, term_at, expr_by, closed, is_close, ◌>>=◌}
-use Rattle.rv_ltl.specs.Operators.{is_same}
+use Rattle.rv_ltl.specs.Operators.{is_same_operator}
 
 -- another operator
-pub chain_other : (read : Reader) (op other : Binary) (n : ℕ) (left : Expr) (marks : List Token) → operator marks ≡ Some other → is_same op other ≡ false → chain_at read op n left marks ≡ None
+pub chain_other : (read : Reader) (op other : Binary) (n : ℕ) (left : Expr) (marks : List Token) → operator marks ≡ Some other → is_same_operator op other ≡ false → chain_at read op n left marks ≡ None
 unfolding chain_at
 chain_other read op other zero left marks e h = rw (e, chain_at) refl
 chain_other read op other (suc n) left marks e h = rw (e, chain_at, h) refl
@@ -29,19 +29,19 @@ chain_end read op zero left marks e = rw (e, chain_at) refl
 chain_end read op (suc n) left marks e = rw (e, chain_at) refl
 
 -- one more operand, or none that can be read
-pub chain_more : (read : Reader) (op other : Binary) (n : ℕ) (left : Expr) (marks : List Token) → operator marks ≡ Some other → is_same op other ≡ true → 0 < n
+pub chain_more : (read : Reader) (op other : Binary) (n : ℕ) (left : Expr) (marks : List Token) → operator marks ≡ Some other → is_same_operator op other ≡ true → 0 < n
     → chain_at read op n left marks ≡ (read (drop 1 marks) >>= λ x. chain_at read op (n - 1) (Two op left x.0) x.1)
 unfolding chain_at
 chain_more read op other zero left marks e h lt = absurd (omega arith)
 chain_more read op other (suc n) left marks e h lt = let k : suc n - 1 ≡ n = omega arith in rw (k, chain_at, e, h) refl
 
 -- where the operator stands again and an operand is read behind it, the chain goes on with that operand
-pub chain_step : (read : Reader) (op other : Binary) (n : ℕ) (left right : Expr) (marks rest : List Token) → operator marks ≡ Some other → is_same op other ≡ true → 0 < n
+pub chain_step : (read : Reader) (op other : Binary) (n : ℕ) (left right : Expr) (marks rest : List Token) → operator marks ≡ Some other → is_same_operator op other ≡ true → 0 < n
     → read (drop 1 marks) ≡ Some (right, rest) → chain_at read op n left marks ≡ chain_at read op (n - 1) (Two op left right) rest
 chain_step read op other n left right marks rest e h lt r = rw (chain_more read op other n left marks e h lt, r) refl
 
 -- where the operator stands again and no operand is read behind it, no chain is read
-pub chain_stuck : (read : Reader) (op other : Binary) (n : ℕ) (left : Expr) (marks : List Token) → operator marks ≡ Some other → is_same op other ≡ true → 0 < n
+pub chain_stuck : (read : Reader) (op other : Binary) (n : ℕ) (left : Expr) (marks : List Token) → operator marks ≡ Some other → is_same_operator op other ≡ true → 0 < n
     → read (drop 1 marks) ≡ None → chain_at read op n left marks ≡ None
 chain_stuck read op other n left marks e h lt r = rw (chain_more read op other n left marks e h lt, r) refl
 
@@ -87,7 +87,7 @@ front_is [] t e = absurd cc
 front_is (s ∷ rest) t e = ap (λ (x : Token). x ∷ rest) cc
 
 -- what keeps the next operand from being read keeps the chain from being read
-pub chain_ends : (err : Unread) (read : Reader) (op other : Binary) (n : ℕ) (left : Expr) (marks rest : List Token) (total : Option (Expr × List Token)) → operator marks ≡ Some other → is_same op other ≡ true → 0 < n
+pub chain_ends : (err : Unread) (read : Reader) (op other : Binary) (n : ℕ) (left : Expr) (marks rest : List Token) (total : Option (Expr × List Token)) → operator marks ≡ Some other → is_same_operator op other ≡ true → 0 < n
     → rest ≡ drop 1 marks → Fails err (read rest) → chain_at read op n left marks ≡ total → Fails err total
 chain_ends Memory read op other n left marks rest total e h lt d r s = tt
 chain_ends Syntax read op other n left marks rest total e h lt d r s =

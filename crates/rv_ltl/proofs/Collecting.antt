@@ -1,7 +1,7 @@
 -- The names of formulas, ascending: those of one formula, of its code, and of the flagged definitions.
 use Rattle.std.proofs.Common.{◌≡◌, ℕ, zero, suc, ◌+◌, ◌-◌, ◌<◌, ◌≤◌, Bool, true, false, cond, List, [], ◌∷◌, ◌++◌, ◌⊎◌, length, get_or, drop, refl, sym, ap, subst, ◌∙◌, inl, inr, arith, add-one, drop-cons}
-use Rattle.rv_ltl.specs.declared.token.Step.{Step}
-use Rattle.rv_ltl.specs.declared.token.Step.TheVariants as steps
+use Rattle.rv_ltl.specs.declared.token.CodeStep.{CodeStep}
+use Rattle.rv_ltl.specs.declared.token.CodeStep.TheVariants as steps
 use Rattle.rv_ltl.specs.declared.definitions.Definition.{Definition}
 use Rattle.rv_ltl.specs.Grammar.{Expr, Paren, One, Two}
 use Rattle.rv_ltl.specs.File.{Def}
@@ -78,7 +78,7 @@ names_only test (Two op a b) xs y h =
 
 -- ---- the names of a code
 
-code_append : (test : ℕ → Bool) (front back : List Step) (xs : List ℕ) → code_into test (front ++ back) xs ≡ code_into test back (code_into test front xs)
+code_append : (test : ℕ → Bool) (front back : List CodeStep) (xs : List ℕ) → code_into test (front ++ back) xs ≡ code_into test back (code_into test front xs)
 code_append test [] back xs = refl
 code_append test (step ∷ front) back xs = code_append test front back (step_into test step xs)
 
@@ -94,23 +94,23 @@ code_names test (Two op a b) xs =
     ∙ code_append test (code b) (steps.Binary op ∷ []) (names_into test a xs) ∙ code_names test b (names_into test a xs)
 
 -- a code that is that of a formula has that formula's names
-pub coded_names : (test : ℕ → Bool) (steps : List Step) (xs : List ℕ) → code (computed formulas steps) ≡ steps → code_into test steps xs ≡ names_into test (computed formulas steps) xs
-coded_names test steps xs h = ap (λ (s : List Step). code_into test s xs) (sym h) ∙ code_names test (computed formulas steps) xs
+pub coded_names : (test : ℕ → Bool) (steps : List CodeStep) (xs : List ℕ) → code (computed formulas steps) ≡ steps → code_into test steps xs ≡ names_into test (computed formulas steps) xs
+coded_names test steps xs h = ap (λ (s : List CodeStep). code_into test s xs) (sym h) ∙ code_names test (computed formulas steps) xs
 
-step_more : (test : ℕ → Bool) (step : Step) (xs : List ℕ) → length xs ≤ length (step_into test step xs)
+step_more : (test : ℕ → Bool) (step : CodeStep) (xs : List ℕ) → length xs ≤ length (step_into test step xs)
 step_more test steps.True xs = omega arith
 step_more test steps.False xs = omega arith
 step_more test (steps.Name x) xs = name_case (test x) x xs (λ ys. length xs ≤ length ys) (λ t. length_inserted x xs) (λ t. omega arith)
 step_more test (steps.Unary op) xs = omega arith
 step_more test (steps.Binary op) xs = omega arith
 
-pub code_more : (test : ℕ → Bool) (steps : List Step) (xs : List ℕ) → length xs ≤ length (code_into test steps xs)
+pub code_more : (test : ℕ → Bool) (steps : List CodeStep) (xs : List ℕ) → length xs ≤ length (code_into test steps xs)
 code_more test [] xs = omega arith
 code_more test (step ∷ steps) xs = omega (arith, step_more test step xs, code_more test steps (step_into test step xs))
 
 -- the loop over a code goes one step on
-pub code_here : (test : ℕ → Bool) (steps : List Step) (i : ℕ) (d : Step) (xs : List ℕ) → i < length steps → code_into test (drop i steps) xs ≡ code_into test (drop (i + 1) steps) (step_into test (get_or steps i d) xs)
-code_here test steps i d xs lt = rw add-one (ap (λ (s : List Step). code_into test s xs) (drop-cons steps i d lt))
+pub code_here : (test : ℕ → Bool) (steps : List CodeStep) (i : ℕ) (d : CodeStep) (xs : List ℕ) → i < length steps → code_into test (drop i steps) xs ≡ code_into test (drop (i + 1) steps) (step_into test (get_or steps i d) xs)
+code_here test steps i d xs lt = rw add-one (ap (λ (s : List CodeStep). code_into test s xs) (drop-cons steps i d lt))
 
 -- ---- the names of the flagged definitions
 
@@ -165,7 +165,7 @@ atoms_more test ds fs n (suc m) = let e : n + suc m ≡ suc (n + m) = omega arit
 -- ---- for the code
 
 -- where one step has no room, the code has none
-pub code_fails : (test : ℕ → Bool) (steps : List Step) (i : ℕ) (d : Step) (xs new total : List ℕ) (fits : Bool) → i < length steps → fits ≡ false → Puts (step_into test (get_or steps i d) xs) new fits → code_into test (drop i steps) xs ≡ total → 32 < length total
+pub code_fails : (test : ℕ → Bool) (steps : List CodeStep) (i : ℕ) (d : CodeStep) (xs new total : List ℕ) (fits : Bool) → i < length steps → fits ≡ false → Puts (step_into test (get_or steps i d) xs) new fits → code_into test (drop i steps) xs ≡ total → 32 < length total
 code_fails test steps i d xs new total true lt f p e = absurd cc
 code_fails test steps i d xs new total false lt f p e =
     let more = code_more test (drop (i + 1) steps) (step_into test (get_or steps i d) xs) in
@@ -176,12 +176,12 @@ pub def_skip : (test : ℕ → Bool) (ds : List Def) (fs : List Bool) (i : ℕ) 
 def_skip test ds fs i xs t = rw t refl
 
 -- one that is flagged has its code's names
-pub def_code : (test : ℕ → Bool) (ds : List Definition) (fs : List Bool) (i : ℕ) (d : Definition) (steps : List Step) (xs : List ℕ) → flag_at fs i ≡ true → i < length ds → d ≡ get_or ds i d → AllCoded ds → steps ≡ (get_or ds i d).code.items
+pub def_code : (test : ℕ → Bool) (ds : List Definition) (fs : List Bool) (i : ℕ) (d : Definition) (steps : List CodeStep) (xs : List ℕ) → flag_at fs i ≡ true → i < length ds → d ≡ get_or ds i d → AllCoded ds → steps ≡ (get_or ds i d).code.items
     → code_into test steps xs ≡ def_into test (defs ds) fs i xs
 def_code test ds fs i d steps xs t lt e h s =
     let text : steps ≡ d.code.items = s ∙ ap (λ (x : Definition). x.code.items) (sym e) in
     let made : def_into test (defs ds) fs i xs ≡ names_into test (def_at (defs ds) i).body xs = rw t refl in
-    ap (λ (c : List Step). code_into test c xs) text ∙ coded_names test d.code.items xs (coded_at ds i d lt e h) ∙ ap (λ (x : Def). names_into test x.body xs) (sym (read_def ds i d lt e)) ∙ sym made
+    ap (λ (c : List CodeStep). code_into test c xs) text ∙ coded_names test d.code.items xs (coded_at ds i d lt e h) ∙ ap (λ (x : Def). names_into test x.body xs) (sym (read_def ds i d lt e)) ∙ sym made
 
 pub puts_true : (wanted new : List ℕ) (fits : Bool) → fits ≡ true → Puts wanted new fits → (new ≡ wanted) × (length wanted ≤ 32)
 puts_true wanted new true t p = p

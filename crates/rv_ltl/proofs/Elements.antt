@@ -1,7 +1,7 @@
 -- A definition at its place in the program's list.
 use Rattle.std.proofs.Common.{◌≡◌, ◌≢◌, ℕ, zero, suc, ◌<◌, Bool, true, false, cond, eqb, List, [], ◌∷◌, length, get_or, Some, None, refl, sym, ap, ◌∙◌, arith}
 use Rattle.std.proofs.lemmas.Bool.{eqb-true, eqb-false}
-use Rattle.rv_ltl.specs.declared.token.Step.{Step}
+use Rattle.rv_ltl.specs.declared.token.CodeStep.{CodeStep}
 use Rattle.rv_ltl.specs.declared.definitions.Definition.{Definition}
 use Rattle.rv_ltl.specs.Parse.{◌>>=◌}
 use Rattle.rv_ltl.specs.File.{Def}
@@ -28,7 +28,7 @@ coded_at (y ∷ xs) zero x lt e h = ap (λ (d : Definition). code (computed form
 coded_at (y ∷ xs) (suc i) x lt e h = coded_at xs i x (omega arith) e h.1
 
 -- and computes that formula's value
-pub value_at : {A : Type 0} (v : Values A) (xs : List Definition) (i : ℕ) (x : Definition) (steps : List Step) → i < length xs → x ≡ get_or xs i x → AllCoded xs → steps ≡ (get_or xs i x).code.items → computed v steps ≡ value v (def_at (defs xs) i).body
+pub value_at : {A : Type 0} (v : Values A) (xs : List Definition) (i : ℕ) (x : Definition) (steps : List CodeStep) → i < length xs → x ≡ get_or xs i x → AllCoded xs → steps ≡ (get_or xs i x).code.items → computed v steps ≡ value v (def_at (defs xs) i).body
 value_at v xs i x steps lt e h s =
     ap (λ c. computed v c) (s ∙ ap (λ (d : Definition). d.code.items) (sym e)) ∙ coded_value v x.code.items (coded_at xs i x lt e h) ∙ ap (λ (d : Def). value v d.body) (sym (read_def xs i x lt e))
 

@@ -10,7 +10,7 @@ use Rattle.rv_ltl.specs.Grammar.{Expr}
 use Rattle.rv_ltl.specs.File.{Def}
 use Rattle.rv_ltl.specs.Replace.{once, value_of, any_endless, weight_of}
 use Rattle.rv_ltl.specs.Weights.{index_of, known_at, limited, weighed, IsSettled}
-use Rattle.rv_ltl.specs.Reached.{AreUses, IsReached}
+use Rattle.rv_ltl.specs.Reached.{AreUses, AreReachFlags}
 use Rattle.rv_ltl.specs.Collected.{is_free, atoms_from, Collects}
 use Rattle.rv_ltl.specs.RuleFile.{atoms_of, within_limits, formula_of}
 use Rattle.rv_ltl.specs.Atoms.{Has}
@@ -31,13 +31,13 @@ pub record Ends (ds : List Def) (root : ℕ) (wanted : List ℕ) (weight : Weigh
 
 -- where no definition is endless, the collected names are the atoms and what is known is the weight
 pub the_end : (ds : List Def) (root place n : ℕ) (ws : List Weight) (rows rows' : List (Vec Bool Global)) (fs fs' : List Bool) → index_of ds root ≡ Some place → once ds ≡ true → IsSettled ds ws → any_endless ds ds ≡ false
-    → AreUses ds rows n → n ≡ length ds → rows' ≡ rows → IsReached rows' place fs → fs' ≡ fs → Ends ds root (atoms_from (is_free ds) ds fs' n) (known_at ws place)
+    → AreUses ds rows n → n ≡ length ds → rows' ≡ rows → AreReachFlags rows' place fs → fs' ≡ fs → Ends ds root (atoms_from (is_free ds) ds fs' n) (known_at ws place)
 the_end ds root place n ws rows rows' fs fs' at each_once s ends uses count same reached flags =
     let b = body_at ds root place at in
     let f = ends_at ds ds ends place b.0 in
     let value = ap (λ (x : ℕ). value_of ds (length ds) x) (sym b.1) ∙ f.1 in
     let U : ℕ → Type 0 = λ m. AreUses ds rows m in
-    let R : List (Vec Bool Global) → Type 0 = λ r. IsReached r place fs in
+    let R : List (Vec Bool Global) → Type 0 = λ r. AreReachFlags r place fs in
     let found = the_atoms ds rows fs place (length ds) f.0 (once_distinct ds each_once) (subst U count uses) (subst R same reached) b.0 f.1 in
     record {
       formula = f.0;

@@ -4,7 +4,7 @@ use Rattle.std.specs.List.{insert}
 use Rattle.std.proofs.lemmas.List.Edits.{length-insert}
 use Rattle.std.proofs.lemmas.Bool.{eqb-true, eqb-false, ltb-true, ltb-false}
 use Rattle.rv_ltl.specs.Atoms.{Has, Rises, inserted}
-use Rattle.rv_ltl.specs.Collected.{below, stands}
+use Rattle.rv_ltl.specs.Collected.{count_below, stands}
 
 -- an ascending list with one number more at its place ascends
 pub rises_inserted : (low x : ℕ) (xs : List ℕ) → low ≤ x → Rises low xs → Rises low (inserted x xs)
@@ -74,35 +74,35 @@ inserted_there x (z ∷ zs) h = by_tests (ltb z x) (eqb z x) h (inserted_there x
     by_tests false false h ih = absurd cc
 
 -- a number that does not stand there goes behind those that are below it
-pub inserted_new : (x : ℕ) (xs : List ℕ) → stands x xs ≡ false → inserted x xs ≡ insert xs (below x xs) x
+pub inserted_new : (x : ℕ) (xs : List ℕ) → stands x xs ≡ false → inserted x xs ≡ insert xs (count_below x xs) x
 inserted_new x [] h = refl
 inserted_new x (z ∷ zs) h = by_tests (ltb z x) (eqb z x) h (inserted_new x zs)
   where
-    by_tests : (b c : Bool) → cond b (stands x zs) c ≡ false → (stands x zs ≡ false → inserted x zs ≡ insert zs (below x zs) x)
-        → cond b (z ∷ inserted x zs) (cond c (z ∷ zs) (x ∷ (z ∷ zs))) ≡ insert (z ∷ zs) (cond b (suc (below x zs)) 0) x
+    by_tests : (b c : Bool) → cond b (stands x zs) c ≡ false → (stands x zs ≡ false → inserted x zs ≡ insert zs (count_below x zs) x)
+        → cond b (z ∷ inserted x zs) (cond c (z ∷ zs) (x ∷ (z ∷ zs))) ≡ insert (z ∷ zs) (cond b (suc (count_below x zs)) 0) x
     by_tests true c h ih = ap (λ (ys : List ℕ). z ∷ ys) (ih h)
     by_tests false true h ih = absurd cc
     by_tests false false h ih = refl
 
 -- no more numbers are below another than the list has
-below_le : (x : ℕ) (xs : List ℕ) → below x xs ≤ length xs
-below_le x [] = omega arith
-below_le x (z ∷ zs) = by_test (ltb z x) (below_le x zs)
+count_below_le : (x : ℕ) (xs : List ℕ) → count_below x xs ≤ length xs
+count_below_le x [] = omega arith
+count_below_le x (z ∷ zs) = by_test (ltb z x) (count_below_le x zs)
   where
-    by_test : (b : Bool) → below x zs ≤ length zs → cond b (suc (below x zs)) 0 ≤ length (z ∷ zs)
+    by_test : (b : Bool) → count_below x zs ≤ length zs → cond b (suc (count_below x zs)) 0 ≤ length (z ∷ zs)
     by_test true h = omega arith
     by_test false h = omega arith
 
 -- a new number makes the list longer by one
 pub length-inserted_new : (x : ℕ) (xs : List ℕ) → stands x xs ≡ false → length (inserted x xs) ≡ length xs + 1
-length-inserted_new x xs h = ap length (inserted_new x xs h) ∙ length-insert xs (below x xs) x (below_le x xs)
+length-inserted_new x xs h = ap length (inserted_new x xs h) ∙ length-insert xs (count_below x xs) x (count_below_le x xs)
 
 -- a list of at most 32 in which the number stands is the list with that number
 pub put_there : (x : ℕ) (xs : List ℕ) (b : Bool) → true ≡ stands x xs → length xs ≤ 32 → (xs ≡ inserted x xs) × (length (inserted x xs) ≤ 32)
 put_there x xs b h le = let e = inserted_there x xs (sym h) in (sym e, omega (arith, ap length e))
 
 -- a list of fewer than 32 with the new number at its place is the list with that number
-pub put_new : (x place : ℕ) (xs new : List ℕ) → false ≡ stands x xs → place ≡ below x xs → new ≡ insert xs place x → length xs ≤ 32 → length xs ≢ 32 → (new ≡ inserted x xs) × (length (inserted x xs) ≤ 32)
+pub put_new : (x place : ℕ) (xs new : List ℕ) → false ≡ stands x xs → place ≡ count_below x xs → new ≡ insert xs place x → length xs ≤ 32 → length xs ≢ 32 → (new ≡ inserted x xs) × (length (inserted x xs) ≤ 32)
 put_new x place xs new h p i le ne =
     let e = inserted_new x xs (sym h) in
     let l = length-inserted_new x xs (sym h) in

@@ -8,7 +8,7 @@ use Rattle.rv_ltl.specs.File.{Def}
 use Rattle.rv_ltl.specs.Reach.{Mentions, Leads, Step, Then}
 use Rattle.rv_ltl.specs.Replace.{is_none, replaced, value_of}
 use Rattle.rv_ltl.specs.Weights.{index_of, def_at, IsDistinct}
-use Rattle.rv_ltl.specs.Reached.{flag_at, row_at, Flags, IsReached, AreUses}
+use Rattle.rv_ltl.specs.Reached.{flag_at, row_at, Flags, AreReachFlags, AreUses}
 use Rattle.rv_ltl.specs.Collected.{is_free, atoms_from}
 use Rattle.rv_ltl.specs.RuleFile.{atoms_of}
 use Rattle.rv_ltl.proofs.OperatorLaws.{bind_some}
@@ -124,7 +124,7 @@ free_is ds y h = go (index_of ds y) h
     go (Some i) e = absurd cc
 
 -- what a flagged definition mentions and is not defined stands in f
-down : (ds : List Def) (rows : List (Vec Bool Global)) (fs : List Bool) (root : ℕ) (n : ℕ) (f : Expr) → IsDistinct ds → AreUses ds rows (length ds) → IsReached rows root fs → value_of ds n (def_at ds root).name ≡ Some f
+down : (ds : List Def) (rows : List (Vec Bool Global)) (fs : List Bool) (root : ℕ) (n : ℕ) (f : Expr) → IsDistinct ds → AreUses ds rows (length ds) → AreReachFlags rows root fs → value_of ds n (def_at ds root).name ≡ Some f
     → (i y : ℕ) → i < length ds → flag_at fs i ≡ true → Mentions (def_at ds i).body y → is_free ds y ≡ true → Mentions f y
 down ds rows fs root n f distinct uses reached h i y lt t m free = by_way (elim (reached.sound i t) [ inl e ↦ (let P : ℕ → Type 0 = λ k. OnTheWay ds f k in subst P e start) | inr l ↦ way_leads ds rows f distinct uses l start ])
   where
@@ -142,7 +142,7 @@ abbrev Comes : List Def → List Bool → ℕ → Type 0
 Comes ds fs y = (i : ℕ) × (i < length ds) × (flag_at fs i ≡ true) × Mentions (def_at ds i).body y × (is_free ds y ≡ true)
 
 -- what stands in f is mentioned by a flagged definition and not defined
-up : (ds : List Def) (rows : List (Vec Bool Global)) (fs : List Bool) (root : ℕ) → IsDistinct ds → AreUses ds rows (length ds) → IsReached rows root fs
+up : (ds : List Def) (rows : List (Vec Bool Global)) (fs : List Bool) (root : ℕ) → IsDistinct ds → AreUses ds rows (length ds) → AreReachFlags rows root fs
     → (n i y : ℕ) (f : Expr) → i < length ds → flag_at fs i ≡ true → value_of ds n (def_at ds i).name ≡ Some f → Mentions f y → Comes ds fs y
 up ds rows fs root distinct uses reached zero i y f lt t h k =
     let z = value_zero ds (def_at ds i).name (def_at ds i).body (body_at ds (def_at ds i).name i (distinct i lt)).2 in
@@ -167,7 +167,7 @@ up ds rows fs root distinct uses reached (suc n) i y f lt t h k =
         ih j lj (reached.closed i j t (omega (arith, uses.each)) h') (ap (λ (x : ℕ). value_of ds n x) name ∙ v)
 
 -- the undefined names of the flagged definitions are the atoms of what the root stands for
-pub the_atoms : (ds : List Def) (rows : List (Vec Bool Global)) (fs : List Bool) (root n : ℕ) (f : Expr) → IsDistinct ds → AreUses ds rows (length ds) → IsReached rows root fs → root < length ds → value_of ds n (def_at ds root).name ≡ Some f
+pub the_atoms : (ds : List Def) (rows : List (Vec Bool Global)) (fs : List Bool) (root n : ℕ) (f : Expr) → IsDistinct ds → AreUses ds rows (length ds) → AreReachFlags rows root fs → root < length ds → value_of ds n (def_at ds root).name ≡ Some f
     → atoms_from (is_free ds) ds fs (length ds) ≡ atoms_of f
 the_atoms ds rows fs root n f distinct uses reached lt h =
     same_list 0 0 (atoms_from (is_free ds) ds fs (length ds)) (atoms_of f) (atoms_rise (is_free ds) ds fs (length ds)) (names_rise (λ x. true) f [] tt)

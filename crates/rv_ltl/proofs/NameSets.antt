@@ -18,7 +18,7 @@ use Rattle.std.proofs.lemmas.Map.Lookups.{exact_bytes}
 use Rattle.std.proofs.lemmas.Slice.Eq.{bytes_eq-Decides}
 use Rattle.rv_ltl.specs.Texts.{texts}
 use Rattle.rv_ltl.specs.Parse.{◌>>=◌}
-use Rattle.rv_ltl.specs.Names.{Ascends, is_name, with_piece, names_of, place_in}
+use Rattle.rv_ltl.specs.Names.{Ascends, is_atom_name, with_piece, names_of, place_in}
 
 -- the order of two names by their bytes
 abbrev pub name_cmp : Bor (List ℕ) → Bor (List ℕ) → Ordering
@@ -48,7 +48,7 @@ next_names : (pieces : List (Bor (List ℕ))) (i : ℕ) (d : Bor (List ℕ)) →
 next_names pieces i d lt = ap names_of (map_more (λ s. s.now) pieces i d lt) ∙ names_of-push (texts (take i pieces)) (get_or pieces i d).now
 
 -- a piece that is a name joins the set
-pub gathers_name : (pieces : List (Bor (List ℕ))) (i : ℕ) (d : Bor (List ℕ)) (keys keys' : List (Bor (List ℕ))) → i < length pieces → is_name (get_or pieces i d).now ≡ true
+pub gathers_name : (pieces : List (Bor (List ℕ))) (i : ℕ) (d : Bor (List ℕ)) (keys keys' : List (Bor (List ℕ))) → i < length pieces → is_atom_name (get_or pieces i d).now ≡ true
     → texts keys ≡ names_of (texts (take i pieces)) → keys' ≡ insert_key name_cmp keys (get_or pieces i d)
     → texts keys' ≡ names_of (texts (take (i + 1) pieces))
 gathers_name pieces i d keys keys' lt named so_far inserted =
@@ -56,7 +56,7 @@ gathers_name pieces i d keys keys' lt named so_far inserted =
     ap texts inserted ∙ texts-insert_key keys (get_or pieces i d) ∙ ap (λ (ks : List (List ℕ)). insert_key (slice_cmp nat_cmp) ks (get_or pieces i d).now) so_far ∙ sym made ∙ sym (next_names pieces i d lt)
 
 -- any other piece leaves it
-pub gathers_none : (pieces : List (Bor (List ℕ))) (i : ℕ) (d : Bor (List ℕ)) (keys : List (Bor (List ℕ))) → i < length pieces → is_name (get_or pieces i d).now ≡ false
+pub gathers_none : (pieces : List (Bor (List ℕ))) (i : ℕ) (d : Bor (List ℕ)) (keys : List (Bor (List ℕ))) → i < length pieces → is_atom_name (get_or pieces i d).now ≡ false
     → texts keys ≡ names_of (texts (take i pieces)) → texts keys ≡ names_of (texts (take (i + 1) pieces))
 gathers_none pieces i d keys lt other so_far =
     let made : with_piece (names_of (texts (take i pieces))) (get_or pieces i d).now ≡ names_of (texts (take i pieces)) = rw other refl in
@@ -125,7 +125,7 @@ module _ {K : Type 0} (cmp : K → K → Ordering) (o : IsTotalOrder cmp) where
 -- the names of a file ascend
 fold_ascends : (pieces names : List (List ℕ)) → Ascends (slice_cmp nat_cmp) names → Ascends (slice_cmp nat_cmp) (fold with_piece names pieces)
 fold_ascends [] names h = h
-fold_ascends (piece ∷ pieces) names h = fold_ascends pieces (with_piece names piece) (go (is_name piece))
+fold_ascends (piece ∷ pieces) names h = fold_ascends pieces (with_piece names piece) (go (is_atom_name piece))
   where
     go : (b : Bool) → Ascends (slice_cmp nat_cmp) (cond b (insert_key (slice_cmp nat_cmp) names piece) names)
     go true = insert_ascends (slice_cmp nat_cmp) nat_list_cmp_total piece names h

@@ -6,7 +6,7 @@ use Rattle.rv_ltl.specs.declared.token.Binary.{Binary}
 use Rattle.rv_ltl.specs.declared.token.Binary.TheVariants.{And, Or, Until, Release, WeakUntil, Imply, Equivalent}
 use Rattle.rv_ltl.specs.Parse.{operator, is_close, ◌>>=◌}
 use Rattle.std.proofs.lemmas.Bool.{eqb-true}
-use Rattle.rv_ltl.specs.Operators.{is_same, joins, row_of}
+use Rattle.rv_ltl.specs.Operators.{is_same_operator, joins, row_of}
 
 -- the value of a step that did not fail
 pub bind_some : {A B : Type 0} (o : Option A) (f : A → Option B) (y : B) → (o >>= f) ≡ Some y → (x : A) × (o ≡ Some x) × (f x ≡ Some y)
@@ -63,11 +63,11 @@ row_back Imply = refl
 row_back Equivalent = refl
 
 -- operators of one row are one
-pub same_is : (a b : Binary) → is_same a b ≡ true → b ≡ a
+pub same_is : (a b : Binary) → is_same_operator a b ≡ true → b ≡ a
 same_is a b e = sym (row_back b) ∙ ap in_row (sym (eqb-true (row_of a) (row_of b) e)) ∙ row_back a
 
 -- an operator is the same as itself
-pub same_self : (a : Binary) → is_same a a ≡ true
+pub same_self : (a : Binary) → is_same_operator a a ≡ true
 same_self And = refl
 same_self Or = refl
 same_self Until = refl

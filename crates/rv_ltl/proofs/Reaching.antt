@@ -5,7 +5,7 @@ use Rattle.std.specs.declared.alloc.Global.{Global}
 use Rattle.std.proofs.Math.ListN.{set, length-set}
 use Rattle.std.proofs.lemmas.Bool.{false≢true}
 use Rattle.rv_ltl.specs.Reach.{Leads, Step}
-use Rattle.rv_ltl.specs.Reached.{flag_at, row_at, Flags, IsReached, IsUnderWay, Joins, NextIs, undone}
+use Rattle.rv_ltl.specs.Reached.{flag_at, row_at, Flags, AreReachFlags, IsUnderWay, Joins, NextIs, undone}
 use Rattle.rv_ltl.proofs.Cycle.{append_leads}
 use Rattle.rv_ltl.proofs.Rows.{set_only}
 
@@ -43,7 +43,7 @@ way_on rows root fs new done n w h m = record {
 }
 
 -- all that is flagged is done
-pub way_end : (rows : List (Vec Bool Global)) (root : ℕ) (fs done : List Bool) → IsUnderWay rows root fs done → NextIs fs done None → IsReached rows root fs
+pub way_end : (rows : List (Vec Bool Global)) (root : ℕ) (fs done : List Bool) → IsUnderWay rows root fs done → NextIs fs done None → AreReachFlags rows root fs
 way_end rows root fs done w n = record {
   each = w.each;
   start = w.start;

@@ -5,8 +5,8 @@ use Rattle.std.specs.Prelude.{Vec}
 use Rattle.std.specs.declared.alloc.Global.{Global}
 use Rattle.std.proofs.Math.ListN.{set, length-set}
 use Rattle.std.proofs.lemmas.Bool.{cases_lt, false≢true}
-use Rattle.rv_ltl.specs.declared.token.Step.{Step}
-use Rattle.rv_ltl.specs.declared.token.Step.TheVariants as steps
+use Rattle.rv_ltl.specs.declared.token.CodeStep.{CodeStep}
+use Rattle.rv_ltl.specs.declared.token.CodeStep.TheVariants as steps
 use Rattle.rv_ltl.specs.declared.weight.Weight.{Weight}
 use Rattle.rv_ltl.specs.declared.weight.Weight.TheVariants.{Open}
 use Rattle.rv_ltl.specs.Grammar.{Expr, Paren, One, Two}
@@ -15,7 +15,7 @@ use Rattle.rv_ltl.specs.Postfix.{code}
 use Rattle.rv_ltl.specs.Reach.{Mentions}
 use Rattle.rv_ltl.specs.Machine.{value}
 use Rattle.rv_ltl.specs.Weights.{index_of, def_at, known_at, weight_at, weights_by, IsDistinct}
-use Rattle.rv_ltl.specs.Reached.{flag_at, Names, Holds, IsRow, row_at, AreUses}
+use Rattle.rv_ltl.specs.Reached.{flag_at, IsNameStep, Holds, IsRow, row_at, AreUses}
 use Rattle.rv_ltl.specs.Uses.{flagged}
 use Rattle.rv_ltl.proofs.Settling.{body_at, weight_held}
 use Rattle.rv_ltl.proofs.WeightLaws.{open_formula}
@@ -39,23 +39,23 @@ set_only (f ∷ fs) (suc i) (suc j) h = elim (set_only fs i j h) [ inl e ↦ inl
 
 -- ---- one row
 
-holds_append : (front : List Step) (step : Step) (x : ℕ) → Holds (front ++ step ∷ []) x → Holds front x ⊎ Names step x
+holds_append : (front : List CodeStep) (step : CodeStep) (x : ℕ) → Holds (front ++ step ∷ []) x → Holds front x ⊎ IsNameStep step x
 holds_append [] step x (inl n) = inr n
 holds_append [] step x (inr n) = absurd n
 holds_append (s ∷ front) step x (inl n) = inl (inl n)
 holds_append (s ∷ front) step x (inr h) = elim (holds_append front step x h) [ inl k ↦ inl (inr k) | inr n ↦ inr n ]
 
-holds_front : (front back : List Step) (x : ℕ) → Holds front x → Holds (front ++ back) x
+holds_front : (front back : List CodeStep) (x : ℕ) → Holds front x → Holds (front ++ back) x
 holds_front [] back x h = absurd h
 holds_front (s ∷ front) back x (inl n) = inl n
 holds_front (s ∷ front) back x (inr h) = inr (holds_front front back x h)
 
-holds_back : (front back : List Step) (x : ℕ) → Holds back x → Holds (front ++ back) x
+holds_back : (front back : List CodeStep) (x : ℕ) → Holds back x → Holds (front ++ back) x
 holds_back [] back x h = h
 holds_back (s ∷ front) back x h = inr (holds_back front back x h)
 
 -- a name that stands in one code and another behind it stands in one of the two
-holds_parts : (front back : List Step) (x : ℕ) → Holds (front ++ back) x → Holds front x ⊎ Holds back x
+holds_parts : (front back : List CodeStep) (x : ℕ) → Holds (front ++ back) x → Holds front x ⊎ Holds back x
 holds_parts [] back x h = inr h
 holds_parts (s ∷ front) back x (inl n) = inl (inl n)
 holds_parts (s ∷ front) back x (inr h) = elim (holds_parts front back x h) [ inl k ↦ inl (inr k) | inr k ↦ inr k ]
@@ -91,7 +91,7 @@ pub row_start : (ds : List Def) (fs : List Bool) → length fs ≡ length ds →
 row_start ds fs e none = record { each = e; made = λ j lt h. absurd h; only = λ j lt h. absurd (false≢true (sym (none j) ∙ h)) }
 
 -- a step that names nothing
-row_same : (ds : List Def) (front : List Step) (step : Step) (fs : List Bool) → ((x : ℕ) → Names step x → ⊥) → IsRow ds front fs → IsRow ds (front ++ step ∷ []) fs
+row_same : (ds : List Def) (front : List CodeStep) (step : CodeStep) (fs : List Bool) → ((x : ℕ) → IsNameStep step x → ⊥) → IsRow ds front fs → IsRow ds (front ++ step ∷ []) fs
 row_same ds front step fs nothing r = record {
   each = r.each;
   made = λ j lt h. elim (holds_append front step (def_at ds j).name h) [ inl k ↦ r.made j lt k | inr n ↦ absurd (nothing (def_at ds j).name n) ];
@@ -99,7 +99,7 @@ row_same ds front step fs nothing r = record {
 }
 
 -- with the flag of the name's definition the row is that of the code with the name behind it
-row_name : (ds : List Def) (front : List Step) (x : ℕ) (fs : List Bool) → IsDistinct ds → IsRow ds front fs → IsRow ds (front ++ steps.Name x ∷ []) (flagged ds (steps.Name x) fs)
+row_name : (ds : List Def) (front : List CodeStep) (x : ℕ) (fs : List Bool) → IsDistinct ds → IsRow ds front fs → IsRow ds (front ++ steps.Name x ∷ []) (flagged ds (steps.Name x) fs)
 row_name ds front x fs distinct r = by_index (index_of ds x) refl
   where
     by_index : (o : Option ℕ) → index_of ds x ≡ o → IsRow ds (front ++ steps.Name x ∷ []) (elim o as (λ _. List Bool) [ Some i ↦ set fs i true | None ↦ fs ])
@@ -127,7 +127,7 @@ row_name ds front x fs distinct r = by_index (index_of ds x) refl
     }
 
 -- one step more
-pub row_more : (ds : List Def) (front : List Step) (step : Step) (fs : List Bool) → IsDistinct ds → IsRow ds front fs → IsRow ds (front ++ step ∷ []) (flagged ds step fs)
+pub row_more : (ds : List Def) (front : List CodeStep) (step : CodeStep) (fs : List Bool) → IsDistinct ds → IsRow ds front fs → IsRow ds (front ++ step ∷ []) (flagged ds step fs)
 row_more ds front steps.True fs distinct r = row_same ds front steps.True fs (λ x n. n) r
 row_more ds front steps.False fs distinct r = row_same ds front steps.False fs (λ x n. n) r
 row_more ds front (steps.Name x) fs distinct r = row_name ds front x fs distinct r
@@ -157,14 +157,14 @@ not_ready ds ws rows n i j distinct uses lt below h o =
     open_formula (weight_at ds ws) (def_at ds i).body (def_at ds j).name (uses.only i j lt below h) (weight_held ds ws (def_at ds j).name j (distinct j below) ∙ o)
 
 -- the loop over a code goes one step on
-pub row_step : (ds : List Def) (steps : List Step) (i : ℕ) (d : Step) (fs new : List Bool) → IsDistinct ds → i < length steps → IsRow ds (take i steps) fs → new ≡ flagged ds (get_or steps i d) fs → IsRow ds (take (i + 1) steps) new
+pub row_step : (ds : List Def) (steps : List CodeStep) (i : ℕ) (d : CodeStep) (fs new : List Bool) → IsDistinct ds → i < length steps → IsRow ds (take i steps) fs → new ≡ flagged ds (get_or steps i d) fs → IsRow ds (take (i + 1) steps) new
 row_step ds steps i d fs new distinct lt r e =
-    let P : List Step → Type 0 = λ front. IsRow ds front new in
+    let P : List CodeStep → Type 0 = λ front. IsRow ds front new in
     let Q : List Bool → Type 0 = λ gs. IsRow ds (take i steps ++ get_or steps i d ∷ []) gs in
     subst P (sym (take_more steps i d lt)) (subst Q (sym e) (row_more ds (take i steps) (get_or steps i d) fs distinct r))
 
 -- one row more
-pub uses_more : (ds : List Def) (rows new : List (Vec Bool Global)) (n : ℕ) (row : Vec Bool Global) (steps : List Step) → new ≡ rows ++ row ∷ [] → steps ≡ code (def_at ds n).body → IsRow ds steps row.items → AreUses ds rows n → AreUses ds new (n + 1)
+pub uses_more : (ds : List Def) (rows new : List (Vec Bool Global)) (n : ℕ) (row : Vec Bool Global) (steps : List CodeStep) → new ≡ rows ++ row ∷ [] → steps ≡ code (def_at ds n).body → IsRow ds steps row.items → AreUses ds rows n → AreUses ds new (n + 1)
 uses_more ds rows new n row steps pushed text r uses =
     let P : List (Vec Bool Global) → Type 0 = λ rs. AreUses ds rs (n + 1) in
     subst P (sym pushed) (record {
@@ -178,7 +178,7 @@ uses_more ds rows new n row steps pushed text r uses =
         | inr above ↦
             let same : i ≡ n = omega arith in
             let M : ℕ → Type 0 = λ k. Mentions (def_at ds k).body (def_at ds j).name in
-            let H : List Step → Type 0 = λ s. Holds s (def_at ds j).name in
+            let H : List CodeStep → Type 0 = λ s. Holds s (def_at ds j).name in
             ap (λ (fs : List Bool). flag_at fs j) (here i above lt) ∙ r.made j below (subst H (sym text) (holds_mentioned (def_at ds n).body (def_at ds j).name (subst M same m)))
       ];
       only = λ i j lt below h. elim (cases_lt i n) [
@@ -186,7 +186,7 @@ uses_more ds rows new n row steps pushed text r uses =
         | inr above ↦
             let same : i ≡ n = omega arith in
             let M : ℕ → Type 0 = λ k. Mentions (def_at ds k).body (def_at ds j).name in
-            let H : List Step → Type 0 = λ s. Holds s (def_at ds j).name in
+            let H : List CodeStep → Type 0 = λ s. Holds s (def_at ds j).name in
             subst M (sym same) (mentioned_held (def_at ds n).body (def_at ds j).name (subst H text (r.only j below (sym (ap (λ (fs : List Bool). flag_at fs j) (here i above lt)) ∙ h))))
       ];
     })

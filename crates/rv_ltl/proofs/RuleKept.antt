@@ -15,7 +15,7 @@ use Rattle.rv_ltl.specs.declared.token.Binary.TheVariants as binary
 use Rattle.rv_ltl.specs.Grammar.{Expr, Paren, One, Two}
 use Rattle.rv_ltl.specs.Names.{Ascends}
 use Rattle.rv_ltl.specs.Reach.{Mentions}
-use Rattle.rv_ltl.specs.Atoms.{Has, Rises, place_of, one_of, two_of, numbered, name_at}
+use Rattle.rv_ltl.specs.Atoms.{Has, Rises, place_of, one_of, two_of, formula_over, name_at}
 use Rattle.rv_ltl.specs.RuleFile.{atoms_of, rule_of}
 use Rattle.rv_ltl.proofs.NameSets.{all_at}
 use Rattle.rv_ltl.proofs.Inserting.{has_low}
@@ -88,19 +88,19 @@ two_below n binary.Imply f g h k = (h, k)
 two_below n binary.Equivalent f g h k = (h, k)
 
 -- where all names of a formula are among the atoms, the numbered formula has its atoms below their number
-atoms_below : (xs : List ℕ) (f : Expr) → ((y : ℕ) → Mentions f y → Has xs y) → HasAtomsBelow (length xs) (numbered xs f)
+atoms_below : (xs : List ℕ) (f : Expr) → ((y : ℕ) → Mentions f y → Has xs y) → HasAtomsBelow (length xs) (formula_over xs f)
 atoms_below xs Expr.True h = tt
 atoms_below xs Expr.False h = tt
 atoms_below xs (Expr.Name x) h = place_inside xs x (h x refl)
 atoms_below xs (Paren f) h = atoms_below xs f h
-atoms_below xs (One op f) h = one_below (length xs) op (numbered xs f) (atoms_below xs f h)
-atoms_below xs (Two op f g) h = two_below (length xs) op (numbered xs f) (numbered xs g) (atoms_below xs f (λ y m. h y (inl m))) (atoms_below xs g (λ y m. h y (inr m)))
+atoms_below xs (One op f) h = one_below (length xs) op (formula_over xs f) (atoms_below xs f h)
+atoms_below xs (Two op f g) h = two_below (length xs) op (formula_over xs f) (formula_over xs g) (atoms_below xs f (λ y m. h y (inl m))) (atoms_below xs g (λ y m. h y (inr m)))
 
 -- the rule of a formula keeps it all
 pub is_rule : (names : List (List ℕ)) (f : Expr) → Ascends (slice_cmp nat_cmp) names → length (atoms_of f) ≤ 32 → ((y : ℕ) → Has (atoms_of f) y → y < length names) → IsRule (rule_of names f)
 is_rule names f ascends few inside =
     let l = map_length (name_at names) (atoms_of f) in
-    let P : ℕ → Type 0 = λ n. HasAtomsBelow n (numbered (atoms_of f) f) in
+    let P : ℕ → Type 0 = λ n. HasAtomsBelow n (formula_over (atoms_of f) f) in
     record {
       few_atoms = omega (arith, l, few);
       atoms_ascend = pairs names (atoms_of f) ascends (names_rise (λ x. true) f [] tt) inside;

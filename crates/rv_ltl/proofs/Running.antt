@@ -1,17 +1,17 @@
 -- Postfix code computes the value of its formula.
 use Rattle.std.proofs.Common.{◌≡◌, ℕ, true, List, [], ◌∷◌, ◌++◌, refl, sym, ap, ◌∙◌}
 use Rattle.std.specs.Prelude.{map}
-use Rattle.rv_ltl.specs.declared.token.Step.{Step}
-use Rattle.rv_ltl.specs.declared.token.Step.TheVariants as steps
+use Rattle.rv_ltl.specs.declared.token.CodeStep.{CodeStep}
+use Rattle.rv_ltl.specs.declared.token.CodeStep.TheVariants as steps
 use Rattle.rv_ltl.specs.declared.definitions.Definition.{Definition}
 use Rattle.rv_ltl.specs.Grammar.{Expr, Paren, One, Two}
 use Rattle.rv_ltl.specs.File.{Def}
 use Rattle.rv_ltl.specs.Postfix.{code, Coded, coded_def, seen, AreCodes}
 use Rattle.rv_ltl.specs.Replace.{plain, plain_def}
-use Rattle.rv_ltl.specs.Machine.{Values, value, one_step, two_step, stepped, run, last_of, computed, formulas, def, defs, AllCoded}
+use Rattle.rv_ltl.specs.Machine.{Values, value, one_step, two_step, stepped, run, last_or, computed, formulas, def, defs, AllCoded}
 
 -- code behind other code runs on the stack that the other leaves
-run-append : {A : Type 0} (v : Values A) (front back : List Step) (stack : List A) → run v (front ++ back) stack ≡ run v back (run v front stack)
+run-append : {A : Type 0} (v : Values A) (front back : List CodeStep) (stack : List A) → run v (front ++ back) stack ≡ run v back (run v front stack)
 run-append v [] back stack = refl
 run-append v (step ∷ front) back stack = run-append v front back (stepped v step stack)
 
@@ -28,7 +28,7 @@ run-code v (Two op a b) stack =
 
 -- the value of a formula is what its code computes
 pub computed-code : {A : Type 0} (v : Values A) (e : Expr) → computed v (code e) ≡ value v e
-computed-code v e = ap (λ s. last_of (v.constant true) s) (run-code v e [])
+computed-code v e = ap (λ s. last_or (v.constant true) s) (run-code v e [])
 
 -- with formulas as values, the value of a formula is the formula without its parentheses
 value-plain : (e : Expr) → value formulas e ≡ plain e
@@ -45,11 +45,11 @@ code-plain Expr.True = refl
 code-plain Expr.False = refl
 code-plain (Expr.Name x) = refl
 code-plain (Paren e) = code-plain e
-code-plain (One op e) = ap (λ (c : List Step). c ++ steps.Unary op ∷ []) (code-plain e)
-code-plain (Two op a b) = ap (λ (c : List Step). c ++ (code (plain b) ++ steps.Binary op ∷ [])) (code-plain a) ∙ ap (λ (c : List Step). code a ++ (c ++ steps.Binary op ∷ [])) (code-plain b)
+code-plain (One op e) = ap (λ (c : List CodeStep). c ++ steps.Unary op ∷ []) (code-plain e)
+code-plain (Two op a b) = ap (λ (c : List CodeStep). c ++ (code (plain b) ++ steps.Binary op ∷ [])) (code-plain a) ∙ ap (λ (c : List CodeStep). code a ++ (c ++ steps.Binary op ∷ [])) (code-plain b)
 
 -- a code that is that of a formula computes that formula's value
-pub coded_value : {A : Type 0} (v : Values A) (steps : List Step) → code (computed formulas steps) ≡ steps → computed v steps ≡ value v (computed formulas steps)
+pub coded_value : {A : Type 0} (v : Values A) (steps : List CodeStep) → code (computed formulas steps) ≡ steps → computed v steps ≡ value v (computed formulas steps)
 coded_value v steps coded = ap (λ s. computed v s) (sym coded) ∙ computed-code v (computed formulas steps)
 
 -- a definition that the program has is the one that was read, without parentheses

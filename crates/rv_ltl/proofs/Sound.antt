@@ -6,7 +6,7 @@ use Rattle.rv_ltl.specs.declared.token.Binary.{Binary}
 use Rattle.rv_ltl.specs.declared.token.Binary.TheVariants.{And}
 use Rattle.rv_ltl.specs.Grammar.{Expr, Paren, One, Two, Place, Whole, Chain, spell, Fits}
 use Rattle.rv_ltl.specs.Parse.{Reader, operator, chain_at, term_at, expr_by, after_term, closed, is_close}
-use Rattle.rv_ltl.specs.Operators.{is_same, joins}
+use Rattle.rv_ltl.specs.Operators.{is_same_operator, joins}
 use Rattle.rv_ltl.proofs.ChainSteps.{chain_end, chain_full, chain_other, chain_more}
 use Rattle.rv_ltl.proofs.OperatorLaws.{bind_some, close_is, operator_is, same_is, test_some}
 
@@ -70,7 +70,7 @@ some_pair a c b d e =
     (ap first e, ap second e)
 
 -- a chain that was read and has its operator in front read one more operand
-went_more : (read : Reader) (op other : Binary) (n : ℕ) (left : Expr) (marks : List Token) (e : Expr) (rest : List Token) → operator marks ≡ Some other → is_same op other ≡ true → 0 < n
+went_more : (read : Reader) (op other : Binary) (n : ℕ) (left : Expr) (marks : List Token) (e : Expr) (rest : List Token) → operator marks ≡ Some other → is_same_operator op other ≡ true → 0 < n
     → chain_at read op n left marks ≡ Some (e, rest) → Went read op n left marks e rest
 went_more read op other n left marks e rest o s lt h =
     let b = bind_some (read (drop 1 marks)) (λ (x : Expr × List Token). chain_at read op (n - 1) (Two op left x.0) x.1) (e, rest) (sym (chain_more read op other n left marks o s lt) ∙ h) in
@@ -84,10 +84,10 @@ went_with read op n left marks e rest None o h =
 went_with read op zero left marks e rest (Some other) o h =
     let p : None ≡ got e rest = sym (chain_full read op other left marks o) ∙ h in
     absurd cc
-went_with read op (suc n) left marks e rest (Some other) o h = went_same read op other n left marks e rest o h (is_same op other) refl
+went_with read op (suc n) left marks e rest (Some other) o h = went_same read op other n left marks e rest o h (is_same_operator op other) refl
   where
     went_same : (read : Reader) (op other : Binary) (n : ℕ) (left : Expr) (marks : List Token) (e : Expr) (rest : List Token) → operator marks ≡ Some other → chain_at read op (suc n) left marks ≡ Some (e, rest)
-        → (b : Bool) → is_same op other ≡ b → Went read op (suc n) left marks e rest
+        → (b : Bool) → is_same_operator op other ≡ b → Went read op (suc n) left marks e rest
     went_same read op other n left marks e rest o h true s = went_more read op other (suc n) left marks e rest o s (omega arith) h
     went_same read op other n left marks e rest o h false s =
         let p : None ≡ got e rest = sym (chain_other read op other (suc n) left marks o s) ∙ h in

@@ -3,7 +3,7 @@ use Rattle.std.proofs.Common.{◌≡◌, ℕ, zero, suc, ◌+◌, ◌<◌, ◌�
 use Rattle.rv_ltl.specs.Grammar.{Expr, Paren, One, Two}
 use Rattle.rv_ltl.specs.Parse.{◌>>=◌}
 use Rattle.rv_ltl.specs.File.{Def}
-use Rattle.rv_ltl.specs.Reach.{Mentions, Uses, Step, Then, Reaches}
+use Rattle.rv_ltl.specs.Reach.{Mentions, Uses, Step, Then, NameReaches}
 use Rattle.rv_ltl.specs.Replace.{body_of, replaced, value_of}
 use Rattle.rv_ltl.proofs.OperatorLaws.{bind_some}
 
@@ -76,7 +76,7 @@ value_uses ds (suc n) x y f h u =
     (n, refl, r.0, r.1)
 
 -- what is reached from a name that stands for something stands for something, with definitions less deep
-value_reaches : (ds : List Def) {x y : ℕ} → Reaches ds x y → (n : ℕ) (f : Expr) → value_of ds n x ≡ Some f → (m : ℕ) × (m < n) × (g : Expr) × (value_of ds m y ≡ Some g)
+value_reaches : (ds : List Def) {x y : ℕ} → NameReaches ds x y → (n : ℕ) (f : Expr) → value_of ds n x ≡ Some f → (m : ℕ) × (m < n) × (g : Expr) × (value_of ds m y ≡ Some g)
 value_reaches ds (Step {x = x} {y = y} u) n f h =
     let r = value_uses ds n x y f h u in
     (r.0, omega (arith, r.1), r.2, r.3)
@@ -86,13 +86,13 @@ value_reaches ds (Then {x = x} {z = z} u p) n f h =
     (s.0, omega (arith, r.1, s.1), s.2, s.3)
 
 -- a name that stands for something does not reach itself
-pub not_around : (ds : List Def) (x limit n : ℕ) (f : Expr) → n ≤ limit → value_of ds n x ≡ Some f → Reaches ds x x → ⊥
+pub not_around : (ds : List Def) (x limit n : ℕ) (f : Expr) → n ≤ limit → value_of ds n x ≡ Some f → NameReaches ds x x → ⊥
 not_around ds x zero n f le h p = let s = value_reaches ds p n f h in omega (arith, s.1)
 not_around ds x (suc limit) n f le h p =
     let s = value_reaches ds p n f h in
     not_around ds x limit s.0 s.2 (omega (arith, s.1)) s.3 p
 
 -- the first step is from a defined name
-pub is_defined : (ds : List Def) {x y : ℕ} → Reaches ds x y → (e : Expr) × (body_of ds x ≡ Some e)
+pub is_defined : (ds : List Def) {x y : ℕ} → NameReaches ds x y → (e : Expr) × (body_of ds x ≡ Some e)
 is_defined ds (Step u) = (u.0, u.1)
 is_defined ds (Then u p) = (u.0, u.1)

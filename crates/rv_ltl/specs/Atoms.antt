@@ -54,13 +54,13 @@ two_of binary.Imply f g = Ltl.Imply f g
 two_of binary.Equivalent f g = Ltl.Equivalent f g
 
 -- the formula with each name as its place among the atoms
-abbrev pub numbered : List ℕ → Expr → Ltl
-numbered atoms Expr.True = Ltl.True
-numbered atoms Expr.False = Ltl.False
-numbered atoms (Expr.Name x) = Ltl.Atom (place_of atoms x)
-numbered atoms (Paren e) = numbered atoms e
-numbered atoms (One op e) = one_of op (numbered atoms e)
-numbered atoms (Two op a b) = two_of op (numbered atoms a) (numbered atoms b)
+abbrev pub formula_over : List ℕ → Expr → Ltl
+formula_over atoms Expr.True = Ltl.True
+formula_over atoms Expr.False = Ltl.False
+formula_over atoms (Expr.Name x) = Ltl.Atom (place_of atoms x)
+formula_over atoms (Paren e) = formula_over atoms e
+formula_over atoms (One op e) = one_of op (formula_over atoms e)
+formula_over atoms (Two op a b) = two_of op (formula_over atoms a) (formula_over atoms b)
 
 -- the name of a number
 abbrev pub name_at : List (List ℕ) → ℕ → List ℕ

@@ -1,9 +1,9 @@
--- The atoms of the flagged definitions, and the formula that is built from code.
+-- Private: the atoms of the flagged definitions, and the formula that is built from code.
 use Rattle.std.specs.Prelude.{◌≡◌, ℕ, zero, suc, ◌≤◌, ◌<◌, Bool, true, false, if◌then◌else◌, List, [], ◌∷◌, length, Option, Some, None, Vec, nat_eq, nat_lt}
 use Rattle.std.specs.declared.alloc.Global.{Global}
 use Rattle.rv_model.specs.Ltl.{Ltl}
-use Rattle.rv_ltl.specs.declared.token.Step.{Step}
-use Rattle.rv_ltl.specs.declared.token.Step.TheVariants as steps
+use Rattle.rv_ltl.specs.declared.token.CodeStep.{CodeStep}
+use Rattle.rv_ltl.specs.declared.token.CodeStep.TheVariants as steps
 use Rattle.rv_ltl.specs.File.{Def}
 use Rattle.rv_ltl.specs.Replace.{is_none}
 use Rattle.rv_ltl.specs.Atoms.{inserted, names_into, place_of, one_of, two_of}
@@ -12,9 +12,9 @@ use Rattle.rv_ltl.specs.Weights.{index_of, def_at}
 use Rattle.rv_ltl.specs.Reached.{flag_at}
 
 -- how many numbers in front are below another
-abbrev pub below : ℕ → List ℕ → ℕ
-below x [] = 0
-below x (y ∷ ys) = if nat_lt y x then suc (below x ys) else 0
+abbrev pub count_below : ℕ → List ℕ → ℕ
+count_below x [] = 0
+count_below x (y ∷ ys) = if nat_lt y x then suc (count_below x ys) else 0
 
 -- the number stands in the ascending list
 abbrev pub stands : ℕ → List ℕ → Bool
@@ -26,7 +26,7 @@ abbrev pub is_free : List Def → ℕ → Bool
 is_free ds x = is_none (index_of ds x)
 
 -- one step's name, if it passes the test, with others
-abbrev pub step_into : (ℕ → Bool) → Step → List ℕ → List ℕ
+abbrev pub step_into : (ℕ → Bool) → CodeStep → List ℕ → List ℕ
 step_into test steps.True xs = xs
 step_into test steps.False xs = xs
 step_into test (steps.Name x) xs = if test x then inserted x xs else xs
@@ -34,7 +34,7 @@ step_into test (steps.Unary op) xs = xs
 step_into test (steps.Binary op) xs = xs
 
 -- the names of a code that pass the test, with others
-abbrev pub code_into : (ℕ → Bool) → List Step → List ℕ → List ℕ
+abbrev pub code_into : (ℕ → Bool) → List CodeStep → List ℕ → List ℕ
 code_into test [] xs = xs
 code_into test (step ∷ code) xs = code_into test code (step_into test step xs)
 

@@ -1,10 +1,10 @@
--- What operators make of values, and how a stack of values runs postfix code.
+-- Private: what operators make of values, and how a stack of values runs postfix code.
 use Rattle.std.specs.Prelude.{◌≡◌, ℕ, Bool, true, false, List, [], ◌∷◌, map}
 use Rattle.std.specs.List.{AllByRecursion}
 use Rattle.rv_ltl.specs.declared.token.Unary.{Unary}
 use Rattle.rv_ltl.specs.declared.token.Binary.{Binary}
-use Rattle.rv_ltl.specs.declared.token.Step.{Step}
-use Rattle.rv_ltl.specs.declared.token.Step.TheVariants as steps
+use Rattle.rv_ltl.specs.declared.token.CodeStep.{CodeStep}
+use Rattle.rv_ltl.specs.declared.token.CodeStep.TheVariants as steps
 use Rattle.rv_ltl.specs.declared.definitions.Definition.{Definition}
 use Rattle.rv_ltl.specs.Grammar.{Expr, Paren, One, Two}
 use Rattle.rv_ltl.specs.File.{Def}
@@ -38,7 +38,7 @@ two_step f (y ∷ []) = []
 two_step f (y ∷ (x ∷ stack)) = f x y ∷ stack
 
 -- one step of the code, over a stack with the last value in front
-abbrev pub stepped : {A : Type 0} → Values A → Step → List A → List A
+abbrev pub stepped : {A : Type 0} → Values A → CodeStep → List A → List A
 stepped v steps.True stack = v.constant true ∷ stack
 stepped v steps.False stack = v.constant false ∷ stack
 stepped v (steps.Name x) stack = v.name x ∷ stack
@@ -46,18 +46,18 @@ stepped v (steps.Unary op) stack = one_step (v.one op) stack
 stepped v (steps.Binary op) stack = two_step (v.two op) stack
 
 -- all steps in turn
-abbrev pub run : {A : Type 0} → Values A → List Step → List A → List A
+abbrev pub run : {A : Type 0} → Values A → List CodeStep → List A → List A
 run v [] stack = stack
 run v (step ∷ code) stack = run v code (stepped v step stack)
 
 -- the last value
-abbrev pub last_of : {A : Type 0} → A → List A → A
-last_of default [] = default
-last_of default (x ∷ stack) = x
+abbrev pub last_or : {A : Type 0} → A → List A → A
+last_or default [] = default
+last_or default (x ∷ stack) = x
 
 -- the value that the code computes
-abbrev pub computed : {A : Type 0} → Values A → List Step → A
-computed v code = last_of (v.constant true) (run v code [])
+abbrev pub computed : {A : Type 0} → Values A → List CodeStep → A
+computed v code = last_or (v.constant true) (run v code [])
 
 -- formulas as values
 abbrev pub formulas : Values Expr

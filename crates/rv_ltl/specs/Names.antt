@@ -19,22 +19,22 @@ abbrev pub is_upper : ℕ → Bool
 is_upper byte = nat_lt 64 byte && nat_lt byte 91
 
 -- an upper-case letter, a digit or _
-abbrev pub is_name_byte : ℕ → Bool
-is_name_byte byte = is_upper byte || (nat_lt 47 byte && nat_lt byte 58) || nat_eq byte 95
+abbrev pub is_atom_byte : ℕ → Bool
+is_atom_byte byte = is_upper byte || (nat_lt 47 byte && nat_lt byte 58) || nat_eq byte 95
 
 -- each byte may stand in a name
 abbrev pub all_name_bytes : List ℕ → Bool
 all_name_bytes [] = true
-all_name_bytes (byte ∷ bytes) = is_name_byte byte && all_name_bytes bytes
+all_name_bytes (byte ∷ bytes) = is_atom_byte byte && all_name_bytes bytes
 
 -- an upper-case letter, and then upper-case letters, digits and _
-abbrev pub is_name : List ℕ → Bool
-is_name [] = false
-is_name (byte ∷ bytes) = is_upper byte && all_name_bytes bytes
+abbrev pub is_atom_name : List ℕ → Bool
+is_atom_name [] = false
+is_atom_name (byte ∷ bytes) = is_upper byte && all_name_bytes bytes
 
 -- the names with one more, at its place by bytes, where the piece is a name
 abbrev pub with_piece : List (List ℕ) → List ℕ → List (List ℕ)
-with_piece names piece = if is_name piece then insert_key (slice_cmp nat_cmp) names piece else names
+with_piece names piece = if is_atom_name piece then insert_key (slice_cmp nat_cmp) names piece else names
 
 -- the names among the pieces
 unfoldable pub names_of : List (List ℕ) → List (List ℕ)

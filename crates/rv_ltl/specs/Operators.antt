@@ -14,8 +14,8 @@ row_of Imply = 5
 row_of Equivalent = 6
 
 -- two operators are one
-abbrev pub is_same : Binary → Binary → Bool
-is_same one other = nat_eq (row_of one) (row_of other)
+abbrev pub is_same_operator : Binary → Binary → Bool
+is_same_operator one other = nat_eq (row_of one) (row_of other)
 
 -- how often the operator may stand in one chain: 256 operands of `and` or `or`, and two of the others
 abbrev pub joins : Binary → ℕ

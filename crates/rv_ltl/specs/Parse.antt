@@ -1,7 +1,7 @@
 -- Reading trees from left to right.
 use Rattle.std.specs.Prelude.{ℕ, zero, suc, Bool, true, false, if◌then◌else◌, List, [], ◌∷◌, Option, Some, None, drop}
 use Rattle.rv_ltl.specs.Grammar.{Expr, Paren, One, Two}
-use Rattle.rv_ltl.specs.Operators.{joins, is_same}
+use Rattle.rv_ltl.specs.Operators.{joins, is_same_operator}
 use Rattle.rv_ltl.specs.declared.token.Token.{Token}
 use Rattle.rv_ltl.specs.declared.token.Token.TheVariants as token
 use Rattle.rv_ltl.specs.declared.token.Binary.{Binary}
@@ -33,7 +33,7 @@ chain_at read op zero left marks = elim (operator marks) [ None ↦ Some (left, 
 chain_at read op (suc n) left marks =
     elim (operator marks) [
       | None ↦ Some (left, marks)
-      | Some other ↦ if is_same op other then (read (drop 1 marks) >>= λ x. chain_at read op n (Two op left x.0) x.1) else None
+      | Some other ↦ if is_same_operator op other then (read (drop 1 marks) >>= λ x. chain_at read op n (Two op left x.0) x.1) else None
     ]
 
 -- an expression begins with a term

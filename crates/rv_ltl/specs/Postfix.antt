@@ -1,11 +1,11 @@
--- Formulas as postfix code: the operands first, then the operator. Parentheses leave nothing.
+-- Private: formulas as postfix code: the operands first, then the operator. Parentheses leave nothing.
 use Rattle.std.specs.Prelude.{◌≡◌, ℕ, List, [], ◌∷◌, ◌++◌, map, Option, Some, Result, Ok, Err, Vec}
 use Rattle.std.specs.Borrow.{Bor}
 use Rattle.std.specs.declared.alloc.Global.{Global}
 use Rattle.rv_ltl.specs.declared.unread.Unread.{Unread}
 use Rattle.rv_ltl.specs.declared.token.Token.{Token}
-use Rattle.rv_ltl.specs.declared.token.Step.{Step}
-use Rattle.rv_ltl.specs.declared.token.Step.TheVariants as step
+use Rattle.rv_ltl.specs.declared.token.CodeStep.{CodeStep}
+use Rattle.rv_ltl.specs.declared.token.CodeStep.TheVariants as step
 use Rattle.rv_ltl.specs.declared.definitions.Definition.{Definition}
 use Rattle.rv_ltl.specs.Unreads.{Fails}
 use Rattle.rv_ltl.specs.Grammar.{Expr, Paren, One, Two}
@@ -13,7 +13,7 @@ use Rattle.rv_ltl.specs.Parse.{◌>>=◌}
 use Rattle.rv_ltl.specs.File.{Def}
 
 -- the postfix code of a formula
-abbrev pub code : Expr → List Step
+abbrev pub code : Expr → List CodeStep
 code Expr.True = step.True ∷ []
 code Expr.False = step.False ∷ []
 code (Expr.Name x) = step.Name x ∷ []
@@ -22,18 +22,18 @@ code (One op e) = code e ++ step.Unary op ∷ []
 code (Two op a b) = code a ++ (code b ++ step.Binary op ∷ [])
 
 -- what is read, as code behind what is there
-abbrev pub coded : List Step → Option (Expr × List Token) → Option (List Step × List Token)
+abbrev pub coded : List CodeStep → Option (Expr × List Token) → Option (List CodeStep × List Token)
 coded old read = read >>= λ x. Some (old ++ code x.0, x.1)
 
 -- the code became longer by what the definition reads, and the tokens after it are left
-abbrev pub Appends : List Step → List Step → Option (Expr × List Token) → Result (Bor (List Token)) Unread → Type 0
+abbrev pub Appends : List CodeStep → List CodeStep → Option (Expr × List Token) → Result (Bor (List Token)) Unread → Type 0
 Appends old new read (Ok rest) = coded old read ≡ Some (new, rest.now)
 Appends old new read (Err unread) = Fails unread read
 
 -- a name and the code of its formula
 pub record Coded : Type 0 where
   pub name : ℕ
-  pub code : List Step
+  pub code : List CodeStep
 
 -- a definition's name and code
 abbrev pub coded_def : Def → Coded

@@ -23,13 +23,13 @@ pub data Leads (R : ℕ → ℕ → Type 0) : ℕ → ℕ → Type 0 where
   Then : {x z y : ℕ} → R x z → Leads R z y → Leads R x y
 
 -- a name reaches what stands in its formula, and what that reaches
-abbrev pub Reaches : List Def → ℕ → ℕ → Type 0
-Reaches ds = Leads (Uses ds)
+abbrev pub NameReaches : List Def → ℕ → ℕ → Type 0
+NameReaches ds = Leads (Uses ds)
 
 -- a defined name reaches itself
 abbrev pub IsCyclic : List Def → Type 0
-IsCyclic ds = (x : ℕ) × Reaches ds x x
+IsCyclic ds = (x : ℕ) × NameReaches ds x x
 
 -- an atom of a name: it is reached, and is not defined
 abbrev pub IsAtom : List Def → ℕ → ℕ → Type 0
-IsAtom ds root x = Reaches ds root x × (body_of ds x ≡ None)
+IsAtom ds root x = NameReaches ds root x × (body_of ds x ≡ None)

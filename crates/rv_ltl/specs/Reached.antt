@@ -1,8 +1,8 @@
--- The definitions that a definition reaches, as flags.
+-- Private: the definitions that a definition reaches, as flags.
 use Rattle.std.specs.Prelude.{◌≡◌, ℕ, zero, suc, ◌+◌, ◌<◌, ◌⊎◌, Bool, true, false, List, [], ◌∷◌, length, slice_index_or, Option, Some, None, Vec}
 use Rattle.std.specs.declared.alloc.Global.{Global}
-use Rattle.rv_ltl.specs.declared.token.Step.{Step}
-use Rattle.rv_ltl.specs.declared.token.Step.TheVariants as steps
+use Rattle.rv_ltl.specs.declared.token.CodeStep.{CodeStep}
+use Rattle.rv_ltl.specs.declared.token.CodeStep.TheVariants as steps
 use Rattle.rv_ltl.specs.File.{Def}
 use Rattle.rv_ltl.specs.Reach.{Mentions, Leads}
 use Rattle.rv_ltl.specs.Weights.{def_at}
@@ -12,20 +12,20 @@ abbrev pub flag_at : List Bool → ℕ → Bool
 flag_at fs i = slice_index_or fs i false
 
 -- the step is the name
-abbrev pub Names : Step → ℕ → Type 0
-Names steps.True x = ⊥
-Names steps.False x = ⊥
-Names (steps.Name y) x = y ≡ x
-Names (steps.Unary op) x = ⊥
-Names (steps.Binary op) x = ⊥
+abbrev pub IsNameStep : CodeStep → ℕ → Type 0
+IsNameStep steps.True x = ⊥
+IsNameStep steps.False x = ⊥
+IsNameStep (steps.Name y) x = y ≡ x
+IsNameStep (steps.Unary op) x = ⊥
+IsNameStep (steps.Binary op) x = ⊥
 
 -- the name stands in the code
-abbrev pub Holds : List Step → ℕ → Type 0
+abbrev pub Holds : List CodeStep → ℕ → Type 0
 Holds [] x = ⊥
-Holds (step ∷ code) x = Names step x ⊎ Holds code x
+Holds (step ∷ code) x = IsNameStep step x ⊎ Holds code x
 
 -- the flags of the definitions whose names stand in the code
-pub record IsRow (ds : List Def) (code : List Step) (fs : List Bool) : Type 0 where
+pub record IsRow (ds : List Def) (code : List CodeStep) (fs : List Bool) : Type 0 where
   pub each : length fs ≡ length ds
   pub made : (j : ℕ) → j < length ds → Holds code (def_at ds j).name → flag_at fs j ≡ true
   pub only : (j : ℕ) → j < length ds → flag_at fs j ≡ true → Holds code (def_at ds j).name
@@ -52,7 +52,7 @@ abbrev pub IsFrom : List (Vec Bool Global) → ℕ → ℕ → Type 0
 IsFrom rows root i = (root ≡ i) ⊎ Leads (Flags rows) root i
 
 -- the flags of the root and of what it leads to
-pub record IsReached (rows : List (Vec Bool Global)) (root : ℕ) (fs : List Bool) : Type 0 where
+pub record AreReachFlags (rows : List (Vec Bool Global)) (root : ℕ) (fs : List Bool) : Type 0 where
   pub each : length fs ≡ length rows
   pub start : flag_at fs root ≡ true
   pub sound : (i : ℕ) → flag_at fs i ≡ true → IsFrom rows root i

@@ -11,7 +11,7 @@ use Rattle.rv_ltl.specs.Names.{names_of, place_in}
 use Rattle.rv_ltl.specs.Tokens.{tokens_of}
 use Rattle.rv_ltl.specs.File.{Def, defs_at}
 use Rattle.rv_ltl.specs.Replace.{plain_def, body_of, is_none, once, any_endless, value_of, weight_of}
-use Rattle.rv_ltl.specs.Atoms.{names_into, numbered, name_at}
+use Rattle.rv_ltl.specs.Atoms.{names_into, formula_over, name_at}
 
 -- the atoms of a formula in which each defined name was replaced
 abbrev pub atoms_of : Expr → List ℕ
@@ -31,7 +31,7 @@ formula_of ds root =
 
 -- its rule
 abbrev pub rule_of : List (List ℕ) → Expr → RuleValue
-rule_of names f = record { atoms = map (name_at names) (atoms_of f); formula = numbered (atoms_of f) f }
+rule_of names f = record { atoms = map (name_at names) (atoms_of f); formula = formula_over (atoms_of f) f }
 
 -- the rule of the definitions: the formula of RULE
 abbrev pub rule_in : List (List ℕ) → List Def → Result RuleValue Refusal

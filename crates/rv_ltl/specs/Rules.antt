@@ -1,4 +1,4 @@
--- What the parts of the reader answer, between the definitions and the rule.
+-- Private: what the parts of the reader answer, between the definitions and the rule.
 use Rattle.std.specs.Prelude.{◌≡◌, ◌≤◌, ◌<◌, ℕ, List, length, Some, Result, Ok, Err, Vec}
 use Rattle.std.specs.List.{AllByRecursion}
 use Rattle.std.specs.declared.alloc.Global.{Global}

@@ -1,4 +1,4 @@
--- What a part of the reader answers, against what the definition reads. Want of memory may take the place of any answer.
+-- Private: what a part of the reader answers, against what the definition reads. Want of memory may take the place of any answer.
 use Rattle.std.specs.Prelude.{◌≡◌, Option, Some, None, Result, Ok, Err}
 use Rattle.rv_ltl.specs.declared.unread.Unread.{Unread}
 use Rattle.rv_ltl.specs.declared.unread.Unread.TheVariants.{Memory, Syntax}
@@ -9,6 +9,6 @@ Fails Memory read = Unit {0}
 Fails Syntax read = read ≡ None
 
 -- what was returned, seen by view, is what the definition reads
-abbrev pub Reads : {X Y : Type 0} → (X → Y) → Result X Unread → Option Y → Type 0
-Reads view (Ok x) read = read ≡ Some (view x)
-Reads view (Err unread) read = Fails unread read
+abbrev pub IsReadAs : {X Y : Type 0} → (X → Y) → Result X Unread → Option Y → Type 0
+IsReadAs view (Ok x) read = read ≡ Some (view x)
+IsReadAs view (Err unread) read = Fails unread read

@@ -1,12 +1,12 @@
--- One step's flag.
+-- Private: one step's flag.
 use Rattle.std.specs.Prelude.{Bool, true, List, slice_set, Some, None}
-use Rattle.rv_ltl.specs.declared.token.Step.{Step}
-use Rattle.rv_ltl.specs.declared.token.Step.TheVariants as steps
+use Rattle.rv_ltl.specs.declared.token.CodeStep.{CodeStep}
+use Rattle.rv_ltl.specs.declared.token.CodeStep.TheVariants as steps
 use Rattle.rv_ltl.specs.File.{Def}
 use Rattle.rv_ltl.specs.Weights.{index_of}
 
 -- the flags with that of the definition that the step names
-abbrev pub flagged : List Def → Step → List Bool → List Bool
+abbrev pub flagged : List Def → CodeStep → List Bool → List Bool
 flagged ds steps.True fs = fs
 flagged ds steps.False fs = fs
 flagged ds (steps.Name x) fs = elim (index_of ds x) [ Some i ↦ slice_set fs i true | None ↦ fs ]

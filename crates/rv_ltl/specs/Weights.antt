@@ -1,4 +1,4 @@
--- Weights as far as they are known, for each definition in its place.
+-- Private: weights as far as they are known, for each definition in its place.
 use Rattle.std.specs.Prelude.{◌≡◌, ◌≢◌, ℕ, suc, ◌+◌, ◌<◌, ◌≤◌, Bool, true, false, nat_eq, nat_lt, if◌then◌else◌, List, [], ◌∷◌, length, slice_index_or, slice_set, Option, Some, None}
 use Rattle.rv_ltl.specs.declared.token.Binary.{Binary}
 use Rattle.rv_ltl.specs.declared.weight.Weight.{Weight}

@@ -3,21 +3,27 @@
 ghost use Rattle.std.specs.Prelude.{◌≡◌, ◌≤◌, ◌<◌, length, IfOk};
 ghost use Rattle.rv_ltl.specs.Machine.{defs, AllCoded};
 ghost use Rattle.rv_ltl.specs.Atoms.{inserted};
-ghost use Rattle.rv_ltl.specs.Collected.{below, stands, is_free, step_into, code_into, def_into, atoms_from, Puts, Collects};
+ghost use Rattle.rv_ltl.specs.Collected.{count_below, stands, is_free, step_into, code_into, def_into, atoms_from, Puts, Collects};
 
 use crate::definitions::Definition;
-use crate::token::Step;
+use crate::token::CodeStep;
 use crate::uses::index;
 use std::alloc::{AllocError, Global};
 
 // How many numbers in front are below another.
-fn below(numbers: &[usize], x: usize) -> usize
+fn count_below(numbers: &[usize], x: usize) -> usize
     ensures within { result ≤ length numbers.now }
-    ensures is { result ≡ below x numbers.now }
+    ensures is { result ≡ count_below x numbers.now }
 {
     match numbers {
         [] => 0,
-        [first, others @ ..] => { if *first < x { 1 + below(others, x) } else { 0 } }
+        [first, others @ ..] => {
+            if *first < x {
+                1 + count_below(others, x)
+            } else {
+                0
+            }
+        }
     }
 }
 
@@ -56,7 +62,7 @@ fn put(out: &mut Vec<usize>, x: usize) -> Result<bool, AllocError>
     if out.len() == 32 {
         return Ok(false);
     }
-    let place = below(out, x);
+    let place = count_below(out, x);
     out.insert(place, x)?;
     Ok(true)
 }
@@ -64,12 +70,12 @@ fn put(out: &mut Vec<usize>, x: usize) -> Result<bool, AllocError>
 fn put_step(
     definitions: &[Definition],
     out: &mut Vec<usize>,
-    step: Step,
+    step: CodeStep,
 ) -> Result<bool, AllocError>
     requires { length out.old.items ≤ 32 }
     ensures { IfOk result (λ fits. Puts (step_into (is_free (defs definitions.now)) step out.old.items) out.new.items fits) }
 {
-    if let Step::Name(name) = step {
+    if let CodeStep::Name(name) = step {
         if is_free(definitions, name) {
             return put(out, name);
         }
@@ -80,7 +86,7 @@ fn put_step(
 fn put_code(
     definitions: &[Definition],
     out: &mut Vec<usize>,
-    code: &[Step],
+    code: &[CodeStep],
 ) -> Result<bool, AllocError>
     requires { length out.old.items ≤ 32 }
     ensures { IfOk result (λ fits. Puts (code_into (is_free (defs definitions.now)) code.now out.old.items) out.new.items fits) }

@@ -7,7 +7,7 @@ ghost use Rattle.rv_ltl.specs.Atoms.{place_of, one_of, two_of};
 ghost use Rattle.rv_ltl.specs.Collected.{built, ltls};
 
 use crate::definitions::Definition;
-use crate::token::{Binary, Step, Unary};
+use crate::token::{Binary, CodeStep, Unary};
 use crate::uses::index;
 use rv_model::Formula;
 use std::alloc::{AllocError, Global};
@@ -99,21 +99,21 @@ fn step(
     atoms: &[usize],
     depth: usize,
     stack: &mut Vec<Formula>,
-    step: Step,
+    step: CodeStep,
 ) -> Result<(), AllocError>
     requires few { length atoms.now ≤ 32 }
     requires coded { AllCoded definitions.now }
     ensures { IfOk result (λ _. reverse (map ltl stack.new.items) ≡ stepped (ltls (built (defs definitions.now) atoms.now depth)) step (reverse (map ltl stack.old.items))) }
 {
     match step {
-        Step::True => put(stack, Formula::True),
-        Step::False => put(stack, Formula::False),
-        Step::Name(name) => {
+        CodeStep::True => put(stack, Formula::True),
+        CodeStep::False => put(stack, Formula::False),
+        CodeStep::Name(name) => {
             let formula = build(alloc, definitions, atoms, depth, name)?;
             put(stack, formula)
         }
-        Step::Unary(op) => one_step(alloc, stack, op),
-        Step::Binary(op) => two_step(alloc, stack, op),
+        CodeStep::Unary(op) => one_step(alloc, stack, op),
+        CodeStep::Binary(op) => two_step(alloc, stack, op),
     }
 }
 

@@ -6,7 +6,7 @@ ghost use Rattle.rv_ltl.specs.Postfix.{ReadsCode};
 
 use crate::expression::expression;
 use crate::marks::after;
-use crate::token::{Step, Token};
+use crate::token::{CodeStep, Token};
 use crate::unread::Unread;
 use std::alloc::Global;
 
@@ -14,7 +14,7 @@ use std::alloc::Global;
 #[derive(Drop)]
 pub struct Definition {
     pub name: usize,
-    pub code: Vec<Step>,
+    pub code: Vec<CodeStep>,
 }
 
 // The name of the definition in front.

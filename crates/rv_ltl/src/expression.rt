@@ -5,15 +5,15 @@ ghost use Rattle.rv_ltl.specs.Parse.{term_at, expr_by};
 ghost use Rattle.rv_ltl.specs.Postfix.{Appends};
 
 use crate::marks::{after, front, is_close, operator};
-use crate::operators::{is_same, joins};
-use crate::token::{Step, Token};
+use crate::operators::{is_same_operator, joins};
+use crate::token::{CodeStep, Token};
 use crate::unread::Unread;
 
 /// Puts down the code of the term in front, and gives the tokens after it.
 #[cycle(expression)]
 #[tactic(auto, unfolding(crate::specs::Parse::term_at))]
 pub fn term<'t>(
-    out: &mut Vec<Step>,
+    out: &mut Vec<CodeStep>,
     depth: usize,
     tokens: &'t [Token],
 ) -> Result<&'t [Token], Unread>
@@ -25,15 +25,15 @@ pub fn term<'t>(
     let rest = after(tokens);
     match token {
         Token::True => {
-            out.push(Step::True)?;
+            out.push(CodeStep::True)?;
             Ok(rest)
         }
         Token::False => {
-            out.push(Step::False)?;
+            out.push(CodeStep::False)?;
             Ok(rest)
         }
         Token::Name(name) => {
-            out.push(Step::Name(name))?;
+            out.push(CodeStep::Name(name))?;
             Ok(rest)
         }
         Token::Open => {
@@ -51,7 +51,7 @@ pub fn term<'t>(
                 return Err(Unread::Syntax);
             }
             let rest = term(out, depth - 1, rest)?;
-            out.push(Step::Unary(op))?;
+            out.push(CodeStep::Unary(op))?;
             Ok(rest)
         }
         _ => Err(Unread::Syntax),
@@ -61,7 +61,7 @@ pub fn term<'t>(
 /// Puts down the code of the expression in front, and gives the tokens after it.
 #[cycle(expression)]
 pub fn expression<'t>(
-    out: &mut Vec<Step>,
+    out: &mut Vec<CodeStep>,
     depth: usize,
     tokens: &'t [Token],
 ) -> Result<&'t [Token], Unread>
@@ -76,11 +76,11 @@ pub fn expression<'t>(
         if more == 0 {
             return Err(Unread::Syntax);
         }
-        if !is_same(op, other) {
+        if !is_same_operator(op, other) {
             return Err(Unread::Syntax);
         }
         rest = term(out, depth, after(rest))?;
-        out.push(Step::Binary(op))?;
+        out.push(CodeStep::Binary(op))?;
         more -= 1;
     }
     Ok(rest)

@@ -4,7 +4,7 @@ ghost use Rattle.std.specs.Prelude.{◌≡◌, ℕ, List, map, IfOk, option_map}
 ghost use Rattle.std.specs.Cmp.Lexicographic.{slice_cmp};
 ghost use Rattle.std.specs.Ordering.{nat_cmp};
 ghost use Rattle.rv_ltl.specs.Texts.{texts};
-ghost use Rattle.rv_ltl.specs.Names.{Ascends, is_upper, is_name_byte, all_name_bytes, is_name, names_of, place_in};
+ghost use Rattle.rv_ltl.specs.Names.{Ascends, is_upper, is_atom_byte, all_name_bytes, is_atom_name, names_of, place_in};
 
 use std::alloc::{AllocError, Global};
 use std::collections::BTreeSet;
@@ -15,8 +15,8 @@ fn is_upper(byte: u8) -> bool
     64 < byte && byte < 91
 }
 
-fn is_name_byte(byte: u8) -> bool
-    ensures { result ≡ is_name_byte byte }
+fn is_atom_byte(byte: u8) -> bool
+    ensures { result ≡ is_atom_byte byte }
 {
     is_upper(byte) || (47 < byte && byte < 58) || byte == 95
 }
@@ -26,7 +26,7 @@ fn all_name_bytes(bytes: &[u8]) -> bool
 {
     let mut rest = bytes;
     while let [byte, others @ ..] = rest {
-        if !is_name_byte(*byte) {
+        if !is_atom_byte(*byte) {
             return false;
         }
         rest = others;
@@ -34,8 +34,8 @@ fn all_name_bytes(bytes: &[u8]) -> bool
     true
 }
 
-fn is_name(word: &[u8]) -> bool
-    ensures { result ≡ is_name word.now }
+fn is_atom_name(word: &[u8]) -> bool
+    ensures { result ≡ is_atom_name word.now }
 {
     match word {
         [] => false,
@@ -48,7 +48,7 @@ fn gathered<'a>(alloc: Global, pieces: &[&'a [u8]]) -> Result<BTreeSet<&'a [u8]>
 {
     let mut set = BTreeSet::new(alloc);
     'pieces: for piece in pieces {
-        if is_name(piece) {
+        if is_atom_name(piece) {
             set.insert(*piece)?;
         }
     }

@@ -1,7 +1,7 @@
 //! The operators between two operands, as one table.
 
 ghost use Rattle.std.specs.Prelude.{◌≡◌};
-ghost use Rattle.rv_ltl.specs.Operators.{row_of, is_same, joins};
+ghost use Rattle.rv_ltl.specs.Operators.{row_of, is_same_operator, joins};
 
 use crate::token::Binary;
 
@@ -21,8 +21,8 @@ fn row_of(op: Binary) -> u8
 }
 
 /// Whether two operators are one.
-pub fn is_same(one: Binary, other: Binary) -> bool
-    ensures { result ≡ is_same one other }
+pub fn is_same_operator(one: Binary, other: Binary) -> bool
+    ensures { result ≡ is_same_operator one other }
 {
     row_of(one) == row_of(other)
 }

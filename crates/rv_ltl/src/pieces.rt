@@ -1,15 +1,15 @@
 //! A rule file's text, cut into marks and words.
 
 ghost use Rattle.std.specs.Prelude.{◌≡◌, ◌≤◌, ◌<◌, ℕ, length, map, false};
-ghost use Rattle.rv_ltl.specs.Unreads.{Reads};
-ghost use Rattle.rv_ltl.specs.Pieces.{is_blank, is_mark, is_word, pieces_of, word_len, comment_len, piece_len, skipped};
+ghost use Rattle.rv_ltl.specs.Unreads.{IsReadAs};
+ghost use Rattle.rv_ltl.specs.Pieces.{is_whitespace, is_mark, is_word, pieces_of, word_len, comment_len, piece_len, skipped};
 ghost use Rattle.rv_ltl.specs.Texts.{texts};
 
 use crate::unread::Unread;
 use std::alloc::Global;
 
-fn is_blank(b: u8) -> bool
-    ensures { result ≡ is_blank b }
+fn is_whitespace(b: u8) -> bool
+    ensures { result ≡ is_whitespace b }
 {
     b == 32 || b == 9 || b == 10 || b == 13
 }
@@ -70,7 +70,7 @@ fn piece_len(text: &[u8]) -> usize
 }
 
 pub fn pieces<'a>(alloc: Global, text: &'a [u8]) -> Result<Vec<&'a [u8]>, Unread>
-    ensures { Reads (λ v. texts v.items) result (pieces_of false text.now) }
+    ensures { IsReadAs (λ v. texts v.items) result (pieces_of false text.now) }
 {
     let mut out = Vec::new(alloc);
     let mut rest = text;
@@ -100,7 +100,7 @@ fn skipped(text: &[u8]) -> usize
     match text {
         [] => 0,
         [b, ..] => {
-            if is_blank(*b) {
+            if is_whitespace(*b) {
                 1
             } else if *b == 35 {
                 comment_len(text)

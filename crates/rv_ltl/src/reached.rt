@@ -1,7 +1,7 @@
 //! The definitions that a definition reaches.
 
 ghost use Rattle.std.specs.Prelude.{◌≡◌, ◌<◌, length, IfOk};
-ghost use Rattle.rv_ltl.specs.Reached.{Joins, NextIs, IsReached};
+ghost use Rattle.rv_ltl.specs.Reached.{Joins, NextIs, AreReachFlags};
 
 use crate::uses::all_false;
 use std::alloc::{AllocError, Global};
@@ -33,7 +33,7 @@ fn join(flags: &mut Vec<bool>, row: &[bool])
 /// The root and all that it reaches, each definition followed once.
 pub fn reached(alloc: Global, uses: &[Vec<bool>], root: usize) -> Result<Vec<bool>, AllocError>
     requires { root < length uses.now }
-    ensures { IfOk result (λ v. IsReached uses.now root v.items) }
+    ensures { IfOk result (λ v. AreReachFlags uses.now root v.items) }
 {
     let mut flags = all_false(alloc, uses.len())?;
     let mut done = all_false(alloc, uses.len())?;

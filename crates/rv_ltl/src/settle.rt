@@ -8,7 +8,7 @@ ghost use Rattle.rv_ltl.specs.Reached.{AreUses, flag_at};
 ghost use Rattle.rv_ltl.specs.declared.weight.Weight.TheVariants.{Open};
 
 use crate::definitions::Definition;
-use crate::weighing::{known, weigh};
+use crate::weighing::{weigh, weight_of_name};
 use crate::weight::Weight;
 use std::alloc::{AllocError, Global};
 
@@ -17,7 +17,7 @@ fn is_ready(row: &[bool], weights: &[Weight]) -> bool
     ensures { result ≡ false → (j : ℕ) × (j < length row.now) × (flag_at row.now j ≡ true) × (known_at weights.now j ≡ Open) }
 {
     for j in 0..row.len() {
-        if row[j] && known(weights, j).is_open() {
+        if row[j] && weight_of_name(weights, j).is_open() {
             return false;
         }
     }
@@ -110,5 +110,5 @@ pub fn settled_weight(weights: &[Weight], place: usize) -> Option<Weight>
             return None;
         }
     }
-    Some(known(weights, place))
+    Some(weight_of_name(weights, place))
 }

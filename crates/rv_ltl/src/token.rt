@@ -55,7 +55,7 @@ pub enum Token {
 
 /// One step of a formula's postfix code: an operand, or an operator that takes the operands before it.
 #[derive(Clone, Copy)]
-pub enum Step {
+pub enum CodeStep {
     /// `true`
     True,
     /// `false`

@@ -3,11 +3,11 @@
 ghost use Rattle.std.specs.Prelude.{◌≡◌, ◌<◌, ℕ, length, IfOk, false};
 ghost use Rattle.rv_ltl.specs.Machine.{defs, AllCoded};
 ghost use Rattle.rv_ltl.specs.Weights.{index_of, IsDistinct};
-ghost use Rattle.rv_ltl.specs.Reached.{flag_at, IsRow, AreUses, Names};
+ghost use Rattle.rv_ltl.specs.Reached.{flag_at, IsRow, AreUses, IsNameStep};
 ghost use Rattle.rv_ltl.specs.Uses.{flagged};
 
 use crate::definitions::Definition;
-use crate::token::Step;
+use crate::token::CodeStep;
 use std::alloc::{AllocError, Global};
 
 /// The place of the first definition of the name.
@@ -35,11 +35,11 @@ pub fn all_false(alloc: Global, n: usize) -> Result<Vec<bool>, AllocError>
 }
 
 // Flags the definition that the step names.
-fn flag(definitions: &[Definition], flags: &mut Vec<bool>, step: Step)
+fn flag(definitions: &[Definition], flags: &mut Vec<bool>, step: CodeStep)
     requires { length flags.old.items ≡ length definitions.now }
     ensures { flags.new.items ≡ flagged (defs definitions.now) step flags.old.items }
 {
-    if let Step::Name(name) = step {
+    if let CodeStep::Name(name) = step {
         if let Some(place) = index(definitions, name) {
             if place < flags.len() {
                 flags[place] = true;
@@ -49,7 +49,11 @@ fn flag(definitions: &[Definition], flags: &mut Vec<bool>, step: Step)
 }
 
 // The definitions whose names stand in the code.
-fn row(alloc: Global, definitions: &[Definition], code: &[Step]) -> Result<Vec<bool>, AllocError>
+fn row(
+    alloc: Global,
+    definitions: &[Definition],
+    code: &[CodeStep],
+) -> Result<Vec<bool>, AllocError>
     requires { IsDistinct (defs definitions.now) }
     ensures { IfOk result (λ v. IsRow (defs definitions.now) code.now v.items) }
 {

@@ -5,13 +5,13 @@ ghost use Rattle.rv_ltl.specs.Machine.{defs, one_step, two_step, stepped, comput
 ghost use Rattle.rv_ltl.specs.Weights.{one_weight, two_weights, weights_by, weight_at, known_at};
 
 use crate::definitions::Definition;
-use crate::token::{Binary, Step};
+use crate::token::{Binary, CodeStep};
 use crate::uses::index;
 use crate::weight::{Weight, one_weight, two_weights};
 use std::alloc::{AllocError, Global};
 
 /// What is known of the definition at this place.
-pub fn known(weights: &[Weight], place: usize) -> Weight
+pub fn weight_of_name(weights: &[Weight], place: usize) -> Weight
     ensures { result ≡ known_at weights.now place }
 {
     if place < weights.len() {
@@ -25,7 +25,7 @@ fn weight_at(definitions: &[Definition], weights: &[Weight], name: usize) -> Wei
     ensures { result ≡ weight_at (defs definitions.now) weights.now name }
 {
     match index(definitions, name) {
-        Some(place) => known(weights, place),
+        Some(place) => weight_of_name(weights, place),
         None => Weight::Is(1),
     }
 }
@@ -61,25 +61,25 @@ fn step(
     definitions: &[Definition],
     weights: &[Weight],
     stack: &mut Vec<Weight>,
-    step: Step,
+    step: CodeStep,
 ) -> Result<(), AllocError>
     ensures { IfOk result (λ _. reverse stack.new.items ≡ stepped (weights_by (weight_at (defs definitions.now) weights.now)) step (reverse stack.old.items)) }
 {
     match step {
-        Step::True => {
+        CodeStep::True => {
             stack.push(Weight::Is(1))?;
             Ok(())
         }
-        Step::False => {
+        CodeStep::False => {
             stack.push(Weight::Is(1))?;
             Ok(())
         }
-        Step::Name(name) => {
+        CodeStep::Name(name) => {
             stack.push(weight_at(definitions, weights, name))?;
             Ok(())
         }
-        Step::Unary(_) => one_step(stack),
-        Step::Binary(op) => two_step(stack, op),
+        CodeStep::Unary(_) => one_step(stack),
+        CodeStep::Binary(op) => two_step(stack, op),
     }
 }
 
@@ -88,7 +88,7 @@ pub fn weigh(
     alloc: Global,
     definitions: &[Definition],
     weights: &[Weight],
-    code: &[Step],
+    code: &[CodeStep],
 ) -> Result<Weight, AllocError>
     ensures { IfOk result (λ w. w ≡ computed (weights_by (weight_at (defs definitions.now) weights.now)) code.now) }
 {

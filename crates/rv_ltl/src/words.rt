@@ -4,7 +4,7 @@ ghost use Rattle.std.specs.Prelude.{◌≡◌};
 ghost use Rattle.std.specs.Cmp.Lexicographic.{slice_cmp};
 ghost use Rattle.std.specs.Ordering.{nat_cmp};
 ghost use Rattle.rv_ltl.specs.Texts.{texts};
-ghost use Rattle.rv_ltl.specs.Unreads.{Reads};
+ghost use Rattle.rv_ltl.specs.Unreads.{IsReadAs};
 ghost use Rattle.rv_ltl.specs.Names.{Ascends};
 ghost use Rattle.rv_ltl.specs.Tokens.{plain_of, unary_of, binary_of, token_of, tokens_of};
 
@@ -91,7 +91,7 @@ fn token(names: &[&[u8]], piece: &[u8]) -> Option<Token>
 /// The tokens of the pieces; the names are all names among them.
 pub fn tokens(alloc: Global, names: &[&[u8]], pieces: &[&[u8]]) -> Result<Vec<Token>, Unread>
     requires { Ascends (slice_cmp nat_cmp) (texts names.now) }
-    ensures { Reads (λ v. v.items) result (tokens_of (texts names.now) (texts pieces.now)) }
+    ensures { IsReadAs (λ v. v.items) result (tokens_of (texts names.now) (texts pieces.now)) }
 {
     let mut out = Vec::new(alloc);
     'pieces: for piece in pieces {

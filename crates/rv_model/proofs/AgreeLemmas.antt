@@ -6,7 +6,7 @@ use Rattle.rv_model.specs.declared.work.Delivery.{Delivery}
 use Rattle.rv_model.specs.Numbers.{has_bit}
 use Rattle.rv_model.specs.Setups.{Setup, slot_of}
 use Rattle.rv_model.proofs.HitLemmas.{hit-no_look}
-use Rattle.rv_model.specs.Scripts.{Played, is_shown, fails, Makes, Delivers, PlaysTurns}
+use Rattle.rv_model.specs.Scripts.{Played, is_enabled_by, fails, Makes, Delivers, PlaysTurns}
 use Rattle.rv_model.specs.Histories.{look_count, IsNoStop}
 
 -- both end, or both go on with the same act, unless it is a stop
@@ -75,10 +75,10 @@ module _ (s : Setup) (panics : ℕ → Bool) where
   plays-agree (turn ∷ turns) [] (p ∷ t) (q ∷ u) h g = λ _ _. h.1 ∙ sym g.1
   plays-agree (turn ∷ turns) (p ∷ ps) t u (look, is, answer, h) (look', is', answer', g) =
       let same : look' ≡ look = cc in
-      let g' = subst (λ (n : ℕ). MatchBool (has_bit n 34) (ps ++ u ≡ []) (Delivers s panics n (filter (is_shown n) turn) (PlaysTurns s panics turns) (ps ++ u))) same g in
+      let g' = subst (λ (n : ℕ). MatchBool (has_bit n 34) (ps ++ u ≡ []) (Delivers s panics n (filter (is_enabled_by n) turn) (PlaysTurns s panics turns) (ps ++ u))) same g in
       match-both (has_bit look 34) _ _ _ _ (Agree t u) h g'
       (λ x y. agree-nil t u (empty_left ps t x) (empty_left ps u y))
-      (λ x y. delivers-agree look (filter (is_shown look) turn) (PlaysTurns s panics turns) (plays-agree turns) ps t u x y)
+      (λ x y. delivers-agree look (filter (is_enabled_by look) turn) (PlaysTurns s panics turns) (plays-agree turns) ps t u x y)
 
   -- ---- as many looks as turns, at most
   makes-no_look : (d : Delivery) (p : Played) → Makes s d p → look_count p.0.act ≡ 0
@@ -105,7 +105,7 @@ module _ (s : Setup) (panics : ℕ → Bool) where
   plays-looks [] ps h = let z : looks_in ps ≡ 0 = rw h refl in omega arith
   plays-looks (turn ∷ turns) [] h = absurd h
   plays-looks (turn ∷ turns) (p ∷ ps) (look, is, answer, h) =
-      let rest : looks_in ps ≤ length turns = match-one (has_bit look 34) _ _ (looks_in ps ≤ length turns) h (λ x. let z : looks_in ps ≡ 0 = rw x refl in omega arith) (λ x. delivers-looks look (filter (is_shown look) turn) (PlaysTurns s panics turns) (length turns) (plays-looks turns) ps x) in
+      let rest : looks_in ps ≤ length turns = match-one (has_bit look 34) _ _ (looks_in ps ≤ length turns) h (λ x. let z : looks_in ps ≡ 0 = rw x refl in omega arith) (λ x. delivers-looks look (filter (is_enabled_by look) turn) (PlaysTurns s panics turns) (length turns) (plays-looks turns) ps x) in
       let first : look_count p.0.act ≡ 1 = rw is refl in
       omega arith
 

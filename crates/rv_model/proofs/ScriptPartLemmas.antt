@@ -11,8 +11,8 @@ use Rattle.rv_model.specs.declared.work.Turn.{Turn}
 use Rattle.rv_model.specs.Histories.{look_count}
 use Rattle.rv_model.specs.Numbers.{has_bit}
 use Rattle.rv_model.specs.Records.{record_of, is_look, is_delivery, until_look, from_look, script_records, turn_records}
-use Rattle.rv_model.specs.ScriptParts.{records_in, Part, LastPart, turn_lists, GoesOn, Ends}
-use Rattle.rv_model.specs.Scripts.{Played, is_shown, fails, Makes, Delivers, PlaysTurns}
+use Rattle.rv_model.specs.ScriptParts.{records_in, TurnPart, LastPart, turn_lists, GoesOn, EndsScript}
+use Rattle.rv_model.specs.Scripts.{Played, is_enabled_by, fails, Makes, Delivers, PlaysTurns}
 use Rattle.rv_model.specs.Setups.{Setup, slot_of}
 use Rattle.rv_model.proofs.HitLemmas.{hit-no_look, hit-not_look, hit-delivers}
 
@@ -31,11 +31,11 @@ match_false b P Q e q = rw e q
 -- ---- parts of a turn
 module _ (s : Setup) (panics : ℕ → Bool) (look line : ℕ) where
   -- nothing is a part, for no delivery
-  pub part-nothing : Part s panics look line [] [] []
+  pub part-nothing : TurnPart s panics look line [] [] []
   part-nothing = record { go = λ rest turns qs h. h; until = λ qs. refl; from = λ qs. refl; records = λ rest qs. refl }
 
   -- a part after a part
-  pub part-join : (ds es : List Delivery) (ps qs : List Played) (rs us : List Record) → Part s panics look line ds ps rs → Part s panics look line es qs us → Part s panics look line (ds ++ es) (ps ++ qs) (rs ++ us)
+  pub part-join : (ds es : List Delivery) (ps qs : List Played) (rs us : List Record) → TurnPart s panics look line ds ps rs → TurnPart s panics look line es qs us → TurnPart s panics look line (ds ++ es) (ps ++ qs) (rs ++ us)
   part-join ds es ps qs rs us a b = record {
     go = λ rest turns more h. rw (append_assoc ds es rest, append_assoc ps qs more) (a.go (es ++ rest) turns (qs ++ more) (b.go rest turns more h));
     until = λ more. ap until_look (append_assoc ps qs more) ∙ a.until (qs ++ more) ∙ ap (λ (z : List Played). ps ++ z) (b.until more) ∙ sym (append_assoc ps qs (until_look more));
@@ -45,7 +45,7 @@ module _ (s : Setup) (panics : ℕ → Bool) (look line : ℕ) where
   }
 
   -- the last part after a part
-  pub last-join : (ds es : List Delivery) (ps qs : List Played) (rs us : List Record) → Part s panics look line ds ps rs → LastPart s panics look line es qs us → LastPart s panics look line (ds ++ es) (ps ++ qs) (rs ++ us)
+  pub last-join : (ds es : List Delivery) (ps qs : List Played) (rs us : List Record) → TurnPart s panics look line ds ps rs → LastPart s panics look line es qs us → LastPart s panics look line (ds ++ es) (ps ++ qs) (rs ++ us)
   last-join ds es ps qs rs us a b = record {
     go = λ rest turns. rw (append_assoc ds es rest) (a.go (es ++ rest) turns qs (b.go rest turns));
     until = a.until qs ∙ ap (λ (z : List Played). ps ++ z) b.until;
@@ -70,7 +70,7 @@ module _ (s : Setup) (panics : ℕ → Bool) (look line : ℕ) where
 
     module _ (r : Record) (record-is : record_of line look (d, (e, a)) ≡ r) where
       -- after it the script goes on
-      pub part-one : (fails a && (panics d.monitor && has_bit look 33)) ≡ false → Part s panics look line (d ∷ []) ((e, a) ∷ []) (r ∷ [])
+      pub part-one : (fails a && (panics d.monitor && has_bit look 33)) ≡ false → TurnPart s panics look line (d ∷ []) ((e, a) ∷ []) (r ∷ [])
       part-one on = record {
         go = λ rest turns qs h. (makes, match_false (fails a && (panics d.monitor && has_bit look 33)) _ _ on h);
         until = λ qs. rw no_look refl;
@@ -104,16 +104,16 @@ begins s panics ds (t ∷ rest) (q ∷ qs) h = (rw (is-look q h.1) refl, rw (is-
 
 module _ (s : Setup) (panics : ℕ → Bool) (ds : List Delivery) (turn : Turn) (e : Entry) (act : e.act ≡ Look) where
   -- a look that shows no halt, and a part for all that it shows on: the script goes on
-  pub turn-goes : (word : ℕ) → has_bit word 34 ≡ false → (ps : List Played) (rs : List Record) → Part s panics word turn.line (filter (is_shown word) (slice_range ds turn.from turn.to)) ps rs → GoesOn s panics ds (turn ∷ []) ((e, Looked word) ∷ ps) rs
+  pub turn-goes : (word : ℕ) → has_bit word 34 ≡ false → (ps : List Played) (rs : List Record) → TurnPart s panics word turn.line (filter (is_enabled_by word) (slice_range ds turn.from turn.to)) ps rs → GoesOn s panics ds (turn ∷ []) ((e, Looked word) ∷ ps) rs
   turn-goes word on ps rs p = record {
-    plays = λ rest qs h. (word, act, refl, match_false (has_bit word 34) _ _ on (subst (λ (z : List Delivery). Delivers s panics word z (PlaysTurns s panics (turn_lists ds rest)) (ps ++ qs)) (append-nil (filter (is_shown word) (slice_range ds turn.from turn.to))) (p.go [] (turn_lists ds rest) qs h)));
+    plays = λ rest qs h. (word, act, refl, match_false (has_bit word 34) _ _ on (subst (λ (z : List Delivery). Delivers s panics word z (PlaysTurns s panics (turn_lists ds rest)) (ps ++ qs)) (append-nil (filter (is_enabled_by word) (slice_range ds turn.from turn.to))) (p.go [] (turn_lists ds rest) qs h)));
     records = λ rest qs h.
         let b = begins s panics ds rest qs h in
         let until : until_look (ps ++ qs) ≡ ps = p.until qs ∙ ap (λ (z : List Played). ps ++ z) b.0 ∙ append-nil ps in
         let from : from_look (ps ++ qs) ≡ qs = p.from qs ∙ b.1 in
         let now : turn_records turn.line word (slice_range ds turn.from turn.to) ps ≡ rs =
-        ap (λ (z : List Played). records_in turn.line word (filter (is_shown word) (slice_range ds turn.from turn.to)) z) (sym (append-nil ps))
-        ∙ ap (λ (z : List Delivery). records_in turn.line word z (ps ++ [])) (sym (append-nil (filter (is_shown word) (slice_range ds turn.from turn.to))))
+        ap (λ (z : List Played). records_in turn.line word (filter (is_enabled_by word) (slice_range ds turn.from turn.to)) z) (sym (append-nil ps))
+        ∙ ap (λ (z : List Delivery). records_in turn.line word z (ps ++ [])) (sym (append-nil (filter (is_enabled_by word) (slice_range ds turn.from turn.to))))
         ∙ p.records [] [] ∙ append-nil rs in
         rw (until, from) (ap (λ (z : List Record). z ++ script_records ds rest qs) now);
   }
@@ -124,7 +124,7 @@ module _ (s : Setup) (panics : ℕ → Bool) (ds : List Delivery) (turn : Turn) 
   nothing-left (t ∷ rest) = refl
 
   -- a look that shows no halt, and a last part for some that it shows on: the script ends
-  pub turn-ends : (word : ℕ) → has_bit word 34 ≡ false → (es : List Delivery) (more : List Delivery) (ps : List Played) (rs : List Record) → filter (is_shown word) (slice_range ds turn.from turn.to) ≡ es ++ more → LastPart s panics word turn.line es ps rs → Ends s panics ds (turn ∷ []) ((e, Looked word) ∷ ps) rs
+  pub turn-ends : (word : ℕ) → has_bit word 34 ≡ false → (es : List Delivery) (more : List Delivery) (ps : List Played) (rs : List Record) → filter (is_enabled_by word) (slice_range ds turn.from turn.to) ≡ es ++ more → LastPart s panics word turn.line es ps rs → EndsScript s panics ds (turn ∷ []) ((e, Looked word) ∷ ps) rs
   turn-ends word on es more ps rs split p = record {
     plays = λ rest. (word, act, refl, match_false (has_bit word 34) _ _ on (subst (λ (z : List Delivery). Delivers s panics word z (PlaysTurns s panics (turn_lists ds rest)) ps) (sym split) (p.go more (turn_lists ds rest))));
     records = λ rest.
@@ -133,10 +133,10 @@ module _ (s : Setup) (panics : ℕ → Bool) (ds : List Delivery) (turn : Turn) 
   }
 
   -- a look that shows a halt: the script ends
-  pub turn-halted : (word : ℕ) → has_bit word 34 ≡ true → Ends s panics ds (turn ∷ []) ((e, Looked word) ∷ []) []
+  pub turn-halted : (word : ℕ) → has_bit word 34 ≡ true → EndsScript s panics ds (turn ∷ []) ((e, Looked word) ∷ []) []
   turn-halted word off = record {
     plays = λ rest. (word, act, refl, match_true (has_bit word 34) _ _ off refl);
-    records = λ rest. ap (λ (z : List Record). z ++ script_records ds rest []) (none (filter (is_shown word) (slice_range ds turn.from turn.to))) ∙ nothing-left rest;
+    records = λ rest. ap (λ (z : List Record). z ++ script_records ds rest []) (none (filter (is_enabled_by word) (slice_range ds turn.from turn.to))) ∙ nothing-left rest;
   }
     where
       none : (xs : List Delivery) → map (record_of turn.line word) (zip xs []) ≡ []
@@ -159,7 +159,7 @@ module _ (s : Setup) (panics : ℕ → Bool) (ds : List Delivery) where
   }
 
   -- a turn that ends the script
-  pub goes-end : (ts us : List Turn) (ps qs : List Played) (rs vs : List Record) → GoesOn s panics ds ts ps rs → Ends s panics ds us qs vs → Ends s panics ds (ts ++ us) (ps ++ qs) (rs ++ vs)
+  pub goes-end : (ts us : List Turn) (ps qs : List Played) (rs vs : List Record) → GoesOn s panics ds ts ps rs → EndsScript s panics ds us qs vs → EndsScript s panics ds (ts ++ us) (ps ++ qs) (rs ++ vs)
   goes-end ts us ps qs rs vs a b = record {
     plays = λ rest. rw (append_assoc ts us rest) (a.plays (us ++ rest) qs (b.plays rest));
     records = λ rest. ap (λ (z : List Turn). script_records ds z (ps ++ qs)) (append_assoc ts us rest) ∙ a.records (us ++ rest) qs (b.plays rest) ∙ ap (λ (z : List Record). rs ++ z) (b.records rest);

@@ -14,7 +14,7 @@ use Rattle.rv_model.specs.Setups.{Setup}
 use Rattle.rv_model.specs.SharedWords.{answer_at, word_on}
 use Rattle.rv_model.specs.Scripts.{Played, played, Plays, PlaysTurns, turns_of}
 use Rattle.rv_model.specs.Works.{Work}
-use Rattle.rv_model.specs.Histories.{Input, IsOneHistory, FitsWords, LostThrice, IsEarnedBy, changed, look_count, looks_of, NoneOf, work_of, line_in, line_at, acts_of, LinesApart, IsNoStop, OneHasNoStop, OneIsUnique}
+use Rattle.rv_model.specs.Histories.{Input, IsOneHistory, FitsWords, LostThrice, IsJustifiedBy, changed, look_count, looks_of, NoneOf, work_of, line_in, line_at, acts_of, LinesApart, IsNoStop, OneHasNoStop, OneIsUnique}
 use Rattle.rv_model.proofs.AgreeLemmas.{Agree, plays-agree, plays-looks, plays-begun, looks_in, looks_in-append}
 use Rattle.rv_model.proofs.SeatLemmas.{looks_of-reverse, looks_on-none, played-looks, played-cut, played-none, next-in, last-look, IsWorkOf, find-work, line-index}
 use Rattle.rv_model.proofs.ActLemmas.{acts_of-own, first-of, same_or_not, stop-or, word-same}
@@ -111,7 +111,7 @@ module _ (input : Input) (js : List Judge) (apart : LinesApart input.works) wher
   pub no-stop : (h : List Entry) → IsOneHistory input js h → AtEach (λ before e. IsNoStop e.act) h
   no-stop h one before e after eq = elim (stop-or e.act) [
     | inl free ↦ free
-    | inr stop ↦ absurd (not_earned h before e after one eq stop.0 stop.1 (subst (λ (a : Act). IsEarnedBy a e.seat before) stop.1 (one.legal.sound.earned before e after eq)))
+    | inr stop ↦ absurd (not_earned h before e after one eq stop.0 stop.1 (subst (λ (a : Act). IsJustifiedBy a e.seat before) stop.1 (one.legal.sound.justified before e after eq)))
   ]
 
   -- ---- unique

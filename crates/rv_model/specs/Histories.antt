@@ -49,30 +49,30 @@ pub record LostThrice (slot seat : ℕ) (before : List Entry) : Type 0 where
   pub three : 3 ≤ length (filter (changed slot) since)
 
 -- a Stop is earned where three entries changed the slot since the seat acted last; no other act has to be
-abbrev pub IsEarnedBy : Act → ℕ → List Entry → Type 0
-IsEarnedBy (Stop slot) seat before = LostThrice slot seat before
-IsEarnedBy _ seat before = Unit {0}
+abbrev pub IsJustifiedBy : Act → ℕ → List Entry → Type 0
+IsJustifiedBy (Stop slot) seat before = LostThrice slot seat before
+IsJustifiedBy _ seat before = Unit {0}
 
 -- every Stop is earned
-abbrev pub IsEarned : List Entry → Type 0
-IsEarned = AtEach (λ before e. IsEarnedBy e.act e.seat before)
+abbrev pub IsJustified : List Entry → Type 0
+IsJustified = AtEach (λ before e. IsJustifiedBy e.act e.seat before)
 
 -- who may do an act
-abbrev pub IsHeldBy : Act → ℕ → Type 0
-IsHeldBy (Clear _) seat = seat ≡ 1
-IsHeldBy (Lower _) seat = seat ≡ 1
-IsHeldBy (Raise bits) seat = (seat ≡ 1) ⊎ (bits ≡ 0) ⊎ (bits ≡ 2 ^ 34)
-IsHeldBy _ seat = Unit {0}
+abbrev pub IsPermittedTo : Act → ℕ → Type 0
+IsPermittedTo (Clear _) seat = seat ≡ 1
+IsPermittedTo (Lower _) seat = seat ≡ 1
+IsPermittedTo (Raise bits) seat = (seat ≡ 1) ⊎ (bits ≡ 0) ⊎ (bits ≡ 2 ^ 34)
+IsPermittedTo _ seat = Unit {0}
 
 -- every entry is by a seat below 67 that may do its act
-abbrev pub IsHeld : List Entry → Type 0
-IsHeld = AtEach (λ before e. (e.seat < 67) × IsHeldBy e.act e.seat)
+abbrev pub IsPermitted : List Entry → Type 0
+IsPermitted = AtEach (λ before e. (e.seat < 67) × IsPermittedTo e.act e.seat)
 
 -- a history replays, its stops are earned, and its acts are held
 pub record IsSound (s : Setup) (js : List Judge) (h : List Entry) : Type 0 where
   pub replays : Replays s js h
-  pub earned : IsEarned h
-  pub held : IsHeld h
+  pub justified : IsJustified h
+  pub permitted : IsPermitted h
 
 -- ---- a whole run
 

@@ -26,21 +26,21 @@ spelled (Release f g) rest = spelled f (spelled g ((12, 0) ∷ rest))
 spelled (WeakUntil f g) rest = spelled f (spelled g ((13, 0) ∷ rest))
 
 -- the formula of a symbol and its operands
-abbrev made : ℕ → ℕ → Ltl → Ltl → Ltl
-made zero a f g = True
-made (suc zero) a f g = False
-made (suc (suc zero)) a f g = Atom a
-made (suc (suc (suc zero))) a f g = Not g
-made (suc (suc (suc (suc zero)))) a f g = Next g
-made (suc (suc (suc (suc (suc zero))))) a f g = Always g
-made (suc (suc (suc (suc (suc (suc zero)))))) a f g = Eventually g
-made (suc (suc (suc (suc (suc (suc (suc zero))))))) a f g = And f g
-made (suc (suc (suc (suc (suc (suc (suc (suc zero)))))))) a f g = Or f g
-made (suc (suc (suc (suc (suc (suc (suc (suc (suc zero))))))))) a f g = Imply f g
-made (suc (suc (suc (suc (suc (suc (suc (suc (suc (suc zero)))))))))) a f g = Equivalent f g
-made (suc (suc (suc (suc (suc (suc (suc (suc (suc (suc (suc zero))))))))))) a f g = Until f g
-made (suc (suc (suc (suc (suc (suc (suc (suc (suc (suc (suc (suc zero)))))))))))) a f g = Release f g
-made (suc (suc (suc (suc (suc (suc (suc (suc (suc (suc (suc (suc (suc n))))))))))))) a f g = WeakUntil f g
+abbrev formula_of_symbol : ℕ → ℕ → Ltl → Ltl → Ltl
+formula_of_symbol zero a f g = True
+formula_of_symbol (suc zero) a f g = False
+formula_of_symbol (suc (suc zero)) a f g = Atom a
+formula_of_symbol (suc (suc (suc zero))) a f g = Not g
+formula_of_symbol (suc (suc (suc (suc zero)))) a f g = Next g
+formula_of_symbol (suc (suc (suc (suc (suc zero))))) a f g = Always g
+formula_of_symbol (suc (suc (suc (suc (suc (suc zero)))))) a f g = Eventually g
+formula_of_symbol (suc (suc (suc (suc (suc (suc (suc zero))))))) a f g = And f g
+formula_of_symbol (suc (suc (suc (suc (suc (suc (suc (suc zero)))))))) a f g = Or f g
+formula_of_symbol (suc (suc (suc (suc (suc (suc (suc (suc (suc zero))))))))) a f g = Imply f g
+formula_of_symbol (suc (suc (suc (suc (suc (suc (suc (suc (suc (suc zero)))))))))) a f g = Equivalent f g
+formula_of_symbol (suc (suc (suc (suc (suc (suc (suc (suc (suc (suc (suc zero))))))))))) a f g = Until f g
+formula_of_symbol (suc (suc (suc (suc (suc (suc (suc (suc (suc (suc (suc (suc zero)))))))))))) a f g = Release f g
+formula_of_symbol (suc (suc (suc (suc (suc (suc (suc (suc (suc (suc (suc (suc (suc n))))))))))))) a f g = WeakUntil f g
 
 -- the formula on top of the stack
 abbrev top : List Ltl → Ltl
@@ -48,25 +48,25 @@ top [] = True
 top (f ∷ fs) = f
 
 -- the stack below it
-abbrev below : List Ltl → List Ltl
-below [] = []
-below (f ∷ fs) = fs
+abbrev rest_of_stack : List Ltl → List Ltl
+rest_of_stack [] = []
+rest_of_stack (f ∷ fs) = fs
 
 -- how many operands a symbol takes off the stack: none, one or two
 abbrev popped : ℕ → List Ltl → List Ltl
 popped zero fs = fs
 popped (suc zero) fs = fs
 popped (suc (suc zero)) fs = fs
-popped (suc (suc (suc zero))) fs = below fs
-popped (suc (suc (suc (suc zero)))) fs = below fs
-popped (suc (suc (suc (suc (suc zero))))) fs = below fs
-popped (suc (suc (suc (suc (suc (suc zero)))))) fs = below fs
-popped (suc (suc (suc (suc (suc (suc (suc n))))))) fs = below (below fs)
+popped (suc (suc (suc zero))) fs = rest_of_stack fs
+popped (suc (suc (suc (suc zero)))) fs = rest_of_stack fs
+popped (suc (suc (suc (suc (suc zero))))) fs = rest_of_stack fs
+popped (suc (suc (suc (suc (suc (suc zero)))))) fs = rest_of_stack fs
+popped (suc (suc (suc (suc (suc (suc (suc n))))))) fs = rest_of_stack (rest_of_stack fs)
 
 -- the stack of formulas after the symbols
 abbrev pub read_symbols : List Symbol → List Ltl → List Ltl
 read_symbols [] fs = fs
-read_symbols (s ∷ symbols) fs = read_symbols symbols (made s.0 s.1 (top (below fs)) (top fs) ∷ popped s.0 fs)
+read_symbols (s ∷ symbols) fs = read_symbols symbols (formula_of_symbol s.0 s.1 (top (rest_of_stack fs)) (top fs) ∷ popped s.0 fs)
 
 -- what is spelled is read again
 pub read_symbols-spelled : (f : Ltl) (rest : List Symbol) (fs : List Ltl) → read_symbols (spelled f rest) fs ≡ read_symbols rest (f ∷ fs)

@@ -13,7 +13,7 @@ use Rattle.rv_model.specs.declared.record.Delivered.TheVariants.{Done, Racing}
 use Rattle.rv_model.specs.declared.record.Record.{Record}
 use Rattle.rv_model.specs.Numbers.{has_bit}
 use Rattle.rv_model.specs.Judging.{Judge}
-use Rattle.rv_model.specs.Scripts.{Played, played, is_shown, fails}
+use Rattle.rv_model.specs.Scripts.{Played, played, is_enabled_by, fails}
 use Rattle.rv_model.specs.Histories.{Input}
 
 -- ---- one script
@@ -64,7 +64,7 @@ record_of line look (d, p) = record { order = d.order; line = line; monitor = d.
 
 -- the j-th delivery, stop or end of a turn makes the j-th of the deliveries that its look shows on
 abbrev pub turn_records : ℕ → ℕ → List Delivery → List Played → List Record
-turn_records line look ds ps = map (record_of line look) (zip (filter (is_shown look) ds) (filter is_delivery ps))
+turn_records line look ds ps = map (record_of line look) (zip (filter (is_enabled_by look) ds) (filter is_delivery ps))
 
 -- the records of a script, turn by turn
 abbrev pub script_records : List Delivery → List Turn → List Played → List Record

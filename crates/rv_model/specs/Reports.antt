@@ -20,7 +20,7 @@ use Rattle.rv_model.specs.Records.{is_failure, is_stopped, is_ended}
 
 -- what a report tells of a monitor besides its records
 pub record Reported : Type 0 where
-  pub shown : List ℕ
+  pub display_name : List ℕ
   pub scope : Scope
   pub spec : Spec
   pub reactor : Reactor
@@ -47,7 +47,7 @@ place_text tasks scope.Task instance = codes "[task " ++ task_text (task_at task
 
 -- an instance, by its monitor's shown name
 abbrev pub instance_text : List Task → Reported → ℕ → List ℕ
-instance_text tasks m instance = m.shown ++ place_text tasks m.scope instance
+instance_text tasks m instance = m.display_name ++ place_text tasks m.scope instance
 
 -- ---- reactions
 
@@ -100,12 +100,12 @@ instances_in tasks scope.Cpu = 64
 instances_in tasks scope.Task = length tasks
 
 -- the record is of a delivery or a stop of the monitor
-abbrev pub is_of : ℕ → Record → Bool
-is_of monitor r = r.monitor == monitor && not (is_ended r)
+abbrev pub is_of_monitor : ℕ → Record → Bool
+is_of_monitor monitor r = r.monitor == monitor && not (is_ended r)
 
 -- the record is of this instance of the monitor
 abbrev pub is_at : ℕ → ℕ → Record → Bool
-is_at monitor instance r = is_of monitor r && r.instance == instance
+is_at monitor instance r = is_of_monitor monitor r && r.instance == instance
 
 -- how many of the first n instances of a monitor have a record
 abbrev pub instance_count : ℕ → List Record → ℕ → ℕ
@@ -120,8 +120,8 @@ count_text shown instances deliveries failures stopped =
 -- a monitor's line
 abbrev pub summary_text : List Task → List Record → ℕ → Reported → List ℕ
 summary_text tasks records monitor m =
-    count_text m.shown (instance_count monitor records (instances_in tasks m.scope)) (count_by (is_of monitor) records)
-    (count_by (λ r. is_of monitor r && is_failure r) records) (count_by (λ r. is_of monitor r && is_stopped r) records)
+    count_text m.display_name (instance_count monitor records (instances_in tasks m.scope)) (count_by (is_of_monitor monitor) records)
+    (count_by (λ r. is_of_monitor monitor r && is_failure r) records) (count_by (λ r. is_of_monitor monitor r && is_stopped r) records)
 
 -- a line for each monitor, the first of which has this number
 abbrev pub summaries_text : List Task → List Record → ℕ → List Reported → List ℕ

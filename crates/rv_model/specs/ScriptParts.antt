@@ -1,4 +1,4 @@
--- Scripts so far, said by what may follow them. One thread and many feeders share these words.
+-- Private: scripts so far, said by what may follow them. One thread and many feeders share these words.
 use Rattle.std.specs.Prelude.{◌≡◌, ℕ, Bool, true, false, List, [], ◌++◌, map, filter, zip, slice_range}
 use Rattle.rv_model.specs.declared.record.Record.{Record}
 use Rattle.rv_model.specs.declared.work.Delivery.{Delivery}
@@ -14,7 +14,7 @@ abbrev pub records_in : ℕ → ℕ → List Delivery → List Played → List R
 records_in line look ds ps = map (record_of line look) (zip ds (filter is_delivery ps))
 
 -- the script goes on after it: whatever plays the rest, plays all with this before it
-pub record Part (s : Setup) (panics : ℕ → Bool) (look line : ℕ) (ds : List Delivery) (ps : List Played) (rs : List Record) : Type 0 where
+pub record TurnPart (s : Setup) (panics : ℕ → Bool) (look line : ℕ) (ds : List Delivery) (ps : List Played) (rs : List Record) : Type 0 where
   pub go : (rest : List Delivery) (turns : List (List Delivery)) (qs : List Played) → Delivers s panics look rest (PlaysTurns s panics turns) qs → Delivers s panics look (ds ++ rest) (PlaysTurns s panics turns) (ps ++ qs)
   pub until : (qs : List Played) → until_look (ps ++ qs) ≡ ps ++ until_look qs
   pub from : (qs : List Played) → from_look (ps ++ qs) ≡ from_look qs
@@ -30,7 +30,7 @@ pub record LastPart (s : Setup) (panics : ℕ → Bool) (look line : ℕ) (ds : 
 -- the last part where the script ends, and a part where it goes on
 abbrev pub PartOr : Bool → Setup → (ℕ → Bool) → ℕ → ℕ → List Delivery → List Played → List Record → Type 0
 PartOr true = LastPart
-PartOr false = Part
+PartOr false = TurnPart
 
 -- ---- whole turns
 
@@ -44,11 +44,11 @@ pub record GoesOn (s : Setup) (panics : ℕ → Bool) (ds : List Delivery) (turn
   pub records : (rest : List Turn) (qs : List Played) → PlaysTurns s panics (turn_lists ds rest) qs → script_records ds (turns ++ rest) (ps ++ qs) ≡ rs ++ script_records ds rest qs
 
 -- it is the whole script, whatever turns were to come
-pub record Ends (s : Setup) (panics : ℕ → Bool) (ds : List Delivery) (turns : List Turn) (ps : List Played) (rs : List Record) : Type 0 where
+pub record EndsScript (s : Setup) (panics : ℕ → Bool) (ds : List Delivery) (turns : List Turn) (ps : List Played) (rs : List Record) : Type 0 where
   pub plays : (rest : List Turn) → PlaysTurns s panics (turn_lists ds (turns ++ rest)) ps
   pub records : (rest : List Turn) → script_records ds (turns ++ rest) ps ≡ rs
 
 -- it is the whole script, or it goes on
 abbrev pub ScriptOr : Bool → Setup → (ℕ → Bool) → List Delivery → List Turn → List Played → List Record → Type 0
-ScriptOr true = Ends
+ScriptOr true = EndsScript
 ScriptOr false = GoesOn

@@ -28,8 +28,8 @@ played s js seat (e ∷ past) = if e.seat == seat then played s js seat past ++ 
 -- ---- a CPU
 
 -- the look shows monitoring on and the delivery's monitor enabled
-abbrev pub is_shown : ℕ → Delivery → Bool
-is_shown look d = has_bit look 32 && has_bit look d.monitor
+abbrev pub is_enabled_by : ℕ → Delivery → Bool
+is_enabled_by look d = has_bit look 32 && has_bit look d.monitor
 
 -- the answer is a failure
 abbrev pub fails : Answer → Bool
@@ -70,7 +70,7 @@ PlaysTurns s panics [] ps = ps ≡ []
 PlaysTurns s panics (turn ∷ turns) [] = ⊥
 PlaysTurns s panics (turn ∷ turns) (p ∷ ps) =
     (look : ℕ) × (p.0.act ≡ Look) × (p.1 ≡ Looked look)
-    × MatchBool (has_bit look 34) (ps ≡ []) (Delivers s panics look (filter (is_shown look) turn) (PlaysTurns s panics turns) ps)
+    × MatchBool (has_bit look 34) (ps ≡ []) (Delivers s panics look (filter (is_enabled_by look) turn) (PlaysTurns s panics turns) ps)
 
 -- the deliveries of each turn
 abbrev pub turns_of : Work → List (List Delivery)

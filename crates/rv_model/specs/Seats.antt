@@ -10,12 +10,12 @@ use Rattle.rv_model.specs.Histories.{IsSound}
 pub record Seat : Type 0 where
   pub number : ℕ
   pub end : ℕ
-  pub gone : List ℕ
+  pub joined_in : List ℕ
   pub seen : List Entry
 
 -- the number is from one up to another
-unfoldable pub is_in : ℕ → ℕ → ℕ → Bool
-is_in first end n = nat_le first n && nat_lt n end
+unfoldable pub is_within : ℕ → ℕ → ℕ → Bool
+is_within first end n = nat_le first n && nat_lt n end
 
 -- the number is among these
 unfoldable pub is_among : List ℕ → ℕ → Bool
@@ -23,7 +23,7 @@ is_among numbers n = list_any (λ m. m == n) numbers
 
 -- what a seat knows: the numbers from its own up to its end, and those that were joined into it
 unfoldable pub known_of : Seat → ℕ → Bool
-known_of seat n = is_in seat.number seat.end n || is_among seat.gone n
+known_of seat n = is_within seat.number seat.end n || is_among seat.joined_in n
 
 -- the entries of the seats whose number is known
 abbrev pub entries_of : (ℕ → Bool) → List Entry → List Entry
@@ -43,4 +43,4 @@ pub record Grows (s : Setup) (js : List Judge) (old new : Seat) (own : List Entr
   pub sound : IsSound s js new.seen
   pub number : new.number ≡ old.number
   pub end : new.end ≡ old.end
-  pub gone : new.gone ≡ old.gone
+  pub joined_in : new.joined_in ≡ old.joined_in

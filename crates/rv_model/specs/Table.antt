@@ -95,15 +95,15 @@ parts (of_events n rows) = inl (n, rows)
 parts (of_labels nodes) = inr nodes
 
 -- the table of these parts
-abbrev whole : (ℕ × List (List (Option ℕ))) ⊎ List Node → Table
-whole (inl p) = of_events p.0 p.1
-whole (inr nodes) = of_labels nodes
+abbrev table_of_parts : (ℕ × List (List (Option ℕ))) ⊎ List Node → Table
+table_of_parts (inl p) = of_events p.0 p.1
+table_of_parts (inr nodes) = of_labels nodes
 
 -- the parts of a table make it again
-pub whole-parts : (t : Table) → whole (parts t) ≡ t
+pub whole-parts : (t : Table) → table_of_parts (parts t) ≡ t
 whole-parts (of_events n rows) = refl
 whole-parts (of_labels nodes) = refl
 
 -- a table by the code of its parts
 abbrev pub coded_table : Coded Table
-coded_table = code_by ((ℕ × List (List (Option ℕ))) ⊎ List Node) (coded⊎ (coded× coded_ℕ (coded_list (coded_list (coded_option coded_ℕ)))) (coded_list coded_node)) parts whole whole-parts
+coded_table = code_by ((ℕ × List (List (Option ℕ))) ⊎ List Node) (coded⊎ (coded× coded_ℕ (coded_list (coded_list (coded_option coded_ℕ)))) (coded_list coded_node)) parts table_of_parts whole-parts

@@ -14,56 +14,56 @@ other Weak = Strong
 other Strong = Weak
 
 -- what is said of letters, in each view
-abbrev pub Says : Type 1
-Says = View → List ℕ → Type 0
+abbrev pub Property : Type 1
+Property = View → List ℕ → Type 0
 
 -- Of no letters all is so weakly, and nothing strongly. Of others it is what P says.
-abbrev pub OnLetter : (View → ℕ → List ℕ → Type 0) → Says
+abbrev pub OnLetter : (View → ℕ → List ℕ → Type 0) → Property
 OnLetter P Weak [] = Unit {0}
 OnLetter P Strong [] = ⊥
 OnLetter P v (x ∷ t) = P v x t
 
 -- what always holds
-abbrev pub TrueSays : Says
+abbrev pub TrueSays : Property
 TrueSays = OnLetter (λ v x t. Unit {0})
 
 -- what does not hold in the other view
-abbrev pub NotSays : Says → Says
+abbrev pub NotSays : Property → Property
 NotSays P = OnLetter (λ v x t. ¬ P (other v) (x ∷ t))
 
 -- both hold
-abbrev pub AndSays : Says → Says → Says
+abbrev pub AndSays : Property → Property → Property
 AndSays P Q = OnLetter (λ v x t. P v (x ∷ t) × Q v (x ∷ t))
 
 -- one holds at least
-abbrev pub OrSays : Says → Says → Says
+abbrev pub OrSays : Property → Property → Property
 OrSays P Q = OnLetter (λ v x t. P v (x ∷ t) ⊎ Q v (x ∷ t))
 
 -- some suffix, the empty one counts, has Q, and all earlier suffixes have P
-abbrev pub UntilSays : Says → Says → Says
+abbrev pub UntilSays : Property → Property → Property
 UntilSays P Q = OnLetter (λ v x t. (k : ℕ) × (k ≤ length (x ∷ t)) × Q v (drop k (x ∷ t)) × ((j : ℕ) → j < k → P v (drop j (x ∷ t))))
 
 -- it is not so that the denial of the one holds until that of the other
-abbrev pub ReleaseSays : Says → Says → Says
+abbrev pub ReleaseSays : Property → Property → Property
 ReleaseSays P Q = NotSays (UntilSays (NotSays P) (NotSays Q))
 
 -- what a formula says of letters in a view
-abbrev pub says : Ltl → Says
-says True = TrueSays
-says False = OnLetter (λ v x t. ⊥)
-says (Atom a) = OnLetter (λ v x t. IsTrue (has_bit x a))
-says (Not f) = NotSays (says f)
-says (Next f) = OnLetter (λ v x t. says f v t)
-says (And f g) = AndSays (says f) (says g)
-says (Or f g) = OrSays (says f) (says g)
-says (Imply f g) = OrSays (NotSays (says f)) (says g)
-says (Equivalent f g) = OrSays (AndSays (says f) (says g)) (AndSays (NotSays (says f)) (NotSays (says g)))
-says (Until f g) = UntilSays (says f) (says g)
-says (Release f g) = ReleaseSays (says f) (says g)
-says (WeakUntil f g) = ReleaseSays (says g) (OrSays (says f) (says g))
-says (Eventually f) = UntilSays TrueSays (says f)
-says (Always f) = NotSays (UntilSays TrueSays (NotSays (says f)))
+abbrev pub property_of : Ltl → Property
+property_of True = TrueSays
+property_of False = OnLetter (λ v x t. ⊥)
+property_of (Atom a) = OnLetter (λ v x t. IsTrue (has_bit x a))
+property_of (Not f) = NotSays (property_of f)
+property_of (Next f) = OnLetter (λ v x t. property_of f v t)
+property_of (And f g) = AndSays (property_of f) (property_of g)
+property_of (Or f g) = OrSays (property_of f) (property_of g)
+property_of (Imply f g) = OrSays (NotSays (property_of f)) (property_of g)
+property_of (Equivalent f g) = OrSays (AndSays (property_of f) (property_of g)) (AndSays (NotSays (property_of f)) (NotSays (property_of g)))
+property_of (Until f g) = UntilSays (property_of f) (property_of g)
+property_of (Release f g) = ReleaseSays (property_of f) (property_of g)
+property_of (WeakUntil f g) = ReleaseSays (property_of g) (OrSays (property_of f) (property_of g))
+property_of (Eventually f) = UntilSays TrueSays (property_of f)
+property_of (Always f) = NotSays (UntilSays TrueSays (NotSays (property_of f)))
 
 -- the formula holds on the letters in the view
 abbrev pub Satisfies : View → List ℕ → Ltl → Type 0
-Satisfies v w f = says f v w
+Satisfies v w f = property_of f v w

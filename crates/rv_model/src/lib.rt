@@ -25,5 +25,5 @@ pub use laws::{
 pub use name::{Name, Names};
 pub use reactor::Reactor;
 pub use record::{Delivered, Record, Task};
-pub use switches::{HALTED, MONITORING, REACTING, fails, has_switch, is_shown};
+pub use switches::{HALTED, MONITORING, REACTING, fails, has_switch, is_enabled_by};
 pub use work::{Change, CpuWork, Delivery, Scope, Turn};

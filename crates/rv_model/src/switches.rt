@@ -1,7 +1,7 @@
 //! The switches: their bits in word 0, and what a look at them shows.
 ghost use Rattle.std.specs.Prelude.{◌≡◌};
 ghost use Rattle.rv_model.specs.Numbers.{has_bit};
-ghost use Rattle.rv_model.specs.Scripts.{is_shown, fails};
+ghost use Rattle.rv_model.specs.Scripts.{is_enabled_by, fails};
 
 use crate::entry::Answer;
 use crate::work::Delivery;
@@ -23,8 +23,8 @@ pub fn has_switch(word: u64, bit: u8) -> bool
 }
 
 /// Whether a look shows the delivery on.
-pub fn is_shown(word: u64, delivery: &Delivery) -> bool
-    ensures { result ≡ is_shown word delivery.now }
+pub fn is_enabled_by(word: u64, delivery: &Delivery) -> bool
+    ensures { result ≡ is_enabled_by word delivery.now }
 {
     has_switch(word, MONITORING) && has_switch(word, delivery.monitor)
 }

@@ -3,7 +3,7 @@ use Rattle.std.proofs.Common.{◌≡◌, ℕ, zero, suc, ◌<◌, List, refl, ap
 use mathlib.Core.Path.{ap₂}
 use Rattle.rv_model.specs.Ltl.{False}
 use Rattle.rv_model.specs.Meaning.{Meaning, meaning, and_m, or_m, next_m, until_m, release_m}
-use Rattle.rv_nnf.specs.Parts.{Piece, Label, Later, Both, Either, Awaits, Releases, by_number, piece_at, piece_meaning, part_meaning, OperandsBelow, IsNormal}
+use Rattle.rv_nnf.specs.Parts.{PartValue, Label, Next, And, Or, Until, Release, by_number, part_value_at, part_value_meaning, part_meaning, OperandsBelow, IsNormal}
 
 -- the step at a number looks at smaller numbers alone
 abbrev pub Local : {A : Type 0} → ((ℕ → A) → ℕ → A) → Type 0
@@ -20,19 +20,19 @@ pub by_number_is : {A : Type 0} (d : A) (step : (ℕ → A) → ℕ → A) → L
 by_number_is d step loc k = loc _ _ k (λ i s. enough d step loc k (suc i) i s (omega arith))
 
 -- what a part says rests on its operands alone
-same_piece : (f g : ℕ → Meaning) (k : ℕ) (p : Piece) → OperandsBelow k p → ((i : ℕ) → i < k → f i ≡ g i) → piece_meaning f p ≡ piece_meaning g p
+same_piece : (f g : ℕ → Meaning) (k : ℕ) (p : PartValue) → OperandsBelow k p → ((i : ℕ) → i < k → f i ≡ g i) → part_value_meaning f p ≡ part_value_meaning g p
 same_piece f g k (Label x) b h = refl
-same_piece f g k (Later i) b h = ap next_m (h i b)
-same_piece f g k (Both i j) b h = ap₂ and_m (h i b.0) (h j b.1)
-same_piece f g k (Either i j) b h = ap₂ or_m (h i b.0) (h j b.1)
-same_piece f g k (Awaits i j) b h = ap₂ until_m (h i b.0) (h j b.1)
-same_piece f g k (Releases i j) b h = ap₂ release_m (h i b.0) (h j b.1)
+same_piece f g k (Next i) b h = ap next_m (h i b)
+same_piece f g k (And i j) b h = ap₂ and_m (h i b.0) (h j b.1)
+same_piece f g k (Or i j) b h = ap₂ or_m (h i b.0) (h j b.1)
+same_piece f g k (Until i j) b h = ap₂ until_m (h i b.0) (h j b.1)
+same_piece f g k (Release i j) b h = ap₂ release_m (h i b.0) (h j b.1)
 
 -- a part says what its operands make
-pub part_meaning_by : (ps : List Piece) → ((k : ℕ) → OperandsBelow k (piece_at ps k)) → (k : ℕ) → part_meaning ps k ≡ piece_meaning (part_meaning ps) (piece_at ps k)
+pub part_meaning_by : (ps : List PartValue) → ((k : ℕ) → OperandsBelow k (part_value_at ps k)) → (k : ℕ) → part_meaning ps k ≡ part_value_meaning (part_meaning ps) (part_value_at ps k)
 unfolding part_meaning
-part_meaning_by ps below k = by_number_is (meaning False) (λ m k. piece_meaning m (piece_at ps k)) (λ f g k h. same_piece f g k (piece_at ps k) (below k) h) k
+part_meaning_by ps below k = by_number_is (meaning False) (λ m k. part_value_meaning m (part_value_at ps k)) (λ f g k h. same_piece f g k (part_value_at ps k) (below k) h) k
 
 -- the same of a normal form
-pub part_meaning_is : (ps : List Piece) → IsNormal ps → (k : ℕ) → part_meaning ps k ≡ piece_meaning (part_meaning ps) (piece_at ps k)
+pub part_meaning_is : (ps : List PartValue) → IsNormal ps → (k : ℕ) → part_meaning ps k ≡ part_value_meaning (part_meaning ps) (part_value_at ps k)
 part_meaning_is ps n k = part_meaning_by ps n.below k

@@ -5,14 +5,14 @@ use Rattle.std.proofs.lemmas.Bool.{false≢true, or_cases}
 use Rattle.rv_model.specs.Formulas.{HasAtomsBelow}
 use Rattle.rv_model.specs.Ltl.{Ltl}
 use Rattle.rv_model.specs.Meaning.{meaning}
-use Rattle.rv_nnf.specs.Tree.{Tree, Label, Later, Both, Either, Awaits, Releases, tree_of}
+use Rattle.rv_nnf.specs.Tree.{Tree, Label, Next, And, Or, Until, Release, tree_of}
 use Rattle.rv_nnf.specs.Parts.{part_meaning, IsNormal}
 use Rattle.rv_nnf.specs.Lists.{among, place, with_new}
-use Rattle.rv_nnf.specs.NormalForm.{same_tree, parts_of, piece_of, numbered}
+use Rattle.rv_nnf.specs.NormalForm.{same_tree, parts_of, part_value_of, numbered_parts}
 use Rattle.rv_nnf.proofs.Places.{place_end, among_append}
 use Rattle.rv_nnf.proofs.Settled.{same_tree_decides, There, settled_nil}
 use Rattle.rv_nnf.proofs.Walked.{after, after_one, after_two, walked}
-use Rattle.rv_nnf.proofs.NumberedSays.{numbered_normal, numbered_says}
+use Rattle.rv_nnf.proofs.NumberedSays.{numbered_parts_normal, numbered_parts_says}
 use Rattle.rv_nnf.proofs.TreeLabels.{tree_plain}
 use Rattle.rv_nnf.proofs.TruthKept.{keeps}
 
@@ -21,11 +21,11 @@ use Rattle.rv_nnf.proofs.TruthKept.{keeps}
 -- how many subtrees a tree has, repeats counted
 abbrev size : Tree → ℕ
 size (Label f) = 1
-size (Later a) = size a + 1
-size (Both a b) = size a + size b + 1
-size (Either a b) = size a + size b + 1
-size (Awaits a b) = size a + size b + 1
-size (Releases a b) = size a + size b + 1
+size (Next a) = size a + 1
+size (And a b) = size a + size b + 1
+size (Or a b) = size a + size b + 1
+size (Until a b) = size a + size b + 1
+size (Release a b) = size a + size b + 1
 
 -- each in the list is at most that large
 abbrev Small : ℕ → List Tree → Type 0
@@ -54,11 +54,11 @@ small_new n ts t h l = go (among same_tree ts t)
 -- after a walk over a small tree
 after_small : (n : ℕ) (t : Tree) (ts : List Tree) → size t ≤ n → Small n ts → Small n (after ts t)
 after_small n (Label f) ts l h = small_new n ts (Label f) h l
-after_small n (Later a) ts l h = subst (Small n) (sym (after_one ts a (Later a))) (small_new n (after ts a) (Later a) (after_small n a ts (omega arith) h) l)
-after_small n (Both a b) ts l h = subst (Small n) (sym (after_two ts a b (Both a b))) (small_new n (after (after ts a) b) (Both a b) (after_small n b (after ts a) (omega arith) (after_small n a ts (omega arith) h)) l)
-after_small n (Either a b) ts l h = subst (Small n) (sym (after_two ts a b (Either a b))) (small_new n (after (after ts a) b) (Either a b) (after_small n b (after ts a) (omega arith) (after_small n a ts (omega arith) h)) l)
-after_small n (Awaits a b) ts l h = subst (Small n) (sym (after_two ts a b (Awaits a b))) (small_new n (after (after ts a) b) (Awaits a b) (after_small n b (after ts a) (omega arith) (after_small n a ts (omega arith) h)) l)
-after_small n (Releases a b) ts l h = subst (Small n) (sym (after_two ts a b (Releases a b))) (small_new n (after (after ts a) b) (Releases a b) (after_small n b (after ts a) (omega arith) (after_small n a ts (omega arith) h)) l)
+after_small n (Next a) ts l h = subst (Small n) (sym (after_one ts a (Next a))) (small_new n (after ts a) (Next a) (after_small n a ts (omega arith) h) l)
+after_small n (And a b) ts l h = subst (Small n) (sym (after_two ts a b (And a b))) (small_new n (after (after ts a) b) (And a b) (after_small n b (after ts a) (omega arith) (after_small n a ts (omega arith) h)) l)
+after_small n (Or a b) ts l h = subst (Small n) (sym (after_two ts a b (Or a b))) (small_new n (after (after ts a) b) (Or a b) (after_small n b (after ts a) (omega arith) (after_small n a ts (omega arith) h)) l)
+after_small n (Until a b) ts l h = subst (Small n) (sym (after_two ts a b (Until a b))) (small_new n (after (after ts a) b) (Until a b) (after_small n b (after ts a) (omega arith) (after_small n a ts (omega arith) h)) l)
+after_small n (Release a b) ts l h = subst (Small n) (sym (after_two ts a b (Release a b))) (small_new n (after (after ts a) b) (Release a b) (after_small n b (after ts a) (omega arith) (after_small n a ts (omega arith) h)) l)
 
 -- of no tree
 small_nil : (n : ℕ) → Small n []
@@ -83,11 +83,11 @@ two_small a b = after_small (size a + size b) b (after [] a) (omega arith) (afte
 -- the whole tree stands last
 ends : (t : Tree) → EndsWith (parts_of t) t
 ends (Label f) = ([], refl, refl)
-ends (Later a) = subst (λ ts. EndsWith ts (Later a)) (sym (after_one [] a (Later a))) (ends_new (size a) (after [] a) (Later a) (after_small (size a) a [] (omega arith) (small_nil _)) (omega arith))
-ends (Both a b) = subst (λ ts. EndsWith ts (Both a b)) (sym (after_two [] a b (Both a b))) (ends_new (size a + size b) (after (after [] a) b) (Both a b) (two_small a b) (omega arith))
-ends (Either a b) = subst (λ ts. EndsWith ts (Either a b)) (sym (after_two [] a b (Either a b))) (ends_new (size a + size b) (after (after [] a) b) (Either a b) (two_small a b) (omega arith))
-ends (Awaits a b) = subst (λ ts. EndsWith ts (Awaits a b)) (sym (after_two [] a b (Awaits a b))) (ends_new (size a + size b) (after (after [] a) b) (Awaits a b) (two_small a b) (omega arith))
-ends (Releases a b) = subst (λ ts. EndsWith ts (Releases a b)) (sym (after_two [] a b (Releases a b))) (ends_new (size a + size b) (after (after [] a) b) (Releases a b) (two_small a b) (omega arith))
+ends (Next a) = subst (λ ts. EndsWith ts (Next a)) (sym (after_one [] a (Next a))) (ends_new (size a) (after [] a) (Next a) (after_small (size a) a [] (omega arith) (small_nil _)) (omega arith))
+ends (And a b) = subst (λ ts. EndsWith ts (And a b)) (sym (after_two [] a b (And a b))) (ends_new (size a + size b) (after (after [] a) b) (And a b) (two_small a b) (omega arith))
+ends (Or a b) = subst (λ ts. EndsWith ts (Or a b)) (sym (after_two [] a b (Or a b))) (ends_new (size a + size b) (after (after [] a) b) (Or a b) (two_small a b) (omega arith))
+ends (Until a b) = subst (λ ts. EndsWith ts (Until a b)) (sym (after_two [] a b (Until a b))) (ends_new (size a + size b) (after (after [] a) b) (Until a b) (two_small a b) (omega arith))
+ends (Release a b) = subst (λ ts. EndsWith ts (Release a b)) (sym (after_two [] a b (Release a b))) (ends_new (size a + size b) (after (after [] a) b) (Release a b) (two_small a b) (omega arith))
 
 -- its place is the last
 last_place : (ts : List Tree) (t : Tree) → EndsWith ts t → place same_tree ts t ≡ length ts - 1
@@ -101,16 +101,16 @@ some_parts ts t (front, h, e) = let l = length-append front (t ∷ []) in let m 
 -- ---- the law
 
 -- the last part of the numbered list
-pub last_says : (f : Ltl) → HasAtomsBelow 32 f → part_meaning (numbered (parts_of (tree_of f true))) (length (numbered (parts_of (tree_of f true))) - 1) ≡ meaning f
+pub last_says : (f : Ltl) → HasAtomsBelow 32 f → part_meaning (numbered_parts (parts_of (tree_of f true))) (length (numbered_parts (parts_of (tree_of f true))) - 1) ≡ meaning f
 last_says f a =
     let t = tree_of f true in
     let ts = parts_of t in
     let w = walked t (tree_plain f true a) [] settled_nil in
-    let e : length (numbered ts) - 1 ≡ place same_tree ts t = (let l = length-map ts (piece_of ts) in let p = last_place ts t (ends t) in omega arith) in
-    ap (part_meaning (numbered ts)) e ∙ numbered_says ts w.0 t w.1 ∙ keeps f true
+    let e : length (numbered_parts ts) - 1 ≡ place same_tree ts t = (let l = length-map ts (part_value_of ts) in let p = last_place ts t (ends t) in omega arith) in
+    ap (part_meaning (numbered_parts ts)) e ∙ numbered_parts_says ts w.0 t w.1 ∙ keeps f true
 
 -- up to 64 numbered parts are a normal form
-pub normal_is : (f : Ltl) → HasAtomsBelow 32 f → length (parts_of (tree_of f true)) ≤ 64 → IsNormal (numbered (parts_of (tree_of f true)))
+pub normal_is : (f : Ltl) → HasAtomsBelow 32 f → length (parts_of (tree_of f true)) ≤ 64 → IsNormal (numbered_parts (parts_of (tree_of f true)))
 normal_is f a h =
     let t = tree_of f true in
-    numbered_normal (parts_of t) (walked t (tree_plain f true a) [] settled_nil).0 (some_parts (parts_of t) t (ends t)) h
+    numbered_parts_normal (parts_of t) (walked t (tree_plain f true a) [] settled_nil).0 (some_parts (parts_of t) t (ends t)) h

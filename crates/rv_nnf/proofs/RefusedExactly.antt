@@ -12,10 +12,10 @@ use Rattle.rv_model.specs.Ltl.{Ltl}
 use Rattle.rv_model.specs.Meaning.{Meaning, meaning}
 use Rattle.rv_model.specs.Truth.{View, Satisfies}
 use Rattle.rv_model.proofs.TruthLemmas.{tells}
-use Rattle.rv_nnf.specs.Tree.{Tree, Label, Later, Both, Either, Awaits, Releases, tree_of}
-use Rattle.rv_nnf.specs.Parts.{Piece, part_meaning, IsNormal}
+use Rattle.rv_nnf.specs.Tree.{Tree, Label, Next, And, Or, Until, Release, tree_of}
+use Rattle.rv_nnf.specs.Parts.{PartValue, part_meaning, IsNormal}
 use Rattle.rv_nnf.specs.Lists.{among, place}
-use Rattle.rv_nnf.specs.NormalForm.{same_tree, same_piece, parts_of, piece_of, numbered, normal_of}
+use Rattle.rv_nnf.specs.NormalForm.{same_tree, same_part, parts_of, part_value_of, numbered_parts, normal_of}
 use Rattle.rv_nnf.specs.Entering.{Entered, enter, try_enter, numbers}
 use Rattle.rv_nnf.proofs.OneByOne.{numbering, numbering_is}
 use Rattle.rv_nnf.proofs.TreeLabels.{tree_plain}
@@ -24,21 +24,21 @@ use Rattle.rv_nnf.proofs.LastPart.{normal_is, last_says}
 -- ---- the limit moves to the end
 
 -- entering a part shortens no list
-enter_grows : (ps : List Piece) (p : Piece) → length ps ≤ length (enter ps p).0
-enter_grows ps p = go (among same_piece ps p)
+enter_grows : (ps : List PartValue) (p : PartValue) → length ps ≤ length (enter ps p).0
+enter_grows ps p = go (among same_part ps p)
   where
     go : (b : Bool) → length ps ≤ length (cond b ps (ps ++ p ∷ []))
     go true = omega arith
     go false = let l = length-append ps (p ∷ []) in omega arith
 
 -- nor does entering a tree
-grows : (t : Tree) (ps : List Piece) → length ps ≤ length (numbering ps t).0
-grows (Label f) ps = enter_grows ps (Piece.Label f)
-grows (Later a) ps = let r = numbering ps a in omega (arith, grows a ps, enter_grows r.0 (Piece.Later r.1))
-grows (Both a b) ps = let r = numbering ps a in let q = numbering r.0 b in omega (arith, grows a ps, grows b r.0, enter_grows q.0 (Piece.Both r.1 q.1))
-grows (Either a b) ps = let r = numbering ps a in let q = numbering r.0 b in omega (arith, grows a ps, grows b r.0, enter_grows q.0 (Piece.Either r.1 q.1))
-grows (Awaits a b) ps = let r = numbering ps a in let q = numbering r.0 b in omega (arith, grows a ps, grows b r.0, enter_grows q.0 (Piece.Awaits r.1 q.1))
-grows (Releases a b) ps = let r = numbering ps a in let q = numbering r.0 b in omega (arith, grows a ps, grows b r.0, enter_grows q.0 (Piece.Releases r.1 q.1))
+grows : (t : Tree) (ps : List PartValue) → length ps ≤ length (numbering ps t).0
+grows (Label f) ps = enter_grows ps (PartValue.Label f)
+grows (Next a) ps = let r = numbering ps a in omega (arith, grows a ps, enter_grows r.0 (PartValue.Next r.1))
+grows (And a b) ps = let r = numbering ps a in let q = numbering r.0 b in omega (arith, grows a ps, grows b r.0, enter_grows q.0 (PartValue.And r.1 q.1))
+grows (Or a b) ps = let r = numbering ps a in let q = numbering r.0 b in omega (arith, grows a ps, grows b r.0, enter_grows q.0 (PartValue.Or r.1 q.1))
+grows (Until a b) ps = let r = numbering ps a in let q = numbering r.0 b in omega (arith, grows a ps, grows b r.0, enter_grows q.0 (PartValue.Until r.1 q.1))
+grows (Release a b) ps = let r = numbering ps a in let q = numbering r.0 b in omega (arith, grows a ps, grows b r.0, enter_grows q.0 (PartValue.Release r.1 q.1))
 
 -- refused where there are more than 64
 abbrev pub limited : Entered → Result Entered Refusal
@@ -53,7 +53,7 @@ then_limited r k out h e = go (nat_lt 64 (length r.0)) refl
     go false l = e
 
 -- the same for two operands
-two_limited : (P : ℕ → ℕ → Piece) (a b : Tree) (ps : List Piece) → numbers ps a ≡ limited (numbering ps a) → ((qs : List Piece) → numbers qs b ≡ limited (numbering qs b)) → and_then (numbers ps a) (λ r. and_then (numbers r.0 b) (λ q. try_enter q.0 (P r.1 q.1))) ≡ limited (let r = numbering ps a in let q = numbering r.0 b in enter q.0 (P r.1 q.1))
+two_limited : (P : ℕ → ℕ → PartValue) (a b : Tree) (ps : List PartValue) → numbers ps a ≡ limited (numbering ps a) → ((qs : List PartValue) → numbers qs b ≡ limited (numbering qs b)) → and_then (numbers ps a) (λ r. and_then (numbers r.0 b) (λ q. try_enter q.0 (P r.1 q.1))) ≡ limited (let r = numbering ps a in let q = numbering r.0 b in enter q.0 (P r.1 q.1))
 two_limited P a b ps ea eb =
     let r = numbering ps a in
     let q = numbering r.0 b in
@@ -65,16 +65,16 @@ two_limited P a b ps ea eb =
     (ap (λ (o : Result Entered Refusal). and_then o (λ q. try_enter q.0 (P r.1 q.1))) (eb r.0) ∙ then_limited q (λ q. try_enter q.0 (P r.1 q.1)) out last refl)
 
 -- entering with the limit at each part is entering without, and one limit at the end
-numbers_is : (t : Tree) (ps : List Piece) → numbers ps t ≡ limited (numbering ps t)
+numbers_is : (t : Tree) (ps : List PartValue) → numbers ps t ≡ limited (numbering ps t)
 numbers_is (Label f) ps = refl
-numbers_is (Later a) ps =
+numbers_is (Next a) ps =
     let r = numbering ps a in
-    ap (λ (o : Result Entered Refusal). and_then o (λ r. try_enter r.0 (Piece.Later r.1))) (numbers_is a ps)
-    ∙ then_limited r (λ r. try_enter r.0 (Piece.Later r.1)) (enter r.0 (Piece.Later r.1)) (enter_grows r.0 (Piece.Later r.1)) refl
-numbers_is (Both a b) ps = two_limited Piece.Both a b ps (numbers_is a ps) (λ qs. numbers_is b qs)
-numbers_is (Either a b) ps = two_limited Piece.Either a b ps (numbers_is a ps) (λ qs. numbers_is b qs)
-numbers_is (Awaits a b) ps = two_limited Piece.Awaits a b ps (numbers_is a ps) (λ qs. numbers_is b qs)
-numbers_is (Releases a b) ps = two_limited Piece.Releases a b ps (numbers_is a ps) (λ qs. numbers_is b qs)
+    ap (λ (o : Result Entered Refusal). and_then o (λ r. try_enter r.0 (PartValue.Next r.1))) (numbers_is a ps)
+    ∙ then_limited r (λ r. try_enter r.0 (PartValue.Next r.1)) (enter r.0 (PartValue.Next r.1)) (enter_grows r.0 (PartValue.Next r.1)) refl
+numbers_is (And a b) ps = two_limited PartValue.And a b ps (numbers_is a ps) (λ qs. numbers_is b qs)
+numbers_is (Or a b) ps = two_limited PartValue.Or a b ps (numbers_is a ps) (λ qs. numbers_is b qs)
+numbers_is (Until a b) ps = two_limited PartValue.Until a b ps (numbers_is a ps) (λ qs. numbers_is b qs)
+numbers_is (Release a b) ps = two_limited PartValue.Release a b ps (numbers_is a ps) (λ qs. numbers_is b qs)
 
 -- ---- from the empty list
 
@@ -87,13 +87,13 @@ abbrev pub unless : {A : Type 0} → Bool → A → Result A Refusal
 unless b a = cond b (refused_with TOO_MANY_PARTS) (Ok a)
 
 -- what the code makes is the numbered list and the number of the whole, or the refusal
-whole_is : (f : Ltl) → HasAtomsBelow 32 f → numbers [] (tree_of f true) ≡ unless (nat_lt 64 (length (all_parts f))) (numbered (all_parts f), place same_tree (all_parts f) (tree_of f true))
+whole_is : (f : Ltl) → HasAtomsBelow 32 f → numbers [] (tree_of f true) ≡ unless (nat_lt 64 (length (all_parts f))) (numbered_parts (all_parts f), place same_tree (all_parts f) (tree_of f true))
 whole_is f a =
     numbers_is (tree_of f true) [] ∙ ap limited (numbering_is (tree_of f true) (tree_plain f true a))
-    ∙ ap (λ n. let r : Entered = (numbered (all_parts f), place same_tree (all_parts f) (tree_of f true)) in unless (nat_lt 64 n) r) (length-map (all_parts f) (piece_of (all_parts f)))
+    ∙ ap (λ n. let r : Entered = (numbered_parts (all_parts f), place same_tree (all_parts f) (tree_of f true)) in unless (nat_lt 64 n) r) (length-map (all_parts f) (part_value_of (all_parts f)))
 
 -- the parts alone
-abbrev first_of : Result Entered Refusal → Result (List Piece) Refusal
+abbrev first_of : Result Entered Refusal → Result (List PartValue) Refusal
 first_of (Ok r) = Ok r.0
 first_of (Err e) = Err e
 
@@ -101,32 +101,32 @@ first_of (Err e) = Err e
 normal_is_first : (f : Ltl) → HasAtomsBelow 32 f → first_of (numbers [] (tree_of f true)) ≡ normal_of f
 normal_is_first f a = ap first_of (whole_is f a) ∙ go (nat_lt 64 (length (all_parts f)))
   where
-    go : (b : Bool) → first_of (unless b (let r : Entered = (numbered (all_parts f), place same_tree (all_parts f) (tree_of f true)) in r)) ≡ unless b (numbered (all_parts f))
+    go : (b : Bool) → first_of (unless b (let r : Entered = (numbered_parts (all_parts f), place same_tree (all_parts f) (tree_of f true)) in r)) ≡ unless b (numbered_parts (all_parts f))
     go true = refl
     go false = refl
 
 -- ---- what is known of a normal form
 
 -- it is one, and its last part says what the formula says
-pub record IsNormalOf (f : Ltl) (ps : List Piece) : Type 0 where
+pub record IsNormalOf (f : Ltl) (ps : List PartValue) : Type 0 where
   pub normal : IsNormal ps
   pub says : part_meaning ps (length ps - 1) ≡ meaning f
 
 -- the parts, or none
-abbrev parts_in : Result (List Piece) Refusal → List Piece
+abbrev parts_in : Result (List PartValue) Refusal → List PartValue
 parts_in (Ok ps) = ps
 parts_in (Err e) = []
 
 -- what the definition gives is a normal form of the formula
-pub normal_of_is : (f : Ltl) (ps : List Piece) → HasAtomsBelow 32 f → normal_of f ≡ Ok ps → IsNormalOf f ps
+pub normal_of_is : (f : Ltl) (ps : List PartValue) → HasAtomsBelow 32 f → normal_of f ≡ Ok ps → IsNormalOf f ps
 normal_of_is f ps a h = go (nat_lt 64 (length (all_parts f))) refl h
   where
-    go : (b : Bool) → nat_lt 64 (length (all_parts f)) ≡ b → unless b (numbered (all_parts f)) ≡ Ok ps → IsNormalOf f ps
+    go : (b : Bool) → nat_lt 64 (length (all_parts f)) ≡ b → unless b (numbered_parts (all_parts f)) ≡ Ok ps → IsNormalOf f ps
     go true l e = absurd (cc)
     go false l e = subst (IsNormalOf f) (ap parts_in e) (record { normal = normal_is f a (ltb-false 64 (length (all_parts f)) l); says = last_says f a })
 
 -- its last part holds exactly where the formula does
-pub holds_is : (f : Ltl) (ps : List Piece) → HasAtomsBelow 32 f → normal_of f ≡ Ok ps → (view : View) (letters : List ℕ) → IsTrue (part_meaning ps (length ps - 1) view letters) ↔ Satisfies view letters f
+pub holds_is : (f : Ltl) (ps : List PartValue) → HasAtomsBelow 32 f → normal_of f ≡ Ok ps → (view : View) (letters : List ℕ) → IsTrue (part_meaning ps (length ps - 1) view letters) ↔ Satisfies view letters f
 holds_is f ps a h view letters =
     let e = ap (λ (m : Meaning). m view letters) (normal_of_is f ps a h).says in
     let told = tells f view letters in
@@ -134,19 +134,19 @@ holds_is f ps a h view letters =
 
 -- the refusal comes exactly past 64 parts
 pub refused_is : (f : Ltl) → (normal_of f ≡ refused_with TOO_MANY_PARTS) ↔ (64 < length (all_parts f))
-refused_is f = (go (nat_lt 64 (length (all_parts f))) refl, λ h. ap (λ b. unless b (numbered (all_parts f))) (lt-ltb 64 (length (all_parts f)) h))
+refused_is f = (go (nat_lt 64 (length (all_parts f))) refl, λ h. ap (λ b. unless b (numbered_parts (all_parts f))) (lt-ltb 64 (length (all_parts f)) h))
   where
-    go : (b : Bool) → nat_lt 64 (length (all_parts f)) ≡ b → unless b (numbered (all_parts f)) ≡ refused_with TOO_MANY_PARTS → 64 < length (all_parts f)
+    go : (b : Bool) → nat_lt 64 (length (all_parts f)) ≡ b → unless b (numbered_parts (all_parts f)) ≡ refused_with TOO_MANY_PARTS → 64 < length (all_parts f)
     go true l e = ltb-true 64 (length (all_parts f)) l
     go false l e = absurd (cc)
 
 -- ---- from what the code gives
 
 -- parts that were made from the empty list
-pub given : (f : Ltl) (start ps : List Piece) (k : ℕ) → HasAtomsBelow 32 f → start ≡ [] → numbers start (tree_of f true) ≡ Ok (ps, k) → normal_of f ≡ Ok ps
+pub given : (f : Ltl) (start ps : List PartValue) (k : ℕ) → HasAtomsBelow 32 f → start ≡ [] → numbers start (tree_of f true) ≡ Ok (ps, k) → normal_of f ≡ Ok ps
 given f start ps k a s h = sym (normal_is_first f a) ∙ ap first_of (ap (λ qs. numbers qs (tree_of f true)) (sym s) ∙ h)
 
 -- a refusal on the way, or want of memory
-pub refused : (e : Refused) (f : Ltl) (start : List Piece) → HasAtomsBelow 32 f → start ≡ [] → Refuses e (numbers start (tree_of f true)) → Refuses e (normal_of f)
+pub refused : (e : Refused) (f : Ltl) (start : List PartValue) → HasAtomsBelow 32 f → start ≡ [] → Refuses e (numbers start (tree_of f true)) → Refuses e (normal_of f)
 refused (Because refusal) f start a s h = sym (normal_is_first f a) ∙ ap first_of (ap (λ qs. numbers qs (tree_of f true)) (sym s) ∙ h)
 refused Memory f start a s h = tt

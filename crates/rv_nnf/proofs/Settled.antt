@@ -5,7 +5,7 @@ use Rattle.std.proofs.Math.Seq.{get_or-append_seam}
 use Rattle.std.proofs.lemmas.List.{get_or_append_left}
 use Rattle.std.proofs.lemmas.Bool.{false≢true, cases_lt}
 use Rattle.rv_model.specs.Ltl.{False}
-use Rattle.rv_nnf.specs.Tree.{Tree, Label, Later, Both, Either, Awaits, Releases}
+use Rattle.rv_nnf.specs.Tree.{Tree, Label, Next, And, Or, Until, Release}
 use Rattle.rv_nnf.specs.Parts.{IsLabel}
 use Rattle.rv_nnf.specs.Lists.{among, place, with_new}
 use Rattle.rv_nnf.specs.NormalForm.{same_tree}
@@ -18,29 +18,29 @@ same_tree_decides a b = decided_decides _
 -- each operand has P
 abbrev pub Operands : (Tree → Type 0) → Tree → Type 0
 Operands P (Label f) = Unit {0}
-Operands P (Later a) = P a
-Operands P (Both a b) = P a × P b
-Operands P (Either a b) = P a × P b
-Operands P (Awaits a b) = P a × P b
-Operands P (Releases a b) = P a × P b
+Operands P (Next a) = P a
+Operands P (And a b) = P a × P b
+Operands P (Or a b) = P a × P b
+Operands P (Until a b) = P a × P b
+Operands P (Release a b) = P a × P b
 
 -- from one fact of the operands to another
 pub operands_map : (P Q : Tree → Type 0) → ((u : Tree) → P u → Q u) → (t : Tree) → Operands P t → Operands Q t
 operands_map P Q f (Label g) h = tt
-operands_map P Q f (Later a) h = f a h
-operands_map P Q f (Both a b) h = (f a h.0, f b h.1)
-operands_map P Q f (Either a b) h = (f a h.0, f b h.1)
-operands_map P Q f (Awaits a b) h = (f a h.0, f b h.1)
-operands_map P Q f (Releases a b) h = (f a h.0, f b h.1)
+operands_map P Q f (Next a) h = f a h
+operands_map P Q f (And a b) h = (f a h.0, f b h.1)
+operands_map P Q f (Or a b) h = (f a h.0, f b h.1)
+operands_map P Q f (Until a b) h = (f a h.0, f b h.1)
+operands_map P Q f (Release a b) h = (f a h.0, f b h.1)
 
 -- from two facts to a third
 operands_zip : (P Q R : Tree → Type 0) → ((u : Tree) → P u → Q u → R u) → (t : Tree) → Operands P t → Operands Q t → Operands R t
 operands_zip P Q R f (Label g) h k = tt
-operands_zip P Q R f (Later a) h k = f a h k
-operands_zip P Q R f (Both a b) h k = (f a h.0 k.0, f b h.1 k.1)
-operands_zip P Q R f (Either a b) h k = (f a h.0 k.0, f b h.1 k.1)
-operands_zip P Q R f (Awaits a b) h k = (f a h.0 k.0, f b h.1 k.1)
-operands_zip P Q R f (Releases a b) h k = (f a h.0 k.0, f b h.1 k.1)
+operands_zip P Q R f (Next a) h k = f a h k
+operands_zip P Q R f (And a b) h k = (f a h.0 k.0, f b h.1 k.1)
+operands_zip P Q R f (Or a b) h k = (f a h.0 k.0, f b h.1 k.1)
+operands_zip P Q R f (Until a b) h k = (f a h.0 k.0, f b h.1 k.1)
+operands_zip P Q R f (Release a b) h k = (f a h.0 k.0, f b h.1 k.1)
 
 -- a tree that is a label is a proper one
 abbrev pub HasPlainRoot : Tree → Type 0

@@ -2,7 +2,7 @@
 use Rattle.std.proofs.Common.{◌≡◌, Bool, true, false, cond, refl}
 use Rattle.rv_model.specs.Formulas.{HasAtomsBelow}
 use Rattle.rv_model.specs.Ltl.{Ltl, True, False, Atom, Not, Next, Always, Eventually, And, Or, Imply, Equivalent, Until, Release, WeakUntil}
-use Rattle.rv_nnf.specs.Tree.{Tree, Label, is_plain, negated, signed, or_label, tree_of}
+use Rattle.rv_nnf.specs.Tree.{Tree, Label, is_propositional, negated, with_polarity, or_label, tree_of}
 use Rattle.rv_nnf.specs.Parts.{IsLabel}
 use Rattle.rv_nnf.proofs.Walked.{IsPlainTree}
 
@@ -13,23 +13,23 @@ label_negated False h = (refl, tt)
 label_negated f h = h
 
 -- at either sign
-label_signed : (s : Bool) (f : Ltl) → IsLabel f → IsLabel (signed s f)
-label_signed true f h = h
-label_signed false f h = label_negated f h
+label_with_polarity : (s : Bool) (f : Ltl) → IsLabel f → IsLabel (with_polarity s f)
+label_with_polarity true f h = h
+label_with_polarity false f h = label_negated f h
 
 -- a formula is one label, or its tree has proper ones
 plain_label : (f : Ltl) (s : Bool) (t : Tree) → HasAtomsBelow 32 f → IsPlainTree t → IsPlainTree (or_label f s t)
-plain_label f s t a h = go (is_plain f) refl
+plain_label f s t a h = go (is_propositional f) refl
   where
-    go : (b : Bool) → is_plain f ≡ b → IsPlainTree (cond b (Label (signed s f)) t)
-    go true e = label_signed s f (e, a)
+    go : (b : Bool) → is_propositional f ≡ b → IsPlainTree (cond b (Label (with_polarity s f)) t)
+    go true e = label_with_polarity s f (e, a)
     go false e = h
 
 -- all labels of a normal form are proper
 pub tree_plain : (f : Ltl) (s : Bool) → HasAtomsBelow 32 f → IsPlainTree (tree_of f s)
-tree_plain True s a = label_signed s True (refl, tt)
-tree_plain False s a = label_signed s False (refl, tt)
-tree_plain (Atom n) s a = label_signed s (Atom n) (refl, a)
+tree_plain True s a = label_with_polarity s True (refl, tt)
+tree_plain False s a = label_with_polarity s False (refl, tt)
+tree_plain (Atom n) s a = label_with_polarity s (Atom n) (refl, a)
 tree_plain (Not f) true a = plain_label (Not f) true _ a (tree_plain f false a)
 tree_plain (Not f) false a = plain_label (Not f) false _ a (tree_plain f true a)
 tree_plain (And f g) true a = plain_label (And f g) true _ a (tree_plain f true a.0, tree_plain g true a.1)

@@ -5,7 +5,7 @@ use Rattle.rv_model.specs.Ltl.{Ltl, True, False, Atom, Not, Next, Always, Eventu
 use Rattle.rv_model.specs.Truth.{View}
 use Rattle.rv_model.specs.Meaning.{Meaning, true_m, not_m, and_m, or_m, next_m, until_m, release_m, meaning}
 use Rattle.rv_model.proofs.TruthLemmas.{proper}
-use Rattle.rv_nnf.specs.Tree.{Tree, Label, is_plain, negated, signed, or_label, tree_of, tree_meaning}
+use Rattle.rv_nnf.specs.Tree.{Tree, Label, is_propositional, negated, with_polarity, or_label, tree_of, tree_meaning}
 use Rattle.rv_nnf.proofs.Denials.{not_not_m, not_and_m, not_or_m, not_next_m, not_true_m, not_false_m, not_until_m, not_same_m}
 use Rattle.rv_nnf.proofs.NarrowViews.{narrow}
 
@@ -21,19 +21,19 @@ negated_says False = sym not_false_m
 negated_says f = refl
 
 -- at either sign
-signed_says : (s : Bool) (f : Ltl) → meaning (signed s f) ≡ says s (meaning f)
-signed_says true f = refl
-signed_says false f = negated_says f
+with_polarity_says : (s : Bool) (f : Ltl) → meaning (with_polarity s f) ≡ says s (meaning f)
+with_polarity_says true f = refl
+with_polarity_says false f = negated_says f
 
 -- a formula that is one label, or its tree
 label_says : (f : Ltl) (s : Bool) (t : Tree) → tree_meaning t ≡ says s (meaning f) → tree_meaning (or_label f s t) ≡ says s (meaning f)
-label_says f s t h = elim (is_plain f) as (λ b. tree_meaning (cond b (Label (signed s f)) t) ≡ says s (meaning f)) [ true ↦ signed_says s f | false ↦ h ]
+label_says f s t h = elim (is_propositional f) as (λ b. tree_meaning (cond b (Label (with_polarity s f)) t) ≡ says s (meaning f)) [ true ↦ with_polarity_says s f | false ↦ h ]
 
 -- the normal form says what the formula says, and that of the negation what its denial says
 pub keeps : (f : Ltl) (s : Bool) → tree_meaning (tree_of f s) ≡ says s (meaning f)
-keeps True s = signed_says s True
-keeps False s = signed_says s False
-keeps (Atom a) s = signed_says s (Atom a)
+keeps True s = with_polarity_says s True
+keeps False s = with_polarity_says s False
+keeps (Atom a) s = with_polarity_says s (Atom a)
 keeps (Not f) true = label_says (Not f) true _ (keeps f false)
 keeps (Not f) false = label_says (Not f) false _ (keeps f true ∙ sym (not_not_m (meaning f) (proper f)))
 keeps (And f g) true = label_says (And f g) true _ (ap₂ and_m (keeps f true) (keeps g true))

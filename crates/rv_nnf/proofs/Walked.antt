@@ -1,6 +1,6 @@
 -- A walk over a tree, whose subtrees join the list where they are not there yet.
 use Rattle.std.proofs.Common.{◌≡◌, List, [], ◌∷◌, ◌++◌, sym, ◌∙◌, subst}
-use Rattle.rv_nnf.specs.Tree.{Tree, Label, Later, Both, Either, Awaits, Releases}
+use Rattle.rv_nnf.specs.Tree.{Tree, Label, Next, And, Or, Until, Release}
 use Rattle.rv_nnf.specs.Parts.{IsLabel}
 use Rattle.rv_nnf.specs.Lists.{with_new, firsts}
 use Rattle.rv_nnf.specs.NormalForm.{same_tree, walk}
@@ -12,11 +12,11 @@ use Rattle.rv_nnf.proofs.Settled.{same_tree_decides, Operands, HasPlainRoot, The
 -- all labels of the tree are proper
 abbrev pub IsPlainTree : Tree → Type 0
 IsPlainTree (Label f) = IsLabel f
-IsPlainTree (Later a) = IsPlainTree a
-IsPlainTree (Both a b) = IsPlainTree a × IsPlainTree b
-IsPlainTree (Either a b) = IsPlainTree a × IsPlainTree b
-IsPlainTree (Awaits a b) = IsPlainTree a × IsPlainTree b
-IsPlainTree (Releases a b) = IsPlainTree a × IsPlainTree b
+IsPlainTree (Next a) = IsPlainTree a
+IsPlainTree (And a b) = IsPlainTree a × IsPlainTree b
+IsPlainTree (Or a b) = IsPlainTree a × IsPlainTree b
+IsPlainTree (Until a b) = IsPlainTree a × IsPlainTree b
+IsPlainTree (Release a b) = IsPlainTree a × IsPlainTree b
 
 -- the list after a walk
 abbrev pub after : List Tree → Tree → List Tree
@@ -47,8 +47,8 @@ walked_two ts a b t wa wb ops pl =
 -- after a walk the list is settled and has the tree
 pub walked : (t : Tree) → IsPlainTree t → (ts : List Tree) → IsSettled ts → IsWalked (after ts t) t
 walked (Label f) p ts s = walked_new ts s (Label f) tt p
-walked (Later a) p ts s = let w = walked a p ts s in subst (λ ts. IsWalked ts (Later a)) (sym (after_one ts a (Later a))) (walked_new (after ts a) w.0 (Later a) w.1 tt)
-walked (Both a b) p ts s = let w = walked a p.0 ts s in walked_two ts a b (Both a b) w (walked b p.1 (after ts a) w.0) (λ x y. (x, y)) tt
-walked (Either a b) p ts s = let w = walked a p.0 ts s in walked_two ts a b (Either a b) w (walked b p.1 (after ts a) w.0) (λ x y. (x, y)) tt
-walked (Awaits a b) p ts s = let w = walked a p.0 ts s in walked_two ts a b (Awaits a b) w (walked b p.1 (after ts a) w.0) (λ x y. (x, y)) tt
-walked (Releases a b) p ts s = let w = walked a p.0 ts s in walked_two ts a b (Releases a b) w (walked b p.1 (after ts a) w.0) (λ x y. (x, y)) tt
+walked (Next a) p ts s = let w = walked a p ts s in subst (λ ts. IsWalked ts (Next a)) (sym (after_one ts a (Next a))) (walked_new (after ts a) w.0 (Next a) w.1 tt)
+walked (And a b) p ts s = let w = walked a p.0 ts s in walked_two ts a b (And a b) w (walked b p.1 (after ts a) w.0) (λ x y. (x, y)) tt
+walked (Or a b) p ts s = let w = walked a p.0 ts s in walked_two ts a b (Or a b) w (walked b p.1 (after ts a) w.0) (λ x y. (x, y)) tt
+walked (Until a b) p ts s = let w = walked a p.0 ts s in walked_two ts a b (Until a b) w (walked b p.1 (after ts a) w.0) (λ x y. (x, y)) tt
+walked (Release a b) p ts s = let w = walked a p.0 ts s in walked_two ts a b (Release a b) w (walked b p.1 (after ts a) w.0) (λ x y. (x, y)) tt

@@ -3,17 +3,17 @@ use Rattle.std.specs.Prelude.{List, map}
 use Rattle.rv_model.specs.Formulas.{ltl}
 use Rattle.rv_nnf.specs.declared.parts.Part.{Part}
 use Rattle.rv_nnf.specs.declared.parts.Part.TheVariants.{Label, And, Or, Next, Until, Release}
-use Rattle.rv_nnf.specs.Parts.{Piece}
+use Rattle.rv_nnf.specs.Parts.{PartValue}
 
 -- the part without its boxes
-abbrev pub piece : Part → Piece
-piece (Label f) = Piece.Label (ltl f)
-piece (And i j) = Piece.Both i j
-piece (Or i j) = Piece.Either i j
-piece (Next i) = Piece.Later i
-piece (Until i j) = Piece.Awaits i j
-piece (Release i j) = Piece.Releases i j
+abbrev pub part_value : Part → PartValue
+part_value (Label f) = PartValue.Label (ltl f)
+part_value (And i j) = PartValue.And i j
+part_value (Or i j) = PartValue.Or i j
+part_value (Next i) = PartValue.Next i
+part_value (Until i j) = PartValue.Until i j
+part_value (Release i j) = PartValue.Release i j
 
 -- a list of them
-abbrev pub pieces : List Part → List Piece
-pieces parts = map piece parts
+abbrev pub part_values : List Part → List PartValue
+part_values parts = map part_value parts

@@ -3,8 +3,8 @@ ghost use Rattle.std.specs.Prelude.{◌≡◌, ◌↔◌, ◌≤◌, vec_len, Is
 ghost use Rattle.rv_text.specs.Readings.{Gives};
 ghost use Rattle.rv_nnf.specs.Entering.{try_enter};
 ghost use Rattle.rv_nnf.specs.Lists.{place as place_in};
-ghost use Rattle.rv_nnf.specs.NormalForm.{same_piece};
-ghost use Rattle.rv_nnf.specs.Views.{piece, pieces};
+ghost use Rattle.rv_nnf.specs.NormalForm.{same_part};
+ghost use Rattle.rv_nnf.specs.Views.{part_value, part_values};
 
 use crate::parts::Part;
 use rv_text::{Refusal, Refused, TOO_MANY_PARTS};
@@ -14,7 +14,7 @@ pub const MOST_PARTS: usize = 64;
 
 // Are the two the same part?
 fn equal(a: &Part, b: &Part) -> bool
-    ensures { IsTrue result ↔ piece a.now ≡ piece b.now }
+    ensures { IsTrue result ↔ part_value a.now ≡ part_value b.now }
 {
     match a {
         Part::Label(f) => match b {
@@ -31,7 +31,7 @@ fn equal(a: &Part, b: &Part) -> bool
 
 // Where the part first stands, or the number of parts where it does not.
 fn place(parts: &[Part], part: &Part) -> usize
-    ensures { result ≡ place_in same_piece (pieces parts.now) (piece part.now) }
+    ensures { result ≡ place_in same_part (part_values parts.now) (part_value part.now) }
 {
     for (i, candidate) in parts.iter().enumerate() {
         if equal(candidate, part) {
@@ -48,7 +48,7 @@ fn discard(_part: Part) {}
 #[tactic(auto, using(crate::proofs::EnterLemmas::place_most))]
 pub fn enter(parts: &mut Vec<Part>, part: Part) -> Result<u8, Refused>
     requires { vec_len parts.old ≤ 64 }
-    ensures gives { Gives (λ number. (pieces parts.new.items, number)) result (try_enter (pieces parts.old.items) (piece part)) }
+    ensures gives { Gives (λ number. (part_values parts.new.items, number)) result (try_enter (part_values parts.old.items) (part_value part)) }
     ensures few { OnOk result (vec_len parts.new ≤ 64) }
 {
     let at = place(parts, &part);

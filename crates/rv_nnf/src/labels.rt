@@ -2,27 +2,27 @@
 ghost use Rattle.std.specs.Prelude.{◌≡◌, IfOk};
 ghost use Rattle.rv_model.specs.Formulas.{ltl};
 ghost use Rattle.rv_model.specs.Ltl.{Or};
-ghost use Rattle.rv_nnf.specs.Tree.{is_plain as plain, signed};
+ghost use Rattle.rv_nnf.specs.Tree.{is_propositional as plain, with_polarity};
 
 use rv_model::Formula;
 use std::alloc::{AllocError, Global};
 
 /// Has the formula no temporal operator?
-pub fn is_plain(formula: &Formula) -> bool
+pub fn is_propositional(formula: &Formula) -> bool
     ensures { result ≡ plain (ltl formula.now) }
 {
     match formula {
         Formula::True | Formula::False | Formula::Atom(_) => true,
-        Formula::Not(f) => is_plain(f),
+        Formula::Not(f) => is_propositional(f),
         Formula::And(f, g) | Formula::Or(f, g) | Formula::Imply(f, g) | Formula::Equivalent(f, g) =>
-            is_plain(f) && is_plain(g),
+            is_propositional(f) && is_propositional(g),
         _ => false,
     }
 }
 
 /// The label of a formula without temporal operators, or of its negation.
 pub fn label(alloc: Global, formula: &Formula, positive: bool) -> Result<Formula, AllocError>
-    ensures { IfOk result (λ label. ltl label ≡ signed positive (ltl formula.now)) }
+    ensures { IfOk result (λ label. ltl label ≡ with_polarity positive (ltl formula.now)) }
 {
     if positive {
         return formula.copy(alloc);
@@ -41,7 +41,7 @@ pub fn or_label(
     g: &Formula,
     positive: bool,
 ) -> Result<Formula, AllocError>
-    ensures { IfOk result (λ label. ltl label ≡ signed positive (Or (ltl f.now) (ltl g.now))) }
+    ensures { IfOk result (λ label. ltl label ≡ with_polarity positive (Or (ltl f.now) (ltl g.now))) }
 {
     let left = Box::new(alloc, f.copy(alloc)?)?;
     let both = Formula::Or(left, Box::new(alloc, g.copy(alloc)?)?);

@@ -6,7 +6,7 @@ ghost use Rattle.rv_model.specs.Formulas.{HasAtomsBelow};
 ghost use Rattle.rv_model.specs.Meaning.{meaning, not_m};
 ghost use Rattle.rv_model.specs.Truth.{View, Satisfies};
 ghost use Rattle.rv_nnf.specs.NormalForm.{normal_of, parts_of};
-ghost use Rattle.rv_nnf.specs.Parts.{Piece, IsNormal, part_meaning, piece_meaning, piece_at};
+ghost use Rattle.rv_nnf.specs.Parts.{PartValue, IsNormal, part_meaning, part_value_meaning, part_value_at};
 ghost use Rattle.rv_nnf.specs.Tree.{tree_of, tree_meaning};
 
 use rv_text::TOO_MANY_PARTS;
@@ -24,14 +24,14 @@ pub fn weak_until_is_a_release()
 
 /// A part says what its operands make.
 pub fn part_is_what_its_operands_make()
-    ensures { (parts : List Piece) → IsNormal parts → (k : ℕ) → part_meaning parts k ≡ piece_meaning (part_meaning parts) (piece_at parts k) }
+    ensures { (parts : List PartValue) → IsNormal parts → (k : ℕ) → part_meaning parts k ≡ part_value_meaning (part_meaning parts) (part_value_at parts k) }
 {}
 
 /// The numbered parts of a formula are a normal form, and the last says what the formula says. There is a
 /// refusal exactly where there are more than 64.
 pub fn last_part_is_the_formula()
-    ensures normal { (f : Ltl) (parts : List Piece) → HasAtomsBelow 32 f → normal_of f ≡ Ok parts → IsNormal parts }
-    ensures holds { (f : Ltl) (parts : List Piece) → HasAtomsBelow 32 f → normal_of f ≡ Ok parts → (view : View) (letters : List ℕ) →
+    ensures normal { (f : Ltl) (parts : List PartValue) → HasAtomsBelow 32 f → normal_of f ≡ Ok parts → IsNormal parts }
+    ensures holds { (f : Ltl) (parts : List PartValue) → HasAtomsBelow 32 f → normal_of f ≡ Ok parts → (view : View) (letters : List ℕ) →
         IsTrue (part_meaning parts (length parts - 1) view letters) ↔ Satisfies view letters f }
     ensures refused { (f : Ltl) → normal_of f ≡ refused_with TOO_MANY_PARTS ↔ 64 < length (parts_of (tree_of f true)) }
 {}

@@ -8,10 +8,10 @@ ghost use Rattle.rv_nnf.specs.Entering.{numbers, and_or_of, until_release_of, co
 ghost use Rattle.rv_nnf.specs.NormalForm.{normal_of};
 ghost use Rattle.rv_nnf.specs.Parts.{part_meaning};
 ghost use Rattle.rv_nnf.specs.Tree.{tree_of};
-ghost use Rattle.rv_nnf.specs.Views.{piece, pieces};
+ghost use Rattle.rv_nnf.specs.Views.{part_value, part_values};
 
 use crate::entering::enter;
-use crate::labels::{is_plain, label, or_label};
+use crate::labels::{is_propositional, label, or_label};
 use crate::parts::{Normal, Part};
 use rv_model::Formula;
 use rv_text::Refused;
@@ -19,14 +19,14 @@ use std::alloc::Global;
 
 // An `and` or an `or`.
 fn and_or(and: bool, i: u8, j: u8) -> Part
-    ensures { piece result ≡ and_or_of and i j }
+    ensures { part_value result ≡ and_or_of and i j }
 {
     if and { Part::And(i, j) } else { Part::Or(i, j) }
 }
 
 // An until or a release.
 fn until_release(until: bool, i: u8, j: u8) -> Part
-    ensures { piece result ≡ until_release_of until i j }
+    ensures { part_value result ≡ until_release_of until i j }
 {
     if until {
         Part::Until(i, j)
@@ -37,7 +37,7 @@ fn until_release(until: bool, i: u8, j: u8) -> Part
 
 // The label `true` or `false`.
 fn constant(value: bool) -> Part
-    ensures { piece result ≡ constant_of value }
+    ensures { part_value result ≡ constant_of value }
 {
     Part::Label(if value { Formula::True } else { Formula::False })
 }
@@ -52,10 +52,10 @@ fn either(
     positive: bool,
 ) -> Result<u8, Refused>
     requires { vec_len parts.old ≤ 64 }
-    ensures gives { Gives (λ number. (pieces parts.new.items, number)) result (numbers (pieces parts.old.items) (tree_of (Or (ltl f.now) (ltl g.now)) positive)) }
+    ensures gives { Gives (λ number. (part_values parts.new.items, number)) result (numbers (part_values parts.old.items) (tree_of (Or (ltl f.now) (ltl g.now)) positive)) }
     ensures few { OnOk result (vec_len parts.new ≤ 64) }
 {
-    if is_plain(f) && is_plain(g) {
+    if is_propositional(f) && is_propositional(g) {
         return enter(parts, Part::Label(or_label(alloc, f, g, positive)?));
     }
     let i = number(alloc, parts, f, positive)?;
@@ -73,10 +73,10 @@ fn number(
     positive: bool,
 ) -> Result<u8, Refused>
     requires { vec_len parts.old ≤ 64 }
-    ensures gives { Gives (λ number. (pieces parts.new.items, number)) result (numbers (pieces parts.old.items) (tree_of (ltl formula.now) positive)) }
+    ensures gives { Gives (λ number. (part_values parts.new.items, number)) result (numbers (part_values parts.old.items) (tree_of (ltl formula.now) positive)) }
     ensures few { OnOk result (vec_len parts.new ≤ 64) }
 {
-    if is_plain(formula) {
+    if is_propositional(formula) {
         return enter(parts, Part::Label(label(alloc, formula, positive)?));
     }
     match formula {

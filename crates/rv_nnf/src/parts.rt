@@ -27,16 +27,16 @@ pub struct Normal {
 
 impl Model for Normal {
     ghost use Rattle.std.specs.Prelude.{List};
-    ghost use Rattle.rv_nnf.specs.Parts.{Piece, IsNormal};
-    ghost use Rattle.rv_nnf.specs.Codes.{coded_pieces};
+    ghost use Rattle.rv_nnf.specs.Parts.{PartValue, IsNormal};
+    ghost use Rattle.rv_nnf.specs.Codes.{coded_parts};
 
-    ghost Value = { List Piece };
+    ghost Value = { List PartValue };
 
-    ghost coded = { coded_pieces };
+    ghost coded = { coded_parts };
 
-    ghost use Rattle.rv_nnf.specs.Views.{pieces};
+    ghost use Rattle.rv_nnf.specs.Views.{part_values};
 
-    ghost view = { λ normal. pieces normal.parts.items };
+    ghost view = { λ normal. part_values normal.parts.items };
 
-    ghost invariant = { λ normal. IsNormal (pieces normal.parts.items) };
+    ghost invariant = { λ normal. IsNormal (part_values normal.parts.items) };
 }

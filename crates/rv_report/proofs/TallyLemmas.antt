@@ -10,7 +10,7 @@ use Rattle.rv_model.specs.declared.record.Record.{Record}
 use Rattle.rv_model.specs.declared.record.Task.{Task}
 use Rattle.rv_model.specs.Numbers.{list_of}
 use Rattle.rv_model.specs.Records.{is_failure, is_stopped, is_ended, sort_records}
-use Rattle.rv_model.specs.Reports.{Reported, instances_in, is_of, is_at, count_text, summary_text}
+use Rattle.rv_model.specs.Reports.{Reported, instances_in, is_of_monitor, is_at, count_text, summary_text}
 use Rattle.rv_report.specs.declared.tally.Tally.{Tally}
 use Rattle.rv_report.specs.Tallies.{IsTally, AreTallies}
 use Rattle.rv_report.proofs.CountLemmas.{count-none, count-yes, count-no}
@@ -50,26 +50,26 @@ tally-mine instances rs r t t' goes long marked deliveries failures stopped was 
   seen = λ k lt.
       marked k (let l = was.many in omega arith) ∙ ap (λ (b : Bool). b || (r.instance == k)) (was.seen k lt)
       ∙ sym (any-snoc (is_at r.monitor k) rs r (r.instance == k) (ap (λ (b : Bool). b && (r.instance == k)) mine));
-  deliveries = deliveries ∙ ap (λ (n : ℕ). n + 1) was.deliveries ∙ sym (count-snoc (is_of r.monitor) rs r true mine);
+  deliveries = deliveries ∙ ap (λ (n : ℕ). n + 1) was.deliveries ∙ sym (count-snoc (is_of_monitor r.monitor) rs r true mine);
   failures = failures ∙ ap (λ (n : ℕ). n + (if is_failure r then 1 else 0)) was.failures
-      ∙ sym (count-snoc (λ x. is_of r.monitor x && is_failure x) rs r (is_failure r) (ap (λ (b : Bool). b && is_failure r) mine));
+      ∙ sym (count-snoc (λ x. is_of_monitor r.monitor x && is_failure x) rs r (is_failure r) (ap (λ (b : Bool). b && is_failure r) mine));
   stopped = stopped ∙ ap (λ (n : ℕ). n + (if is_stopped r then 1 else 0)) was.stopped
-      ∙ sym (count-snoc (λ x. is_of r.monitor x && is_stopped x) rs r (is_stopped r) (ap (λ (b : Bool). b && is_stopped r) mine));
+      ∙ sym (count-snoc (λ x. is_of_monitor r.monitor x && is_stopped x) rs r (is_stopped r) (ap (λ (b : Bool). b && is_stopped r) mine));
 }
   where
-    mine : is_of r.monitor r ≡ true
+    mine : is_of_monitor r.monitor r ≡ true
     mine = rw (same r.monitor, goes) refl
 
 -- not counted for the monitor
-tally-left : (monitor instances : ℕ) (rs : List Record) (r : Record) (t : Tally) → is_of monitor r ≡ false → IsTally monitor instances rs t → IsTally monitor instances (rs ++ r ∷ []) t
+tally-left : (monitor instances : ℕ) (rs : List Record) (r : Record) (t : Tally) → is_of_monitor monitor r ≡ false → IsTally monitor instances rs t → IsTally monitor instances (rs ++ r ∷ []) t
 tally-left monitor instances rs r t left was =
     let none : (n : ℕ) → n ≡ n + 0 = λ n. omega arith in
     record {
       many = was.many;
       seen = λ k lt. was.seen k lt ∙ or-false (list_any (is_at monitor k) rs) ∙ sym (any-snoc (is_at monitor k) rs r false (ap (λ (b : Bool). b && (r.instance == k)) left));
-      deliveries = was.deliveries ∙ none (count_by (is_of monitor) rs) ∙ sym (count-snoc (is_of monitor) rs r false left);
-      failures = was.failures ∙ none (count_by (λ x. is_of monitor x && is_failure x) rs) ∙ sym (count-snoc (λ x. is_of monitor x && is_failure x) rs r false (ap (λ (b : Bool). b && is_failure r) left));
-      stopped = was.stopped ∙ none (count_by (λ x. is_of monitor x && is_stopped x) rs) ∙ sym (count-snoc (λ x. is_of monitor x && is_stopped x) rs r false (ap (λ (b : Bool). b && is_stopped r) left));
+      deliveries = was.deliveries ∙ none (count_by (is_of_monitor monitor) rs) ∙ sym (count-snoc (is_of_monitor monitor) rs r false left);
+      failures = was.failures ∙ none (count_by (λ x. is_of_monitor monitor x && is_failure x) rs) ∙ sym (count-snoc (λ x. is_of_monitor monitor x && is_failure x) rs r false (ap (λ (b : Bool). b && is_failure r) left));
+      stopped = was.stopped ∙ none (count_by (λ x. is_of_monitor monitor x && is_stopped x) rs) ∙ sym (count-snoc (λ x. is_of_monitor monitor x && is_stopped x) rs r false (ap (λ (b : Bool). b && is_stopped r) left));
     }
   where
     or-false : (b : Bool) → b ≡ (b || false)
@@ -132,9 +132,9 @@ tally-sort : (monitor instances : ℕ) (rs : List Record) (t : Tally) → IsTall
 tally-sort monitor instances rs t was = record {
   many = was.many;
   seen = λ k lt. was.seen k lt ∙ sym (any-sort (is_at monitor k) rs);
-  deliveries = was.deliveries ∙ sym (count-sort (is_of monitor) rs);
-  failures = was.failures ∙ sym (count-sort (λ r. is_of monitor r && is_failure r) rs);
-  stopped = was.stopped ∙ sym (count-sort (λ r. is_of monitor r && is_stopped r) rs);
+  deliveries = was.deliveries ∙ sym (count-sort (is_of_monitor monitor) rs);
+  failures = was.failures ∙ sym (count-sort (λ r. is_of_monitor monitor r && is_failure r) rs);
+  stopped = was.stopped ∙ sym (count-sort (λ r. is_of_monitor monitor r && is_stopped r) rs);
 }
 
 -- all tallies
@@ -165,10 +165,10 @@ count-marks p bs are (suc n) le =
 
 -- the line of a tally is the monitor's
 pub line-is : (tasks : List Task) (rs : List Record) (monitor : ℕ) (m : Reported) (t : Tally) → IsTally monitor (instances_in tasks m.scope) rs t
-    → count_text m.shown (count_by (λ b. b) t.seen.items) t.deliveries t.failures t.stopped ≡ summary_text tasks rs monitor m
+    → count_text m.display_name (count_by (λ b. b) t.seen.items) t.deliveries t.failures t.stopped ≡ summary_text tasks rs monitor m
 line-is tasks rs monitor m t is =
     let n = instances_in tasks m.scope in
     let all : count_by (λ b. b) t.seen.items ≡ count_by (λ k. list_any (is_at monitor k) rs) (list_of (λ k. k) n) =
     ap (count_by (λ b. b)) (sym (take_all n t.seen.items (let l = is.many in omega arith)))
     ∙ count-marks (λ k. list_any (is_at monitor k) rs) t.seen.items (λ k lt. is.seen k (let l = is.many in omega arith)) n (let l = is.many in omega arith) in
-    λ i. count_text m.shown (all i) (is.deliveries i) (is.failures i) (is.stopped i)
+    λ i. count_text m.display_name (all i) (is.deliveries i) (is.failures i) (is.stopped i)

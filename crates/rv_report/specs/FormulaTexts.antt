@@ -94,8 +94,8 @@ row_labels atoms zero labels = []
 row_labels atoms (suc row) labels = codes "[" ++ labels_text atoms labels ++ codes "] "
 
 -- the line of a row
-abbrev pub row_text : List (List ℕ) → Table → ℕ → List ℕ
-row_text atoms t row = decimal row ++ codes " " ++ row_labels atoms row (node_in t row).labels ++ codes "->" ++ rows_text (node_in t row).next ++ line_end
+abbrev pub formula_row_text : List (List ℕ) → Table → ℕ → List ℕ
+formula_row_text atoms t row = decimal row ++ codes " " ++ row_labels atoms row (node_in t row).labels ++ codes "->" ++ rows_text (node_in t row).next ++ line_end
 
 -- how many nodes and atoms there are
 abbrev pub sizes_text : ℕ → ℕ → List ℕ
@@ -103,7 +103,7 @@ sizes_text nodes atoms = codes "nodes " ++ decimal nodes ++ codes ", atoms " ++ 
 
 -- the table of a formula: row 0, and then the nodes in order
 abbrev pub nodes_text : List (List ℕ) → Table → List ℕ
-nodes_text atoms t = sizes_text (row_count t - 1) (length atoms) ++ flat_map (row_text atoms t) (list_of (λ row. row) (row_count t))
+nodes_text atoms t = sizes_text (row_count t - 1) (length atoms) ++ flat_map (formula_row_text atoms t) (list_of (λ row. row) (row_count t))
 
 -- it is a formula's
 abbrev pub IsFormulaTable : Table → Type 0

@@ -1,5 +1,5 @@
 pub mod AutomatonTexts
 pub mod Exit
 pub mod FormulaTexts
-pub mod Shown
+pub mod Reported
 pub mod Tallies

@@ -1,21 +1,21 @@
--- What records come to: a tally for each monitor, and those whose reaction is printed.
+-- Private: what records come to: a tally for each monitor, and those whose reaction is printed.
 use Rattle.std.specs.Prelude.{◌≡◌, ℕ, ◌<◌, ◌&&◌, false, List, length, filter, count_by, slice_index_or}
 use Rattle.std.specs.List.{list_any}
 use Rattle.rv_model.specs.declared.record.Record.{Record}
 use Rattle.rv_model.specs.declared.record.Task.{Task}
 use Rattle.rv_model.specs.Records.{is_failure, is_stopped}
-use Rattle.rv_model.specs.Reports.{Reported, instances_in, is_of, is_at}
+use Rattle.rv_model.specs.Reports.{Reported, instances_in, is_of_monitor, is_at}
 use Rattle.rv_report.specs.declared.found.Found.{Found}
 use Rattle.rv_report.specs.declared.tally.Tally.{Tally}
-use Rattle.rv_report.specs.Shown.{is_printed}
+use Rattle.rv_report.specs.Reported.{is_printed}
 
 -- the tally of a monitor with so many instances over these records
 pub record IsTally (monitor instances : ℕ) (rs : List Record) (t : Tally) : Type 0 where
   pub many : length t.seen.items ≡ instances
   pub seen : (k : ℕ) → k < instances → slice_index_or t.seen.items k false ≡ list_any (is_at monitor k) rs
-  pub deliveries : t.deliveries ≡ count_by (is_of monitor) rs
-  pub failures : t.failures ≡ count_by (λ r. is_of monitor r && is_failure r) rs
-  pub stopped : t.stopped ≡ count_by (λ r. is_of monitor r && is_stopped r) rs
+  pub deliveries : t.deliveries ≡ count_by (is_of_monitor monitor) rs
+  pub failures : t.failures ≡ count_by (λ r. is_of_monitor monitor r && is_failure r) rs
+  pub stopped : t.stopped ≡ count_by (λ r. is_of_monitor monitor r && is_stopped r) rs
 
 -- the tallies of all monitors
 pub record AreTallies (monitors : List Reported) (tasks : List Task) (rs : List Record) (ts : List Tally) : Type 0 where

@@ -1,6 +1,6 @@
 //! The printed table of an automaton.
 ghost use Rattle.std.specs.Prelude.{◌≡◌, ◌++◌, ◌<◌, length, IfOk, OnOk, flat_map};
-ghost use Rattle.rv_report.specs.AutomatonTexts.{counts_text, mark_text, state_line, edge_line, leaving_line, state_text, automaton_text};
+ghost use Rattle.rv_report.specs.AutomatonTexts.{counts_text, state_mark, state_heading, edge_line, leaving_line, state_block, automaton_text};
 
 use crate::names::put_name;
 use crate::rows::has_row;
@@ -21,7 +21,7 @@ fn put_counts(out: &mut Line, states: usize, events: usize) -> Result<(), AllocE
 
 /// Whether the state is marked.
 fn put_mark(out: &mut Line, is_marked: bool) -> Result<(), AllocError>
-    ensures { OnOk result (out.new ≡ out.old ++ mark_text is_marked) }
+    ensures { OnOk result (out.new ≡ out.old ++ state_mark is_marked) }
 {
     if is_marked {
         out.text(b" marked")
@@ -33,7 +33,7 @@ fn put_mark(out: &mut Line, is_marked: bool) -> Result<(), AllocError>
 /// The line of a state.
 fn put_state_line(out: &mut Line, automaton: &Automaton, state: usize) -> Result<(), AllocError>
     requires { state < 31 }
-    ensures { OnOk result (out.new ≡ out.old ++ state_line automaton.now state) }
+    ensures { OnOk result (out.new ≡ out.old ++ state_heading automaton.now state) }
 {
     out.number((state + 1) as u64)?;
     out.text(b" ")?;
@@ -82,7 +82,7 @@ fn put_edges(out: &mut Line, events: &Names, state: usize, edges: &[Edge]) -> Re
 /// A state and its edges.
 fn put_state(out: &mut Line, automaton: &Automaton, state: usize) -> Result<(), AllocError>
     requires { state < 31 }
-    ensures { OnOk result (out.new ≡ out.old ++ state_text automaton.now state) }
+    ensures { OnOk result (out.new ≡ out.old ++ state_block automaton.now state) }
 {
     put_state_line(out, automaton, state)?;
     put_edges(out, &automaton.events, state, &automaton.edges)

@@ -2,7 +2,7 @@
 ghost use Rattle.std.specs.Prelude.{◌≡◌, ◌++◌, ◌<◌, ◌-◌, length, IfOk, OnOk, codes, flat_map};
 ghost use Rattle.rv_model.specs.Formulas.{ltl};
 ghost use Rattle.rv_table.specs.Rows.{HasNode, node_in};
-ghost use Rattle.rv_report.specs.FormulaTexts.{is_single, open_text, close_text, operator_text, formula_text, labels_text, further_text, member_text, rows_text, row_labels, row_text, sizes_text, nodes_text, IsFormulaTable};
+ghost use Rattle.rv_report.specs.FormulaTexts.{is_single, open_text, close_text, operator_text, formula_text, labels_text, further_text, member_text, rows_text, row_labels, formula_row_text, sizes_text, nodes_text, IsFormulaTable};
 
 use crate::names::put_name;
 use crate::rows::has_row;
@@ -156,7 +156,7 @@ fn put_row_labels(out: &mut Line, atoms: &Names, table: &Table, row: u32) -> Res
 /// The line of a row.
 fn put_row(out: &mut Line, atoms: &Names, table: &Table, row: u32) -> Result<(), AllocError>
     requires { HasNode table.now row }
-    ensures { OnOk result (out.new ≡ out.old ++ row_text atoms.now table.now row) }
+    ensures { OnOk result (out.new ≡ out.old ++ formula_row_text atoms.now table.now row) }
 {
     out.number(row as u64)?;
     out.text(b" ")?;

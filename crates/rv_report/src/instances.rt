@@ -1,7 +1,7 @@
 //! How monitors and their instances are called.
 ghost use Rattle.std.specs.Prelude.{◌≡◌, ◌++◌, OnOk};
 ghost use Rattle.rv_model.specs.Reports.{task_at, task_text, place_text};
-ghost use Rattle.rv_report.specs.Shown.{shown_by};
+ghost use Rattle.rv_report.specs.Reported.{shown_by};
 
 use crate::names::put_name;
 use rv_model::{Name, Names, Scope, Task};
@@ -10,7 +10,7 @@ use rv_text::Line;
 use std::alloc::AllocError;
 
 /// Appends a monitor's shown name.
-pub(crate) fn shown(
+pub(crate) fn display_name(
     out: &mut Line,
     containers: &Names,
     container: Option<u8>,

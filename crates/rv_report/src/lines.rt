@@ -4,7 +4,7 @@ ghost use Rattle.rv_model.specs.declared.record.Record.{Record};
 ghost use Rattle.rv_model.specs.Records.{sort_records};
 ghost use Rattle.rv_model.specs.Reports.{report_text};
 ghost use Rattle.rv_feed.specs.One.{lane_records};
-ghost use Rattle.rv_report.specs.Shown.{reported_of};
+ghost use Rattle.rv_report.specs.Reported.{reported_of};
 ghost use Rattle.rv_report.specs.Tallies.{IsFound};
 
 use crate::found::Found;

@@ -2,9 +2,9 @@
 ghost use Rattle.std.specs.Prelude.{◌≡◌, ◌++◌, [], OnOk, IfOk, slice_get, slice_index_or};
 ghost use Rattle.rv_model.specs.Reports.{event_text, state_text, fault_text, instance_text, reaction_text, record_text};
 ghost use Rattle.rv_react.specs.Reactions.{shown_fault};
-ghost use Rattle.rv_report.specs.Shown.{failed_set, is_loud, is_printed, reported, reported_of};
+ghost use Rattle.rv_report.specs.Reported.{failed_set, is_loud, is_printed, reported, reported_of};
 
-use crate::instances::{place, shown};
+use crate::instances::{display_name, place};
 use crate::rows::has_row;
 use rv_bind::{Bindings, Monitor};
 use rv_model::{Answer, Delivered, Name, Names, Reactor, Record, Spec, What};
@@ -64,7 +64,7 @@ fn react(
     ensures { OnOk result (out.new ≡ out.old ++ reaction_text monitor.now.reactor (instance_text tasks.now (reported containers.now monitor.now) made.now.instance) (fault_text monitor.now.spec made.now.hit.what set) made.now.line) }
 {
     let mut instance = Line::new(alloc);
-    shown(&mut instance, containers, monitor.container, &monitor.name)?;
+    display_name(&mut instance, containers, monitor.container, &monitor.name)?;
     place(&mut instance, tasks, monitor.scope, made.instance)?;
     let fault = fault(alloc, &monitor.spec, made.hit.what, set)?;
     reaction(out, monitor.reactor, instance.bytes(), &fault, made.line)

@@ -3,10 +3,10 @@ ghost use Rattle.std.specs.Prelude.{◌≡◌, ◌++◌, ℕ, List, count_by, le
 ghost use Rattle.rv_model.specs.declared.record.Record.{Record};
 ghost use Rattle.rv_model.specs.declared.record.Task.{Task};
 ghost use Rattle.rv_model.specs.Reports.{instances_in, count_text, summaries_text};
-ghost use Rattle.rv_report.specs.Shown.{reported_of, shown_by};
+ghost use Rattle.rv_report.specs.Reported.{reported_of, shown_by};
 ghost use Rattle.rv_report.specs.Tallies.{AreTallies};
 
-use crate::instances::shown;
+use crate::instances::display_name;
 use crate::tally::Tally;
 use rv_bind::{Bindings, Monitor};
 use rv_model::{Names, Scope};
@@ -34,7 +34,7 @@ fn count_line(
 ) -> Result<(), AllocError>
     ensures { OnOk result (out.new ≡ out.old ++ count_text (shown_by containers.now monitor.now.container monitor.now.name) (count_by (λ b. b) tally.now.seen.items) tally.now.deliveries tally.now.failures tally.now.stopped) }
 {
-    shown(out, containers, monitor.container, &monitor.name)?;
+    display_name(out, containers, monitor.container, &monitor.name)?;
     out.text(b": instances ")?;
     out.number(tally.instances() as u64)?;
     out.text(b", deliveries ")?;

@@ -8,19 +8,19 @@ use Rattle.rv_model.specs.declared.record.Task.{Task}
 use Rattle.rv_model.specs.declared.work.Scope.{Scope}
 use Rattle.rv_model.specs.declared.work.Scope.TheVariants as scopes
 use Rattle.rv_slots.specs.Shapes.{count_of}
-use Rattle.rv_slots.specs.Tasks.{same_task, is_held, with_task, number_of}
+use Rattle.rv_slots.specs.Tasks.{same_task, is_held, with_task, task_number}
 use Rattle.rv_bind.specs.declared.bindings.Monitor.{Monitor}
 use Rattle.rv_bind.specs.RuleValues.{OnValue}
-use Rattle.rv_bind.specs.WellFormed.{Kind, kind_of, kinds_of}
+use Rattle.rv_bind.specs.WellFormed.{MonitorKind, kind_of, kinds_of}
 use Rattle.rv_route.specs.declared.asking.Ask.TheVariants as asks
-use Rattle.rv_route.specs.Asking.{text_at, value_of, fires, pid_from, pid_at, pid_of, by_scope, asked_of, ask_of}
+use Rattle.rv_route.specs.Asking.{text_at, field_value, fires, pid_from, pid_at, pid_of, by_scope, asked_of, ask_of}
 
 -- ---- what a rule asks for
 
 -- the pid of a line or of its field never asks for an instance by its number
 no_instance : (fields : List ℕ) (line : TraceLine) (by : Option (List ℕ)) (i : ℕ) → pid_of fields line by ≡ asks.Instance i → ⊥
 no_instance fields line None i e = cc
-no_instance fields line (Some name) i e = value (value_of fields name) e
+no_instance fields line (Some name) i e = value (field_value fields name) e
   where
     small : (b : Bool) (n : ℕ) → (if b then asks.NoPid else asks.Pid n) ≡ asks.Instance i → ⊥
     small true n e = cc
@@ -59,13 +59,13 @@ pid-cpu fields line by scopes.Cpu pid e is = cc
 pid-cpu fields line by scopes.Task pid e is = cc
 
 -- the monitor of a kind
-pub record HasKind (monitors : List Monitor) (place : ℕ) (kind : Kind) : Type 0 where
+pub record HasKind (monitors : List Monitor) (place : ℕ) (kind : MonitorKind) : Type 0 where
   pub monitor : Monitor
   pub there : slice_get monitors place ≡ Some monitor
   pub is : kind_of monitor ≡ kind
 
 -- the kind at a place is that of the monitor at the same place
-pub has_kind : (monitors : List Monitor) (place : ℕ) (kind : Kind) → slice_get (kinds_of monitors) place ≡ Some kind → HasKind monitors place kind
+pub has_kind : (monitors : List Monitor) (place : ℕ) (kind : MonitorKind) → slice_get (kinds_of monitors) place ≡ Some kind → HasKind monitors place kind
 has_kind [] place kind e = cc
 has_kind (m ∷ monitors) zero kind e = record { monitor = m; there = refl; is = cc }
 has_kind (m ∷ monitors) (suc place) kind e = let h = has_kind monitors place kind e in record { monitor = h.monitor; there = h.there; is = h.is }
@@ -110,10 +110,10 @@ most p (x ∷ xs) = go (p x) refl (most p xs)
     go false is le = rw is (omega arith)
 
 -- the number of a task is that of one of the tasks once this one is used
-pub number-below : (tasks : List Task) (task : Task) → number_of tasks task < length (with_task tasks task)
+pub number-below : (tasks : List Task) (task : Task) → task_number tasks task < length (with_task tasks task)
 number-below tasks task = go (is_held tasks task) refl
   where
-    go : (b : Bool) → is_held tasks task ≡ b → number_of tasks task < length (if b then tasks else tasks ++ task ∷ [])
+    go : (b : Bool) → is_held tasks task ≡ b → task_number tasks task < length (if b then tasks else tasks ++ task ∷ [])
     go true is = any-below (same_task task) tasks is
     go false is = let le = most (same_task task) tasks in rw length-append (omega arith)
 

@@ -8,27 +8,27 @@ use Rattle.rv_trace.specs.declared.line.Span.{Span}
 use Rattle.rv_trace.specs.declared.line.TraceLine.{TraceLine}
 use Rattle.rv_bind.specs.declared.bindings.Test.{Test}
 use Rattle.rv_bind.specs.declared.bindings.Test.TheVariants.{Is, IsNot}
-use Rattle.rv_route.specs.Asking.{text_at, passes, holds, pid_of, pid_found}
-use Rattle.rv_route.specs.Events.{name_of, names_of, found_at}
+use Rattle.rv_route.specs.Asking.{text_at, test_holds, holds, pid_of, pid_found}
+use Rattle.rv_route.specs.Events.{tested_field, tested_fields, found_at}
 
 -- what was looked up for a test is what its field has
-test-found : (fields : List ℕ) (found : List (Option Span)) (places : List ℕ) (tests : List Test) (i : ℕ) (test : Test) → map (found_at found) places ≡ map (field_of fields) (names_of tests) → i < length tests → test ≡ get_or tests i test
-    → found_at found (get_or places i 0) ≡ field_of fields (name_of test)
+test-found : (fields : List ℕ) (found : List (Option Span)) (places : List ℕ) (tests : List Test) (i : ℕ) (test : Test) → map (found_at found) places ≡ map (field_of fields) (tested_fields tests) → i < length tests → test ≡ get_or tests i test
+    → found_at found (get_or places i 0) ≡ field_of fields (tested_field test)
 test-found fields found places [] i test are inside is = absurd (omega arith)
 test-found fields found [] (t ∷ tests) i test are inside is = cc
-test-found fields found (place ∷ places) (t ∷ tests) zero test are inside is = let first : found_at found place ≡ field_of fields (name_of t) = cc in first ∙ ap (λ (u : Test). field_of fields (name_of u)) (sym is)
-test-found fields found (place ∷ places) (t ∷ tests) (suc i) test are inside is = let rest : map (found_at found) places ≡ map (field_of fields) (names_of tests) = cc in test-found fields found places tests i test rest (omega arith) is
+test-found fields found (place ∷ places) (t ∷ tests) zero test are inside is = let first : found_at found place ≡ field_of fields (tested_field t) = cc in first ∙ ap (λ (u : Test). field_of fields (tested_field u)) (sym is)
+test-found fields found (place ∷ places) (t ∷ tests) (suc i) test are inside is = let rest : map (found_at found) places ≡ map (field_of fields) (tested_fields tests) = cc in test-found fields found places tests i test rest (omega arith) is
 
 -- a test passes of what its own field has just where it holds
-passes-holds : (fields : List ℕ) (test : Test) → passes test (option_map (text_at fields) (field_of fields (name_of test))) ≡ holds fields test
-passes-holds fields (Is field wanted) = refl
-passes-holds fields (IsNot field wanted) = refl
+test_holds-holds : (fields : List ℕ) (test : Test) → test_holds test (option_map (text_at fields) (field_of fields (tested_field test))) ≡ holds fields test
+test_holds-holds fields (Is field wanted) = refl
+test_holds-holds fields (IsNot field wanted) = refl
 
 -- a test passes of what was looked up where it holds
-pub test-holds : (fields : List ℕ) (found : List (Option Span)) (places : List ℕ) (tests : List Test) (i : ℕ) (test : Test) (value : Option (List ℕ)) (result : Bool) → map (found_at found) places ≡ map (field_of fields) (names_of tests) → i < length tests → test ≡ get_or tests i test
-    → value ≡ option_map (text_at fields) (found_at found (get_or places i 0)) → result ≡ passes test value → holds fields test ≡ result
+pub test-holds : (fields : List ℕ) (found : List (Option Span)) (places : List ℕ) (tests : List Test) (i : ℕ) (test : Test) (value : Option (List ℕ)) (result : Bool) → map (found_at found) places ≡ map (field_of fields) (tested_fields tests) → i < length tests → test ≡ get_or tests i test
+    → value ≡ option_map (text_at fields) (found_at found (get_or places i 0)) → result ≡ test_holds test value → holds fields test ≡ result
 test-holds fields found places tests i test value result are inside is value_is result_is =
-    sym (result_is ∙ ap (passes test) (value_is ∙ ap (option_map (text_at fields)) (test-found fields found places tests i test are inside is)) ∙ passes-holds fields test)
+    sym (result_is ∙ ap (test_holds test) (value_is ∙ ap (option_map (text_at fields)) (test-found fields found places tests i test are inside is)) ∙ test_holds-holds fields test)
 
 module _ {X : Type 0} (p : X → Bool) where
   -- one more passes

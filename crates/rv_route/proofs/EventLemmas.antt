@@ -12,7 +12,7 @@ use Rattle.rv_trace.specs.declared.line.Span.{Span}
 use Rattle.rv_bind.specs.declared.bindings.Test.{Test}
 use Rattle.rv_bind.specs.RuleValues.{OnValue}
 use Rattle.rv_route.specs.declared.event.Asked.{Asked}
-use Rattle.rv_route.specs.Events.{Extends, HasFields, IsAsked, name_of, names_of, found_at, HasFound, is_on}
+use Rattle.rv_route.specs.Events.{Extends, HasFields, IsAsked, tested_field, tested_fields, found_at, HasFound, is_on_event}
 
 -- equal bytes are equal
 pub same_bytes : (a b : List ℕ) → bytes_eq a b ≡ true → a ≡ b
@@ -69,7 +69,7 @@ module _ (old new : List (List ℕ)) (grown : Extends old new) where
   pub asked-grown : (rules : List OnValue) (asked : Asked) (rule : OnValue) → IsAsked rules old asked rule → IsAsked rules new asked rule
   asked-grown rules asked rule is = record {
     there = is.there;
-    fields = record { tests = places-grown asked.tests.items (names_of rule.tests) is.fields.tests; by = by-grown asked.by rule.by is.fields.by };
+    fields = record { tests = places-grown asked.tests.items (tested_fields rule.tests) is.fields.tests; by = by-grown asked.by rule.by is.fields.by };
   }
 
   -- all rules of an event keep their places
@@ -151,16 +151,16 @@ module _ (fields : List ℕ) (names : List (List ℕ)) where
   -- the fields of a rule are found where its names stand
   pub has_found : (found : List (Option Span)) (asked : Asked) (rule : OnValue) → found ≡ map (field_of fields) names → HasFields names asked rule → HasFound fields found asked rule
   has_found found asked rule are is =
-      subst (λ (f : List (Option Span)). HasFound fields f asked rule) (sym are) (record { tests = found-tests asked.tests.items (names_of rule.tests) is.tests; by = found-by asked.by rule.by is.by })
+      subst (λ (f : List (Option Span)). HasFound fields f asked rule) (sym are) (record { tests = found-tests asked.tests.items (tested_fields rule.tests) is.tests; by = found-by asked.by rule.by is.by })
 
 -- the field of one more test
-pub names-more : (tests : List Test) (i : ℕ) (test : Test) (name : List ℕ) → i < length tests → test ≡ get_or tests i test → name ≡ name_of test → names_of (take (i + 1) tests) ≡ names_of (take i tests) ++ name ∷ []
+pub names-more : (tests : List Test) (i : ℕ) (test : Test) (name : List ℕ) → i < length tests → test ≡ get_or tests i test → name ≡ tested_field test → tested_fields (take (i + 1) tests) ≡ tested_fields (take i tests) ++ name ∷ []
 names-more tests i test name inside is named =
-    ap names_of (take_more tests i test inside) ∙ map_push name_of (take i tests) (get_or tests i test) ∙ ap (λ (n : List ℕ). names_of (take i tests) ++ n ∷ []) (sym (named ∙ ap name_of is))
+    ap tested_fields (take_more tests i test inside) ∙ map_push tested_field (take i tests) (get_or tests i test) ∙ ap (λ (n : List ℕ). tested_fields (take i tests) ++ n ∷ []) (sym (named ∙ ap tested_field is))
 
 -- one more rule is on the event, or is not
 pub on-more : (all : List OnValue) (event name : List ℕ) (i : ℕ) (rule : OnValue) (on : Bool) → i < length all → rule ≡ get_or all i rule → name ≡ rule.event → on ≡ bytes_eq event name
-    → filter (is_on event) (take (i + 1) all) ≡ filter (is_on event) (take i all) ++ cond on (rule ∷ []) []
+    → filter (is_on_event event) (take (i + 1) all) ≡ filter (is_on_event event) (take i all) ++ cond on (rule ∷ []) []
 on-more all event name i rule on inside is named on_is =
-    let here : is_on event rule ≡ on = sym (on_is ∙ ap (bytes_eq event) named) in
-    filter_more (is_on event) all i rule inside ∙ ap (λ (r : OnValue). filter (is_on event) (take i all) ++ cond (is_on event r) (r ∷ []) []) (sym is) ∙ ap (λ (b : Bool). filter (is_on event) (take i all) ++ cond b (rule ∷ []) []) here
+    let here : is_on_event event rule ≡ on = sym (on_is ∙ ap (bytes_eq event) named) in
+    filter_more (is_on_event event) all i rule inside ∙ ap (λ (r : OnValue). filter (is_on_event event) (take i all) ++ cond (is_on_event event r) (r ∷ []) []) (sym is) ∙ ap (λ (b : Bool). filter (is_on_event event) (take i all) ++ cond b (rule ∷ []) []) here

@@ -11,11 +11,11 @@ use Rattle.rv_model.specs.declared.work.Scope.{Scope}
 use Rattle.rv_model.specs.declared.work.Scope.TheVariants as scopes
 use Rattle.rv_model.specs.declared.work.Delivery.{Delivery}
 use Rattle.rv_slots.specs.Shapes.{count_of}
-use Rattle.rv_slots.specs.Tasks.{task_of, is_held, with_task, number_of}
+use Rattle.rv_slots.specs.Tasks.{task_of, is_held, with_task, task_number}
 use Rattle.rv_slots.specs.declared.tasks.TheConstants.{MAX_TASKS}
 use Rattle.rv_bind.specs.declared.bindings.Monitor.{Monitor}
 use Rattle.rv_bind.specs.RuleValues.{OnValue}
-use Rattle.rv_bind.specs.WellFormed.{Kind, kinds_of, FitsKind}
+use Rattle.rv_bind.specs.WellFormed.{MonitorKind, kinds_of, FitsKind}
 use Rattle.rv_route.specs.declared.deliveries.TheConstants.{MAX_DELIVERIES}
 use Rattle.rv_route.specs.declared.asking.Ask.{Ask}
 use Rattle.rv_route.specs.declared.asking.Ask.TheVariants as asks
@@ -112,8 +112,8 @@ module _ (text : List ℕ) (lines : List TraceLine) (monitors : List Monitor) wh
           kind = k.kind;
           there = k.there;
           hit = k.hit;
-          instance_fits = subst (λ (kind : Kind). i < count_of (length routes.tasks) kind.scope) h.is fits;
-          by_cpu = λ is_cpu. instance-cpu (text_at text line.fields) line rule.by h.monitor.scope i by (ap (λ (kind : Kind). kind.scope) h.is ∙ is_cpu);
+          instance_fits = subst (λ (kind : MonitorKind). i < count_of (length routes.tasks) kind.scope) h.is fits;
+          by_cpu = λ is_cpu. instance-cpu (text_at text line.fields) line rule.by h.monitor.scope i by (ap (λ (kind : MonitorKind). kind.scope) h.is ∙ is_cpu);
         }) f is
     answer_fits routes after rule (asks.Pid pid) k e f is = go (not (is_held routes.tasks (task_of pid line.cpu)) && length routes.tasks == MAX_TASKS) is
       where
@@ -123,24 +123,24 @@ module _ (text : List ℕ) (lines : List TraceLine) (monitors : List Monitor) wh
         next : Routes
         next = record routes { tasks = with_task routes.tasks (task_of pid line.cpu) }
 
-        fits : FitsKindOf (kinds_of monitors) (length (with_task routes.tasks (task_of pid line.cpu))) line.cpu (record { order = routes.count; monitor = rule.monitor; instance = number_of routes.tasks (task_of pid line.cpu); hit = rule.hit })
+        fits : FitsKindOf (kinds_of monitors) (length (with_task routes.tasks (task_of pid line.cpu))) line.cpu (record { order = routes.count; monitor = rule.monitor; instance = task_number routes.tasks (task_of pid line.cpu); hit = rule.hit })
         fits =
             let h = has_kind monitors rule.monitor k.kind k.there in
             let by = asked-pid text line monitors rule h.monitor h.there pid e in
-            let below = pid-scope (text_at text line.fields) line rule.by h.monitor.scope pid (number_of routes.tasks (task_of pid line.cpu)) (length (with_task routes.tasks (task_of pid line.cpu))) by (number-below routes.tasks (task_of pid line.cpu)) in
+            let below = pid-scope (text_at text line.fields) line rule.by h.monitor.scope pid (task_number routes.tasks (task_of pid line.cpu)) (length (with_task routes.tasks (task_of pid line.cpu))) by (number-below routes.tasks (task_of pid line.cpu)) in
             record {
               kind = k.kind;
               there = k.there;
               hit = k.hit;
-              instance_fits = subst (λ (kind : Kind). number_of routes.tasks (task_of pid line.cpu) < count_of (length (with_task routes.tasks (task_of pid line.cpu))) kind.scope) h.is below;
-              by_cpu = λ is_cpu. absurd (pid-cpu (text_at text line.fields) line rule.by h.monitor.scope pid by (ap (λ (kind : Kind). kind.scope) h.is ∙ is_cpu));
+              instance_fits = subst (λ (kind : MonitorKind). task_number routes.tasks (task_of pid line.cpu) < count_of (length (with_task routes.tasks (task_of pid line.cpu))) kind.scope) h.is below;
+              by_cpu = λ is_cpu. absurd (pid-cpu (text_at text line.fields) line rule.by h.monitor.scope pid by (ap (λ (kind : MonitorKind). kind.scope) h.is ∙ is_cpu));
             }
 
         go : (b : Bool)
             → (if b then Rattle.rv_text.specs.Readings.refused_at Rattle.rv_text.specs.declared.numbers.TheConstants.TOO_MANY_TASKS line.number
-            else deliver (record routes { tasks = with_task routes.tasks (task_of pid line.cpu) }) line rule (number_of routes.tasks (task_of pid line.cpu))) ≡ Ok after → RoutesFit lines (kinds_of monitors) line.number after
+            else deliver (record routes { tasks = with_task routes.tasks (task_of pid line.cpu) }) line rule (task_number routes.tasks (task_of pid line.cpu))) ≡ Ok after → RoutesFit lines (kinds_of monitors) line.number after
         go true is = cc
-        go false is = deliver_fits (record routes { tasks = with_task routes.tasks (task_of pid line.cpu) }) after rule (number_of routes.tasks (task_of pid line.cpu)) fits (tasks_fit routes (task_of pid line.cpu) f) is
+        go false is = deliver_fits (record routes { tasks = with_task routes.tasks (task_of pid line.cpu) }) after rule (task_number routes.tasks (task_of pid line.cpu)) fits (tasks_fit routes (task_of pid line.cpu) f) is
 
     pub line_fits : (rules : List OnValue) (routes after : Routes) → All (FitsKind (kinds_of monitors)) rules → RoutesFit lines (kinds_of monitors) line.number routes
         → line_routes text line monitors rules routes ≡ Ok after → RoutesFit lines (kinds_of monitors) line.number after

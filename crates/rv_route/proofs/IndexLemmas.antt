@@ -13,7 +13,7 @@ use Rattle.rv_route.specs.declared.event.Asked.{Asked}
 use Rattle.rv_route.specs.declared.event.Event.{Event}
 use Rattle.rv_route.specs.declared.asking.Ask.TheVariants as asks
 use Rattle.rv_route.specs.Asking.{text_at, ask_of, ask_on}
-use Rattle.rv_route.specs.Events.{is_on, IsEventOf, Index, event_at, AreEventsOf, HasEvent, IsIndexOf}
+use Rattle.rv_route.specs.Events.{is_on_event, IsEventOf, Index, event_at, AreEventsOf, HasEvent, IsIndexOf}
 use Rattle.rv_route.specs.Routing.{Routes, answer, line_routes}
 use Rattle.rv_route.proofs.EventLemmas.{same_bytes, At}
 use Rattle.rv_route.proofs.RoutingLemmas.{rule-more}
@@ -22,12 +22,12 @@ use Rattle.rv_route.proofs.RoutingLemmas.{rule-more}
 
 module _ (text : List ℕ) (line : TraceLine) (monitors : List Monitor) where
   -- a rule on the line's event asks by its fields
-  pub ask-on : (rule : OnValue) → is_on (text_at text line.name) rule ≡ true → ask_of text line monitors rule ≡ ask_on (text_at text line.fields) line monitors rule
+  pub ask-on : (rule : OnValue) → is_on_event (text_at text line.name) rule ≡ true → ask_of text line monitors rule ≡ ask_on (text_at text line.fields) line monitors rule
   unfolding ask_of
   ask-on rule on = rw on refl
 
   -- a rule on another event asks for nothing
-  ask-off : (rule : OnValue) → is_on (text_at text line.name) rule ≡ false → ask_of text line monitors rule ≡ asks.Quiet
+  ask-off : (rule : OnValue) → is_on_event (text_at text line.name) rule ≡ false → ask_of text line monitors rule ≡ asks.Quiet
   unfolding ask_of
   ask-off rule off = rw off refl
 
@@ -37,15 +37,15 @@ module _ (text : List ℕ) (line : TraceLine) (monitors : List Monitor) where
   then-same (Err refusal) f g same = refl
 
   -- the rules on other events do nothing
-  pub line-on : (rules : List OnValue) (routes : Routes) → line_routes text line monitors rules routes ≡ line_routes text line monitors (filter (is_on (text_at text line.name)) rules) routes
+  pub line-on : (rules : List OnValue) (routes : Routes) → line_routes text line monitors rules routes ≡ line_routes text line monitors (filter (is_on_event (text_at text line.name)) rules) routes
   unfolding line_routes
   line-on [] routes = refl
-  line-on (rule ∷ rules) routes = go (is_on (text_at text line.name) rule) refl (line-on rules)
+  line-on (rule ∷ rules) routes = go (is_on_event (text_at text line.name) rule) refl (line-on rules)
     where
-      go : (on : Bool) → is_on (text_at text line.name) rule ≡ on → ((r : Routes) → line_routes text line monitors rules r ≡ line_routes text line monitors (filter (is_on (text_at text line.name)) rules) r) →
+      go : (on : Bool) → is_on_event (text_at text line.name) rule ≡ on → ((r : Routes) → line_routes text line monitors rules r ≡ line_routes text line monitors (filter (is_on_event (text_at text line.name)) rules) r) →
           and_then (answer routes line rule (ask_of text line monitors rule)) (line_routes text line monitors rules)
-          ≡ line_routes text line monitors (cond on (rule ∷ filter (is_on (text_at text line.name)) rules) (filter (is_on (text_at text line.name)) rules)) routes
-      go true on rest = then-same (answer routes line rule (ask_of text line monitors rule)) (line_routes text line monitors rules) (line_routes text line monitors (filter (is_on (text_at text line.name)) rules)) rest
+          ≡ line_routes text line monitors (cond on (rule ∷ filter (is_on_event (text_at text line.name)) rules) (filter (is_on_event (text_at text line.name)) rules)) routes
+      go true on rest = then-same (answer routes line rule (ask_of text line monitors rule)) (line_routes text line monitors rules) (line_routes text line monitors (filter (is_on_event (text_at text line.name)) rules)) rest
       go false off rest = ap (λ ask. and_then (answer routes line rule ask) (line_routes text line monitors rules)) (ask-off rule off) ∙ rest routes
 
 -- ---- the event of a name
@@ -57,12 +57,12 @@ module _ (name : List ℕ) where
   found-event rules index event of is = subst (λ (found : Option Event). IfSome found (IsEventOf rules name)) is (of.events name)
 
   -- where each rule has its event, no rule is on a name without one
-  none-on : (index : Index) (rules : List OnValue) → event_at index name ≡ None → All (λ (rule : OnValue). HasEvent index rule.event) rules → filter (is_on name) rules ≡ []
+  none-on : (index : Index) (rules : List OnValue) → event_at index name ≡ None → All (λ (rule : OnValue). HasEvent index rule.event) rules → filter (is_on_event name) rules ≡ []
   unfolding HasEvent
   none-on index [] none has = refl
-  none-on index (rule ∷ rules) none has = go (is_on name rule) refl (none-on index rules none (All-tail (λ (r : OnValue). HasEvent index r.event) rule rules has))
+  none-on index (rule ∷ rules) none has = go (is_on_event name rule) refl (none-on index rules none (All-tail (λ (r : OnValue). HasEvent index r.event) rule rules has))
     where
-      go : (on : Bool) → is_on name rule ≡ on → filter (is_on name) rules ≡ [] → cond on (rule ∷ filter (is_on name) rules) (filter (is_on name) rules) ≡ []
+      go : (on : Bool) → is_on_event name rule ≡ on → filter (is_on_event name) rules ≡ [] → cond on (rule ∷ filter (is_on_event name) rules) (filter (is_on_event name) rules) ≡ []
       go true on rest =
           let there : is_some (event_at index rule.event) ≡ true = All-head (λ (r : OnValue). HasEvent index r.event) rule rules has in
           let gone : event_at index rule.event ≡ None = ap (event_at index) (sym (same_bytes name rule.event on)) ∙ none in
@@ -80,18 +80,18 @@ line-none text line monitors rules index routes of none =
 
 -- the next rule of the line's event
 pub fired : (text : List ℕ) (line : TraceLine) (monitors : List Monitor) (all : List OnValue) (names : List (List ℕ)) (event : List ℕ) (i : ℕ) (asked : Asked) (rule : OnValue) (ask : Ask) (routes : Routes) → bytes_eq (text_at text line.name) event ≡ true
-    → (at : At all names (filter (is_on event) all) i asked) → rule ≡ at.rule → ask ≡ ask_on (text_at text line.fields) line monitors rule
-    → line_routes text line monitors (drop i (filter (is_on event) all)) routes ≡ and_then (answer routes line rule ask) (line_routes text line monitors (drop (i + 1) (filter (is_on event) all)))
+    → (at : At all names (filter (is_on_event event) all) i asked) → rule ≡ at.rule → ask ≡ ask_on (text_at text line.fields) line monitors rule
+    → line_routes text line monitors (drop i (filter (is_on_event event) all)) routes ≡ and_then (answer routes line rule ask) (line_routes text line monitors (drop (i + 1) (filter (is_on_event event) all)))
 fired text line monitors all names event i asked rule ask routes same at rule_is ask_is =
-    let those = filter (is_on event) all in
-    let passes : is_on event at.rule ≡ true = subst (λ (r : OnValue). is_on event r ≡ true) (sym at.is) (filter_passes (is_on event) all i at.rule at.inside) in
+    let those = filter (is_on_event event) all in
+    let passes : is_on_event event at.rule ≡ true = subst (λ (r : OnValue). is_on_event event r ≡ true) (sym at.is) (filter_passes (is_on_event event) all i at.rule at.inside) in
     let named : text_at text line.name ≡ event = same_bytes (text_at text line.name) event same in
-    let on : is_on (text_at text line.name) at.rule ≡ true = ap (λ (n : List ℕ). is_on n at.rule) named ∙ passes in
+    let on : is_on_event (text_at text line.name) at.rule ≡ true = ap (λ (n : List ℕ). is_on_event n at.rule) named ∙ passes in
     let asks : ask_of text line monitors at.rule ≡ ask = ask-on text line monitors at.rule on ∙ ap (ask_on (text_at text line.fields) line monitors) (sym rule_is) ∙ sym ask_is in
     rule-more text line monitors those i at.rule routes at.inside at.is
     ∙ ap (λ (a : Ask). and_then (answer routes line at.rule a) (line_routes text line monitors (drop (i + 1) those))) asks
     ∙ ap (λ (r : OnValue). and_then (answer routes line r ask) (line_routes text line monitors (drop (i + 1) those))) (sym rule_is)
 
 -- all rules of the line's event are all that do anything
-pub line-event : (text : List ℕ) (line : TraceLine) (monitors : List Monitor) (rules : List OnValue) (event : List ℕ) (routes : Routes) → text_at text line.name ≡ event → line_routes text line monitors (filter (is_on event) rules) routes ≡ line_routes text line monitors rules routes
-line-event text line monitors rules event routes named = ap (λ (n : List ℕ). line_routes text line monitors (filter (is_on n) rules) routes) (sym named) ∙ sym (line-on text line monitors rules routes)
+pub line-event : (text : List ℕ) (line : TraceLine) (monitors : List Monitor) (rules : List OnValue) (event : List ℕ) (routes : Routes) → text_at text line.name ≡ event → line_routes text line monitors (filter (is_on_event event) rules) routes ≡ line_routes text line monitors rules routes
+line-event text line monitors rules event routes named = ap (λ (n : List ℕ). line_routes text line monitors (filter (is_on_event n) rules) routes) (sym named) ∙ sym (line-on text line monitors rules routes)

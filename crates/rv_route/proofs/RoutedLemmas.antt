@@ -8,7 +8,7 @@ use Rattle.rv_trace.specs.declared.line.TraceLine.{TraceLine}
 use Rattle.rv_model.specs.declared.work.Turn.{Turn}
 use Rattle.rv_model.specs.declared.work.Delivery.{Delivery}
 use Rattle.rv_model.specs.Works.{NamesEach}
-use Rattle.rv_slots.specs.Tasks.{task_of, is_held, with_task, number_of}
+use Rattle.rv_slots.specs.Tasks.{task_of, is_held, with_task, task_number}
 use Rattle.rv_slots.specs.declared.tasks.TheConstants.{MAX_TASKS}
 use Rattle.rv_bind.specs.declared.bindings.Monitor.{Monitor}
 use Rattle.rv_bind.specs.RuleValues.{OnValue}
@@ -17,7 +17,7 @@ use Rattle.rv_route.specs.declared.asking.Ask.{Ask}
 use Rattle.rv_route.specs.declared.asking.Ask.TheVariants as asks
 use Rattle.rv_route.specs.Asking.{ask_of}
 use Rattle.rv_route.specs.Lanes.{LaneValue, ends_with, longer, with_delivery, IsLane}
-use Rattle.rv_route.specs.Routing.{Routes, no_lane, delivered, deliver, answer, line_routes, nothing}
+use Rattle.rv_route.specs.Routing.{Routes, no_lane, delivered, deliver, answer, line_routes, no_routes}
 
 -- one more delivery goes to the last turn
 NamesEach-longer : (place : ℕ) (turns : List Turn) (count line : ℕ) → NamesEach place turns count → ends_with turns line ≡ true → NamesEach place (longer turns (count + 1)) (count + 1)
@@ -58,9 +58,9 @@ module _ (P : Routes → Type 0) (grows : (routes : Routes) (line : TraceLine) (
     where
       go : (b : Bool)
           → (if b then Rattle.rv_text.specs.Readings.refused_at Rattle.rv_text.specs.declared.numbers.TheConstants.TOO_MANY_TASKS line.number
-          else deliver (record routes { tasks = with_task routes.tasks (task_of pid line.cpu) }) line rule (number_of routes.tasks (task_of pid line.cpu))) ≡ Ok after → P after
+          else deliver (record routes { tasks = with_task routes.tasks (task_of pid line.cpu) }) line rule (task_number routes.tasks (task_of pid line.cpu))) ≡ Ok after → P after
       go true is = cc
-      go false is = deliver_keeps (record routes { tasks = with_task routes.tasks (task_of pid line.cpu) }) after line rule (number_of routes.tasks (task_of pid line.cpu)) (tasks routes pid line.cpu p) is
+      go false is = deliver_keeps (record routes { tasks = with_task routes.tasks (task_of pid line.cpu) }) after line rule (task_number routes.tasks (task_of pid line.cpu)) (tasks routes pid line.cpu p) is
 
   -- it holds after all rules have done what they ask for on a line
   pub line_keeps : (text : List ℕ) (line : TraceLine) (monitors : List Monitor) (rules : List OnValue) (routes after : Routes) → P routes → line_routes text line monitors rules routes ≡ Ok after → P after
@@ -75,9 +75,9 @@ module _ (P : Routes → Type 0) (grows : (routes : Routes) (line : TraceLine) (
       go (Err refusal) first later is = cc
 
 -- no lane has a turn
-pub lanes_nothing : (start : Routes) → start ≡ nothing → All IsLane start.lanes
-unfolding nothing
-lanes_nothing start none = subst (λ (routes : Routes). All IsLane routes.lanes) (sym none) (All-replicate IsLane 64 no_lane refl)
+pub lanes_no_routes : (start : Routes) → start ≡ no_routes → All IsLane start.lanes
+unfolding no_routes
+lanes_no_routes start none = subst (λ (routes : Routes). All IsLane routes.lanes) (sym none) (All-replicate IsLane 64 no_lane refl)
 
 -- every lane's turns name its deliveries
 pub lanes_line : (text : List ℕ) (monitors : List Monitor) (rules : List OnValue) (line : TraceLine) (routes after : Routes) → All IsLane routes.lanes → line_routes text line monitors rules routes ≡ Ok after → All IsLane after.lanes

@@ -9,7 +9,7 @@ use Rattle.rv_text.specs.Readings.{and_then, refused_at}
 use Rattle.rv_trace.specs.declared.line.TraceLine.{TraceLine}
 use Rattle.rv_model.specs.declared.work.Delivery.{Delivery}
 use Rattle.rv_model.specs.Works.{Work}
-use Rattle.rv_slots.specs.Tasks.{task_of, is_held, with_task, number_of}
+use Rattle.rv_slots.specs.Tasks.{task_of, is_held, with_task, task_number}
 use Rattle.rv_slots.specs.declared.tasks.TheConstants.{MAX_TASKS}
 use Rattle.rv_bind.specs.declared.bindings.Monitor.{Monitor}
 use Rattle.rv_bind.specs.RuleValues.{OnValue}
@@ -18,7 +18,7 @@ use Rattle.rv_route.specs.declared.asking.Ask.{Ask}
 use Rattle.rv_route.specs.declared.asking.Ask.TheVariants as asks
 use Rattle.rv_route.specs.Asking.{ask_of}
 use Rattle.rv_route.specs.Lanes.{LaneValue, with_delivery}
-use Rattle.rv_route.specs.Routing.{Routes, RoutedValue, no_lane, delivered, deliver, answer, line_routes, routes_of, nothing, works_from, routed_of, route_of}
+use Rattle.rv_route.specs.Routing.{Routes, RoutedValue, no_lane, delivered, deliver, answer, line_routes, routes_of, no_routes, works_from, routed_of, route_of}
 use Rattle.rv_route.specs.Fitting.{IsDeliveryOf, FromRules}
 
 -- ---- what all rules deliver, the lanes have
@@ -67,9 +67,9 @@ module _ (P : Delivery → Type 0) where
       go : (b : Bool)
           → IfOk
           (if b then refused_at TOO_MANY_TASKS line.number
-          else deliver (record routes { tasks = with_task routes.tasks (task_of pid line.cpu) }) line rule (number_of routes.tasks (task_of pid line.cpu))) InRoutes
+          else deliver (record routes { tasks = with_task routes.tasks (task_of pid line.cpu) }) line rule (task_number routes.tasks (task_of pid line.cpu))) InRoutes
       go true = tt
-      go false = deliver-in line rule (number_of routes.tasks (task_of pid line.cpu)) (record routes { tasks = with_task routes.tasks (task_of pid line.cpu) }) delivers all
+      go false = deliver-in line rule (task_number routes.tasks (task_of pid line.cpu)) (record routes { tasks = with_task routes.tasks (task_of pid line.cpu) }) delivers all
 
   -- so it is behind two steps, where each keeps it
   both-in : (first : Result Routes Refusal) (next : Routes → Result Routes Refusal) → IfOk first InRoutes → ((routes : Routes) → InRoutes routes → IfOk (next routes) InRoutes) → IfOk (and_then first next) InRoutes
@@ -108,14 +108,14 @@ all_deliver : (rules : List OnValue) → All (Delivers (λ d. Any (IsDeliveryOf 
 all_deliver rules k none below d is = (k, get_or rules k none, below, get_or_default rules k (get_or rules k none) none below, is)
 
 -- nothing has no delivery
-nothing-in : (P : Delivery → Type 0) → InRoutes P nothing
-unfolding nothing
-nothing-in P = All-replicate (InLane P) 64 no_lane (All-nil P)
+no_routes-in : (P : Delivery → Type 0) → InRoutes P no_routes
+unfolding no_routes
+no_routes-in P = All-replicate (InLane P) 64 no_lane (All-nil P)
 
 -- each delivery of what lines are routed to is one of a rule
 pub from_rules : (text : List ℕ) (monitors : List Monitor) (rules : List OnValue) (lines : List TraceLine) → IfOk (route_of monitors rules text lines) (λ value. FromRules rules value.works)
 unfolding route_of
-from_rules text monitors rules lines = go (routes_of text monitors rules lines nothing) (lines-in Of text monitors rules (all_deliver rules) lines nothing (nothing-in Of))
+from_rules text monitors rules lines = go (routes_of text monitors rules lines no_routes) (lines-in Of text monitors rules (all_deliver rules) lines no_routes (no_routes-in Of))
   where
     Of : Delivery → Type 0
     Of d = Any (IsDeliveryOf d) rules

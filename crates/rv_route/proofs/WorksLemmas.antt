@@ -11,11 +11,11 @@ use Rattle.rv_model.specs.Works.{Work}
 use Rattle.rv_model.specs.Histories.{LinesApart}
 use Rattle.rv_bind.specs.declared.bindings.Monitor.{Monitor}
 use Rattle.rv_bind.specs.RuleValues.{OnValue}
-use Rattle.rv_bind.specs.WellFormed.{Kind, kinds_of, FitsKind}
+use Rattle.rv_bind.specs.WellFormed.{MonitorKind, kinds_of, FitsKind}
 use Rattle.rv_route.specs.declared.deliveries.TheConstants.{MAX_DELIVERIES}
 use Rattle.rv_route.specs.Lanes.{LaneValue}
-use Rattle.rv_route.specs.Routing.{Routes, no_lane, line_routes, nothing, works_from, works_of}
-use Rattle.rv_route.specs.Fitting.{IsOf, FitsKindOf, LaneFits, RoutesFit, Fits, NumbersAscend, WorksFit}
+use Rattle.rv_route.specs.Routing.{Routes, no_lane, line_routes, no_routes, works_from, works_of}
+use Rattle.rv_route.specs.Fitting.{IsOf, FitsKindOf, LaneFits, RoutesFit, FitsLines, NumbersAscend, WorksFit}
 use Rattle.rv_route.proofs.TurnLemmas.{ascends-pairs}
 use Rattle.rv_route.proofs.FittingLemmas.{routes-wider, line_fits}
 
@@ -26,15 +26,15 @@ of_more : (lines : List TraceLine) (line : TraceLine) (cpu : ℕ) (turn : Turn) 
 of_more lines line cpu turn is = record { line = is.line; there = Contains-append_left lines (line ∷ []) is.line is.there; number = is.number; cpu_is = is.cpu_is }
 
 -- lanes that fit the lines fit them still when one more line comes
-lines_more : (lines : List TraceLine) (line : TraceLine) (kinds : List Kind) (n : ℕ) (routes : Routes) → RoutesFit lines kinds n routes → RoutesFit (lines ++ line ∷ []) kinds n routes
+lines_more : (lines : List TraceLine) (line : TraceLine) (kinds : List MonitorKind) (n : ℕ) (routes : Routes) → RoutesFit lines kinds n routes → RoutesFit (lines ++ line ∷ []) kinds n routes
 lines_more lines line kinds n routes f = record {
   many = f.many;
   lanes = λ cpu. let lane = get_or routes.lanes cpu no_lane in let was = f.lanes cpu in record { ascends = was.ascends; of = All-weaker (IsOf lines cpu) (IsOf (lines ++ line ∷ []) cpu) (of_more lines line cpu) lane.turns was.of; fit = was.fit };
 }
 
 -- what has been routed fits one more line
-pub fits_more : (text : List ℕ) (monitors : List Monitor) (rules : List OnValue) (line : TraceLine) (next : ℕ) (routes after : Routes) → All (FitsKind (kinds_of monitors)) rules → line.cpu < 64 → next ≤ line.number → Fits (kinds_of monitors) next routes
-    → line_routes text line monitors rules routes ≡ Ok after → Fits (kinds_of monitors) (line.number + 1) after
+pub fits_more : (text : List ℕ) (monitors : List Monitor) (rules : List OnValue) (line : TraceLine) (next : ℕ) (routes after : Routes) → All (FitsKind (kinds_of monitors)) rules → line.cpu < 64 → next ≤ line.number → FitsLines (kinds_of monitors) next routes
+    → line_routes text line monitors rules routes ≡ Ok after → FitsLines (kinds_of monitors) (line.number + 1) after
 fits_more text monitors rules line next routes after fit cpu from f is =
     let lines = f.lines ++ line ∷ [] in
     let was = routes-wider text lines monitors next line.number routes from (lines_more f.lines line (kinds_of monitors) next routes f.fit) in
@@ -48,7 +48,7 @@ fits_more text monitors rules line next routes after fit cpu from f is =
 
 -- ---- the works of lanes
 
-module _ (all : List TraceLine) (kinds : List Kind) (tasks n : ℕ) where
+module _ (all : List TraceLine) (kinds : List MonitorKind) (tasks n : ℕ) where
   -- a work of a CPU from this one on, of a lane that fits
   record OfLane (cpu count : ℕ) (w : Work) : Type 0 where
     low : cpu ≤ w.cpu
@@ -126,7 +126,7 @@ one_line lines ascend l m (p, p_below, p_is) (q, q_below, q_is) same = go (three
         absurd (omega arith)
 
 -- no line has turns in the works of two CPUs
-works_apart : (all : List TraceLine) (kinds : List Kind) (tasks n : ℕ) (works : List Work) (count : ℕ) → NumbersAscend all → All (OfLane all kinds tasks n 0 count) works → LinesApart works
+works_apart : (all : List TraceLine) (kinds : List MonitorKind) (tasks n : ℕ) (works : List Work) (count : ℕ) → NumbersAscend all → All (OfLane all kinds tasks n 0 count) works → LinesApart works
 works_apart all kinds tasks n works count ascend of w v t u in_w in_v in_t in_u same =
     let of_w = from_contains (OfLane all kinds tasks n 0 count) works w of in_w in
     let of_v = from_contains (OfLane all kinds tasks n 0 count) works v of in_v in
@@ -135,9 +135,9 @@ works_apart all kinds tasks n works count ascend of w v t u in_w in_v in_t in_u 
     sym is_t.cpu_is ∙ one_line all ascend is_t.line is_u.line is_t.there is_u.there (is_t.number ∙ same ∙ sym is_u.number) ∙ is_u.cpu_is
 
 -- where nothing is routed yet, all lanes fit
-nothing_fits : (all : List TraceLine) (kinds : List Kind) → RoutesFit all kinds 0 nothing
-unfolding nothing
-nothing_fits all kinds = record { many = refl; lanes = λ cpu. subst (λ (l : LaneValue). LaneFits all kinds 0 0 cpu l) (sym (empty 64 cpu)) (record { ascends = tt; of = All-nil (IsOf all cpu); fit = All-nil (FitsKindOf kinds 0 cpu) }) }
+no_routes_fits : (all : List TraceLine) (kinds : List MonitorKind) → RoutesFit all kinds 0 no_routes
+unfolding no_routes
+no_routes_fits all kinds = record { many = refl; lanes = λ cpu. subst (λ (l : LaneValue). LaneFits all kinds 0 0 cpu l) (sym (empty 64 cpu)) (record { ascends = tt; of = All-nil (IsOf all cpu); fit = All-nil (FitsKindOf kinds 0 cpu) }) }
   where
     empty : (n i : ℕ) → get_or (replicate n no_lane) i no_lane ≡ no_lane
     empty zero i = refl
@@ -145,8 +145,8 @@ nothing_fits all kinds = record { many = refl; lanes = λ cpu. subst (λ (l : La
     empty (suc n) (suc i) = empty n i
 
 -- nothing fits no line
-pub fits_nothing : (kinds : List Kind) (start : Routes) → start ≡ nothing → Fits kinds 0 start
-fits_nothing kinds start none = subst (Fits kinds 0) (sym none) (record { lines = []; ascend = λ i j d lt within. absurd (omega arith); below = All-nil (λ (l : TraceLine). l.number < 0); fit = nothing_fits [] kinds })
+pub fits_no_routes : (kinds : List MonitorKind) (start : Routes) → start ≡ no_routes → FitsLines kinds 0 start
+fits_no_routes kinds start none = subst (FitsLines kinds 0) (sym none) (record { lines = []; ascend = λ i j d lt within. absurd (omega arith); below = All-nil (λ (l : TraceLine). l.number < 0); fit = no_routes_fits [] kinds })
 
 -- no lane has more deliveries than so many
 abbrev pub AreShort : ℕ → List LaneValue → Type 0
@@ -166,7 +166,7 @@ works_short most cpu (lane ∷ lanes) short =
     go false some few rest = rw some (All-cons Short (record { cpu = cpu; turns = lane.turns; deliveries = lane.deliveries }) (works_from (cpu + 1) lanes) few rest)
 
 -- what is routed fits
-pub works_fit : (kinds : List Kind) (next : ℕ) (routes : Routes) → Fits kinds next routes → AreShort MAX_DELIVERIES routes.lanes → WorksFit kinds (length routes.tasks) (works_of routes.lanes)
+pub works_fit : (kinds : List MonitorKind) (next : ℕ) (routes : Routes) → FitsLines kinds next routes → AreShort MAX_DELIVERIES routes.lanes → WorksFit kinds (length routes.tasks) (works_of routes.lanes)
 works_fit kinds next routes f short =
     let k : ℕ = length routes.tasks in
     let of = of_lanes f.lines kinds k next 0 routes.lanes (λ i lt. let e : i ≡ 0 + i = omega arith in subst (λ c. LaneFits f.lines kinds k next c (get_or routes.lanes i no_lane)) e (f.fit.lanes i)) in

@@ -20,13 +20,13 @@ abbrev pub text_at : List ℕ → Span → List ℕ
 text_at text span = between text span.from span.to
 
 -- the value of a field
-abbrev pub value_of : List ℕ → List ℕ → Option (List ℕ)
-value_of fields name = option_map (text_at fields) (field_of fields name)
+abbrev pub field_value : List ℕ → List ℕ → Option (List ℕ)
+field_value fields name = option_map (text_at fields) (field_of fields name)
 
 -- there is a value, and it is the wanted one
-abbrev pub is_same : List ℕ → Option (List ℕ) → Bool
-is_same wanted None = false
-is_same wanted (Some found) = bytes_eq found wanted
+abbrev pub has_value : List ℕ → Option (List ℕ) → Bool
+has_value wanted None = false
+has_value wanted (Some found) = bytes_eq found wanted
 
 -- there is a value, and it is another than this one
 abbrev pub differs : List ℕ → Option (List ℕ) → Bool
@@ -35,13 +35,13 @@ differs wanted (Some found) = not (bytes_eq found wanted)
 
 -- whether a test holds: the field has a value, and it is the one, or another
 abbrev pub holds : List ℕ → Test → Bool
-holds fields (Is field wanted) = is_same wanted (value_of fields field)
-holds fields (IsNot field wanted) = differs wanted (value_of fields field)
+holds fields (Is field wanted) = has_value wanted (field_value fields field)
+holds fields (IsNot field wanted) = differs wanted (field_value fields field)
 
 -- whether a test holds of what its field has
-abbrev pub passes : Test → Option (List ℕ) → Bool
-passes (Is field wanted) found = is_same wanted found
-passes (IsNot field wanted) found = differs wanted found
+abbrev pub test_holds : Test → Option (List ℕ) → Bool
+test_holds (Is field wanted) found = has_value wanted found
+test_holds (IsNot field wanted) found = differs wanted found
 
 -- a rule fires on its event where all its tests hold
 abbrev pub fires : List ℕ → List ℕ → OnValue → Bool
@@ -60,7 +60,7 @@ pid_at (Some value) = pid_from (decimal_of value)
 -- the pid of the rule's field, or else the line's
 abbrev pub pid_of : List ℕ → TraceLine → Option (List ℕ) → Ask
 pid_of fields line None = asks.Pid line.pid
-pid_of fields line (Some name) = pid_at (value_of fields name)
+pid_of fields line (Some name) = pid_at (field_value fields name)
 
 -- the instance by the monitor's scope
 abbrev pub by_scope : List ℕ → TraceLine → Option (List ℕ) → Scope → Ask

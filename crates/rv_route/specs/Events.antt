@@ -17,17 +17,17 @@ use Rattle.rv_route.specs.declared.event.Asked.{Asked}
 use Rattle.rv_route.specs.declared.event.Event.{Event}
 
 -- the field that a test names
-abbrev pub name_of : Test → List ℕ
-name_of (Is field wanted) = field
-name_of (IsNot field wanted) = field
+abbrev pub tested_field : Test → List ℕ
+tested_field (Is field wanted) = field
+tested_field (IsNot field wanted) = field
 
 -- the fields that tests name, in order
-abbrev pub names_of : List Test → List (List ℕ)
-names_of tests = map name_of tests
+abbrev pub tested_fields : List Test → List (List ℕ)
+tested_fields tests = map tested_field tests
 
 -- the names that a set of references has, in order
-abbrev pub shown : {S : Type 0} → HashSet (Bor (List ℕ)) S → List (List ℕ)
-shown names = map (λ key. key.now) names.keys
+abbrev pub names_in_set : {S : Type 0} → HashSet (Bor (List ℕ)) S → List (List ℕ)
+names_in_set names = map (λ key. key.now) names.keys
 
 -- each name stands where it stood
 abbrev pub Extends : List (List ℕ) → List (List ℕ) → Type 0
@@ -35,7 +35,7 @@ Extends old new = (place : ℕ) (name : List ℕ) → slice_get old place ≡ So
 
 -- the rule's fields stand among the names at these places
 pub record HasFields (names : List (List ℕ)) (asked : Asked) (rule : OnValue) : Type 0 where
-  pub tests : map (slice_get names) asked.tests.items ≡ map Some (names_of rule.tests)
+  pub tests : map (slice_get names) asked.tests.items ≡ map Some (tested_fields rule.tests)
   pub by : option_map (slice_get names) asked.by ≡ option_map Some rule.by
 
 -- it is this rule, and its fields stand among the names
@@ -44,12 +44,12 @@ pub record IsAsked (rules : List OnValue) (names : List (List ℕ)) (asked : Ask
   pub fields : HasFields names asked rule
 
 -- the rule is on the event
-abbrev pub is_on : List ℕ → OnValue → Bool
-is_on event rule = bytes_eq event rule.event
+abbrev pub is_on_event : List ℕ → OnValue → Bool
+is_on_event event rule = bytes_eq event rule.event
 
 -- the event asks for the rules that are on this name, in their order
 abbrev pub IsEventOf : List OnValue → List ℕ → Event → Type 0
-IsEventOf rules name event = AllZip (IsAsked rules event.fields.items) event.rules.items (filter (is_on name) rules)
+IsEventOf rules name event = AllZip (IsAsked rules event.fields.items) event.rules.items (filter (is_on_event name) rules)
 
 -- the kit's hash of a name, which takes all bytes at once
 unfoldable pub key_of : List ℕ → ℕ
@@ -101,5 +101,5 @@ found_at found place = slice_index_or found place None
 
 -- the rule's fields were found at these places
 pub record HasFound (fields : List ℕ) (found : List (Option Span)) (asked : Asked) (rule : OnValue) : Type 0 where
-  pub tests : map (found_at found) asked.tests.items ≡ map (field_of fields) (names_of rule.tests)
+  pub tests : map (found_at found) asked.tests.items ≡ map (field_of fields) (tested_fields rule.tests)
   pub by : option_map (found_at found) asked.by ≡ option_map (field_of fields) rule.by

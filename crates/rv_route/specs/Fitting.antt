@@ -8,7 +8,7 @@ use Rattle.rv_model.specs.Histories.{LinesApart}
 use Rattle.rv_slots.specs.Shapes.{count_of}
 use Rattle.rv_trace.specs.declared.line.TraceLine.{TraceLine}
 use Rattle.rv_bind.specs.RuleValues.{OnValue}
-use Rattle.rv_bind.specs.WellFormed.{Kind, FitsRule}
+use Rattle.rv_bind.specs.WellFormed.{MonitorKind, FitsRule}
 use Rattle.rv_route.specs.declared.deliveries.TheConstants.{MAX_DELIVERIES}
 use Rattle.rv_route.specs.Lanes.{LaneValue}
 use Rattle.rv_route.specs.Routing.{Routes, no_lane}
@@ -21,8 +21,8 @@ pub record IsOf (lines : List TraceLine) (cpu : ℕ) (turn : Turn) : Type 0 wher
   pub cpu_is : line.cpu ≡ cpu
 
 -- the delivery is to an instance of a monitor whose specification the hit fits, and to the CPU's own instance where these are the CPUs
-pub record FitsKindOf (kinds : List Kind) (tasks cpu : ℕ) (d : Delivery) : Type 0 where
-  pub kind : Kind
+pub record FitsKindOf (kinds : List MonitorKind) (tasks cpu : ℕ) (d : Delivery) : Type 0 where
+  pub kind : MonitorKind
   pub there : slice_get kinds d.monitor ≡ Some kind
   pub hit : FitsRule kind.spec d.hit
   pub instance_fits : d.instance < count_of tasks kind.scope
@@ -33,7 +33,7 @@ abbrev pub NumbersAscend : List TraceLine → Type 0
 NumbersAscend lines = AllPairs (λ l m. l.number < m.number) lines
 
 -- the works ascend by CPU, the lines of each ascend, no line is in two, and few enough deliveries fit
-pub record WorksFit (kinds : List Kind) (tasks : ℕ) (works : List Work) : Type 0 where
+pub record WorksFit (kinds : List MonitorKind) (tasks : ℕ) (works : List Work) : Type 0 where
   pub cpus_below : All (λ w. w.cpu < 64) works
   pub cpus : AllPairs (λ w v. w.cpu < v.cpu) works
   pub lines : All (λ w. AllPairs (λ t u. t.line < u.line) w.turns) works
@@ -56,18 +56,18 @@ AscendsTo n (turn ∷ []) = turn.line ≤ n
 AscendsTo n (turn ∷ next ∷ turns) = (turn.line < next.line) × AscendsTo n (next ∷ turns)
 
 -- the lane has turns of these lines up to a number, on its CPU, and its deliveries fit
-pub record LaneFits (lines : List TraceLine) (kinds : List Kind) (tasks n cpu : ℕ) (lane : LaneValue) : Type 0 where
+pub record LaneFits (lines : List TraceLine) (kinds : List MonitorKind) (tasks n cpu : ℕ) (lane : LaneValue) : Type 0 where
   pub ascends : AscendsTo n lane.turns
   pub of : All (IsOf lines cpu) lane.turns
   pub fit : All (FitsKindOf kinds tasks cpu) lane.deliveries
 
 -- all lanes fit lines up to this number
-pub record RoutesFit (lines : List TraceLine) (kinds : List Kind) (n : ℕ) (routes : Routes) : Type 0 where
+pub record RoutesFit (lines : List TraceLine) (kinds : List MonitorKind) (n : ℕ) (routes : Routes) : Type 0 where
   pub many : length routes.lanes ≡ 64
   pub lanes : (cpu : ℕ) → LaneFits lines kinds (length routes.tasks) n cpu (slice_index_or routes.lanes cpu no_lane)
 
 -- what has been routed fits lines that are numbered upwards, below this number
-pub record Fits (kinds : List Kind) (next : ℕ) (routes : Routes) : Type 0 where
+pub record FitsLines (kinds : List MonitorKind) (next : ℕ) (routes : Routes) : Type 0 where
   pub lines : List TraceLine
   pub ascend : NumbersAscend lines
   pub below : All (λ l. l.number < next) lines

@@ -5,8 +5,8 @@ use Rattle.rv_trace.specs.declared.line.TraceLine.{TraceLine}
 use Rattle.rv_bind.specs.declared.bindings.Bindings.{Bindings}
 use Rattle.rv_bind.specs.WellFormed.{FitsKind, kinds_of}
 use Rattle.rv_route.specs.Events.{Index, IsIndexOf}
-use Rattle.rv_route.specs.Fitting.{Fits}
-use Rattle.rv_route.specs.Routing.{Routes, Reaches, line_routes}
+use Rattle.rv_route.specs.Fitting.{FitsLines}
+use Rattle.rv_route.specs.Routing.{Routes, GivesRoutes, line_routes}
 
 -- the events by their names, what has been routed, the least number of the next line, and the refusal that was given, if any
 pub record RouterValue : Type 0 where
@@ -19,7 +19,7 @@ pub record RouterValue : Type 0 where
 pub record IsFor (bindings : Bindings) (router : RouterValue) : Type 0 where
   pub index : IsIndexOf bindings.rules.items router.index
   pub rules : All (FitsKind (kinds_of bindings.monitors.items)) bindings.rules.items
-  pub fits : router.refused ≡ None → Fits (kinds_of bindings.monitors.items) router.next router.routes
+  pub fits : router.refused ≡ None → FitsLines (kinds_of bindings.monitors.items) router.next router.routes
 
 -- the refusal that a call gave, if any
 abbrev pub refusal_of : {X : Type 0} → Result X Refused → Option Refused
@@ -27,8 +27,8 @@ refusal_of (Ok x) = None
 refusal_of (Err refused) = Some refused
 
 -- a call took the line: it did what the rules ask for, unless a line was refused before
-pub record Takes (bindings : Bindings) (text : List ℕ) (line : TraceLine) (old : RouterValue) (result : Result (Unit {0}) Refused) (new : RouterValue) : Type 0 where
-  pub first : old.refused ≡ None → Reaches result new.routes (line_routes text line bindings.monitors.items bindings.rules.items old.routes)
+pub record RoutesLine (bindings : Bindings) (text : List ℕ) (line : TraceLine) (old : RouterValue) (result : Result (Unit {0}) Refused) (new : RouterValue) : Type 0 where
+  pub first : old.refused ≡ None → GivesRoutes result new.routes (line_routes text line bindings.monitors.items bindings.rules.items old.routes)
   pub again : (refused : Refused) → old.refused ≡ Some refused → result ≡ Err refused
   pub noted : new.refused ≡ refusal_of result
   pub next : new.next ≡ line.number + 1

@@ -7,7 +7,7 @@ use Rattle.rv_text.specs.Readings.{Refuses, and_then, refused_at}
 use Rattle.rv_trace.specs.declared.line.TraceLine.{TraceLine}
 use Rattle.rv_model.specs.declared.record.Task.{Task}
 use Rattle.rv_model.specs.Works.{Work}
-use Rattle.rv_slots.specs.Tasks.{task_of, is_held, with_task, number_of}
+use Rattle.rv_slots.specs.Tasks.{task_of, is_held, with_task, task_number}
 use Rattle.rv_slots.specs.declared.tasks.TheConstants.{MAX_TASKS}
 use Rattle.rv_bind.specs.declared.bindings.Monitor.{Monitor}
 use Rattle.rv_bind.specs.RuleValues.{OnValue}
@@ -46,7 +46,7 @@ answer routes line rule (asks.Instance instance) = deliver routes line rule inst
 answer routes line rule asks.NoPid = refused_at NO_PID line.number
 answer routes line rule (asks.Pid pid) =
     if not (is_held routes.tasks (task_of pid line.cpu)) && length routes.tasks == MAX_TASKS then refused_at TOO_MANY_TASKS line.number
-    else deliver (record routes { tasks = with_task routes.tasks (task_of pid line.cpu) }) line rule (number_of routes.tasks (task_of pid line.cpu))
+    else deliver (record routes { tasks = with_task routes.tasks (task_of pid line.cpu) }) line rule (task_number routes.tasks (task_of pid line.cpu))
 
 -- the rules in order on one line: the first refusal decides
 unfoldable pub line_routes : List ℕ → TraceLine → List Monitor → List OnValue → Routes → Result Routes Refusal
@@ -59,13 +59,13 @@ routes_of text monitors rules [] routes = Ok routes
 routes_of text monitors rules (line ∷ lines) routes = and_then (line_routes text line monitors rules routes) (routes_of text monitors rules lines)
 
 -- a call reached what the definition says, or has its refusal, unless memory ran out
-abbrev pub Reaches : {X : Type 0} → Result X Refused → Routes → Result Routes Refusal → Type 0
-Reaches (Ok x) routes read = read ≡ Ok routes
-Reaches (Err refused) routes read = Refuses refused read
+abbrev pub GivesRoutes : {X : Type 0} → Result X Refused → Routes → Result Routes Refusal → Type 0
+GivesRoutes (Ok x) routes read = read ≡ Ok routes
+GivesRoutes (Err refused) routes read = Refuses refused read
 
 -- nothing is routed yet, on 64 CPUs
-unfoldable pub nothing : Routes
-nothing = record { tasks = []; lanes = replicate 64 no_lane; count = 0 }
+unfoldable pub no_routes : Routes
+no_routes = record { tasks = []; lanes = replicate 64 no_lane; count = 0 }
 
 -- the work of a CPU that has a delivery
 abbrev pub work_in : ℕ → LaneValue → List Work
@@ -92,4 +92,4 @@ routed_of (Ok routes) = Ok (record { tasks = routes.tasks; works = works_of rout
 
 -- the tasks by first use and the works by CPU, or the first refusal
 unfoldable pub route_of : List Monitor → List OnValue → List ℕ → List TraceLine → Result RoutedValue Refusal
-route_of monitors rules text lines = routed_of (routes_of text monitors rules lines nothing)
+route_of monitors rules text lines = routed_of (routes_of text monitors rules lines no_routes)

@@ -3,13 +3,13 @@ ghost use Rattle.std.specs.Prelude.{◌≡◌, ◌≤◌, length, map, All, OnOk
 ghost use Rattle.std.specs.List.{list_all};
 ghost use Rattle.rv_text.specs.Decimal.{decimal_of};
 ghost use Rattle.rv_trace.specs.Fields.{field_of};
-ghost use Rattle.rv_route.specs.Asking.{text_at, is_same, differs, passes, holds, pid_from, pid_at, pid_found, ask_on};
-ghost use Rattle.rv_route.specs.Events.{names_of, IsInside, found_at, HasFound};
+ghost use Rattle.rv_route.specs.Asking.{text_at, has_value, differs, test_holds, holds, pid_from, pid_at, pid_found, ask_on};
+ghost use Rattle.rv_route.specs.Events.{tested_fields, IsInside, found_at, HasFound};
 
 use crate::event::Asked;
 use rv_bind::{Monitor, On, Test};
 use rv_model::{Name, Scope};
-use rv_text::Kind;
+use rv_text::ByteClass;
 use rv_trace::{LAST_PID, Span, TraceLine, field};
 use std::alloc::AllocError;
 
@@ -60,7 +60,7 @@ fn value_at<'a>(fields: &'a [u8], found: &[Option<Span>], place: usize) -> Optio
 
 /// Whether the two are the same bytes. Most differ in length or in the first byte.
 #[inline(always)]
-pub(crate) fn is_same(one: &[u8], other: &[u8]) -> bool
+pub(crate) fn has_value(one: &[u8], other: &[u8]) -> bool
     ensures { result ≡ bytes_eq one.now other.now }
 {
     if one.len() != other.len() {
@@ -75,10 +75,10 @@ pub(crate) fn is_same(one: &[u8], other: &[u8]) -> bool
 /// Whether the value is the one that is wanted.
 #[inline(always)]
 fn is_wanted(found: Option<&[u8]>, wanted: &[u8]) -> bool
-    ensures { result ≡ is_same wanted.now (option_copied found.entry) }
+    ensures { result ≡ has_value wanted.now (option_copied found.entry) }
 {
     match found {
-        Some(found) => is_same(found, wanted),
+        Some(found) => has_value(found, wanted),
         None => false,
     }
 }
@@ -91,13 +91,13 @@ fn differs(found: Option<&[u8]>, wanted: &[u8]) -> bool
     let Some(found) = found else {
         return false;
     };
-    !is_same(found, wanted)
+    !has_value(found, wanted)
 }
 
 /// Whether a test holds of what its field has.
 #[inline(always)]
-fn passes(test: &Test, found: Option<&[u8]>) -> bool
-    ensures { result ≡ passes test.now (option_copied found.entry) }
+fn test_holds(test: &Test, found: Option<&[u8]>) -> bool
+    ensures { result ≡ test_holds test.now (option_copied found.entry) }
 {
     match test {
         Test::Is { value, .. } => is_wanted(found, value.bytes()),
@@ -107,13 +107,13 @@ fn passes(test: &Test, found: Option<&[u8]>) -> bool
 
 /// Whether all tests hold, whose fields were looked up at these places.
 fn all_hold(fields: &[u8], tests: &[Test], places: &[usize], found: &[Option<Span>]) -> bool
-    requires found { map (found_at found.now) places.now ≡ map (field_of fields.now) (names_of tests.now) }
+    requires found { map (found_at found.now) places.now ≡ map (field_of fields.now) (tested_fields tests.now) }
     requires inside { All (IsInside fields.now) found.now }
     ensures { result ≡ list_all (holds fields.now) tests.now }
 {
     for test in 0..tests.len() {
         let value = value_at(fields, found, places[test]);
-        if !passes(&tests[test], value) {
+        if !test_holds(&tests[test], value) {
             return false;
         }
     }
@@ -139,7 +139,7 @@ fn pid_in(text: &[u8]) -> Ask
     }
     let mut pid: u64 = 0;
     for &byte in text {
-        if !Kind::Digit.has(byte) {
+        if !ByteClass::Digit.has(byte) {
             return Ask::NoPid;
         }
         if pid > LAST_PID as u64 / 10 {

@@ -1,9 +1,9 @@
 //! The deliveries to each CPU, as they come.
 ghost use Rattle.std.specs.Prelude.{◌≡◌, ◌<◌, IfOk};
-ghost use Rattle.rv_route.specs.Routing.{Reaches, answer, deliver, nothing};
+ghost use Rattle.rv_route.specs.Routing.{GivesRoutes, answer, deliver, no_routes};
 
 use crate::asking::Ask;
-use crate::lanes::Lane;
+use crate::lanes::CpuScript;
 use rv_bind::On;
 use rv_model::Delivery;
 use rv_slots::{TaskFault, Tasks};
@@ -19,7 +19,7 @@ pub const MAX_DELIVERIES: u32 = 4_000_000;
 #[derive(Drop)]
 pub(crate) struct Deliveries {
     pub(crate) tasks: Tasks,
-    pub(crate) lanes: Vec<Lane>,
+    pub(crate) lanes: Vec<CpuScript>,
     count: u32,
 }
 
@@ -38,7 +38,7 @@ impl Deliveries {
     /// Appends a delivery to its CPU's.
     fn deliver(&mut self, line: &TraceLine, rule: &On, instance: u32) -> Result<(), Refused>
         requires { line.now.cpu < 64 }
-        ensures { Reaches result self.new (deliver self.old line.now rule.now instance) }
+        ensures { GivesRoutes result self.new (deliver self.old line.now rule.now instance) }
     {
         if self.count >= MAX_DELIVERIES {
             return Err(Refused::Because(Refusal {
@@ -61,7 +61,7 @@ impl Deliveries {
     /// Does what a rule that asks so does.
     pub(crate) fn answer(&mut self, line: &TraceLine, rule: &On, ask: Ask) -> Result<(), Refused>
         requires { line.now.cpu < 64 }
-        ensures { Reaches result self.new (answer self.old line.now rule.now ask) }
+        ensures { GivesRoutes result self.new (answer self.old line.now rule.now ask) }
     {
         match ask {
             Ask::Quiet => Ok(()),
@@ -83,12 +83,12 @@ impl Deliveries {
 
     /// Nothing is routed yet.
     pub(crate) fn new(alloc: Global) -> Result<Deliveries, AllocError>
-        ensures { IfOk result (λ deliveries. deliveries ≡ nothing) }
+        ensures { IfOk result (λ deliveries. deliveries ≡ no_routes) }
     {
         let mut lanes = Vec::new(alloc);
         for cpu in 0..64usize {
             let _ = cpu;
-            lanes.push(Lane::new(alloc))?;
+            lanes.push(CpuScript::new(alloc))?;
         }
         Ok(Deliveries {
             tasks: Tasks::new(alloc),

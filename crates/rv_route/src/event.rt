@@ -1,9 +1,9 @@
 //! What is asked on the lines of one event.
 ghost use Rattle.std.specs.Prelude.{◌≡◌, map, filter, option_map, slice_get, Some, IfOk, OnOk};
 ghost use Rattle.std.specs.List.{AllZip};
-ghost use Rattle.rv_route.specs.Events.{name_of, names_of, shown, Extends, HasFields, IsAsked, IsEventOf, is_on};
+ghost use Rattle.rv_route.specs.Events.{tested_field, tested_fields, names_in_set, Extends, HasFields, IsAsked, IsEventOf, is_on_event};
 
-use crate::asking::is_same;
+use crate::asking::has_value;
 use indexmap::IndexSet;
 use rv_bind::{On, Test};
 use rv_model::Name;
@@ -51,12 +51,12 @@ fn asked_on<'a>(
     event: &[u8],
     names: &mut IndexSet<&'a [u8]>,
 ) -> Result<Vec<Asked>, AllocError>
-    ensures { IfOk result (λ asked. AllZip (IsAsked rules.now (shown names.new)) asked.items (filter (is_on event.now) rules.now)) }
+    ensures { IfOk result (λ asked. AllZip (IsAsked rules.now (names_in_set names.new)) asked.items (filter (is_on_event event.now) rules.now)) }
 {
     let mut list = Vec::new(alloc);
     for place in 0..rules.len() {
         let rule = &rules[place];
-        if is_same(event, rule.event.bytes()) {
+        if has_value(event, rule.event.bytes()) {
             list.push(asked_of(alloc, rule, place, names)?)?;
         }
     }
@@ -71,8 +71,8 @@ fn asked_of<'a>(
     names: &mut IndexSet<&'a [u8]>,
 ) -> Result<Asked, AllocError>
     ensures rule { IfOk result (λ asked. asked.rule ≡ place) }
-    ensures fields { IfOk result (λ asked. HasFields (shown names.new) asked rule.now) }
-    ensures grown { OnOk result (Extends (shown names.old) (shown names.new)) }
+    ensures fields { IfOk result (λ asked. HasFields (names_in_set names.new) asked rule.now) }
+    ensures grown { OnOk result (Extends (names_in_set names.old) (names_in_set names.new)) }
 {
     let tests = test_places(alloc, rule.tests.as_slice(), names)?;
     let by = by_place(&rule.by, names)?;
@@ -89,12 +89,12 @@ fn test_places<'a>(
     tests: &'a [Test],
     names: &mut IndexSet<&'a [u8]>,
 ) -> Result<Vec<usize>, AllocError>
-    ensures places { IfOk result (λ places. map (slice_get (shown names.new)) places.items ≡ map Some (names_of tests.now)) }
-    ensures grown { OnOk result (Extends (shown names.old) (shown names.new)) }
+    ensures places { IfOk result (λ places. map (slice_get (names_in_set names.new)) places.items ≡ map Some (tested_fields tests.now)) }
+    ensures grown { OnOk result (Extends (names_in_set names.old) (names_in_set names.new)) }
 {
     let mut places = Vec::with_capacity(alloc, tests.len())?;
     for test in tests {
-        places.push(place_of(name_of(test).bytes(), names)?)?;
+        places.push(place_of(tested_field(test).bytes(), names)?)?;
     }
     Ok(places)
 }
@@ -104,8 +104,8 @@ fn by_place<'a>(
     by: &'a Option<Name>,
     names: &mut IndexSet<&'a [u8]>,
 ) -> Result<Option<usize>, AllocError>
-    ensures place { IfOk result (λ place. option_map (slice_get (shown names.new)) place ≡ option_map Some by.now) }
-    ensures grown { OnOk result (Extends (shown names.old) (shown names.new)) }
+    ensures place { IfOk result (λ place. option_map (slice_get (names_in_set names.new)) place ≡ option_map Some by.now) }
+    ensures grown { OnOk result (Extends (names_in_set names.old) (names_in_set names.new)) }
 {
     match by {
         Some(name) => Ok(Some(place_of(name.bytes(), names)?)),
@@ -115,16 +115,16 @@ fn by_place<'a>(
 
 /// The place of a name, where a new one goes last.
 fn place_of<'a>(name: &'a [u8], names: &mut IndexSet<&'a [u8]>) -> Result<usize, AllocError>
-    ensures place { IfOk result (λ place. slice_get (shown names.new) place ≡ Some name.now) }
-    ensures grown { OnOk result (Extends (shown names.old) (shown names.new)) }
+    ensures place { IfOk result (λ place. slice_get (names_in_set names.new) place ≡ Some name.now) }
+    ensures grown { OnOk result (Extends (names_in_set names.old) (names_in_set names.new)) }
 {
     let (place, _) = names.insert_full(name)?;
     Ok(place)
 }
 
 /// The field that a test names.
-fn name_of(test: &Test) -> &Name
-    ensures { result.now ≡ name_of test.now }
+fn tested_field(test: &Test) -> &Name
+    ensures { result.now ≡ tested_field test.now }
 {
     match test {
         Test::Is { field, .. } => field,

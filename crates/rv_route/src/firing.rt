@@ -1,9 +1,9 @@
 //! What the rules do on one line.
 ghost use Rattle.std.specs.Prelude.{filter};
 ghost use Rattle.rv_route.specs.Asking.{text_at};
-ghost use Rattle.rv_route.specs.Events.{is_on, IsEventOf, IsIndexOf};
+ghost use Rattle.rv_route.specs.Events.{is_on_event, IsEventOf, IsIndexOf};
 ghost use Rattle.rv_route.specs.Lines.{IsRoutable};
-ghost use Rattle.rv_route.specs.Routing.{Reaches, line_routes};
+ghost use Rattle.rv_route.specs.Routing.{GivesRoutes, line_routes};
 
 use crate::asking::{ask_for, look_up};
 use crate::deliveries::Deliveries;
@@ -24,7 +24,7 @@ pub(crate) fn take(
 ) -> Result<(), Refused>
     requires line { IsRoutable text.now line.now }
     requires index { IsIndexOf bindings.now.rules.items index.now }
-    ensures { Reaches result deliveries.new (line_routes text.now line.now bindings.now.monitors.items bindings.now.rules.items deliveries.old) }
+    ensures { GivesRoutes result deliveries.new (line_routes text.now line.now bindings.now.monitors.items bindings.now.rules.items deliveries.old) }
 {
     match event_at(index, &text[line.name.from as usize..line.name.to as usize]) {
         Some(event) => fire(deliveries, bindings, event, text, line, found),
@@ -43,7 +43,7 @@ fn fire(
 ) -> Result<(), Refused>
     requires line { IsRoutable text.now line.now }
     requires event { IsEventOf bindings.now.rules.items (text_at text.now line.now.name) event.now }
-    ensures { Reaches result deliveries.new (line_routes text.now line.now bindings.now.monitors.items (filter (is_on (text_at text.now line.now.name)) bindings.now.rules.items) deliveries.old) }
+    ensures { GivesRoutes result deliveries.new (line_routes text.now line.now bindings.now.monitors.items (filter (is_on_event (text_at text.now line.now.name)) bindings.now.rules.items) deliveries.old) }
 {
     let fields = &text[line.fields.from as usize..line.fields.to as usize];
     look_up(fields, event.fields.as_slice(), found)?;

@@ -2,7 +2,7 @@
 ghost use Rattle.std.specs.Prelude.{◌≡◌, ℕ, List, IfOk, OnOk, option_copied};
 ghost use Rattle.rv_route.specs.Events.{key_of, event_among, event_at, HasEvent, IsNoted, AreEventsOf, IsIndexOf};
 
-use crate::asking::is_same;
+use crate::asking::has_value;
 use crate::event::{Event, event_of};
 use indexmap::IndexMap;
 use rv_bind::On;
@@ -39,7 +39,7 @@ fn event_among<'a>(events: &'a [Event], name: &[u8]) -> Option<&'a Event>
     ensures { option_copied result ≡ event_among name.now events.now }
 {
     for event in events {
-        if is_same(name, event.name.bytes()) {
+        if has_value(name, event.name.bytes()) {
             return Some(event);
         }
     }

@@ -9,12 +9,12 @@ use std::marker::Model;
 
 /// The turns and the deliveries of one CPU, in order.
 #[derive(Drop)]
-pub(crate) struct Lane {
+pub(crate) struct CpuScript {
     pub(crate) turns: Vec<Turn>,
     pub(crate) deliveries: Vec<Delivery>,
 }
 
-impl Model for Lane {
+impl Model for CpuScript {
     ghost use Rattle.rv_route.specs.Lanes.{LaneValue};
 
     ghost Value = { LaneValue };
@@ -22,11 +22,11 @@ impl Model for Lane {
     ghost view = { λ lane. record { turns = lane.turns.items; deliveries = lane.deliveries.items } };
 }
 
-impl Lane {
-    pub(crate) fn new(alloc: Global) -> Lane
+impl CpuScript {
+    pub(crate) fn new(alloc: Global) -> CpuScript
         ensures { result ≡ no_lane }
     {
-        Lane {
+        CpuScript {
             turns: Vec::new(alloc),
             deliveries: Vec::new(alloc),
         }

@@ -4,7 +4,7 @@ ghost use Rattle.std.specs.Vec.{vec_len, vec_capacity};
 ghost use Rattle.rv_route.specs.Lanes.{IsLane};
 ghost use Rattle.rv_route.specs.Routing.{works_of, work_in};
 
-use crate::lanes::Lane;
+use crate::lanes::CpuScript;
 use rv_model::CpuWork;
 use rv_slots::Tasks;
 
@@ -16,14 +16,14 @@ pub struct Routed {
 }
 
 /// The work of a CPU, if it has any.
-fn keep(works: &mut Vec<CpuWork>, cpu: u8, lane: Lane)
+fn keep(works: &mut Vec<CpuWork>, cpu: u8, lane: CpuScript)
     requires lane { IsLane lane }
     requires room { vec_len works.old < vec_capacity works.old }
     ensures kept { works.new.items ≡ works.old.items ++ work_in cpu lane }
     ensures few { vec_len works.new ≤ vec_len works.old + 1 }
     ensures room { vec_capacity works.old ≤ vec_capacity works.new }
 {
-    let Lane { turns, deliveries } = lane;
+    let CpuScript { turns, deliveries } = lane;
     if deliveries.is_empty() {
         return;
     }
@@ -39,7 +39,7 @@ fn keep(works: &mut Vec<CpuWork>, cpu: u8, lane: Lane)
 }
 
 /// The works of the CPUs that have any, by CPU, where there is room for them.
-pub(crate) fn works_in(room: Vec<CpuWork>, lanes: Vec<Lane>) -> Vec<CpuWork>
+pub(crate) fn works_in(room: Vec<CpuWork>, lanes: Vec<CpuScript>) -> Vec<CpuWork>
     requires empty { room.items ≡ [] }
     requires room { 64 ≤ vec_capacity room }
     requires many { length lanes.items ≡ 64 }

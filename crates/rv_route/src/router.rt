@@ -1,11 +1,11 @@
 //! Takes the lines of a trace one after the other.
 ghost use Rattle.std.specs.Prelude.{◌≡◌, ◌≤◌, List, length, None, All, IfOk};
-ghost use Rattle.rv_bind.specs.WellFormed.{FitsKind, kinds_of, Kind};
-ghost use Rattle.rv_route.specs.Fitting.{Fits, WorksFit};
+ghost use Rattle.rv_bind.specs.WellFormed.{FitsKind, kinds_of, MonitorKind};
+ghost use Rattle.rv_route.specs.Fitting.{FitsLines, WorksFit};
 ghost use Rattle.rv_route.specs.Lines.{IsRoutable};
 ghost use Rattle.rv_route.specs.Routed.{routed_value};
-ghost use Rattle.rv_route.specs.Routers.{IsFor, Takes};
-ghost use Rattle.rv_route.specs.Routing.{nothing, works_of};
+ghost use Rattle.rv_route.specs.Routers.{IsFor, RoutesLine};
+ghost use Rattle.rv_route.specs.Routing.{no_routes, works_of};
 
 use crate::deliveries::Deliveries;
 use crate::firing::take;
@@ -53,7 +53,7 @@ impl Router {
     pub fn new(alloc: Global, bindings: &Bindings) -> Result<Router, AllocError>
         requires { All (FitsKind (kinds_of bindings.now.monitors.items)) bindings.now.rules.items }
         ensures made { IfOk result (λ router. IsFor bindings.now router) }
-        ensures routes { IfOk result (λ router. router.routes ≡ nothing) }
+        ensures routes { IfOk result (λ router. router.routes ≡ no_routes) }
         ensures next { IfOk result (λ router. router.next ≡ 0) }
         ensures accepted { IfOk result (λ router. router.refused ≡ None) }
     {
@@ -80,7 +80,7 @@ impl Router {
         requires made { IsFor bindings.now self.old }
         requires line { IsRoutable text.now line.now }
         requires ascends { self.old.next ≤ line.now.number }
-        ensures takes { Takes bindings.now text.now line.now self.old result self.new }
+        ensures takes { RoutesLine bindings.now text.now line.now self.old result self.new }
         ensures made { IsFor bindings.now self.new }
     {
         self.next = line.number as u64 + 1;
@@ -107,7 +107,7 @@ impl Router {
     pub fn end(self) -> Routed
         requires { self.refused ≡ None }
         ensures value { routed_value result ≡ record { tasks = self.routes.tasks; works = works_of self.routes.lanes } }
-        ensures fit { (kinds : List Kind) → Fits kinds self.next self.routes → WorksFit kinds (length result.tasks) result.works.items }
+        ensures fit { (kinds : List MonitorKind) → FitsLines kinds self.next self.routes → WorksFit kinds (length result.tasks) result.works.items }
     {
         let Router {
             deliveries,

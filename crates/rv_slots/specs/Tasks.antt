@@ -24,5 +24,5 @@ abbrev pub with_task : List Task → Task → List Task
 with_task tasks task = if is_held tasks task then tasks else tasks ++ task ∷ []
 
 -- the task's number: its place, or the next one
-abbrev pub number_of : List Task → Task → ℕ
-number_of tasks task = position_or_len (same_task task) tasks
+abbrev pub task_number : List Task → Task → ℕ
+task_number tasks task = position_or_len (same_task task) tasks

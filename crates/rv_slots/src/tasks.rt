@@ -1,6 +1,6 @@
 //! The tasks of a run, in the order of their first use.
 ghost use Rattle.std.specs.Prelude.{◌≡◌, ◌<◌, ◌≤◌, ◌↔◌, [], length, false, position, AllPairs, IsErrOf, IsNone, IfOk, OnOk, OnErr, slice_get, Some};
-ghost use Rattle.rv_slots.specs.Tasks.{task_of, same_task, is_held, with_task, number_of, IsTask};
+ghost use Rattle.rv_slots.specs.Tasks.{task_of, same_task, is_held, with_task, task_number, IsTask};
 
 use crate::task::task_of;
 use indexmap::IndexSet;
@@ -61,7 +61,7 @@ impl Tasks {
 
     /// The task's number, which it keeps from its first use on.
     pub fn number(&mut self, pid: u32, cpu: u8) -> Result<u32, TaskFault>
-        ensures number { IfOk result (λ number. number ≡ number_of self.old (task_of pid cpu)) }
+        ensures number { IfOk result (λ number. number ≡ task_number self.old (task_of pid cpu)) }
         ensures numbered { IfOk result (λ number. slice_get self.new number ≡ Some (task_of pid cpu)) }
         ensures grown { OnOk result (self.new ≡ with_task self.old (task_of pid cpu)) }
         ensures full { IsErrOf result TaskFault.Full ↔ ((is_held self.old (task_of pid cpu) ≡ false) × (length self.old ≡ MAX_TASKS)) }

@@ -4,7 +4,7 @@ use Rattle.std.specs.List.{All}
 use Rattle.std.proofs.lemmas.List.{get_or_default, get_or-set_same, get_or-set_other, length-set}
 use Rattle.rv_model.specs.Ltl.{True}
 use Rattle.rv_table.specs.declared.label.Label.{Label}
-use Rattle.rv_table.specs.Numbered.{AreNumbers, AreDistinct, Keeps, label_at}
+use Rattle.rv_table.specs.Numbered.{AreNumbers, AreDistinct, KeepsNumbers, label_at}
 
 -- what stands for no label
 abbrev no_label : Label
@@ -22,7 +22,7 @@ same_or_not a b = grind arith
 
 -- a label has other rows
 pub Keeps-set : (labels : List Label) (number : ℕ) (found : Label) (rows : ℕ) → number < length labels → found ≡ get_or labels number found
-    → Keeps labels (slice_set labels number (record { masks = found.masks; rows = rows }))
+    → KeepsNumbers labels (slice_set labels number (record { masks = found.masks; rows = rows }))
 Keeps-set labels number found rows lt is = record { longer = omega (arith, long); same = λ other below. same other (same_or_not other number); once = once-same labels new long (λ other below. same other (same_or_not other number)) }
   where
     new : List Label
@@ -40,14 +40,14 @@ Keeps-set labels number found rows lt is = record { longer = omega (arith, long)
     same other (inr n) = ap (λ (l : Label). l.masks) (get_or-set_other labels number other (record { masks = found.masks; rows = rows }) no_label n)
 
 -- one change after another
-pub Keeps-trans : (a b c : List Label) → Keeps a b → Keeps b c → Keeps a c
+pub Keeps-trans : (a b c : List Label) → KeepsNumbers a b → KeepsNumbers b c → KeepsNumbers a c
 Keeps-trans a b c first second =
     let longer = first.longer in
     let more = second.longer in
     record { longer = omega arith; same = λ number lt. second.same number (omega arith) ∙ first.same number lt; once = λ distinct. second.once (first.once distinct) }
 
 -- numbers stay numbers
-pub AreNumbers-kept : (old new : List Label) (numbers : List ℕ) → Keeps old new → AreNumbers old numbers → AreNumbers new numbers
+pub AreNumbers-kept : (old new : List Label) (numbers : List ℕ) → KeepsNumbers old new → AreNumbers old numbers → AreNumbers new numbers
 AreNumbers-kept old new numbers keeps within = λ i d lt. let at = within i d lt in let longer = keeps.longer in omega arith
 
 -- the rest of the numbers
@@ -55,7 +55,7 @@ rest : (P : ℕ → Type 0) (number : ℕ) (numbers : List ℕ) → All P (numbe
 rest P number numbers all = λ i d lt. all (suc i) d (omega arith)
 
 -- they name the same labels
-pub labels-kept : (old new : List Label) (numbers : List ℕ) → Keeps old new → AreNumbers old numbers → map (label_at new) numbers ≡ map (label_at old) numbers
+pub labels-kept : (old new : List Label) (numbers : List ℕ) → KeepsNumbers old new → AreNumbers old numbers → map (label_at new) numbers ≡ map (label_at old) numbers
 labels-kept old new [] keeps within = refl
 labels-kept old new (number ∷ numbers) keeps within =
     ap (λ f. f ∷ map (label_at new) numbers) (keeps.same number (within 0 0 (omega arith)))

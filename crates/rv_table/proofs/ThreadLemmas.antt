@@ -3,9 +3,9 @@ use denote.Param.Send.{IsSync, sendable}
 use Rattle.std.proofs.Crossing.{crosses}
 use Rattle.rv_labels.proofs.ThreadLemmas.{masks-sync}
 use Rattle.rv_table.specs.contracts.label.Label as Label
-use Rattle.rv_table.specs.contracts.nodes.Numbered as Numbered
+use Rattle.rv_table.specs.contracts.nodes.NumberedRow as NumberedRow
 use Rattle.rv_table.specs.contracts.nodes.Nodes as Nodes
-use Rattle.rv_table.specs.contracts.table.Kind as Kind
+use Rattle.rv_table.specs.contracts.table.TableRows as TableRows
 use Rattle.rv_table.specs.contracts.table.Table as Table
 
 -- a label with its rows may be
@@ -13,7 +13,7 @@ label-sync : IsSync Label.the_row
 label-sync = search (sendable, crosses, masks-sync) depth 20
 
 -- a row with the numbers of its labels may be
-numbered-sync : IsSync Numbered.the_row
+numbered-sync : IsSync NumberedRow.the_row
 numbered-sync = search (sendable, crosses) depth 20
 
 -- the rows of a formula's table may be
@@ -21,7 +21,7 @@ nodes-sync : IsSync Nodes.the_row
 nodes-sync = search (sendable, crosses, label-sync, numbered-sync) depth 20
 
 -- the rows of either kind may be, where they stand in a field
-kind-sync : IsSync (Kind.the_field).row
+kind-sync : IsSync (TableRows.the_field).row
 kind-sync = search (sendable, crosses, nodes-sync) depth 20
 
 -- a table may be

@@ -1,4 +1,4 @@
--- A formula's rows by the numbers of their labels.
+-- Private: a formula's rows by the numbers of their labels.
 use Rattle.std.specs.Prelude.{◌≡◌, ◌≢◌, ℕ, ◌<◌, ◌≤◌, ◌==◌, ◌&&◌, ◌||◌, not, Bool, List, All, length, map, slice_index_or}
 use Rattle.std.specs.List.{list_all}
 use Rattle.rv_model.specs.Ltl.{Ltl, True}
@@ -6,7 +6,7 @@ use Rattle.rv_model.specs.Meaning.{true_on}
 use Rattle.rv_model.specs.Numbers.{has_bit}
 use Rattle.rv_model.specs.Table.{Node, node_at}
 use Rattle.rv_table.specs.declared.label.Label.{Label}
-use Rattle.rv_table.specs.declared.nodes.Numbered.{Numbered}
+use Rattle.rv_table.specs.declared.nodes.NumberedRow.{NumberedRow}
 
 -- the label with this number
 abbrev pub label_at : List Label → ℕ → Ltl
@@ -21,22 +21,22 @@ abbrev pub AreDistinct : List Label → Type 0
 AreDistinct labels = (number other : ℕ) → number < other → other < length labels → label_at labels number ≢ label_at labels other
 
 -- each number of the old list is that of the same label in the new one, and where no label stood twice, none does
-pub record Keeps (old new : List Label) : Type 0 where
+pub record KeepsNumbers (old new : List Label) : Type 0 where
   pub longer : length old ≤ length new
   pub same : (number : ℕ) → number < length old → label_at new number ≡ label_at old number
   pub once : AreDistinct old → AreDistinct new
 
 -- the row with its labels in the place of their numbers
-abbrev pub node_by : List Label → Numbered → Node
+abbrev pub node_by : List Label → NumberedRow → Node
 node_by labels row = record { labels = map (label_at labels) row.labels.items; next = row.next }
 
 -- the rows with their labels in the place of their numbers
-abbrev pub nodes_by : List Label → List Numbered → List Node
+abbrev pub nodes_by : List Label → List NumberedRow → List Node
 nodes_by labels rows = map (node_by labels) rows
 
 -- whether no label that is false on the letter has the row in its set
-abbrev pub passes : List Label → ℕ → ℕ → Bool
-passes labels row letter = list_all (λ label. not (has_bit label.rows row) || true_on letter label.masks) labels
+abbrev pub row_passes : List Label → ℕ → ℕ → Bool
+row_passes labels row letter = list_all (λ label. not (has_bit label.rows row) || true_on letter label.masks) labels
 
 -- whether the letter makes all labels of the row true
 abbrev pub allows : List Node → ℕ → ℕ → Bool
@@ -46,11 +46,11 @@ allows nodes row letter = list_all (true_on letter) (node_at nodes row).labels
 pub record AreEntered (old new : List Label) (row : ℕ) (labels : List Ltl) (numbers : List ℕ) : Type 0 where
   pub within : AreNumbers new numbers
   pub named : map (label_at new) numbers ≡ labels
-  pub kept : Keeps old new
-  pub told : (q letter : ℕ) → q < 32 → passes new q letter ≡ (passes old q letter && (not (row == q) || list_all (true_on letter) labels))
+  pub kept : KeepsNumbers old new
+  pub told : (q letter : ℕ) → q < 32 → row_passes new q letter ≡ (row_passes old q letter && (not (row == q) || list_all (true_on letter) labels))
 
 -- no label stands twice, each number is that of a label, and on every letter the sets of rows say which rows may be entered
-pub record IsNumbered (labels : List Label) (rows : List Numbered) : Type 0 where
+pub record AreNumberedRows (labels : List Label) (rows : List NumberedRow) : Type 0 where
   pub once : AreDistinct labels
   pub within : All (λ row. AreNumbers labels row.labels.items) rows
-  pub told : (row letter : ℕ) → row < 32 → passes labels row letter ≡ allows (nodes_by labels rows) row letter
+  pub told : (row letter : ℕ) → row < 32 → row_passes labels row letter ≡ allows (nodes_by labels rows) row letter

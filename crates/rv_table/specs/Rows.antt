@@ -11,8 +11,8 @@ use Rattle.rv_model.specs.Table.{Table, of_events, of_labels, Node, next_row, no
 -- ---- an automaton's
 
 -- the next row by the event, where there is one
-abbrev pub entry_in : List (Option ℕ) → ℕ → Option ℕ
-entry_in row event = option_and_then (λ next. next) (slice_get row event)
+abbrev pub next_by_event : List (Option ℕ) → ℕ → Option ℕ
+next_by_event row event = option_and_then (λ next. next) (slice_get row event)
 
 -- the rows of an automaton's table: row 0 has no entry, and state k is row k + 1
 abbrev pub event_rows : Machine → List (List (Option ℕ))

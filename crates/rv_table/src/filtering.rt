@@ -2,7 +2,7 @@
 ghost use Rattle.std.specs.Prelude.{◌≡◌, ℕ, ◌<◌, ◌&&◌, ◌||◌, not};
 ghost use Rattle.rv_model.specs.Numbers.{has_bit};
 ghost use Rattle.rv_model.specs.Meaning.{true_on};
-ghost use Rattle.rv_table.specs.Numbered.{passes};
+ghost use Rattle.rv_table.specs.Numbered.{row_passes};
 
 use crate::bits::without;
 use crate::label::Label;
@@ -20,7 +20,7 @@ fn filter(label: &Label, rows: u32, letter: u32) -> u32
 
 /// The rows of the set that have no label that is false on the letter. No label is tested that no row of the set has.
 pub fn filter_all(labels: &[Label], rows: u32, letter: u32) -> u32
-    ensures { (q : ℕ) → q < 32 → has_bit result q ≡ (has_bit rows q && passes labels.now q letter) }
+    ensures { (q : ℕ) → q < 32 → has_bit result q ≡ (has_bit rows q && row_passes labels.now q letter) }
 {
     let mut left = rows;
     for label in labels {

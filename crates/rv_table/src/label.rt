@@ -3,7 +3,7 @@ ghost use Rattle.std.specs.Prelude.{◌≡◌, ◌≢◌, ℕ, ◌<◌, ◌==◌
 ghost use Rattle.rv_model.specs.Numbers.{has_bit};
 ghost use Rattle.rv_model.specs.Formulas.{ltl};
 ghost use Rattle.rv_model.specs.Meaning.{true_on};
-ghost use Rattle.rv_table.specs.Numbered.{AreEntered, Keeps, label_at, passes};
+ghost use Rattle.rv_table.specs.Numbered.{AreEntered, KeepsNumbers, label_at, row_passes};
 ghost use Rattle.rv_table.specs.Rows.{IsLabel};
 
 use crate::bits::with;
@@ -44,8 +44,8 @@ fn enter(
     requires label { IsLabel (ltl label.now) }
     ensures within { IfOk result (λ number. number < length labels.new.items) }
     ensures label { IfOk result (λ number. label_at labels.new.items number ≡ ltl label.now) }
-    ensures kept { OnOk result (Keeps labels.old.items labels.new.items) }
-    ensures told { OnOk result ((q letter : ℕ) → q < 32 → passes labels.new.items q letter ≡ (passes labels.old.items q letter && (not (row == q) || true_on letter (ltl label.now)))) }
+    ensures kept { OnOk result (KeepsNumbers labels.old.items labels.new.items) }
+    ensures told { OnOk result ((q letter : ℕ) → q < 32 → row_passes labels.new.items q letter ≡ (row_passes labels.old.items q letter && (not (row == q) || true_on letter (ltl label.now)))) }
 {
     if let Some(number) = number_of(labels, label) {
         labels[number].rows = with(labels[number].rows, row);

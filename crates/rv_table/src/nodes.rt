@@ -17,7 +17,7 @@ use std::marker::Model;
 
 /// A row with the numbers of its labels.
 #[derive(Drop)]
-struct Numbered {
+struct NumberedRow {
     labels: Vec<usize>,
     next: u32,
 }
@@ -26,7 +26,7 @@ struct Numbered {
 #[derive(Drop)]
 pub struct Nodes {
     labels: Vec<Label>,
-    rows: Vec<Numbered>,
+    rows: Vec<NumberedRow>,
 }
 
 impl Model for Nodes {
@@ -34,7 +34,7 @@ impl Model for Nodes {
     ghost use Rattle.std.specs.Coded.{coded_list};
     ghost use Rattle.rv_model.specs.Table.{Node as NodeValue};
     ghost use Rattle.rv_table.specs.Rows.{coded_node};
-    ghost use Rattle.rv_table.specs.Numbered.{nodes_by, IsNumbered};
+    ghost use Rattle.rv_table.specs.Numbered.{nodes_by, AreNumberedRows};
 
     ghost Value = { List NodeValue };
 
@@ -42,7 +42,7 @@ impl Model for Nodes {
 
     ghost view = { λ n. nodes_by n.labels.items n.rows.items };
 
-    ghost invariant = { λ n. IsNumbered n.labels.items n.rows.items };
+    ghost invariant = { λ n. AreNumberedRows n.labels.items n.rows.items };
 }
 
 impl Nodes {
@@ -54,14 +54,14 @@ impl Nodes {
     {
         let mut labels = Vec::new(alloc);
         let mut rows = Vec::new(alloc);
-        rows.push(Numbered {
+        rows.push(NumberedRow {
             labels: Vec::new(alloc),
             next: first,
         })?;
         for node in nodes {
             let row = rows.len() as u8;
             let numbers = enter_all(alloc, &mut labels, &node.labels, row)?;
-            rows.push(Numbered {
+            rows.push(NumberedRow {
                 labels: numbers,
                 next: node.next,
             })?;

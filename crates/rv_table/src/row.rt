@@ -2,7 +2,7 @@
 ghost use Rattle.std.specs.Prelude.{◌≡◌, length, IfOk};
 ghost use Rattle.rv_model.specs.Numbers.{list_of};
 ghost use Rattle.rv_model.specs.Table.{next_row};
-ghost use Rattle.rv_table.specs.Rows.{entry_in, event_rows};
+ghost use Rattle.rv_table.specs.Rows.{next_by_event, event_rows};
 
 use rv_model::Automaton;
 use std::alloc::{AllocError, Global};
@@ -25,7 +25,7 @@ impl Model for Row {
 impl Row {
     /// The next row by the event.
     pub fn get(&self, event: u8) -> Option<u8>
-        ensures { result ≡ entry_in self.now event }
+        ensures { result ≡ next_by_event self.now event }
     {
         match self.next.get(event as usize) {
             Some(next) => *next,

@@ -18,7 +18,7 @@ use std::marker::Model;
 
 /// The rows, from row 0 on.
 #[derive(Drop)]
-enum Kind {
+enum TableRows {
     /// An automaton's, with the number of its events. Row 0 has no entry.
     Events { count: usize, rows: Vec<Row> },
     /// A formula's.
@@ -28,21 +28,21 @@ enum Kind {
 /// At most 31 rows, and row 0.
 #[derive(Drop)]
 pub struct Table {
-    kind: Kind,
+    kind: TableRows,
 }
 
 impl Model for Table {
     ghost use Rattle.rv_model.specs.Table.{Table as Rows, coded_table};
-    ghost use Rattle.rv_table.specs.Kinds.{table_in};
+    ghost use Rattle.rv_table.specs.Kinds.{table_value};
     ghost use Rattle.rv_table.specs.Rows.{IsRows};
 
     ghost Value = { Rows };
 
     ghost coded = { coded_table };
 
-    ghost view = { λ t. table_in t.kind };
+    ghost view = { λ t. table_value t.kind };
 
-    ghost invariant = { λ t. IsRows (table_in t.kind) };
+    ghost invariant = { λ t. IsRows (table_value t.kind) };
 }
 
 impl Table {
@@ -54,7 +54,7 @@ impl Table {
         let count = automaton.events.len();
         let rows = rows_of(alloc, automaton)?;
         Ok(Table {
-            kind: Kind::Events { count, rows },
+            kind: TableRows::Events { count, rows },
         })
     }
 
@@ -68,12 +68,12 @@ impl Table {
         }
         let nodes = Nodes::new(alloc, first, &nodes)?;
         Ok(Table {
-            kind: Kind::Labels { nodes },
+            kind: TableRows::Labels { nodes },
         })
     }
 
     /// What is known of every table.
-    pub fn known(&self)
+    pub fn assert_invariant(&self)
         ensures rows { IsRows self.now }
         ensures table { IsTable self.now }
     {
@@ -85,8 +85,8 @@ impl Table {
         ensures { result ≡ start_set self.now }
     {
         match &self.kind {
-            Kind::Events { .. } => 2,
-            Kind::Labels { .. } => 1,
+            TableRows::Events { .. } => 2,
+            TableRows::Labels { .. } => 1,
         }
     }
 
@@ -96,8 +96,8 @@ impl Table {
         ensures few { result ≤ 31 }
     {
         let count = match &self.kind {
-            Kind::Events { rows, .. } => rows.len(),
-            Kind::Labels { nodes } => nodes.len(),
+            TableRows::Events { rows, .. } => rows.len(),
+            TableRows::Labels { nodes } => nodes.len(),
         };
         (count - 1) as u32
     }
@@ -107,11 +107,11 @@ impl Table {
         ensures { result ≡ step_set self.now set letter }
     {
         match &self.kind {
-            Kind::Events { rows, .. } => match letter {
+            TableRows::Events { rows, .. } => match letter {
                 Letter::Event(event) => follow_events(rows, set, event),
                 Letter::Atoms(_) => 0,
             },
-            Kind::Labels { nodes } => match letter {
+            TableRows::Labels { nodes } => match letter {
                 Letter::Event(_) => follow_labels(nodes, set, 0),
                 Letter::Atoms(atoms) => follow_labels(nodes, set, atoms),
             },
@@ -124,8 +124,8 @@ impl Table {
         ensures { result ≡ (node_in self.now row).next }
     {
         match &self.kind {
-            Kind::Events { .. } => 0,
-            Kind::Labels { nodes } => nodes.next(row as usize),
+            TableRows::Events { .. } => 0,
+            TableRows::Labels { nodes } => nodes.next(row as usize),
         }
     }
 
@@ -135,8 +135,8 @@ impl Table {
         ensures { result ≡ length (node_in self.now row).labels }
     {
         match &self.kind {
-            Kind::Events { .. } => 0,
-            Kind::Labels { nodes } => nodes.labels(row as usize) as u32,
+            TableRows::Events { .. } => 0,
+            TableRows::Labels { nodes } => nodes.labels(row as usize) as u32,
         }
     }
 
@@ -147,8 +147,8 @@ impl Table {
         ensures { ltl result.now ≡ slice_index_or (node_in self.now row).labels place True }
     {
         match &self.kind {
-            Kind::Events { .. } => unreachable!(),
-            Kind::Labels { nodes } => nodes.label(row as usize, place as usize),
+            TableRows::Events { .. } => unreachable!(),
+            TableRows::Labels { nodes } => nodes.label(row as usize, place as usize),
         }
     }
 }

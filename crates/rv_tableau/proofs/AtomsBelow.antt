@@ -3,7 +3,7 @@ use Rattle.std.proofs.Common.{◌≡◌, ℕ, ◌≤◌, true, arith}
 use Rattle.std.proofs.lemmas.Bool.{false≢true, and_parts}
 use Rattle.rv_model.specs.Formulas.{HasAtomsBelow}
 use Rattle.rv_model.specs.Ltl.{Ltl, True, False, Atom, Not, Next, Always, Eventually, And, Or, Imply, Equivalent, Until, Release, WeakUntil}
-use Rattle.rv_nnf.specs.Tree.{is_plain}
+use Rattle.rv_nnf.specs.Tree.{is_propositional}
 use Rattle.rv_table.specs.Rows.{IsLabel}
 
 -- a bound on the atoms may be wider
@@ -24,7 +24,7 @@ atoms_within n m h (Release f g) a = (atoms_within n m h f a.0, atoms_within n m
 atoms_within n m h (WeakUntil f g) a = (atoms_within n m h f a.0, atoms_within n m h g a.1)
 
 -- a formula without temporal operators, whose atoms are below 32, is a label
-pub label_is : (f : Ltl) → is_plain f ≡ true → HasAtomsBelow 32 f → IsLabel f
+pub label_is : (f : Ltl) → is_propositional f ≡ true → HasAtomsBelow 32 f → IsLabel f
 label_is True p a = tt
 label_is False p a = tt
 label_is (Atom k) p a = a

@@ -8,60 +8,60 @@ use Rattle.std.proofs.lemmas.List.{get_or_append_left}
 use Rattle.std.proofs.lemmas.Bool.{cases_lt}
 use Rattle.rv_model.specs.Numbers.{has_bit}
 use Rattle.rv_tableau.specs.Branches.{AreBranchNumbers, piece_branches, part_branches, branches_below}
-use Rattle.rv_nnf.specs.Parts.{Piece, Label, Later, Both, Either, Awaits, Releases, piece_at, OperandsBelow}
+use Rattle.rv_nnf.specs.Parts.{PartValue, Label, Next, And, Or, Until, Release, part_value_at, OperandsBelow}
 use Rattle.rv_nnf.proofs.ByNumber.{by_number_is}
-use Rattle.rv_nnf.specs.Views.{piece, pieces}
+use Rattle.rv_nnf.specs.Views.{part_value, part_values}
 use Rattle.rv_nnf.specs.declared.parts.Part.{Part}
 use Rattle.rv_tableau.proofs.Capped.{capped_sum, capped_product}
-use Rattle.rv_tableau.proofs.PartAt.{AllBelow, piece_is}
+use Rattle.rv_tableau.proofs.PartAt.{AllBelow, part_value_is}
 
 -- a branch number rests on the operands alone
-same_branches : (f g : ℕ → ℕ) (k : ℕ) (p : Piece) → OperandsBelow k p → ((i : ℕ) → i < k → f i ≡ g i) → piece_branches f p ≡ piece_branches g p
+same_branches : (f g : ℕ → ℕ) (k : ℕ) (p : PartValue) → OperandsBelow k p → ((i : ℕ) → i < k → f i ≡ g i) → piece_branches f p ≡ piece_branches g p
 same_branches f g k (Label x) b h = refl
-same_branches f g k (Later i) b h = refl
-same_branches f g k (Both i j) b h = ap₂ (λ x y. x * y) (h i b.0) (h j b.1)
-same_branches f g k (Either i j) b h = ap₂ (λ x y. x + y) (h i b.0) (h j b.1)
-same_branches f g k (Awaits i j) b h = ap₂ (λ x y. y + x) (h i b.0) (h j b.1)
-same_branches f g k (Releases i j) b h = ap₂ (λ x y. x * y + y) (h i b.0) (h j b.1)
+same_branches f g k (Next i) b h = refl
+same_branches f g k (And i j) b h = ap₂ (λ x y. x * y) (h i b.0) (h j b.1)
+same_branches f g k (Or i j) b h = ap₂ (λ x y. x + y) (h i b.0) (h j b.1)
+same_branches f g k (Until i j) b h = ap₂ (λ x y. y + x) (h i b.0) (h j b.1)
+same_branches f g k (Release i j) b h = ap₂ (λ x y. x * y + y) (h i b.0) (h j b.1)
 
 -- the branch number of a part is what its operands make
-pub branches_by : (ps : List Piece) → ((k : ℕ) → OperandsBelow k (piece_at ps k)) → (k : ℕ) → part_branches ps k ≡ piece_branches (part_branches ps) (piece_at ps k)
+pub branches_by : (ps : List PartValue) → ((k : ℕ) → OperandsBelow k (part_value_at ps k)) → (k : ℕ) → part_branches ps k ≡ piece_branches (part_branches ps) (part_value_at ps k)
 unfolding part_branches
-branches_by ps below k = by_number_is 0 (λ b k. piece_branches b (piece_at ps k)) (λ f g k h. same_branches f g k (piece_at ps k) (below k) h) k
+branches_by ps below k = by_number_is 0 (λ b k. piece_branches b (part_value_at ps k)) (λ f g k h. same_branches f g k (part_value_at ps k) (below k) h) k
 
 -- a product and a sum, each kept up to the cap
 two_caps : (x y z : ℕ) → min (min (min x 4097 * min y 4097) 4097 + min y 4097) 4097 ≡ min (x * y + y) 4097
 two_caps x y z = ap (λ n. min (n + min y 4097) 4097) (capped_product x y) ∙ capped_sum (x * y) y
 
 -- from operands that are kept up to the cap
-pub capped_piece : (f g : ℕ → ℕ) (k : ℕ) (p : Piece) → OperandsBelow k p → ((i : ℕ) → i < k → f i ≡ min (g i) 4097) → min (piece_branches f p) 4097 ≡ min (piece_branches g p) 4097
+pub capped_piece : (f g : ℕ → ℕ) (k : ℕ) (p : PartValue) → OperandsBelow k p → ((i : ℕ) → i < k → f i ≡ min (g i) 4097) → min (piece_branches f p) 4097 ≡ min (piece_branches g p) 4097
 capped_piece f g k (Label x) b h = refl
-capped_piece f g k (Later i) b h = refl
-capped_piece f g k (Both i j) b h = ap₂ (λ x y. min (x * y) 4097) (h i b.0) (h j b.1) ∙ capped_product (g i) (g j)
-capped_piece f g k (Either i j) b h = ap₂ (λ x y. min (x + y) 4097) (h i b.0) (h j b.1) ∙ capped_sum (g i) (g j)
-capped_piece f g k (Awaits i j) b h = ap₂ (λ x y. min (y + x) 4097) (h i b.0) (h j b.1) ∙ capped_sum (g j) (g i)
-capped_piece f g k (Releases i j) b h =
+capped_piece f g k (Next i) b h = refl
+capped_piece f g k (And i j) b h = ap₂ (λ x y. min (x * y) 4097) (h i b.0) (h j b.1) ∙ capped_product (g i) (g j)
+capped_piece f g k (Or i j) b h = ap₂ (λ x y. min (x + y) 4097) (h i b.0) (h j b.1) ∙ capped_sum (g i) (g j)
+capped_piece f g k (Until i j) b h = ap₂ (λ x y. min (y + x) 4097) (h i b.0) (h j b.1) ∙ capped_sum (g j) (g i)
+capped_piece f g k (Release i j) b h =
     ap₂ (λ x y. min (x * y + y) 4097) (h i b.0) (h j b.1)
     ∙ (let p = capped_product (g i) (g j) in let e : min (min (g i) 4097 * min (g j) 4097 + min (g j) 4097) 4097 ≡ min (min (min (g i) 4097 * min (g j) 4097) 4097 + min (g j) 4097) 4097 = omega arith in e)
     ∙ two_caps (g i) (g j) 0
 
 -- what the code finds for a part
-pub capped_part : (parts : List Part) (below : List ℕ) (k r : ℕ) (p : Part) → p ≡ get_or parts k p → k < length parts → AllBelow parts → length below ≡ k → ((i : ℕ) → i < length below → slice_index below i ≡ min (part_branches (pieces parts) i) 4097) → r ≡ min (piece_branches (slice_index below) (piece p)) 4097 → r ≡ min (part_branches (pieces parts) k) 4097
+pub capped_part : (parts : List Part) (below : List ℕ) (k r : ℕ) (p : Part) → p ≡ get_or parts k p → k < length parts → AllBelow parts → length below ≡ k → ((i : ℕ) → i < length below → slice_index below i ≡ min (part_branches (part_values parts) i) 4097) → r ≡ min (piece_branches (slice_index below) (part_value p)) 4097 → r ≡ min (part_branches (part_values parts) k) 4097
 capped_part parts below k r p e h b l f m =
-    let at = piece_is parts k p p e refl h in
-    m ∙ capped_piece (slice_index below) (part_branches (pieces parts)) k (piece p) (subst (OperandsBelow k) at (b k)) (λ i s. f i (omega arith))
-    ∙ ap (λ q. min (piece_branches (part_branches (pieces parts)) q) 4097) (sym at) ∙ ap (λ n. min n 4097) (sym (branches_by (pieces parts) b k))
+    let at = part_value_is parts k p p e refl h in
+    m ∙ capped_piece (slice_index below) (part_branches (part_values parts)) k (part_value p) (subst (OperandsBelow k) at (b k)) (λ i s. f i (omega arith))
+    ∙ ap (λ q. min (piece_branches (part_branches (part_values parts)) q) 4097) (sym at) ∙ ap (λ n. min n 4097) (sym (branches_by (part_values parts) b k))
 
 -- the number that is kept of a part
-pub number_at : (parts : List Part) (numbers : List ℕ) (k : ℕ) → AreBranchNumbers (pieces parts) numbers → k < length parts → slice_index numbers k ≡ min (part_branches (pieces parts) k) 4097
-number_at parts numbers k are h = are.each k (let l = length-map parts piece in omega arith)
+pub number_at : (parts : List Part) (numbers : List ℕ) (k : ℕ) → AreBranchNumbers (part_values parts) numbers → k < length parts → slice_index numbers k ≡ min (part_branches (part_values parts) k) 4097
+number_at parts numbers k are h = are.each k (let l = length-map parts part_value in omega arith)
 
 -- one more part of a set
-pub branches_next : (ps : List Piece) (set k : ℕ) → branches_below ps set (k + 1) ≡ cond (has_bit set k) (branches_below ps set k * part_branches ps k) (branches_below ps set k)
+pub branches_next : (ps : List PartValue) (set k : ℕ) → branches_below ps set (k + 1) ≡ cond (has_bit set k) (branches_below ps set k * part_branches ps k) (branches_below ps set k)
 branches_next ps set k = ap (branches_below ps set) (add-one k)
 
 -- the product with one more part
-pub capped_next : (ps : List Piece) (set k b r : ℕ) → b ≡ min (branches_below ps set k) 4097 → r ≡ min (part_branches ps k) 4097 → min (b * r) 4097 ≡ min (branches_below ps set k * part_branches ps k) 4097
+pub capped_next : (ps : List PartValue) (set k b r : ℕ) → b ≡ min (branches_below ps set k) 4097 → r ≡ min (part_branches ps k) 4097 → min (b * r) 4097 ≡ min (branches_below ps set k * part_branches ps k) 4097
 capped_next ps set k b r e f = ap₂ (λ x y. min (x * y) 4097) e f ∙ capped_product (branches_below ps set k) (part_branches ps k)
 
 -- one more number at the end of the list

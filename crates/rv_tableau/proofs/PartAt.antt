@@ -2,8 +2,8 @@
 use Rattle.std.proofs.Common.{◌≡◌, ℕ, ◌<◌, List, ◌++◌, map, length, get_or, sym, ap, ◌∙◌, subst}
 use Rattle.std.proofs.lemmas.List.{get_or-map}
 use Rattle.rv_model.specs.Ltl.{False}
-use Rattle.rv_nnf.specs.Parts.{Label, piece_at, OperandsBelow}
-use Rattle.rv_nnf.specs.Views.{piece, pieces}
+use Rattle.rv_nnf.specs.Parts.{Label, part_value_at, OperandsBelow}
+use Rattle.rv_nnf.specs.Views.{part_value, part_values}
 use Rattle.rv_nnf.specs.declared.parts.Part.{Part}
 use Rattle.rv_tableau.specs.declared.pairs.Pair.{Pair}
 use Rattle.rv_tableau.specs.Pairs.{join, and_later, later_alone}
@@ -12,19 +12,19 @@ use Rattle.rv_tableau.proofs.CoverSays.{cover_by}
 
 -- the operands of each part have smaller numbers
 abbrev pub AllBelow : List Part → Type 0
-AllBelow parts = (k : ℕ) → OperandsBelow k (piece_at (pieces parts) k)
+AllBelow parts = (k : ℕ) → OperandsBelow k (part_value_at (part_values parts) k)
 
 -- the part as plain data
-pub piece_is : (parts : List Part) (k : ℕ) (p q : Part) → p ≡ get_or parts k p → p ≡ q → k < length parts → piece_at (pieces parts) k ≡ piece q
-piece_is parts k p q e f h = get_or-map piece parts k p (Label False) h ∙ ap piece (sym e ∙ f)
+pub part_value_is : (parts : List Part) (k : ℕ) (p q : Part) → p ≡ get_or parts k p → p ≡ q → k < length parts → part_value_at (part_values parts) k ≡ part_value q
+part_value_is parts k p q e f h = get_or-map part_value parts k p (Label False) h ∙ ap part_value (sym e ∙ f)
 
 -- its operands are below it
-pub operands_at : (parts : List Part) (k : ℕ) (p q : Part) → p ≡ get_or parts k p → p ≡ q → k < length parts → AllBelow parts → OperandsBelow k (piece q)
-operands_at parts k p q e f h b = subst (OperandsBelow k) (piece_is parts k p q e f h) (b k)
+pub operands_at : (parts : List Part) (k : ℕ) (p q : Part) → p ≡ get_or parts k p → p ≡ q → k < length parts → AllBelow parts → OperandsBelow k (part_value q)
+operands_at parts k p q e f h b = subst (OperandsBelow k) (part_value_is parts k p q e f h) (b k)
 
 -- its cover is what its operands make
-pub cover_at : (parts : List Part) (k : ℕ) (p q : Part) → p ≡ get_or parts k p → p ≡ q → k < length parts → AllBelow parts → part_cover (pieces parts) k ≡ piece_cover (part_cover (pieces parts)) k (piece q)
-cover_at parts k p q e f h b = cover_by (pieces parts) b k ∙ ap (piece_cover (part_cover (pieces parts)) k) (piece_is parts k p q e f h)
+pub cover_at : (parts : List Part) (k : ℕ) (p q : Part) → p ≡ get_or parts k p → p ≡ q → k < length parts → AllBelow parts → part_cover (part_values parts) k ≡ piece_cover (part_cover (part_values parts)) k (part_value q)
+cover_at parts k p q e f h b = cover_by (part_values parts) b k ∙ ap (piece_cover (part_cover (part_values parts)) k) (part_value_is parts k p q e f h)
 
 -- what joined pairs leave at the end of a list
 pub joined_made : (old new a a' : List Pair) (ci cj : List Pair) (p : Pair) (k : ℕ) → old ≡ cj → a' ≡ a → a ≡ ci → p ≡ later_alone k → new ≡ old ++ map (join p) a' → new ≡ cj ++ and_later k ci

@@ -8,7 +8,7 @@ use Rattle.std.proofs.lemmas.Bool.{cases_eq}
 use Rattle.std.proofs.lemmas.List.Folds.{list_any-append}
 use Rattle.rv_model.specs.Numbers.{has_bit}
 use Rattle.rv_tableau.specs.declared.pairs.Pair.{Pair}
-use Rattle.rv_tableau.specs.Pairs.{nothing, join, unions, and_later, later_alone}
+use Rattle.rv_tableau.specs.Pairs.{empty_pair, join, unions, and_later, later_alone}
 use Rattle.rv_tableau.specs.Holding.{all_below}
 
 -- ---- tests
@@ -116,7 +116,7 @@ all_one (suc n) k p h = one_step n k p (all_one n k p) h
 
 -- a test of pairs that holds of a union exactly where it holds of both
 pub record Splits (f : Pair → Bool) : Type 0 where
-  pub none : f nothing ≡ true
+  pub none : f empty_pair ≡ true
   pub both : (p q : Pair) → f (join p q) ≡ (f p && f q)
 
 -- a pair joined to each

@@ -8,7 +8,7 @@ use Rattle.std.proofs.lemmas.Bool.Decides.{Decides-eqb}
 use Rattle.rv_nnf.specs.Lists.{among, with_new, firsts}
 use Rattle.rv_nnf.proofs.Places.{new_there, firsts_kept}
 use Rattle.rv_tableau.specs.declared.pairs.Pair.{Pair}
-use Rattle.rv_tableau.specs.Pairs.{is_in}
+use Rattle.rv_tableau.specs.Pairs.{is_one_of}
 use Rattle.rv_tableau.proofs.PairLists.{same_pair-true}
 
 -- the test of numbers decides
@@ -57,7 +57,7 @@ joined_there sets (y ∷ ys) x h =
     (λ e. joined_there (with_new nat_eq sets y) ys x e) (or_cases _ _ h)
 
 -- the next set of each new node joins
-pub next_there : (new : List Pair) (p : Pair) → is_in p new ≡ true → among nat_eq (map (λ (p : Pair). p.next) new) p.next ≡ true
+pub next_there : (new : List Pair) (p : Pair) → is_one_of p new ≡ true → among nat_eq (map (λ (p : Pair). p.next) new) p.next ≡ true
 next_there [] p h = absurd (false≢true h)
 next_there (q ∷ qs) p h =
     ⊎_elim (λ e. or_left _ _ (eq-eqb q.next p.next (ap (λ (r : Pair). r.next) (sym (same_pair-true p q e))))) (λ e. or_right _ _ (next_there qs p e)) (or_cases _ _ h)

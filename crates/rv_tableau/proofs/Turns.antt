@@ -3,21 +3,21 @@ use Rattle.std.proofs.Common.{◌≡◌, ℕ, zero, suc, ◌+◌, ◌-◌, ◌<�
 use mathlib.Core.Path.{ap₂}
 use Rattle.std.specs.Prelude.{nat_lt, nat_le, slice_index}
 use Rattle.std.proofs.lemmas.Bool.{le-leb, lt-leb, lt-ltb, le-ltb}
-use Rattle.rv_nnf.specs.Parts.{Piece}
+use Rattle.rv_nnf.specs.Parts.{PartValue}
 use Rattle.rv_nnf.specs.Lists.{firsts}
 use Rattle.rv_tableau.specs.declared.pairs.Pair.{Pair}
 use Rattle.rv_tableau.specs.Cover.{cover_of}
 use Rattle.rv_tableau.specs.Branches.{branch_number}
-use Rattle.rv_tableau.specs.Nodes.{whole, new_nodes, nodes_from, nodes_of}
+use Rattle.rv_tableau.specs.Nodes.{whole_set, new_nodes, nodes_from, nodes_of}
 use Rattle.rv_text.specs.declared.refusals.Refusal.{Refusal}
 use Rattle.rv_text.specs.declared.numbers.TheConstants.{TOO_WIDE, TOO_MANY_NODES}
 use Rattle.rv_text.specs.Readings.{refused_with}
 
 -- the work from place i on, where 33 - i turns are left
-pub left : List Piece → ℕ → List ℕ → List Pair → Result (List Pair) Refusal
+pub left : List PartValue → ℕ → List ℕ → List Pair → Result (List Pair) Refusal
 left ps i sets nodes = nodes_from ps (33 - i) i sets nodes
 
-module _ (ps : List Piece) (i : ℕ) (sets : List ℕ) (nodes : List Pair) (more : i < 33) where
+module _ (ps : List PartValue) (i : ℕ) (sets : List ℕ) (nodes : List Pair) (more : i < 33) where
   -- the new nodes of the set that is taken
   abbrev fresh : List Pair
   fresh = new_nodes nodes (cover_of ps (slice_index sets i))
@@ -64,12 +64,12 @@ module _ (ps : List Piece) (i : ℕ) (sets : List ℕ) (nodes : List Pair) (more
       ∙ sym (ap₂ (λ x y. nodes_from ps (33 - (i + 1)) (i + 1) x y) (s ∙ ap (λ x. firsts nat_eq sets (map (λ p. p.next) x)) f) (n ∙ ap (λ x. nodes ++ x) f))
 
 -- before the first turn
-pub begun : (ps : List Piece) (sets : List ℕ) (nodes : List Pair) → sets ≡ whole ps ∷ [] → nodes ≡ [] → left ps 0 sets nodes ≡ nodes_of ps
+pub begun : (ps : List PartValue) (sets : List ℕ) (nodes : List Pair) → sets ≡ whole_set ps ∷ [] → nodes ≡ [] → left ps 0 sets nodes ≡ nodes_of ps
 unfolding left nodes_of
 begun ps sets nodes e f = ap₂ (λ s n. nodes_from ps 33 0 s n) e f
 
 -- after the last one
-pub ended : (ps : List Piece) (i : ℕ) (sets : List ℕ) (nodes : List Pair) → 33 ≤ i → left ps i sets nodes ≡ Ok nodes
+pub ended : (ps : List PartValue) (i : ℕ) (sets : List ℕ) (nodes : List Pair) → 33 ≤ i → left ps i sets nodes ≡ Ok nodes
 unfolding left nodes_from
 ended ps i sets nodes h = let e : 33 - i ≡ 0 = omega arith in ap (λ n. nodes_from ps n i sets nodes) e
 
@@ -83,5 +83,5 @@ read_is xs i s e h = e ∙ same xs i h
     same (x ∷ xs) (suc i) h = same xs i (omega arith)
 
 -- the list begins with the set of the whole
-pub first_set : (n b : ℕ) (sets olds : List ℕ) (ps : List Piece) → length ps ≡ n → b ≡ 2 ^ (n - 1) → olds ≡ [] → sets ≡ olds ++ b ∷ [] → sets ≡ whole ps ∷ []
+pub first_set : (n b : ℕ) (sets olds : List ℕ) (ps : List PartValue) → length ps ≡ n → b ≡ 2 ^ (n - 1) → olds ≡ [] → sets ≡ olds ++ b ∷ [] → sets ≡ whole_set ps ∷ []
 first_set n b sets olds ps l e o s = s ∙ ap₂ (λ xs x. xs ++ x ∷ []) o (e ∙ ap (λ n. 2 ^ (n - 1)) (sym l))

@@ -6,13 +6,13 @@ use Rattle.std.proofs.lemmas.Bool.{false≢true, or_cases, or_left, or_right, ca
 use Rattle.rv_text.specs.declared.refusals.Refusal.{Refusal}
 use Rattle.rv_text.specs.declared.numbers.TheConstants.{TOO_WIDE, TOO_MANY_NODES}
 use Rattle.rv_text.specs.Readings.{refused_with}
-use Rattle.rv_nnf.specs.Parts.{Piece}
+use Rattle.rv_nnf.specs.Parts.{PartValue}
 use Rattle.rv_nnf.proofs.Places.{firsts_kept}
 use Rattle.rv_tableau.specs.declared.pairs.Pair.{Pair}
-use Rattle.rv_tableau.specs.Pairs.{nothing, is_in}
+use Rattle.rv_tableau.specs.Pairs.{empty_pair, is_one_of}
 use Rattle.rv_tableau.specs.Cover.{cover_of}
 use Rattle.rv_tableau.specs.Branches.{branch_number}
-use Rattle.rv_tableau.specs.Nodes.{whole, new_nodes, nodes_from, nodes_of}
+use Rattle.rv_tableau.specs.Nodes.{whole_set, new_nodes, nodes_from, nodes_of}
 use Rattle.rv_tableau.specs.Rows.{set_at, IsComplete}
 use Rattle.rv_tableau.proofs.PairLists.{get_in, in_append}
 use Rattle.rv_tableau.proofs.NewNodes.{new_covers}
@@ -25,22 +25,22 @@ ok_is e = cc
 -- ---- the work
 
 -- each pair of the set's cover is a node
-abbrev IsCovered : List Piece → List Pair → ℕ → Type 0
-IsCovered ps nodes set = (p : Pair) → is_in p (cover_of ps set) ≡ true → is_in p nodes ≡ true
+abbrev IsCovered : List PartValue → List Pair → ℕ → Type 0
+IsCovered ps nodes set = (p : Pair) → is_one_of p (cover_of ps set) ≡ true → is_one_of p nodes ≡ true
 
 -- what holds between two turns: those taken are covered, and the next set of each node is on the list
-record IsUnderWay (ps : List Piece) (n i : ℕ) (sets : List ℕ) (nodes : List Pair) : Type 0 where
-  first : OnList sets (whole ps)
+record IsUnderWay (ps : List PartValue) (n i : ℕ) (sets : List ℕ) (nodes : List Pair) : Type 0 where
+  first : OnList sets (whole_set ps)
   taken : (k : ℕ) → k < i → IsCovered ps nodes (slice_index sets k)
-  nexts : (p : Pair) → is_in p nodes ≡ true → OnList sets p.next
+  nexts : (p : Pair) → is_one_of p nodes ≡ true → OnList sets p.next
   short : length sets ≤ 1 + length nodes
   few : length nodes ≤ 31
   turns : n + i ≡ 33
 
 -- before the first turn
-begun : (ps : List Piece) → IsUnderWay ps 33 0 (whole ps ∷ []) []
+begun : (ps : List PartValue) → IsUnderWay ps 33 0 (whole_set ps ∷ []) []
 begun ps = record {
-  first = or_left _ _ (eq-eqb (whole ps) (whole ps) refl);
+  first = or_left _ _ (eq-eqb (whole_set ps) (whole_set ps) refl);
   taken = λ k h. absurd (omega arith);
   nexts = λ p h. absurd (false≢true h);
   short = omega arith;
@@ -48,7 +48,7 @@ begun ps = record {
   turns = omega arith;
 }
 
-module _ (ps : List Piece) (n i : ℕ) (sets : List ℕ) (nodes : List Pair) (u : IsUnderWay ps n i sets nodes) where
+module _ (ps : List PartValue) (n i : ℕ) (sets : List ℕ) (nodes : List Pair) (u : IsUnderWay ps n i sets nodes) where
   -- all sets of the list are taken
   done : length sets ≤ i → IsComplete ps nodes
   done h = record { closed = closed }
@@ -57,10 +57,10 @@ module _ (ps : List Piece) (n i : ℕ) (sets : List ℕ) (nodes : List Pair) (u 
       covered s o = let k = on_index sets s o in subst (IsCovered ps nodes) k.2 (u.taken k.0 (omega (arith, k.1, h)))
 
       closed : (r : ℕ) → r ≤ length nodes → IsCovered ps nodes (set_at ps nodes r)
-      closed zero l = covered (whole ps) u.first
-      closed (suc k) l = covered (get_or nodes k nothing).next (u.nexts (get_or nodes k nothing) (get_in nodes k l))
+      closed zero l = covered (whole_set ps) u.first
+      closed (suc k) l = covered (get_or nodes k empty_pair).next (u.nexts (get_or nodes k empty_pair) (get_in nodes k l))
 
-module _ (ps : List Piece) (n i : ℕ) (sets : List ℕ) (nodes : List Pair) (u : IsUnderWay ps (suc n) i sets nodes) (more : i < length sets) where
+module _ (ps : List PartValue) (n i : ℕ) (sets : List ℕ) (nodes : List Pair) (u : IsUnderWay ps (suc n) i sets nodes) (more : i < length sets) where
   -- the set that is taken
   set : ℕ
   set = slice_index sets i
@@ -75,11 +75,11 @@ module _ (ps : List Piece) (n i : ℕ) (sets : List ℕ) (nodes : List Pair) (u 
   unfolding new
   taken_on k (inl h) l p e =
       let s = joined_get sets (map (λ (p : Pair). p.next) new) k (omega (arith, h, more)) in
-      in_append p nodes new ∙ or_left _ _ (u.taken k h p (ap (λ s. is_in p (cover_of ps s)) (sym s) ∙ e))
+      in_append p nodes new ∙ or_left _ _ (u.taken k h p (ap (λ s. is_one_of p (cover_of ps s)) (sym s) ∙ e))
   taken_on k (inr h) l p e =
       let i_is : k ≡ i = omega arith in
       let s = joined_get sets (map (λ (p : Pair). p.next) new) k (omega (arith, i_is, more)) ∙ ap (slice_index sets) i_is in
-      in_append p nodes new ∙ ⊎_elim (or_left _ _) (or_right _ _) (new_covers nodes (cover_of ps (slice_index sets i)) p (ap (λ s. is_in p (cover_of ps s)) (sym s) ∙ e))
+      in_append p nodes new ∙ ⊎_elim (or_left _ _) (or_right _ _) (new_covers nodes (cover_of ps (slice_index sets i)) p (ap (λ s. is_one_of p (cover_of ps s)) (sym s) ∙ e))
 
   -- a turn keeps all this
   turn : length (nodes ++ new) ≤ 31 → IsUnderWay ps n (suc i) (joined sets (map (λ (p : Pair). p.next) new)) (nodes ++ new)
@@ -89,7 +89,7 @@ module _ (ps : List Piece) (n i : ℕ) (sets : List ℕ) (nodes : List Pair) (u 
       let m = length-map new (λ (p : Pair). p.next) in
       let a = length-append nodes new in
       record {
-        first = firsts_kept nat_eq same_number sets xs (whole ps) u.first;
+        first = firsts_kept nat_eq same_number sets xs (whole_set ps) u.first;
         taken = λ k k_lt. taken_on k (cases_lt k i) k_lt;
         nexts = λ p e. ⊎_elim (λ o. firsts_kept nat_eq same_number sets xs p.next (u.nexts p o)) (λ o. joined_there sets xs p.next (next_there new p o)) (or_cases _ _ (sym (in_append p nodes new) ∙ e));
         short = let s = u.short in omega (arith, l.1, m, a, s);
@@ -98,11 +98,11 @@ module _ (ps : List Piece) (n i : ℕ) (sets : List ℕ) (nodes : List Pair) (u 
       }
 
 -- what the work gives
-abbrev IsDone : List Piece → List Pair → Type 0
+abbrev IsDone : List PartValue → List Pair → Type 0
 IsDone ps nodes = IsComplete ps nodes × (length nodes ≤ 31)
 
 -- what the turns give is complete
-worked : (ps : List Piece) (n i : ℕ) (sets : List ℕ) (nodes all : List Pair) → IsUnderWay ps n i sets nodes → nodes_from ps n i sets nodes ≡ Ok all → IsDone ps all
+worked : (ps : List PartValue) (n i : ℕ) (sets : List ℕ) (nodes all : List Pair) → IsUnderWay ps n i sets nodes → nodes_from ps n i sets nodes ≡ Ok all → IsDone ps all
 unfolding new set nodes_from
 worked ps zero i sets nodes all u e =
     subst (IsDone ps) (ok_is e) (done ps zero i sets nodes u (let s = u.short in let f = u.few in let t = u.turns in omega (arith, s, f, t)), u.few)
@@ -121,6 +121,6 @@ worked ps (suc n) i sets nodes all u e = go (nat_le (length sets) i) (nat_lt 409
     go false false false h k e ih = ih (turn ps n i sets nodes u (leb-false (length sets) i h) (ltb-false 31 (length (nodes ++ fresh)) k)) e
 
 -- the nodes are complete, and at most 31
-pub nodes_complete : (ps : List Piece) (nodes : List Pair) → nodes_of ps ≡ Ok nodes → IsComplete ps nodes × (length nodes ≤ 31)
+pub nodes_complete : (ps : List PartValue) (nodes : List Pair) → nodes_of ps ≡ Ok nodes → IsComplete ps nodes × (length nodes ≤ 31)
 unfolding nodes_of
-nodes_complete ps nodes e = worked ps 33 0 (whole ps ∷ []) [] nodes (begun ps) e
+nodes_complete ps nodes e = worked ps 33 0 (whole_set ps ∷ []) [] nodes (begun ps) e

@@ -4,7 +4,7 @@ use Rattle.rv_text.specs.declared.numbers.TheConstants.{TOO_MANY_NODES}
 use Rattle.rv_text.specs.Readings.{refused_with}
 use Rattle.rv_model.specs.Ltl.{Ltl, True, Atom, Not, And, Or}
 use Rattle.rv_model.specs.Table.{Node, of_labels}
-use Rattle.rv_nnf.specs.Parts.{Piece, Label, Later, Awaits}
+use Rattle.rv_nnf.specs.Parts.{PartValue, Label, Next, Until}
 use Rattle.rv_nnf.proofs.SleepRule.{sleep_parts}
 use Rattle.rv_tableau.specs.Cover.{part_cover}
 use Rattle.rv_tableau.specs.Branches.{part_branches, branch_number}
@@ -41,14 +41,14 @@ unfolding part_branches part_cover nodes_of nodes_from
 sleep_table = refl
 
 -- `eventually A`: rows 1 and 2 come next to rows 0 and 1, and row 3 to rows 2 and 3
-eventually_table : tableau_of (Label True ∷ Label (Atom 0) ∷ Awaits 0 1 ∷ []) ≡ Ok (of_labels (row [] 6 ∷ row [] 6 ∷ row (Atom 0 ∷ []) 8 ∷ row [] 8 ∷ []))
+eventually_table : tableau_of (Label True ∷ Label (Atom 0) ∷ Until 0 1 ∷ []) ≡ Ok (of_labels (row [] 6 ∷ row [] 6 ∷ row (Atom 0 ∷ []) 8 ∷ row [] 8 ∷ []))
 unfolding part_branches part_cover nodes_of nodes_from
 eventually_table = refl
 
 -- n times `next`, the first before part k
-abbrev nexts : ℕ → ℕ → List Piece
+abbrev nexts : ℕ → ℕ → List PartValue
 nexts zero k = []
-nexts (suc n) k = Later k ∷ nexts n (suc k)
+nexts (suc n) k = Next k ∷ nexts n (suc k)
 
 -- 30 times `next` before A has 32 nodes
 too_many_nodes : tableau_of (Label (Atom 0) ∷ nexts 30 0) ≡ refused_with TOO_MANY_NODES

@@ -2,7 +2,7 @@
 use Rattle.std.specs.Prelude.{◌≡◌, ℕ, zero, suc, ◌+◌, ◌*◌, ◌<◌, min, cond, List, length, slice_index}
 use Rattle.rv_model.specs.Ltl.{Ltl, False}
 use Rattle.rv_model.specs.Numbers.{has_bit}
-use Rattle.rv_nnf.specs.Parts.{Piece, Label, Later, Both, Either, Awaits, Releases, by_number, piece_at}
+use Rattle.rv_nnf.specs.Parts.{PartValue, Label, Next, And, Or, Until, Release, by_number, part_value_at}
 
 -- of a label
 abbrev pub label_branches : Ltl → ℕ
@@ -10,28 +10,28 @@ label_branches False = 0
 label_branches f = 1
 
 -- of a part, from those of its operands
-abbrev pub piece_branches : (ℕ → ℕ) → Piece → ℕ
+abbrev pub piece_branches : (ℕ → ℕ) → PartValue → ℕ
 piece_branches b (Label f) = label_branches f
-piece_branches b (Later i) = 1
-piece_branches b (Both i j) = b i * b j
-piece_branches b (Either i j) = b i + b j
-piece_branches b (Awaits i j) = b j + b i
-piece_branches b (Releases i j) = b i * b j + b j
+piece_branches b (Next i) = 1
+piece_branches b (And i j) = b i * b j
+piece_branches b (Or i j) = b i + b j
+piece_branches b (Until i j) = b j + b i
+piece_branches b (Release i j) = b i * b j + b j
 
 -- of part k
-unfoldable pub part_branches : List Piece → ℕ → ℕ
-part_branches ps k = by_number 0 (λ b k. piece_branches b (piece_at ps k)) (suc k) k
+unfoldable pub part_branches : List PartValue → ℕ → ℕ
+part_branches ps k = by_number 0 (λ b k. piece_branches b (part_value_at ps k)) (suc k) k
 
 -- the product over the parts of the set below n
-abbrev pub branches_below : List Piece → ℕ → ℕ → ℕ
+abbrev pub branches_below : List PartValue → ℕ → ℕ → ℕ
 branches_below ps set zero = 1
 branches_below ps set (suc n) = cond (has_bit set n) (branches_below ps set n * part_branches ps n) (branches_below ps set n)
 
 -- of a set
-abbrev pub branch_number : List Piece → ℕ → ℕ
+abbrev pub branch_number : List PartValue → ℕ → ℕ
 branch_number ps set = branches_below ps set (length ps)
 
 -- the branch number of each part, kept up to 4,097
-pub record AreBranchNumbers (ps : List Piece) (numbers : List ℕ) : Type 0 where
+pub record AreBranchNumbers (ps : List PartValue) (numbers : List ℕ) : Type 0 where
   pub count : length numbers ≡ length ps
   pub each : (k : ℕ) → k < length ps → slice_index numbers k ≡ min (part_branches ps k) 4097

@@ -4,8 +4,8 @@ use Rattle.std.specs.List.{list_any}
 use Rattle.rv_tableau.specs.declared.pairs.Pair.{Pair}
 
 -- it asks nothing
-abbrev pub nothing : Pair
-nothing = record { labels = 0; next = 0 }
+abbrev pub empty_pair : Pair
+empty_pair = record { labels = 0; next = 0 }
 
 -- the label k alone
 abbrev pub label_alone : ℕ → Pair
@@ -32,5 +32,5 @@ abbrev pub same_pair : Pair → Pair → Bool
 same_pair p q = (p.labels == q.labels) && (p.next == q.next)
 
 -- is it one of them?
-abbrev pub is_in : Pair → List Pair → Bool
-is_in p ps = list_any (same_pair p) ps
+abbrev pub is_one_of : Pair → List Pair → Bool
+is_one_of p ps = list_any (same_pair p) ps

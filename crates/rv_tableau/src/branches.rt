@@ -1,8 +1,8 @@
 //! Branch numbers, which are kept up to 4,097: more than any set may have.
 ghost use Rattle.std.specs.Prelude.{◌≡◌, ◌<◌, ◌≤◌, ◌+◌, ◌*◌, ℕ, min, length, slice_index, IfOk, EachIndex};
 ghost use Rattle.rv_model.specs.Formulas.{ltl};
-ghost use Rattle.rv_nnf.specs.Parts.{OperandsBelow, piece_at};
-ghost use Rattle.rv_nnf.specs.Views.{piece, pieces};
+ghost use Rattle.rv_nnf.specs.Parts.{OperandsBelow, part_value_at};
+ghost use Rattle.rv_nnf.specs.Views.{part_value, part_values};
 ghost use Rattle.rv_tableau.specs.Branches.{piece_branches, label_branches as branches_of_label, part_branches, branch_number as branch_number_of, AreBranchNumbers};
 
 use crate::pairs::has;
@@ -44,8 +44,8 @@ fn label_branches(label: &Formula) -> u32
 #[tactic(auto, using(crate::proofs::Capped::capped_product, crate::proofs::Capped::capped_sum))]
 fn of_part(below: &[u32], part: &Part) -> u32
     requires small { EachIndex below.now (λ k. slice_index below.now k ≤ 4097) }
-    requires operands { OperandsBelow (length below.now) (piece part.now) }
-    ensures { result ≡ min (piece_branches (slice_index below.now) (piece part.now)) 4097 }
+    requires operands { OperandsBelow (length below.now) (part_value part.now) }
+    ensures { result ≡ min (piece_branches (slice_index below.now) (part_value part.now)) 4097 }
 {
     match part {
         Part::Label(f) => label_branches(f),
@@ -62,8 +62,8 @@ fn of_part(below: &[u32], part: &Part) -> u32
 
 /// The branch number of each part, up to the cap.
 pub fn branch_numbers(alloc: Global, parts: &[Part]) -> Result<Vec<u32>, AllocError>
-    requires { (k : ℕ) → OperandsBelow k (piece_at (pieces parts.now) k) }
-    ensures { IfOk result (λ v. AreBranchNumbers (pieces parts.now) v.items) }
+    requires { (k : ℕ) → OperandsBelow k (part_value_at (part_values parts.now) k) }
+    ensures { IfOk result (λ v. AreBranchNumbers (part_values parts.now) v.items) }
 {
     let mut out = Vec::new(alloc);
     for part in parts {
@@ -77,8 +77,8 @@ pub fn branch_numbers(alloc: Global, parts: &[Part]) -> Result<Vec<u32>, AllocEr
 #[tactic(auto, using(crate::proofs::BranchCount::branches_next, crate::proofs::BranchCount::capped_next, crate::proofs::BranchCount::number_at))]
 pub fn branch_number(parts: &[Part], numbers: &[u32], set: u64) -> u32
     requires few { length parts.now ≤ 64 }
-    requires numbers { AreBranchNumbers (pieces parts.now) numbers.now }
-    ensures { result ≡ min (branch_number_of (pieces parts.now) set) 4097 }
+    requires numbers { AreBranchNumbers (part_values parts.now) numbers.now }
+    ensures { result ≡ min (branch_number_of (part_values parts.now) set) 4097 }
 {
     let mut out = 1;
     for k in 0..parts.len() {

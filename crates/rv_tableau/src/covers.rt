@@ -3,8 +3,8 @@
 //! the set that is asked for: a factor 0 may stand beside a factor of 2^40.
 ghost use Rattle.std.specs.Prelude.{◌≡◌, ◌<◌, ◌≤◌, ◌++◌, ℕ, length, IfOk, OnOk};
 ghost use Rattle.rv_model.specs.Formulas.{ltl};
-ghost use Rattle.rv_nnf.specs.Parts.{OperandsBelow, piece_at};
-ghost use Rattle.rv_nnf.specs.Views.{pieces};
+ghost use Rattle.rv_nnf.specs.Parts.{OperandsBelow, part_value_at};
+ghost use Rattle.rv_nnf.specs.Views.{part_values};
 ghost use Rattle.rv_tableau.specs.Branches.{AreBranchNumbers};
 ghost use Rattle.rv_tableau.specs.Cover.{label_cover as cover_of_label, part_cover as cover_of_part, cover_of};
 
@@ -46,10 +46,10 @@ pub fn part_cover(
     k: u8,
 ) -> Result<Vec<Pair>, AllocError>
     requires few { length parts.now ≤ 64 }
-    requires below { (k : ℕ) → OperandsBelow k (piece_at (pieces parts.now) k) }
-    requires numbers { AreBranchNumbers (pieces parts.now) numbers.now }
+    requires below { (k : ℕ) → OperandsBelow k (part_value_at (part_values parts.now) k) }
+    requires numbers { AreBranchNumbers (part_values parts.now) numbers.now }
     requires place { k < length parts.now }
-    ensures { IfOk result (λ v. v.items ≡ cover_of_part (pieces parts.now) k) }
+    ensures { IfOk result (λ v. v.items ≡ cover_of_part (part_values parts.now) k) }
 {
     if numbers[k as usize] == 0 {
         return Ok(Vec::new(alloc));
@@ -97,9 +97,9 @@ pub fn set_cover(
     set: u64,
 ) -> Result<Vec<Pair>, AllocError>
     requires few { length parts.now ≤ 64 }
-    requires below { (k : ℕ) → OperandsBelow k (piece_at (pieces parts.now) k) }
-    requires numbers { AreBranchNumbers (pieces parts.now) numbers.now }
-    ensures { IfOk result (λ v. v.items ≡ cover_of (pieces parts.now) set) }
+    requires below { (k : ℕ) → OperandsBelow k (part_value_at (part_values parts.now) k) }
+    requires numbers { AreBranchNumbers (part_values parts.now) numbers.now }
+    ensures { IfOk result (λ v. v.items ≡ cover_of (part_values parts.now) set) }
 {
     let mut out = Vec::new(alloc);
     if branch_number(parts, numbers, set) == 0 {

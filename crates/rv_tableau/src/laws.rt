@@ -9,29 +9,29 @@ ghost use Rattle.rv_model.specs.Judging.{ReachesSome, Means};
 ghost use Rattle.rv_model.specs.Table.{Table, of_labels};
 ghost use Rattle.rv_model.specs.Truth.{Weak};
 ghost use Rattle.rv_nnf.specs.NormalForm.{normal_of};
-ghost use Rattle.rv_nnf.specs.Parts.{Piece, IsNormal, part_meaning};
+ghost use Rattle.rv_nnf.specs.Parts.{PartValue, IsNormal, part_meaning};
 ghost use Rattle.rv_tableau.specs.declared.pairs.Pair.{Pair};
 ghost use Rattle.rv_tableau.specs.Cover.{cover_of};
 ghost use Rattle.rv_tableau.specs.Holding.{set_holds, pair_holds};
-ghost use Rattle.rv_tableau.specs.Rows.{IsComplete, rows_of, tableau_of};
+ghost use Rattle.rv_tableau.specs.Rows.{IsComplete, table_rows, tableau_of};
 
 /// A set of parts holds weakly on letters exactly where some pair of its cover has true labels on the first letter
 /// and its parts hold weakly on the rest. On no letters every set holds.
 pub fn cover_is_right()
-    ensures letter { (parts : List Piece) → IsNormal parts → (set x : ℕ) (rest : List ℕ) →
+    ensures letter { (parts : List PartValue) → IsNormal parts → (set x : ℕ) (rest : List ℕ) →
         set_holds parts set (x ∷ rest) ≡ list_any (pair_holds parts x rest) (cover_of parts set) }
-    ensures empty { (parts : List Piece) → IsNormal parts → (set : ℕ) → set_holds parts set [] ≡ true }
+    ensures empty { (parts : List PartValue) → IsNormal parts → (set : ℕ) → set_holds parts set [] ≡ true }
 {}
 
 /// The table of a complete list of nodes, in whatever order, reaches some row by letters exactly where the whole
 /// formula's part holds weakly on them.
 pub fn complete_is_right()
-    ensures { (parts : List Piece) → IsNormal parts → (nodes : List Pair) → IsComplete parts nodes → (letters : List Letter) →
-        ReachesSome (of_labels (rows_of parts nodes)) letters ↔ IsTrue (part_meaning parts (length parts - 1) Weak (map atoms_in letters)) }
+    ensures { (parts : List PartValue) → IsNormal parts → (nodes : List Pair) → IsComplete parts nodes → (letters : List Letter) →
+        ReachesSome (of_labels (table_rows parts nodes)) letters ↔ IsTrue (part_meaning parts (length parts - 1) Weak (map atoms_in letters)) }
 {}
 
 /// The table of a rule means it: it reaches some row by letters exactly where the rule's formula holds weakly on them.
 pub fn table_means_rule()
-    ensures { (rule : RuleValue) → IsRule rule → (parts : List Piece) (table : Table) →
+    ensures { (rule : RuleValue) → IsRule rule → (parts : List PartValue) (table : Table) →
         normal_of rule.formula ≡ Ok parts → tableau_of parts ≡ Ok table → Means table (Ltl rule) }
 {}

@@ -2,7 +2,7 @@
 ghost use Rattle.std.specs.Prelude.{◌≡◌, ◌+◌, nat_lt};
 ghost use Rattle.rv_text.specs.Readings.{Gives};
 ghost use Rattle.rv_nnf.specs.Parts.{IsNormal};
-ghost use Rattle.rv_nnf.specs.Views.{pieces};
+ghost use Rattle.rv_nnf.specs.Views.{part_values};
 ghost use Rattle.rv_tableau.specs.Branches.{AreBranchNumbers};
 ghost use Rattle.rv_tableau.specs.Nodes.{nodes_of};
 
@@ -26,9 +26,9 @@ fn are_too_many(old: usize, new: usize) -> bool
 
 /// The nodes, or the refusal that comes first.
 pub fn nodes(alloc: Global, parts: &[Part], numbers: &[u32]) -> Result<Vec<Pair>, Refused>
-    requires normal { IsNormal (pieces parts.now) }
-    requires numbers { AreBranchNumbers (pieces parts.now) numbers.now }
-    ensures { Gives (λ nodes. nodes.items) result (nodes_of (pieces parts.now)) }
+    requires normal { IsNormal (part_values parts.now) }
+    requires numbers { AreBranchNumbers (part_values parts.now) numbers.now }
+    ensures { Gives (λ nodes. nodes.items) result (nodes_of (part_values parts.now)) }
 {
     let mut nodes = Vec::new(alloc);
     let mut sets = Vec::new(alloc);

@@ -1,7 +1,7 @@
 //! Sets of parts as masks, and pairs of a set of labels and a set of parts.
 ghost use Rattle.std.specs.Prelude.{◌≡◌, ◌<◌, ◌≤◌, ◌^◌, ◌++◌, map, IfOk, OnOk};
 ghost use Rattle.rv_model.specs.Numbers.{has_bit};
-ghost use Rattle.rv_tableau.specs.Pairs.{join, label_alone, later_alone, unions as all_unions, same_pair, is_in as is_one_of};
+ghost use Rattle.rv_tableau.specs.Pairs.{join, label_alone, later_alone, unions as all_unions, same_pair, is_one_of as is_one_of};
 
 use std::alloc::{AllocError, Global};
 
@@ -60,7 +60,7 @@ pub fn same(p: Pair, q: Pair) -> bool
 }
 
 /// Is the pair one of them?
-pub fn is_in(p: Pair, pairs: &[Pair]) -> bool
+pub fn is_one_of(p: Pair, pairs: &[Pair]) -> bool
     ensures { result ≡ is_one_of p pairs.now }
 {
     for q in pairs {

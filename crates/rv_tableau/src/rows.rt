@@ -6,15 +6,15 @@ ghost use Rattle.rv_model.specs.Formulas.{ltl};
 ghost use Rattle.rv_model.specs.Judging.{ReachesSome};
 ghost use Rattle.rv_model.specs.Letters.{atoms_in};
 ghost use Rattle.rv_model.specs.Truth.{Weak};
-ghost use Rattle.rv_nnf.specs.Parts.{OperandsBelow, piece_at, part_meaning, IsNormal};
-ghost use Rattle.rv_nnf.specs.Views.{piece, pieces};
+ghost use Rattle.rv_nnf.specs.Parts.{OperandsBelow, part_value_at, part_meaning, IsNormal};
+ghost use Rattle.rv_nnf.specs.Views.{part_value, part_values};
 ghost use Rattle.rv_tableau.specs.Branches.{AreBranchNumbers};
 ghost use Rattle.rv_tableau.specs.Rows.{labels_below, piece_labels, rows_in, node_row, tableau_of};
 
 use crate::branches::branch_numbers;
 use crate::covers::set_cover;
 use crate::nodes::nodes;
-use crate::pairs::{Pair, bit, has, is_in};
+use crate::pairs::{Pair, bit, has, is_one_of};
 use rv_model::Formula;
 use rv_nnf::{Normal, Part};
 use rv_table::{Node, Table};
@@ -23,7 +23,7 @@ use std::alloc::{AllocError, Global};
 
 // Adds the formula of a part that is a label.
 fn add_label(alloc: Global, out: &mut Vec<Formula>, part: &Part) -> Result<(), AllocError>
-    ensures { OnOk result (map ltl out.new.items ≡ map ltl out.old.items ++ piece_labels (piece part.now)) }
+    ensures { OnOk result (map ltl out.new.items ≡ map ltl out.old.items ++ piece_labels (part_value part.now)) }
 {
     if let Part::Label(f) = part {
         out.push(f.copy(alloc)?)?;
@@ -32,10 +32,10 @@ fn add_label(alloc: Global, out: &mut Vec<Formula>, part: &Part) -> Result<(), A
 }
 
 // The labels of a set of parts, in their order.
-#[tactic(auto, using(crate::proofs::RowsMade::labels_next, crate::proofs::RowsMade::piece_read))]
+#[tactic(auto, using(crate::proofs::RowsMade::labels_next, crate::proofs::RowsMade::part_value_read))]
 fn labels_of(alloc: Global, parts: &[Part], set: u64) -> Result<Vec<Formula>, AllocError>
     requires { length parts.now ≤ 64 }
-    ensures { IfOk result (λ v. map ltl v.items ≡ labels_below (pieces parts.now) set (length parts.now)) }
+    ensures { IfOk result (λ v. map ltl v.items ≡ labels_below (part_values parts.now) set (length parts.now)) }
 {
     let mut out = Vec::new(alloc);
     for k in 0..parts.len() {
@@ -63,7 +63,7 @@ fn next_rows(nodes: &[Pair], cover: &[Pair]) -> u32
     let mut k = nodes.len();
     while k > 0 {
         k -= 1;
-        if is_in(nodes[k], cover) {
+        if is_one_of(nodes[k], cover) {
             out = row_bit(k + 1) | out;
         }
     }
@@ -78,10 +78,10 @@ fn node_rows(
     nodes: &[Pair],
 ) -> Result<Vec<Node>, AllocError>
     requires few { length parts.now ≤ 64 }
-    requires below { (k : ℕ) → OperandsBelow k (piece_at (pieces parts.now) k) }
-    requires numbers { AreBranchNumbers (pieces parts.now) numbers.now }
+    requires below { (k : ℕ) → OperandsBelow k (part_value_at (part_values parts.now) k) }
+    requires numbers { AreBranchNumbers (part_values parts.now) numbers.now }
     requires nodes { length nodes.now ≤ 31 }
-    ensures { IfOk result (λ v. v.items ≡ map (node_row (pieces parts.now) nodes.now) nodes.now) }
+    ensures { IfOk result (λ v. v.items ≡ map (node_row (part_values parts.now) nodes.now) nodes.now) }
 {
     let mut out = Vec::new(alloc);
     for p in nodes {
@@ -95,8 +95,8 @@ fn node_rows(
 
 // The table of the parts of a normal form.
 fn table_of(alloc: Global, parts: &[Part]) -> Result<Table, Refused>
-    requires { IsNormal (pieces parts.now) }
-    ensures { Gives (λ table. table) result (tableau_of (pieces parts.now)) }
+    requires { IsNormal (part_values parts.now) }
+    ensures { Gives (λ table. table) result (tableau_of (part_values parts.now)) }
 {
     let numbers = branch_numbers(alloc, parts)?;
     let nodes = nodes(alloc, parts, &numbers)?;

@@ -1,21 +1,21 @@
 -- From one word of a line to the next.
 use Rattle.std.proofs.Common.{◌≡◌, ℕ, ◌+◌, ◌-◌, ◌<◌, ◌≤◌, inl, inr, true, false, not, ◌||◌, eqb, List, [], ◌∷◌, map, length, get_or, sym, ◌∙◌, ap, subst, arith}
 use Rattle.std.proofs.lemmas.Bool.{false≢true, and_from, and_parts, or_from, or_right, and_left, and_right, or_cases, ne_eqb, not-true, not-false, cases_lt}
-use Rattle.rv_text.specs.Places.{run_end, is_blank, is_of}
-use Rattle.rv_text.specs.declared.runs.Kind.{Kind}
-use Rattle.rv_text.specs.declared.runs.Kind.TheVariants as kinds
+use Rattle.rv_text.specs.Places.{run_end, is_blank, has_class}
+use Rattle.rv_text.specs.declared.runs.ByteClass.{ByteClass}
+use Rattle.rv_text.specs.declared.runs.ByteClass.TheVariants as kinds
 use Rattle.rv_text.specs.TextLines.{select}
 use Rattle.rv_text.specs.Words.{is_word_start, word_from, words_from}
 use Rattle.rv_text.proofs.LeastLemmas.{run_end-low, run_end-high, run_end-each, run_end-stop}
 use Rattle.rv_text.proofs.SelectLemmas.{select-skip, select-first, select-none}
 
 -- a run has its first byte
-pub run_end-more : (kind : Kind) (text : List ℕ) (from : ℕ) → from < length text → is_of kind (get_or text from 0) ≡ true → from < run_end kind text from
+pub run_end-more : (kind : ByteClass) (text : List ℕ) (from : ℕ) → from < length text → has_class kind (get_or text from 0) ≡ true → from < run_end kind text from
 run_end-more kind text from inside is =
     elim (cases_lt from (run_end kind text from)) [
       | inl more ↦ more
       | inr none ↦ (let here : run_end kind text from ≡ from = omega (arith, run_end-low kind text from) in
-          absurd (false≢true (sym (subst (λ (k : ℕ). is_of kind (get_or text k 0) ≡ false) here (run_end-stop kind text from (omega arith) (omega arith))) ∙ is)))
+          absurd (false≢true (sym (subst (λ (k : ℕ). has_class kind (get_or text k 0) ≡ false) here (run_end-stop kind text from (omega arith) (omega arith))) ∙ is)))
     ]
 
 module _ (text : List ℕ) (place : ℕ) where

@@ -2,7 +2,7 @@
 use Rattle.std.specs.Prelude.{ℕ, ◌-◌, Bool, not, ◌&&◌, ◌||◌, ◌==◌, List, map, length, slice_index}
 use Rattle.rv_text.specs.Places.{run_end, between, is_blank}
 use Rattle.rv_text.specs.TextLines.{select}
-use Rattle.rv_text.specs.declared.runs.Kind.TheVariants as kinds
+use Rattle.rv_text.specs.declared.runs.ByteClass.TheVariants as kinds
 
 -- a word starts where no blank stands, at the beginning or directly after a blank
 abbrev pub is_word_start : List ℕ → ℕ → Bool

@@ -21,5 +21,5 @@ pub use numbers::{
     TWO_INITIALS, UNDECLARED_STATE, UNKNOWN_ATOM, UNKNOWN_EVENT, USAGE,
 };
 pub use refusals::{Refusal, Refused};
-pub use runs::{Kind, run_end};
+pub use runs::{ByteClass, run_end};
 pub use words::Words;

@@ -3,7 +3,7 @@ ghost use Rattle.std.specs.Prelude.{◌≡◌, ◌<◌, ◌≤◌, ◌||◌, ℕ
 ghost use Rattle.rv_text.specs.Places.{is_blank};
 ghost use Rattle.rv_text.specs.Words.{is_word_start, words_from, words_of};
 
-use crate::runs::{Kind, run_end};
+use crate::runs::{ByteClass, run_end};
 use std::marker::Model;
 
 /// The words of a line that were not yet given.
@@ -38,12 +38,12 @@ impl<'a> Words<'a> {
         ensures none { IfNone result ((self.old ≡ []) × (self.new ≡ [])) }
     {
         let text = self.text;
-        let from = run_end(Kind::Blank, text, self.place);
+        let from = run_end(ByteClass::Blank, text, self.place);
         if from == text.len() {
             self.place = from;
             return None;
         }
-        let to = run_end(Kind::Word, text, from);
+        let to = run_end(ByteClass::Word, text, from);
         self.place = to;
         Some(&text[from..to])
     }

@@ -6,16 +6,16 @@ use Rattle.rv_model.specs.declared.entry.Entry.{Entry}
 use Rattle.rv_io.specs.Files.{Files}
 use Rattle.rv_bind.specs.declared.fault.BindFault.{BindFault}
 use Rattle.rv_bind.specs.declared.fault.BindFault.TheVariants as faults
-use Rattle.rv_bind.specs.Outcomes.{Outcome, accepted, refused, missing, Comes, Names}
+use Rattle.rv_bind.specs.Outcomes.{Outcome, accepted, refused, missing, Refines, BlamesReached}
 use Rattle.rv_tool.specs.Inputs.{InputValue}
 use Rattle.rv_tool.specs.Output.{refusal_text, missing_text}
 use Rattle.rv_tool.specs.Words.{CommandValue}
-use Rattle.rv_tool.specs.Headline.{Histories, IsReported, Ending, GivesUp, Says, TellsOf, Reports, Ends}
-use Rattle.rv_tool.specs.Runs.{Fails, EndsRead, AnswersBy, Answers}
+use Rattle.rv_tool.specs.Headline.{Histories, IsReported, Ending, GivesUp, PrintsText, PrintsSome, Reports, Ends}
+use Rattle.rv_tool.specs.Runs.{PrintsFault, EndsRead, AnswersBy, Answers}
 
 module _ (old new : Option (List ℕ)) (before now status : ℕ) (h : List Entry) where
   -- want of memory ends a run
-  pub no_telling : (Goes : List Entry → List ℕ → ℕ → Type 0) → GivesUp old new status h → TellsOf Goes old new before now status h
+  pub no_telling : (Goes : List Entry → List ℕ → ℕ → Type 0) → GivesUp old new status h → PrintsSome Goes old new before now status h
   no_telling Goes up = inr up
 
   -- want of memory ends a run that is reported
@@ -23,7 +23,7 @@ module _ (old new : Option (List ℕ)) (before now status : ℕ) (h : List Entry
   no_report Is i = no_telling (IsReported Is i)
 
   -- and a text
-  pub no_text : (text : List ℕ) (said : ℕ) → GivesUp old new status h → Says text said old new before now status h
+  pub no_text : (text : List ℕ) (said : ℕ) → GivesUp old new status h → PrintsText text said old new before now status h
   no_text text said up = inr up
 
   module _ {X Y : Type 0} (view : X → Y) (Accepted : Y → Ending) (outcome : Files → Outcome Y) (no : (y : Y) → GivesUp old new status h → Accepted y old new before now status h) where
@@ -34,7 +34,7 @@ module _ (old new : Option (List ℕ)) (before now status : ℕ) (h : List Entry
     gives_up (missing file) up = inr up
 
     -- what was read is what the files come to
-    pub read_answers : (told : Option Files) (first last : ℕ) (read : Result X BindFault) → Comes view told first last read outcome → Names told read outcome → EndsRead view Accepted read old new before now status h
+    pub read_answers : (told : Option Files) (first last : ℕ) (read : Result X BindFault) → Refines view told first last read outcome → BlamesReached told read outcome → EndsRead view Accepted read old new before now status h
         → (files : Files) → told ≡ Some files → AnswersBy Accepted outcome files first last old new before now status h
     read_answers told first last (Ok x) comes named ends files known = inl (subst (λ (o : Outcome Y). Ends Accepted o old new before now status h) (sym (comes files known)) ends)
     read_answers told first last (Err faults.Memory) comes named ends files known = inl (gives_up (outcome files) ends)
@@ -54,12 +54,12 @@ module _ (old new : Option (List ℕ)) (before now status : ℕ) (h : List Entry
   ])
 
   -- a refusal that was said
-  pub refused_fails : (fault : BindFault) (file told : List ℕ) (refusal : Refusal) → fault ≡ faults.Refused file refusal → told ≡ file → Says (refusal_text (Some told) refusal) 2 old new before now status h → Fails fault old new before now status h
-  refused_fails fault file told refusal is same says = rw is (subst (λ (f : List ℕ). Says (refusal_text (Some f) refusal) 2 old new before now status h) same says)
+  pub refused_fails : (fault : BindFault) (file told : List ℕ) (refusal : Refusal) → fault ≡ faults.Refused file refusal → told ≡ file → PrintsText (refusal_text (Some told) refusal) 2 old new before now status h → PrintsFault fault old new before now status h
+  refused_fails fault file told refusal is same says = rw is (subst (λ (f : List ℕ). PrintsText (refusal_text (Some f) refusal) 2 old new before now status h) same says)
 
   -- an unread file that was said
-  pub unread_fails : (fault : BindFault) (file told : List ℕ) → fault ≡ faults.Unread file → told ≡ file → Says (missing_text told) 3 old new before now status h → Fails fault old new before now status h
-  unread_fails fault file told is same says = rw is (subst (λ (f : List ℕ). Says (missing_text f) 3 old new before now status h) same says)
+  pub unread_fails : (fault : BindFault) (file told : List ℕ) → fault ≡ faults.Unread file → told ≡ file → PrintsText (missing_text told) 3 old new before now status h → PrintsFault fault old new before now status h
+  unread_fails fault file told is same says = rw is (subst (λ (f : List ℕ). PrintsText (missing_text f) 3 old new before now status h) same says)
 
   -- the words ask for the command that was read
   pub words_answer : (asked : Option CommandValue) (said : Option CommandValue) (told : Option Files) (first last : ℕ) → said ≡ asked

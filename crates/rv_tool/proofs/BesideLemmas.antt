@@ -5,13 +5,13 @@ use Rattle.rv_io.specs.Files.{Files}
 use Rattle.rv_bind.specs.declared.fault.BindFault.{BindFault}
 use Rattle.rv_bind.specs.Values.{BoundValue}
 use Rattle.rv_bind.specs.Bound.{bound_of}
-use Rattle.rv_bind.specs.Outcomes.{Outcome, accepted, reading, of_name, Names}
+use Rattle.rv_bind.specs.Outcomes.{Outcome, accepted, reading, of_name, BlamesReached}
 use Rattle.rv_bind.proofs.OutcomeLemmas.{of_name-reading}
 use Rattle.rv_bind.proofs.ReachedLemmas.{IsLocal, reading-local, of_name-local, bound-local, step_named, behind_named}
 use Rattle.rv_route.specs.Routing.{RoutedValue}
-use Rattle.rv_control.specs.Trees.{Tree}
+use Rattle.rv_control.specs.Trees.{ControlValue}
 use Rattle.rv_tool.specs.Inputs.{InputValue, routed_text, routed_in, run_input}
-use Rattle.rv_tool.specs.Sessions.{tree_of}
+use Rattle.rv_tool.specs.Sessions.{control_value}
 use Rattle.rv_tool.specs.Changes.{changes_text, changes_in, input_beside}
 
 -- what the bindings and a trace make
@@ -26,23 +26,23 @@ input-local bindings trace =
 
 module _ (told : Option Files) where
   -- an unread script is read by its file
-  pub changes_named : (X Z : Type 0) (script : List ℕ) (tree : Tree) (fault : BindFault) → Names {X = X} told (Err fault) (λ files. of_name files script accepted) → Names {X = Z} told (Err fault) (λ files. changes_in files script tree)
+  pub changes_named : (X Z : Type 0) (script : List ℕ) (tree : ControlValue) (fault : BindFault) → BlamesReached {X = X} told (Err fault) (λ files. of_name files script accepted) → BlamesReached {X = Z} told (Err fault) (λ files. changes_in files script tree)
   changes_named X Z script tree fault =
       step_named X Z told fault (λ files. of_name files script accepted) (λ files text. changes_text script tree text) (λ files. changes_in files script tree) (λ files. of_name-reading files script (changes_text script tree))
 
   module _ (bindings trace script : List ℕ) where
     next : Files → InputValue → Outcome InputValue
-    next files input = reading (changes_in files script (tree_of input.bound)) (λ changes. accepted (record input { changes = changes }))
+    next files input = reading (changes_in files script (control_value input.bound)) (λ changes. accepted (record input { changes = changes }))
 
     -- what the bindings and the trace name, the whole names
-    pub beside_named : (X Z : Type 0) (fault : BindFault) → Names {X = X} told (Err fault) (λ files. run_input files bindings trace) → Names {X = Z} told (Err fault) (λ files. input_beside files bindings trace script)
+    pub beside_named : (X Z : Type 0) (fault : BindFault) → BlamesReached {X = X} told (Err fault) (λ files. run_input files bindings trace) → BlamesReached {X = Z} told (Err fault) (λ files. input_beside files bindings trace script)
     unfolding next
     beside_named X Z fault = step_named X Z told fault (λ files. run_input files bindings trace) next (λ files. input_beside files bindings trace script) (λ files. refl)
 
     -- where they were read, the whole names what the script names
     pub beside_behind_named : (X Z : Type 0) (input : InputValue) (fault : BindFault) → ((files : Files) → told ≡ Some files → run_input files bindings trace ≡ accepted input)
-        → Names {X = X} told (Err fault) (λ files. changes_in files script (tree_of input.bound)) → Names {X = Z} told (Err fault) (λ files. input_beside files bindings trace script)
+        → BlamesReached {X = X} told (Err fault) (λ files. changes_in files script (control_value input.bound)) → BlamesReached {X = Z} told (Err fault) (λ files. input_beside files bindings trace script)
     unfolding next
     beside_behind_named X Z input fault read named =
         behind_named X Z told fault (λ files. run_input files bindings trace) input next (input-local bindings trace) read
-        (step_named X X told fault (λ files. changes_in files script (tree_of input.bound)) (λ files changes. accepted (record input { changes = changes })) (λ files. next files input) (λ files. refl) named)
+        (step_named X X told fault (λ files. changes_in files script (control_value input.bound)) (λ files changes. accepted (record input { changes = changes })) (λ files. next files input) (λ files. refl) named)

@@ -8,12 +8,12 @@ use Rattle.rv_check.specs.declared.reading.Verdict.{Verdict}
 use Rattle.rv_check.specs.Readings.{ReaderValue}
 use Rattle.rv_bind.specs.declared.fault.BindFault.{BindFault}
 use Rattle.rv_bind.specs.declared.fault.BindFault.TheVariants as faults
-use Rattle.rv_bind.specs.Outcomes.{Outcome, accepted, refused, missing, reading, of_text, of_name, without, Names}
+use Rattle.rv_bind.specs.Outcomes.{Outcome, accepted, refused, missing, reading, of_text, of_name, files_without, BlamesReached}
 use Rattle.rv_bind.proofs.ReachedLemmas.{step_named, behind_named}
 use Rattle.rv_tool.specs.Checks.{CheckedValue, checked_input, IsJudged, verdict_text, verdict_status, IsCheckReport, Checks, JudgesRead}
-use Rattle.rv_tool.specs.Faults.{FaultComes, FaultNames}
-use Rattle.rv_tool.specs.Feeding.{FedOf, IsFed, PieceIn, IsPieceOf}
-use Rattle.rv_tool.specs.Headline.{Says, Ends}
+use Rattle.rv_tool.specs.Faults.{FaultRefines, FaultBlamesReached}
+use Rattle.rv_tool.specs.Feeding.{FedOf, IsFileFed, PieceIn, IsFilePiece}
+use Rattle.rv_tool.specs.Headline.{PrintsText, Ends}
 use Rattle.rv_tool.specs.Inputs.{InputValue, run_input}
 use Rattle.rv_tool.specs.JournalPieces.{EnoughOf, IsEnough}
 use Rattle.rv_tool.specs.Runs.{EndsRead, AnswersBy}
@@ -28,7 +28,7 @@ rose_wider before mid now le (inl lt) = inl (omega arith)
 rose_wider before mid now le (inr end) = inr end
 
 -- a fault of a later moment
-pub shifted_comes : {Y : Type 0} (outcome : Files → Outcome Y) (told later : Option Files) (before mid now : ℕ) (fault : BindFault) → later ≡ told → before ≤ mid → FaultComes later mid now fault outcome → FaultComes told before now fault outcome
+pub shifted_comes : {Y : Type 0} (outcome : Files → Outcome Y) (told later : Option Files) (before mid now : ℕ) (fault : BindFault) → later ≡ told → before ≤ mid → FaultRefines later mid now fault outcome → FaultRefines told before now fault outcome
 shifted_comes outcome told later before mid now faults.Memory same le comes = tt
 shifted_comes outcome told later before mid now (faults.Refused file refusal) same le comes = (comes.0, λ files known. comes.1 files (same ∙ known))
 shifted_comes outcome told later before mid now (faults.Unread file) same le (inl lacks) = inl (lacks.0, sym same ∙ lacks.1, lacks.2)
@@ -49,11 +49,11 @@ all_fed (Some bytes) place count old new r none_came room before piece = go (pie
 
 module _ (told : Option Files) where
   -- all was fed
-  pub fed_all : (name : List ℕ) (place count : ℕ) (old new : List ℕ) (r : ReaderValue) → count ≡ 0 → 0 < length old → IsFed told name place r.journal.text → IsPieceOf told name place old new count → IsEnough told name r
+  pub fed_all : (name : List ℕ) (place count : ℕ) (old new : List ℕ) (r : ReaderValue) → count ≡ 0 → 0 < length old → IsFileFed told name place r.journal.text → IsFilePiece told name place old new count → IsEnough told name r
   fed_all name place count old new r none_came room before piece files known = all_fed (files name) place count old new r none_came room (before files known) (piece files known)
 
   -- enough was fed
-  pub fed_enough : (name : List ℕ) (place count : ℕ) (fed old new : List ℕ) (r : ReaderValue) → IsFed told name (place + count) fed → IsPieceOf told name place old new count → r.journal.text ≡ fed → r.stopped ≡ true → IsEnough told name r
+  pub fed_enough : (name : List ℕ) (place count : ℕ) (fed old new : List ℕ) (r : ReaderValue) → IsFileFed told name (place + count) fed → IsFilePiece told name place old new count → r.journal.text ≡ fed → r.stopped ≡ true → IsEnough told name r
   fed_enough name place count fed old new r more piece is stopped files known = go (files name) (more files known) (piece files known)
     where
       go : (held : Option (List ℕ)) → FedOf held (place + count) fed → PieceIn held place old new count → EnoughOf held r
@@ -62,7 +62,7 @@ module _ (told : Option Files) where
           (drop (place + count) bytes, sym (take-append-drop (place + count) bytes) ∙ ap (λ (t : List ℕ). t ++ drop (place + count) bytes) (sym some.0 ∙ sym is), inr stopped)
 
   -- a fault of a file that is read in pieces is that of its whole text
-  pub whole_comes : (name : List ℕ) (before now : ℕ) (fault : BindFault) → FaultComes told before now fault (λ files. of_name files name accepted) → FaultComes told before now fault (λ files. of_text name (files name) accepted)
+  pub whole_comes : (name : List ℕ) (before now : ℕ) (fault : BindFault) → FaultRefines told before now fault (λ files. of_name files name accepted) → FaultRefines told before now fault (λ files. of_text name (files name) accepted)
   whole_comes name before now faults.Memory comes = tt
   whole_comes name before now (faults.Refused file refusal) comes = (comes.0, λ files known. go (files name) (comes.1 files known))
     where
@@ -77,10 +77,10 @@ module _ (told : Option Files) where
   whole_comes name before now (faults.Unread file) (inr rose) = inr rose
 
   -- and so is the file that it names
-  pub whole_named : (name : List ℕ) (fault : BindFault) → FaultNames told fault (λ files. of_name files name accepted) → FaultNames told fault (λ files. of_text name (files name) accepted)
+  pub whole_named : (name : List ℕ) (fault : BindFault) → FaultBlamesReached told fault (λ files. of_name files name accepted) → FaultBlamesReached told fault (λ files. of_text name (files name) accepted)
   whole_named name faults.Memory named = tt
   whole_named name (faults.Refused file refusal) named = tt
-  whole_named name (faults.Unread file) named = λ files known. go (without file files name) (named files known)
+  whole_named name (faults.Unread file) named = λ files known. go (files_without file files name) (named files known)
     where
       go : (held : Option (List ℕ)) → of_text name (option_map front_read held) accepted ≡ missing file → of_text name held accepted ≡ missing file
       go None e = e
@@ -108,14 +108,14 @@ module _ (told : Option Files) (bindings trace journal : List ℕ) (i : InputVal
   read_on files known = ap (λ o. reading o (behind files)) (read files known) ∙ text_reading journal i (files journal)
 
   -- a fault of the journal
-  pub checked_comes : (before now : ℕ) (fault : BindFault) → FaultComes told before now fault (λ files. of_text journal (files journal) accepted) → FaultComes told before now fault (λ files. checked_input files bindings trace journal)
+  pub checked_comes : (before now : ℕ) (fault : BindFault) → FaultRefines told before now fault (λ files. of_text journal (files journal) accepted) → FaultRefines told before now fault (λ files. checked_input files bindings trace journal)
   checked_comes before now faults.Memory comes = tt
   checked_comes before now (faults.Refused file refusal) comes = (comes.0, λ files known. read_on files known ∙ ap (λ o. reading o (with_journal i)) (comes.1 files known))
   checked_comes before now (faults.Unread file) (inl lacks) = inl (lacks.0, lacks.1, read_on lacks.0 lacks.1 ∙ ap (λ o. reading o (with_journal i)) lacks.2)
   checked_comes before now (faults.Unread file) (inr rose) = inr rose
 
   -- the file that it names
-  pub checked_named : (X Z : Type 0) (fault : BindFault) → FaultNames told fault (λ files. of_text journal (files journal) accepted) → Names {X = Z} told (Err fault) (λ files. checked_input files bindings trace journal)
+  pub checked_named : (X Z : Type 0) (fault : BindFault) → FaultBlamesReached told fault (λ files. of_text journal (files journal) accepted) → BlamesReached {X = Z} told (Err fault) (λ files. checked_input files bindings trace journal)
   unfolding behind
   checked_named X Z fault named =
       behind_named (List ℕ) Z told fault (λ files. run_input files bindings trace) i behind (input-local bindings trace) read
@@ -125,13 +125,13 @@ module _ (told : Option Files) (bindings trace journal : List ℕ) (i : InputVal
 
 module _ (old new : Option (List ℕ)) (before now status : ℕ) (h : List Entry) where
   -- a verdict that was said of a journal is its report
-  pub says_checked : (c : CheckedValue) (verdict : Verdict) → IsJudged c verdict → Says (verdict_text verdict) (verdict_status verdict) old new before now status h → Checks c old new before now status h
+  pub says_checked : (c : CheckedValue) (verdict : Verdict) → IsJudged c verdict → PrintsText (verdict_text verdict) (verdict_status verdict) old new before now status h → Checks c old new before now status h
   says_checked c verdict is (inl said) = inl (verdict_text verdict, verdict_status verdict, record { verdict = verdict; judged = is; text_is = refl; status_is = refl; no_history = said.1 }, said.0)
   says_checked c verdict is (inr up) = inr up
 
   -- a verdict that was said is what the files come to
-  pub check_answers : (outcome : Files → Outcome CheckedValue) (told : Option Files) (first last : ℕ) (read : Result Verdict BindFault) → JudgesRead told first last read outcome → Names told read outcome
-      → EndsRead (λ (v : Verdict). v) (λ (v : Verdict). Says (verdict_text v) (verdict_status v)) read old new before now status h → (files : Files) → told ≡ Some files → AnswersBy Checks outcome files first last old new before now status h
+  pub check_answers : (outcome : Files → Outcome CheckedValue) (told : Option Files) (first last : ℕ) (read : Result Verdict BindFault) → JudgesRead told first last read outcome → BlamesReached told read outcome
+      → EndsRead (λ (v : Verdict). v) (λ (v : Verdict). PrintsText (verdict_text v) (verdict_status v)) read old new before now status h → (files : Files) → told ≡ Some files → AnswersBy Checks outcome files first last old new before now status h
   check_answers outcome told first last (Ok verdict) judges named ends files known =
       let found = judges files known in
       inl (subst (λ (o : Outcome CheckedValue). Ends Checks o old new before now status h) (sym found.1) (says_checked found.0 verdict found.2 ends))

@@ -5,10 +5,10 @@ use Rattle.rv_io.specs.Files.{Files}
 use Rattle.rv_bind.specs.declared.fault.BindFault.{BindFault}
 use Rattle.rv_bind.specs.declared.fault.BindFault.TheVariants as faults
 use Rattle.rv_bind.specs.Values.{BoundValue}
-use Rattle.rv_bind.specs.Outcomes.{accepted, reading, of_name, Comes}
+use Rattle.rv_bind.specs.Outcomes.{accepted, reading, of_name, Refines}
 use Rattle.rv_bind.proofs.OutcomeLemmas.{of_name-reading}
 use Rattle.rv_route.specs.Routing.{RoutedValue}
-use Rattle.rv_tool.specs.Faults.{Tells}
+use Rattle.rv_tool.specs.Faults.{IsOutcome}
 use Rattle.rv_tool.specs.Inputs.{routed_text, routed_in}
 
 module _ (told : Option Files) (trace text : List ℕ) (bound : BoundValue) (read : (files : Files) → told ≡ Some files → of_name files trace accepted ≡ accepted text) where
@@ -17,7 +17,7 @@ module _ (told : Option Files) (trace text : List ℕ) (bound : BoundValue) (rea
   whole_text files known = of_name-reading files trace (routed_text trace bound) ∙ ap (λ o. reading o (routed_text trace bound)) (read files known)
 
   -- what the text comes to is what the file comes to
-  pub routed_comes : {X : Type 0} (view : X → RoutedValue) (before now : ℕ) (result : Result X BindFault) → Tells view result (routed_text trace bound text) → Comes view told before now result (λ files. routed_in files trace bound)
+  pub routed_comes : {X : Type 0} (view : X → RoutedValue) (before now : ℕ) (result : Result X BindFault) → IsOutcome view result (routed_text trace bound text) → Refines view told before now result (λ files. routed_in files trace bound)
   routed_comes view before now (Ok x) tells = λ files known. whole_text files known ∙ tells
   routed_comes view before now (Err faults.Memory) tells = tt
   routed_comes view before now (Err (faults.Refused file refusal)) tells = (tells.0, λ files known. whole_text files known ∙ tells.1)

@@ -10,12 +10,12 @@ use Rattle.rv_slots.specs.Shapes.{count_of}
 use Rattle.rv_slots.specs.declared.shape.TheConstants.{CPUS}
 use Rattle.rv_bind.specs.declared.bindings.Monitor.{Monitor}
 use Rattle.rv_feed.specs.Lane.{LaneValue, FitsDelivery, FitsLane, FitLanes, works_of}
-use Rattle.rv_verdicts.specs.Lone.{HasInstance, HaveInstances, IsByCpu}
-use Rattle.rv_verdicts.proofs.CpuLemmas.{cpu_slots_are_lone, all_by_cpu_are_lone}
-use Rattle.rv_tool.specs.declared.input.Ready.{Ready}
+use Rattle.rv_laws.specs.SingleWriter.{HasInstance, HaveInstances, IsByCpu}
+use Rattle.rv_laws.proofs.CpuLemmas.{cpu_slots_are_lone, all_by_cpu_are_lone}
+use Rattle.rv_tool.specs.declared.input.Prepared.{Prepared}
 use Rattle.rv_tool.specs.Inputs.{InputValue, run_of, HasCpus}
-use Rattle.rv_tool.specs.Ready.{ready_value, IsReady}
-use Rattle.rv_tool.specs.Verdicts.{IsLoneIn, AllHaveCpus}
+use Rattle.rv_tool.specs.Prepared.{prepared_value, IsPrepared}
+use Rattle.rv_tool.specs.Verdicts.{HasOneWriterIn, AllHaveCpus}
 
 -- ---- what is known of the scripts
 
@@ -36,7 +36,7 @@ lanes_instances s lanes f =
     (All-weaker (FitsLane s) (λ (l : LaneValue). Has l.work) (λ l fit. All-weaker (FitsDelivery s) (λ (d : Delivery). HasInstance s.shape d.monitor d.instance) (fits_instance s) l.work.deliveries fit.fit) lanes f.fit)
 
 -- what is ready is routed
-pub ready_routed : (r : Ready) → IsReady r → FitCpus (ready_value r)
+pub ready_routed : (r : Prepared) → IsPrepared r → FitCpus (prepared_value r)
 ready_routed r is = record {
   instances = subst (λ (s : Setup). HaveInstances s.shape (works_of r.lanes.items)) is.setup (lanes_instances r.setup r.lanes.items is.lanes);
   by_cpu = is.by_cpu;
@@ -66,7 +66,7 @@ has_cpus tasks (m ∷ monitors) (suc place) all below =
 
 module _ (i : InputValue) (routed : FitCpus i) where
   -- a CPU's slot of a monitor by CPU is lone
-  pub cpu_is_lone : (monitor cpu : ℕ) → HasCpus i.bound.monitors monitor → cpu < CPUS → IsLoneIn i (slot_of (run_of i).setup.shape monitor cpu)
+  pub cpu_is_lone : (monitor cpu : ℕ) → HasCpus i.bound.monitors monitor → cpu < CPUS → HasOneWriterIn i (slot_of (run_of i).setup.shape monitor cpu)
   cpu_is_lone monitor cpu has below =
       cpu_slots_are_lone (run_of i).setup.shape (run_of i).works monitor cpu routed.instances (routed.by_cpu monitor has) (has_instance (length i.routed.tasks) i.bound.monitors monitor cpu has below)
 
@@ -78,5 +78,5 @@ module _ (i : InputValue) (routed : FitCpus i) where
       routed.by_cpu d.monitor (has_cpus (length i.routed.tasks) i.bound.monitors d.monitor all there.monitor_below) n nobody below m nothing within refl
 
   -- where all monitors are by CPU, all slots are lone
-  pub all_are_lone : AllHaveCpus i → (slot : ℕ) → IsLoneIn i slot
+  pub all_are_lone : AllHaveCpus i → (slot : ℕ) → HasOneWriterIn i slot
   all_are_lone all = all_by_cpu_are_lone (run_of i).setup.shape (run_of i).works routed.instances (all_own all)

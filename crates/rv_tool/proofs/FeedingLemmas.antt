@@ -8,7 +8,7 @@ use Rattle.rv_text.specs.declared.refusals.Refused.{Refused}
 use Rattle.rv_text.specs.declared.refusals.Refused.TheVariants as refuseds
 use Rattle.rv_text.specs.Readings.{Refuses}
 use Rattle.rv_io.specs.Files.{Files, front_read}
-use Rattle.rv_io.specs.Pieces.{IsPiece, PiecesTold, Pieces}
+use Rattle.rv_io.specs.Pieces.{IsPiece, PiecesKnown, ReadsPiece}
 use Rattle.rv_io.specs.declared.store.TheConstants.{READ_LIMIT}
 use Rattle.rv_trace.specs.declared.line.TraceLine.{TraceLine}
 use Rattle.rv_trace.specs.Streams.{part_read}
@@ -19,8 +19,8 @@ use Rattle.rv_bind.specs.Values.{BoundValue}
 use Rattle.rv_bind.specs.Outcomes.{Outcome, accepted, refused, missing, reading, of_file, of_text}
 use Rattle.rv_bind.proofs.OutcomeLemmas.{step_fault}
 use Rattle.rv_route.specs.Routing.{route_of}
-use Rattle.rv_tool.specs.Faults.{IsFaultIn, FaultComes, FaultNames}
-use Rattle.rv_tool.specs.Feeding.{FedOf, IsFed, IsAll, PieceIn, IsPieceOf}
+use Rattle.rv_tool.specs.Faults.{IsFaultIn, FaultRefines, FaultBlamesReached}
+use Rattle.rv_tool.specs.Feeding.{FedOf, IsFileFed, IsAll, PieceIn, IsFilePiece}
 use Rattle.rv_tool.specs.Inputs.{routed_text, routed_in}
 use Rattle.rv_tool.proofs.FrontLemmas.{front_refused}
 use Rattle.rv_tool.proofs.NumberLemmas.{refusal_numbered, trace_numbered}
@@ -75,19 +75,19 @@ piece_refused trace bound (Some bytes) place count fed old new refusal low befor
 
 module _ (told : Option Files) where
   -- a store that answers with a piece has it of its file
-  pub told-piece : (name : List ℕ) (from : ℕ) (old new : List ℕ) (before now count : ℕ) → Pieces told name from old new before now (Ok count) → IsPieceOf told name from old new count
-  told-piece name from old new before now count pieces files known = go (files name) (subst (λ (t : Option Files). Pieces t name from old new before now (Ok count)) known pieces)
+  pub told-piece : (name : List ℕ) (from : ℕ) (old new : List ℕ) (before now count : ℕ) → ReadsPiece told name from old new before now (Ok count) → IsFilePiece told name from old new count
+  told-piece name from old new before now count pieces files known = go (files name) (subst (λ (t : Option Files). ReadsPiece t name from old new before now (Ok count)) known pieces)
     where
-      go : (held : Option (List ℕ)) → PiecesTold held from old new before now (Ok count) → PieceIn held from old new count
+      go : (held : Option (List ℕ)) → PiecesKnown held from old new before now (Ok count) → PieceIn held from old new count
       go None pieces = pieces
       go (Some bytes) pieces = pieces
 
   -- a piece more
-  pub fed-more : (name : List ℕ) (place count : ℕ) (fed old new : List ℕ) → IsFed told name place fed → IsPieceOf told name place old new count → IsFed told name (place + count) (fed ++ take count new)
+  pub fed-more : (name : List ℕ) (place count : ℕ) (fed old new : List ℕ) → IsFileFed told name place fed → IsFilePiece told name place old new count → IsFileFed told name (place + count) (fed ++ take count new)
   fed-more name place count fed old new before piece files known = piece_adds (files name) place count fed old new (before files known) (piece files known)
 
   -- nothing was fed of a file yet
-  pub fed-none : (name fed : List ℕ) → fed ≡ [] → IsFed told name 0 fed
+  pub fed-none : (name fed : List ℕ) → fed ≡ [] → IsFileFed told name 0 fed
   fed-none name fed is files known = go (files name)
     where
       go : (held : Option (List ℕ)) → FedOf held 0 fed
@@ -95,16 +95,16 @@ module _ (told : Option Files) where
       go (Some bytes) = (is, omega arith)
 
   -- no byte came
-  pub fed-end : (name : List ℕ) (place count : ℕ) (fed old new : List ℕ) → count ≡ 0 → place ≤ READ_LIMIT → 0 < length old → IsFed told name place fed → IsPieceOf told name place old new count → IsAll told name (fed ++ take count new)
+  pub fed-end : (name : List ℕ) (place count : ℕ) (fed old new : List ℕ) → count ≡ 0 → place ≤ READ_LIMIT → 0 < length old → IsFileFed told name place fed → IsFilePiece told name place old new count → IsAll told name (fed ++ take count new)
   fed-end name place count fed old new zero low room before piece files known = piece_ends name (files name) place count fed old new zero low room (before files known) (piece files known)
 
   -- the limit of a read
-  pub fed-limit : (name : List ℕ) (place : ℕ) (fed : List ℕ) → place ≡ READ_LIMIT → IsFed told name place fed → IsAll told name fed
+  pub fed-limit : (name : List ℕ) (place : ℕ) (fed : List ℕ) → place ≡ READ_LIMIT → IsFileFed told name place fed → IsAll told name fed
   fed-limit name place fed at before files known = limit_ends name (files name) place fed at (before files known)
 
   -- a refusal of what was fed with a piece is what the trace comes to
-  pub refused-comes : (trace : List ℕ) (bound : BoundValue) (place count : ℕ) (fed old new : List ℕ) (before now : ℕ) (fault : Refused) (given : BindFault) → place + count ≤ READ_LIMIT → IsFed told trace place fed → IsPieceOf told trace place old new count
-      → Refuses fault (trace_of (part_read false (fed ++ take count new))) → IsFaultIn trace fault given → FaultComes told before now given (λ files. routed_in files trace bound)
+  pub refused-comes : (trace : List ℕ) (bound : BoundValue) (place count : ℕ) (fed old new : List ℕ) (before now : ℕ) (fault : Refused) (given : BindFault) → place + count ≤ READ_LIMIT → IsFileFed told trace place fed → IsFilePiece told trace place old new count
+      → Refuses fault (trace_of (part_read false (fed ++ take count new))) → IsFaultIn trace fault given → FaultRefines told before now given (λ files. routed_in files trace bound)
   refused-comes trace bound place count fed old new before now refuseds.Memory given low is piece refuses said = rw said tt
   refused-comes trace bound place count fed old new before now (refuseds.Because refusal) faults.Memory low is piece refuses said = tt
   refused-comes trace bound place count fed old new before now (refuseds.Because refusal) (faults.Refused named told_refusal) low is piece refuses said = (
@@ -114,7 +114,7 @@ module _ (told : Option Files) where
   refused-comes trace bound place count fed old new before now (refuseds.Because refusal) (faults.Unread named) low is piece refuses said = absurd said
 
   -- a refusal names no unread file
-  pub refused-named : {Y : Type 0} (trace : List ℕ) (fault : Refused) (given : BindFault) (outcome : Files → Outcome Y) → IsFaultIn trace fault given → FaultNames told given outcome
+  pub refused-named : {Y : Type 0} (trace : List ℕ) (fault : Refused) (given : BindFault) (outcome : Files → Outcome Y) → IsFaultIn trace fault given → FaultBlamesReached told given outcome
   refused-named trace refuseds.Memory given outcome said = rw said tt
   refused-named trace (refuseds.Because refusal) faults.Memory outcome said = tt
   refused-named trace (refuseds.Because refusal) (faults.Refused named told_refusal) outcome said = tt
@@ -127,7 +127,7 @@ reading-accepted (refused file refusal) = refl
 reading-accepted (missing file) = refl
 
 -- a fault of a later part is one of the whole
-pub later-comes : {Y : Type 0} (told told' : Option Files) (before mid now : ℕ) (fault : BindFault) (outcome : Files → Outcome Y) → told' ≡ told → before ≤ mid → FaultComes told' mid now fault outcome → FaultComes told before now fault outcome
+pub later-comes : {Y : Type 0} (told told' : Option Files) (before mid now : ℕ) (fault : BindFault) (outcome : Files → Outcome Y) → told' ≡ told → before ≤ mid → FaultRefines told' mid now fault outcome → FaultRefines told before now fault outcome
 later-comes {Y} told told' before mid now fault outcome same le comes =
-    subst (λ (t : Option Files). FaultComes t before now fault outcome) same
+    subst (λ (t : Option Files). FaultRefines t before now fault outcome) same
     (step_fault told' before mid now fault (λ (y : Y). y) (λ (y : Y). y) outcome (λ files y. accepted y) outcome le (λ files known. reading-accepted (outcome files)) comes)

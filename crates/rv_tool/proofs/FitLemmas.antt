@@ -20,51 +20,51 @@ use Rattle.rv_model.specs.Works.{Work}
 use Rattle.rv_slots.specs.Shapes.{count_of}
 use Rattle.rv_slots.proofs.ShapeLemmas.{monitor_of-slot_of}
 use Rattle.rv_table.specs.Rows.{row_count}
-use Rattle.rv_core.specs.Advance.{IsRun, FitsKind, FitsTable, FitsHit}
+use Rattle.rv_core.specs.Advance.{RunsItsEvent, FitsKind, FitsTable, FitsHit}
 use Rattle.rv_core.specs.Setup.{no_table, table_at}
 use Rattle.rv_bind.specs.declared.bindings.Monitor.{Monitor}
 use Rattle.rv_bind.specs.Compiling.{IsTableOf}
-use Rattle.rv_bind.specs.WellFormed.{Kind, kind_of, kinds_of, FitsAtoms, FitsSpec, FitsRule, HasTable, HaveTables}
+use Rattle.rv_bind.specs.WellFormed.{MonitorKind, kind_of, kinds_of, FitsAtoms, FitsSpec, FitsRule, HasTable, HaveTables}
 use Rattle.rv_bind.proofs.TableLemmas.{labelled}
 use Rattle.rv_route.specs.Fitting.{FitsKindOf, WorksFit}
 use Rattle.rv_journal.specs.CountedLanes.{FitsCounted}
 use Rattle.rv_journal.specs.CountedWords.{IsBelow}
 use Rattle.rv_journal.specs.Running.{FitsCountedWork}
-use Rattle.rv_journal.specs.Shown.{IsShownWork}
+use Rattle.rv_journal.specs.Enabled.{IsEnabledWork}
 use Rattle.rv_journal.proofs.ShownFitLemmas.{shown-fits}
-use Rattle.rv_tool.specs.Numbered.{atom_count, is_narrow, are_narrow}
+use Rattle.rv_tool.specs.CountsFit.{atom_count, monitor_fits_counts, monitors_fit_counts}
 use Rattle.rv_tool.proofs.NarrowLemmas.{narrow-room}
 
 -- ---- one monitor
 
 -- what stands at a monitor's place
-record At (monitors : List Monitor) (tables : List Table) (tasks place : ℕ) (kind : Kind) : Type 0 where
+record At (monitors : List Monitor) (tables : List Table) (tasks place : ℕ) (kind : MonitorKind) : Type 0 where
   below : place < length (map (count_of tasks) (map (λ (m : Monitor). m.scope) monitors))
   count : slice_index (map (count_of tasks) (map (λ (m : Monitor). m.scope) monitors)) place ≡ count_of tasks kind.scope
   table : HasTable kind (slice_index_or tables place no_table)
   narrow : row_count (slice_index_or tables place no_table) + atom_count kind.spec ≤ 32
 
 -- at a monitor's place stand how many instances it has, and its narrow table
-at-place : (monitors : List Monitor) (tables : List Table) (tasks place : ℕ) (kind : Kind) → slice_get (kinds_of monitors) place ≡ Some kind → HaveTables (kinds_of monitors) tables → are_narrow monitors tables ≡ true → At monitors tables tasks place kind
+at-place : (monitors : List Monitor) (tables : List Table) (tasks place : ℕ) (kind : MonitorKind) → slice_get (kinds_of monitors) place ≡ Some kind → HaveTables (kinds_of monitors) tables → monitors_fit_counts monitors tables ≡ true → At monitors tables tasks place kind
 at-place [] tables tasks place kind there have narrow = cc
 at-place (m ∷ monitors) [] tasks place kind there have narrow = absurd have
 at-place (m ∷ monitors) (t ∷ tables) tasks zero kind there have narrow =
     let same : kind_of m ≡ kind = cc in
-    let room = narrow-room m t (and_parts (is_narrow m t) (are_narrow monitors tables) narrow).0 in
+    let room = narrow-room m t (and_parts (monitor_fits_counts m t) (monitors_fit_counts monitors tables) narrow).0 in
     record {
       below = omega arith;
-      count = ap (λ (k : Kind). count_of tasks k.scope) same;
-      table = subst (λ (k : Kind). HasTable k t) same have.0;
-      narrow = subst (λ (k : Kind). row_count t + atom_count k.spec ≤ 32) same room;
+      count = ap (λ (k : MonitorKind). count_of tasks k.scope) same;
+      table = subst (λ (k : MonitorKind). HasTable k t) same have.0;
+      narrow = subst (λ (k : MonitorKind). row_count t + atom_count k.spec ≤ 32) same room;
     }
 at-place (m ∷ monitors) (t ∷ tables) tasks (suc place) kind there have narrow =
-    let rest = at-place monitors tables tasks place kind there have.1 (and_parts (is_narrow m t) (are_narrow monitors tables) narrow).1 in
+    let rest = at-place monitors tables tasks place kind there have.1 (and_parts (monitor_fits_counts m t) (monitors_fit_counts monitors tables) narrow).1 in
     record { below = let b = rest.below in omega arith; count = rest.count; table = rest.table; narrow = rest.narrow }
 
 -- ---- one delivery
 
 -- a mode that is no end, and no start without its event, runs its event
-runs : (mode : Mode) → is_end mode ≡ false → mode ≢ modes.Start → IsRun mode
+runs : (mode : Mode) → is_end mode ≡ false → mode ≢ modes.Start → RunsItsEvent mode
 runs modes.Event goes h = tt
 runs modes.Start goes h = absurd (h refl)
 runs modes.StartRun goes h = tt
@@ -130,7 +130,7 @@ pub record IsOpened (monitors : List Monitor) (tasks : ℕ) (s : Setup) : Type 0
 abbrev pub HaveNoEnds : List Work → Type 0
 HaveNoEnds works = All (λ w. All (λ d. is_end d.hit.mode ≡ false) w.deliveries) works
 
-module _ (monitors : List Monitor) (tasks : ℕ) (s : Setup) (opened : IsOpened monitors tasks s) (narrow : are_narrow monitors s.tables ≡ true) where
+module _ (monitors : List Monitor) (tasks : ℕ) (s : Setup) (opened : IsOpened monitors tasks s) (narrow : monitors_fit_counts monitors s.tables ≡ true) where
   -- a delivery to an instance of a monitor that it fits
   delivery-fits : (cpu : ℕ) (d : Delivery) → FitsKindOf (kinds_of monitors) tasks cpu d → is_end d.hit.mode ≡ false → FitsCounted s d
   delivery-fits cpu d f goes =
@@ -149,11 +149,11 @@ module _ (monitors : List Monitor) (tasks : ℕ) (s : Setup) (opened : IsOpened 
       }
 
   -- what the opening switches show on of routed works fits the counted words, where the monitors are narrow and no delivery ends an instance
-  pub works-fit : (works shown : List Work) → WorksFit (kinds_of monitors) tasks works → HaveNoEnds works → AllZip (IsShownWork s.switches) works shown → All (FitsCountedWork s) shown
+  pub works-fit : (works shown : List Work) → WorksFit (kinds_of monitors) tasks works → HaveNoEnds works → AllZip (IsEnabledWork s.switches) works shown → All (FitsCountedWork s) shown
   works-fit works shown fit goes zip place none below =
-      let many = length_all_zip (IsShownWork s.switches) works shown zip in
+      let many = length_all_zip (IsEnabledWork s.switches) works shown zip in
       let within : place < length works = omega arith in
       let w : Work = get_or works place none in
       let few = fit.few place none within in
       let fits : All (FitsCounted s) w.deliveries = (λ i d low. delivery-fits w.cpu (get_or w.deliveries i d) (fit.deliveries place none within i d low) (goes place none within i d low)) in
-      shown-fits s w (get_or shown place none) (fit.cpus_below place none within) (omega arith) fits (AllZip-get_or (IsShownWork s.switches) works shown place none none zip within)
+      shown-fits s w (get_or shown place none) (fit.cpus_below place none within) (omega arith) fits (AllZip-get_or (IsEnabledWork s.switches) works shown place none none zip within)

@@ -16,11 +16,11 @@ use Rattle.rv_core.specs.Judged.{JudgesBySpecs}
 use Rattle.rv_feed.specs.Lane.{LaneValue, FitsLane, FitLanes, FitsDelivery, panics_of, works_of}
 use Rattle.rv_check.specs.Beginnings.{FitsDelivery as FitsChecked, FitsWork, FitWorks, input_of}
 use Rattle.rv_check.specs.declared.reading.Verdict.{Verdict}
-use Rattle.rv_check.specs.Readings.{ReaderValue, longer, grown}
-use Rattle.rv_check.specs.Verdicts.{Journal, Holds}
+use Rattle.rv_check.specs.Readings.{ReaderValue, with_more_text, grown}
+use Rattle.rv_check.specs.Verdicts.{Journal, VerdictHolds}
 use Rattle.rv_bind.specs.declared.bindings.Monitor.{Monitor}
-use Rattle.rv_tool.specs.declared.input.Ready.{Ready}
-use Rattle.rv_tool.specs.Ready.{ready_value, IsReady}
+use Rattle.rv_tool.specs.declared.input.Prepared.{Prepared}
+use Rattle.rv_tool.specs.Prepared.{prepared_value, IsPrepared}
 use Rattle.rv_tool.specs.Checks.{panic_bits, judged, IsJudged, IsVerdict}
 use Rattle.rv_tool.specs.Inputs.{InputValue, run_of}
 use Rattle.rv_tool.specs.JournalPieces.{IsSameRun, EnoughOf}
@@ -102,44 +102,44 @@ run_is i unchanged few =
     λ j. record { setup = (run_of i).setup; specs = (run_of i).specs; panics = same j; works = (run_of i).works; changes = (sym unchanged) j }
 
 -- what is judged, before its journal is read
-pub begins_judged : (ready : Ready) → IsReady ready → (reactors : List Reactor) (panics : ℕ) → reactors ≡ ready.reactors.items → panics ≡ number_of (panics_of reactors) 32
-    → record { setup = ready.setup; panics = panics; works = works_of ready.lanes.items; text = [] } ≡ judged (ready_value ready) []
+pub begins_judged : (ready : Prepared) → IsPrepared ready → (reactors : List Reactor) (panics : ℕ) → reactors ≡ ready.reactors.items → panics ≡ number_of (panics_of reactors) 32
+    → record { setup = ready.setup; panics = panics; works = works_of ready.lanes.items; text = [] } ≡ judged (prepared_value ready) []
 begins_judged ready is reactors panics same number =
-    let bits : panics ≡ panic_bits (ready_value ready) = number ∙ ap (λ (rs : List Reactor). number_of (panics_of rs) 32) (same ∙ is.reactors) in
+    let bits : panics ≡ panic_bits (prepared_value ready) = number ∙ ap (λ (rs : List Reactor). number_of (panics_of rs) 32) (same ∙ is.reactors) in
     λ j. record { setup = is.setup j; panics = bits j; works = works_of ready.lanes.items; text = [] }
 
-module _ (ready : Ready) (is : IsReady ready) (unchanged : ready.changes.items ≡ []) (known : JudgesBySpecs ready.setup) (r : ReaderValue) (verdict : Verdict) (run : IsSameRun (judged (ready_value ready) []) r.journal)
-    (holds : (specs : List Spec) → Holds r.journal specs verdict) (stays : r.stopped ≡ true → (specs : List Spec) (more : List ℕ) → Holds (longer r.journal more) specs verdict) where
+module _ (ready : Prepared) (is : IsPrepared ready) (unchanged : ready.changes.items ≡ []) (known : JudgesBySpecs ready.setup) (r : ReaderValue) (verdict : Verdict) (run : IsSameRun (judged (prepared_value ready) []) r.journal)
+    (holds : (specs : List Spec) → VerdictHolds r.journal specs verdict) (stays : r.stopped ≡ true → (specs : List Spec) (more : List ℕ) → VerdictHolds (with_more_text r.journal more) specs verdict) where
   -- a verdict that holds of bytes is one on the run with these bytes as its journal
-  judged_so : (bytes : List ℕ) → Holds (judged (ready_value ready) bytes) (run_of (ready_value ready)).specs verdict → IsJudged (record { input = ready_value ready; journal = bytes }) verdict
+  judged_so : (bytes : List ℕ) → VerdictHolds (judged (prepared_value ready) bytes) (run_of (prepared_value ready)).specs verdict → IsJudged (record { input = prepared_value ready; journal = bytes }) verdict
   judged_so bytes so = record {
-    are_judges = known (run_of (ready_value ready)).specs is.mean;
-    is_run = run_is (ready_value ready) unchanged is.few_monitors;
+    are_judges = known (run_of (prepared_value ready)).specs is.mean;
+    is_run = run_is (prepared_value ready) unchanged is.few_monitors;
     holds = so;
   }
 
   -- the verdict is that on what was fed
   pub verdict_some : IsVerdict verdict
   verdict_some =
-      let specs = (run_of (ready_value ready)).specs in
-      (record { input = ready_value ready; journal = r.journal.text }, judged_so r.journal.text (subst (λ (j : Journal). Holds j specs verdict) run (holds specs)))
+      let specs = (run_of (prepared_value ready)).specs in
+      (record { input = prepared_value ready; journal = r.journal.text }, judged_so r.journal.text (subst (λ (j : Journal). VerdictHolds j specs verdict) run (holds specs)))
 
   -- the verdict holds of all that the file holds
-  pub verdict_judged : (held : Option (List ℕ)) → EnoughOf held r → (bytes : List ℕ) × (held ≡ Some bytes) × IsJudged (record { input = ready_value ready; journal = bytes }) verdict
+  pub verdict_judged : (held : Option (List ℕ)) → EnoughOf held r → (bytes : List ℕ) × (held ≡ Some bytes) × IsJudged (record { input = prepared_value ready; journal = bytes }) verdict
   verdict_judged None enough = absurd enough
   verdict_judged (Some bytes) enough = (bytes, refl, judged_so bytes (go enough.2))
     where
-      fed : longer r.journal enough.0 ≡ judged (ready_value ready) bytes
-      fed = ap (λ (j : Journal). longer j enough.0) run ∙ ap (judged (ready_value ready)) (sym enough.1)
+      fed : with_more_text r.journal enough.0 ≡ judged (prepared_value ready) bytes
+      fed = ap (λ (j : Journal). with_more_text j enough.0) run ∙ ap (judged (prepared_value ready)) (sym enough.1)
 
-      go : ((enough.0 ≡ []) ⊎ (r.stopped ≡ true)) → Holds (judged (ready_value ready) bytes) (run_of (ready_value ready)).specs verdict
-      go (inr stopped) = subst (λ (j : Journal). Holds j (run_of (ready_value ready)).specs verdict) fed (stays stopped (run_of (ready_value ready)).specs enough.0)
+      go : ((enough.0 ≡ []) ⊎ (r.stopped ≡ true)) → VerdictHolds (judged (prepared_value ready) bytes) (run_of (prepared_value ready)).specs verdict
+      go (inr stopped) = subst (λ (j : Journal). VerdictHolds j (run_of (prepared_value ready)).specs verdict) fed (stays stopped (run_of (prepared_value ready)).specs enough.0)
       go (inl none) =
           let all : bytes ≡ r.journal.text = enough.1 ∙ ap (λ (t : List ℕ). r.journal.text ++ t) none ∙ append-nil r.journal.text in
-          subst (λ (j : Journal). Holds j (run_of (ready_value ready)).specs verdict) (run ∙ ap (judged (ready_value ready)) (sym all)) (holds (run_of (ready_value ready)).specs)
+          subst (λ (j : Journal). VerdictHolds j (run_of (prepared_value ready)).specs verdict) (run ∙ ap (judged (prepared_value ready)) (sym all)) (holds (run_of (prepared_value ready)).specs)
 
 -- but for a longer text it is the same
 pub same_longer : (old : Journal) (r new : ReaderValue) (more : List ℕ) (stopped : Bool) → IsSameRun old r.journal → new ≡ grown r more stopped → IsSameRun old new.journal
 same_longer old r new more stopped same is =
-    let j : new.journal ≡ longer r.journal more = ap (λ (x : ReaderValue). x.journal) is in
+    let j : new.journal ≡ with_more_text r.journal more = ap (λ (x : ReaderValue). x.journal) is in
     j ∙ (λ i. record { setup = (same i).setup; panics = (same i).panics; works = (same i).works; text = (sym (ap (λ (x : Journal). x.text) j)) i })

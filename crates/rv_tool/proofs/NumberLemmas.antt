@@ -18,16 +18,16 @@ use Rattle.rv_bind.specs.Values.{OnValue}
 use Rattle.rv_bind.specs.Outcomes.{IsRefusal, of_file}
 use Rattle.rv_bind.proofs.NumberLemmas.{then_numbered, dot_numbered, ltl_numbered, normal_numbered, tableau_numbered}
 use Rattle.rv_route.specs.Asking.{ask_of}
-use Rattle.rv_route.specs.Routing.{Routes, answer, line_routes, routes_of, route_of, nothing}
+use Rattle.rv_route.specs.Routing.{Routes, answer, line_routes, routes_of, route_of, no_routes}
 use Rattle.rv_control.specs.declared.script.Numbered.{Numbered}
-use Rattle.rv_control.specs.Trees.{Tree}
-use Rattle.rv_control.specs.Scripts.{line_said, all_said, script_of}
+use Rattle.rv_control.specs.Trees.{ControlValue}
+use Rattle.rv_control.specs.Scripts.{line_said, commands_of_lines, script_of}
 use Rattle.rv_header.specs.HeaderText.{header_of}
 use Rattle.rv_tool.specs.declared.words.Kind.{Kind}
 use Rattle.rv_tool.specs.declared.words.Kind.TheVariants as kinds
 use Rattle.rv_tool.specs.Changes.{asked, asked_in, in_line, changes_of}
-use Rattle.rv_tool.specs.Faults.{IsFaultIn, Tells}
-use Rattle.rv_tool.specs.HeaderFiles.{header_text}
+use Rattle.rv_tool.specs.Faults.{IsFaultIn, IsOutcome}
+use Rattle.rv_tool.specs.HeaderFiles.{header_of_text}
 use Rattle.rv_tool.specs.Inputs.{InputValue}
 use Rattle.rv_tool.specs.Tables.{rule_text, table_text}
 use Rattle.rv_tool.specs.Watched.{watched_by}
@@ -39,7 +39,7 @@ pub refusal_numbered : {X : Type 0} (read : Result X Refusal) (refusal : Refusal
 refusal_numbered {X} read refusal numbered is = subst (λ (r : Result X Refusal). IfErr r IsRefusal) is numbered
 
 -- a reader's refusal is what its file's text comes to
-pub fault_tells : {Y : Type 0} (file : List ℕ) (read : Result Y Refusal) (fault : Refused) (given : BindFault) → IfErr read IsRefusal → Refuses fault read → IsFaultIn file fault given → Tells {X = Y} (λ y. y) (Err given) (of_file file read)
+pub fault_tells : {Y : Type 0} (file : List ℕ) (read : Result Y Refusal) (fault : Refused) (given : BindFault) → IfErr read IsRefusal → Refuses fault read → IsFaultIn file fault given → IsOutcome {X = Y} (λ y. y) (Err given) (of_file file read)
 fault_tells file read refuseds.Memory given numbered refuses is = rw is tt
 fault_tells file read (refuseds.Because refusal) faults.Memory numbered refuses is = tt
 fault_tells file read (refuseds.Because refusal) (faults.Unread named) numbered refuses is = absurd is
@@ -89,7 +89,7 @@ routes_numbered text monitors rules (line ∷ lines) routes =
 -- what a trace is routed to
 pub route_numbered : (monitors : List Monitor) (rules : List OnValue) (text : List ℕ) (lines : List TraceLine) → IfErr (route_of monitors rules text lines) IsRefusal
 unfolding route_of
-route_numbered monitors rules text lines = grind (arith, routes_numbered text monitors rules lines nothing)
+route_numbered monitors rules text lines = grind (arith, routes_numbered text monitors rules lines no_routes)
 
 -- a trace and what it is routed to
 pub routed_numbered : (monitors : List Monitor) (rules : List OnValue) (text : List ℕ) → IfErr (and_then (trace_of text) (route_of monitors rules text)) IsRefusal
@@ -98,10 +98,10 @@ routed_numbered monitors rules text = then_numbered (trace_of text) _ (trace_num
 -- ---- control scripts
 
 -- the commands of lines
-commands_numbered : (lines : List LineText) → IfErr (all_said lines) IsRefusal
-unfolding all_said
+commands_numbered : (lines : List LineText) → IfErr (commands_of_lines lines) IsRefusal
+unfolding commands_of_lines
 commands_numbered [] = tt
-commands_numbered (line ∷ later) = then_numbered (line_said line) _ (grind arith) (λ commands. then_numbered (all_said later) _ (commands_numbered later) (λ more. tt))
+commands_numbered (line ∷ later) = then_numbered (line_said line) _ (grind arith) (λ commands. then_numbered (commands_of_lines later) _ (commands_numbered later) (λ more. tt))
 
 -- the commands of a script
 pub script_numbered : (text : List ℕ) → IfErr (script_of text) IsRefusal
@@ -109,15 +109,15 @@ unfolding script_of
 script_numbered text = commands_numbered (lines_of text)
 
 -- what a command asks of a run
-asked_numbered : (tree : Tree) (n : Numbered) → IfErr (asked_in tree n) IsRefusal
+asked_numbered : (tree : ControlValue) (n : Numbered) → IfErr (asked_in tree n) IsRefusal
 asked_numbered tree n = placed (asked tree n.command) (grind arith)
   where
-    placed : (read : Result (Tree × Change) Refusal) → IfErr read IsRefusal → IfErr (in_line n.line read) IsRefusal
+    placed : (read : Result (ControlValue × Change) Refusal) → IfErr read IsRefusal → IfErr (in_line n.line read) IsRefusal
     placed (Ok done) numbered = tt
     placed (Err refusal) numbered = numbered
 
 -- what a script asks of a run
-pub changes_numbered : (tree : Tree) (commands : List Numbered) → IfErr (changes_of tree commands) IsRefusal
+pub changes_numbered : (tree : ControlValue) (commands : List Numbered) → IfErr (changes_of tree commands) IsRefusal
 unfolding changes_of
 changes_numbered tree [] = tt
 changes_numbered tree (n ∷ ns) = then_numbered (asked_in tree n) _ (asked_numbered tree n) (λ done. then_numbered (changes_of done.0 ns) _ (changes_numbered done.0 ns) (λ changes. tt))
@@ -131,7 +131,7 @@ table_numbered kinds.Ltl bytes =
     then_numbered _ rule_text (ltl_numbered bytes) (λ rule. then_numbered _ _ (normal_numbered rule.formula) (λ parts. then_numbered _ _ (tableau_numbered parts) (λ table. tt)))
 
 -- the C tables of an automaton
-pub header_numbered : (name bytes : List ℕ) → IfErr (header_text name bytes) IsRefusal
+pub header_numbered : (name bytes : List ℕ) → IfErr (header_of_text name bytes) IsRefusal
 header_numbered name bytes = then_numbered _ (header_of name) (dot_numbered bytes) (λ (automaton : Machine). grind arith)
 
 -- a slot that is watched

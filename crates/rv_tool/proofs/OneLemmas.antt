@@ -10,13 +10,13 @@ use Rattle.rv_model.specs.Reports.{report_text}
 use Rattle.rv_model.proofs.OneJudgeLemmas.{lists-same}
 use Rattle.rv_model.proofs.UniqueLemmas.{one_has_no_stop, one_is_unique}
 use Rattle.rv_bind.specs.declared.fault.BindFault.{BindFault}
-use Rattle.rv_report.specs.Shown.{reported}
-use Rattle.rv_verdicts.proofs.StatusLemmas.{free_gives_no_six}
-use Rattle.rv_tool.specs.declared.input.Ready.{Ready}
+use Rattle.rv_report.specs.Reported.{reported}
+use Rattle.rv_laws.proofs.StatusLemmas.{free_gives_no_six}
+use Rattle.rv_tool.specs.declared.input.Prepared.{Prepared}
 use Rattle.rv_tool.specs.Headline.{IsReported}
 use Rattle.rv_tool.specs.Inputs.{InputValue, run_of}
-use Rattle.rv_tool.specs.Ready.{ready_value, IsReady}
-use Rattle.rv_tool.specs.Runs.{EndsRead, Runs}
+use Rattle.rv_tool.specs.Prepared.{prepared_value, IsPrepared}
+use Rattle.rv_tool.specs.Runs.{EndsRead, ReportsRead}
 use Rattle.rv_tool.specs.Verdicts.{HasOneVerdict, ReportsOne}
 
 module _ (i : InputValue) (apart : LinesApart (run_of i).works) (h : List Entry) (text : List ℕ) (status : ℕ) (is : IsReported IsOneHistory i h text status) where
@@ -42,7 +42,7 @@ module _ (i : InputValue) (apart : LinesApart (run_of i).works) (h : List Entry)
   has_one_verdict = record { no_stop = free; not_six = no_six; only = same_report }
 
 -- a run on one thread that was read has its verdict
-pub runs_one : (old new : Option (List ℕ)) (before now status : ℕ) (h : List Entry) (read : Result Ready BindFault) → IfOk read IsReady → Runs IsOneHistory read old new before now status h → EndsRead ready_value ReportsOne read old new before now status h
-runs_one old new before now status h (Ok ready) is (inl (text, said, reported, told)) = inl (text, said, (reported, has_one_verdict (ready_value ready) is.lanes.apart h text said reported), told)
+pub runs_one : (old new : Option (List ℕ)) (before now status : ℕ) (h : List Entry) (read : Result Prepared BindFault) → IfOk read IsPrepared → ReportsRead IsOneHistory read old new before now status h → EndsRead prepared_value ReportsOne read old new before now status h
+runs_one old new before now status h (Ok ready) is (inl (text, said, reported, told)) = inl (text, said, (reported, has_one_verdict (prepared_value ready) is.lanes.apart h text said reported), told)
 runs_one old new before now status h (Ok ready) is (inr up) = inr up
 runs_one old new before now status h (Err fault) is fails = fails

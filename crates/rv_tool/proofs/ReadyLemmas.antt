@@ -16,9 +16,9 @@ use Rattle.rv_core.specs.Judged.{AllMean}
 use Rattle.rv_feed.specs.Lane.{LaneValue, IsNewLane, FitsDelivery, FitsLane, FitLanes, works_of}
 use Rattle.rv_bind.specs.declared.bindings.Monitor.{Monitor}
 use Rattle.rv_bind.specs.Compiling.{IsTableOf}
-use Rattle.rv_bind.specs.WellFormed.{Kind, kind_of, kinds_of, HasTable, HaveTables}
+use Rattle.rv_bind.specs.WellFormed.{MonitorKind, kind_of, kinds_of, HasTable, HaveTables}
 use Rattle.rv_route.specs.Fitting.{FitsKindOf, WorksFit}
-use Rattle.rv_verdicts.specs.Lone.{IsByCpu}
+use Rattle.rv_laws.specs.SingleWriter.{IsByCpu}
 use Rattle.rv_tool.specs.Inputs.{opened, HasCpus}
 use Rattle.rv_tool.proofs.FitLemmas.{rule-fits}
 
@@ -47,18 +47,18 @@ tables_mean (m ∷ monitors) [] h = absurd h
 tables_mean (m ∷ monitors) (t ∷ tables) h = (h.0.compiles.means, tables_mean monitors tables h.1)
 
 -- what stands at a monitor's place
-record At (monitors : List Monitor) (tables : List Table) (tasks place : ℕ) (kind : Kind) : Type 0 where
+record At (monitors : List Monitor) (tables : List Table) (tasks place : ℕ) (kind : MonitorKind) : Type 0 where
   below : place < length (map (count_of tasks) (map (λ (m : Monitor). m.scope) monitors))
   count : slice_index (map (count_of tasks) (map (λ (m : Monitor). m.scope) monitors)) place ≡ count_of tasks kind.scope
   table : HasTable kind (slice_index_or tables place no_table)
 
 -- at a monitor's place stand how many instances it has, and its table
-at_place : (monitors : List Monitor) (tables : List Table) (tasks place : ℕ) (kind : Kind) → slice_get (kinds_of monitors) place ≡ Some kind → HaveTables (kinds_of monitors) tables → At monitors tables tasks place kind
+at_place : (monitors : List Monitor) (tables : List Table) (tasks place : ℕ) (kind : MonitorKind) → slice_get (kinds_of monitors) place ≡ Some kind → HaveTables (kinds_of monitors) tables → At monitors tables tasks place kind
 at_place [] tables tasks place kind there h = cc
 at_place (m ∷ monitors) [] tasks place kind there h = absurd h
 at_place (m ∷ monitors) (t ∷ tables) tasks zero kind there h =
     let same : kind_of m ≡ kind = cc in
-    record { below = omega arith; count = ap (λ (k : Kind). count_of tasks k.scope) same; table = subst (λ (k : Kind). HasTable k t) same h.0 }
+    record { below = omega arith; count = ap (λ (k : MonitorKind). count_of tasks k.scope) same; table = subst (λ (k : MonitorKind). HasTable k t) same h.0 }
 at_place (m ∷ monitors) (t ∷ tables) tasks (suc place) kind there h =
     let rest = at_place monitors tables tasks place kind there h.1 in
     record { below = let b = rest.below in omega arith; count = rest.count; table = rest.table }
@@ -166,7 +166,7 @@ own_instance : (monitors : List Monitor) (tasks place cpu : ℕ) → HasCpus mon
 own_instance monitors tasks place cpu has d f at =
     let both : Some f.kind ≡ Some (kind_of has.monitor) = sym f.there ∙ ap (slice_get (kinds_of monitors)) at ∙ kind_at monitors place has.monitor has.there in
     let same : f.kind ≡ kind_of has.monitor = cc in
-    f.by_cpu (ap (λ (k : Kind). k.scope) same ∙ has.scope)
+    f.by_cpu (ap (λ (k : MonitorKind). k.scope) same ∙ has.scope)
 
 -- routed works are to the CPUs' own instances of a monitor by CPU
 works_own : (monitors : List Monitor) (tasks : ℕ) (works : List Work) → WorksFit (kinds_of monitors) tasks works → (place : ℕ) → HasCpus monitors place → IsByCpu works place

@@ -22,18 +22,18 @@ use Rattle.rv_feed.specs.Lane.{works_of}
 use Rattle.rv_route.specs.Fitting.{IsDeliveryOf, FromRules}
 use Rattle.rv_journal.specs.EntryTexts.{journal_of, IsEntry}
 use Rattle.rv_journal.specs.Running.{FitsCountedWork, recorded_input, IsLegalBy}
-use Rattle.rv_journal.specs.Shown.{IsShownWork}
+use Rattle.rv_journal.specs.Enabled.{IsEnabledWork}
 use Rattle.rv_journal.specs.Whole.{IsWholeRun}
 use Rattle.rv_journal.proofs.ShownFitLemmas.{shown-ascends, shown-of-each}
-use Rattle.rv_verdicts.specs.Exits.{exit_of}
-use Rattle.rv_verdicts.specs.Shown.{IsShownOf}
-use Rattle.rv_verdicts.specs.Verdicts.{IsSteady}
-use Rattle.rv_verdicts.proofs.ExitLemmas.{status_is_seen}
-use Rattle.rv_verdicts.proofs.ShownLemmas.{shown_is_enough}
-use Rattle.rv_tool.specs.declared.input.Ready.{Ready}
+use Rattle.rv_laws.specs.Exits.{exit_of}
+use Rattle.rv_laws.specs.Enabled.{IsEnabledOf}
+use Rattle.rv_laws.specs.Verdicts.{IsSteady}
+use Rattle.rv_laws.proofs.ExitLemmas.{status_is_seen}
+use Rattle.rv_laws.proofs.ShownLemmas.{shown_is_enough}
+use Rattle.rv_tool.specs.declared.input.Prepared.{Prepared}
 use Rattle.rv_tool.specs.Inputs.{run_of}
-use Rattle.rv_tool.specs.Journals.{ends_instances, IsJournalReport, IsToRecord}
-use Rattle.rv_tool.specs.Ready.{ready_value}
+use Rattle.rv_tool.specs.Journals.{ends_instances, IsJournalReport, IsRecordable}
+use Rattle.rv_tool.specs.Prepared.{prepared_value}
 use Rattle.rv_tool.proofs.FitLemmas.{IsOpened, HaveNoEnds, works-fit}
 use Rattle.rv_tool.proofs.NarrowLemmas.{all-calm}
 use Rattle.rv_tool.proofs.VerdictLemmas.{calm}
@@ -60,7 +60,7 @@ no-ends rules works none from =
     All-weaker (λ (w : Work). All (λ d. Any (IsDeliveryOf d) rules) w.deliveries) (λ (w : Work). All (λ d. is_end d.hit.mode ≡ false) w.deliveries)
     (λ w. All-weaker (λ (d : Delivery). Any (IsDeliveryOf d) rules) (λ d. is_end d.hit.mode ≡ false) (λ d. no-end rules d none) w.deliveries) works from
 
-module _ (ready : Ready) (is : IsToRecord ready) (shown : List Work) (are : AllZip (IsShownWork ready.setup.switches) (works_of ready.lanes.items) shown) where
+module _ (ready : Prepared) (is : IsRecordable ready) (shown : List Work) (are : AllZip (IsEnabledWork ready.setup.switches) (works_of ready.lanes.items) shown) where
   -- the setup is the one that the monitors open with
   opened_so : IsOpened ready.bindings.monitors.items (length ready.tasks) ready.setup
   opened_so = record { shape = ap (λ (s : Setup). s.shape) is.ready.setup; tables = is.ready.tables; starts = ap (λ (s : Setup). s.starts) is.ready.setup }
@@ -80,24 +80,24 @@ module _ (ready : Ready) (is : IsToRecord ready) (shown : List Work) (are : AllZ
   runs_on = ap (λ (s : Setup). has_bit s.switches 34) is.ready.setup ∙ not_halted ready.bindings.monitors.items
 
   -- nothing changes beside the CPUs, and no reactor is panic
-  steady : IsSteady (run_of (ready_value ready))
+  steady : IsSteady (run_of (prepared_value ready))
   steady = record { no_changes = is.unchanged; no_panics = calm ready.bindings.monitors.items (all-calm ready.bindings.monitors.items ready.setup.tables is.narrow) }
 
   -- the input of what is shown is the run's with these works
-  input_is : recorded_input ready.setup (run_of (ready_value ready)).specs shown ≡ record (run_of (ready_value ready)) { works = shown }
-  input_is = λ j. record { setup = is.ready.setup j; specs = (run_of (ready_value ready)).specs; panics = λ m. (sym (steady.no_panics m)) j; works = shown; changes = (sym is.unchanged) j }
+  input_is : recorded_input ready.setup (run_of (prepared_value ready)).specs shown ≡ record (run_of (prepared_value ready)) { works = shown }
+  input_is = λ j. record { setup = is.ready.setup j; specs = (run_of (prepared_value ready)).specs; panics = λ m. (sym (steady.no_panics m)) j; works = shown; changes = (sym is.unchanged) j }
 
   -- a history of what is shown is one of the run
-  whole_legal : (h : List Entry) → IsLegal (recorded_input ready.setup (run_of (ready_value ready)).specs shown) (judges_of ready.setup) h → IsLegal (run_of (ready_value ready)) (judges_of ready.setup) h
+  whole_legal : (h : List Entry) → IsLegal (recorded_input ready.setup (run_of (prepared_value ready)).specs shown) (judges_of ready.setup) h → IsLegal (run_of (prepared_value ready)) (judges_of ready.setup) h
   whole_legal h legal =
       let low = low_switches ready.bindings.monitors.items in
-      shown_is_enough (run_of (ready_value ready)) (judges_of ready.setup) shown h steady (omega arith)
-      (subst (λ (look : ℕ). AllZip (IsShownOf look) (works_of ready.lanes.items) shown) (ap (λ (s : Setup). s.switches) is.ready.setup) (shown-of-each ready.setup.switches (works_of ready.lanes.items) shown are))
+      shown_is_enough (run_of (prepared_value ready)) (judges_of ready.setup) shown h steady (omega arith)
+      (subst (λ (look : ℕ). AllZip (IsEnabledOf look) (works_of ready.lanes.items) shown) (ap (λ (s : Setup). s.switches) is.ready.setup) (shown-of-each ready.setup.switches (works_of ready.lanes.items) shown are))
       (subst (λ (x : Input). IsLegal x (judges_of ready.setup) h) input_is legal)
 
   -- the text and the status of what was recorded are those of a legal history of the run
-  pub recorded_report : (h entries : List Entry) (text : List ℕ) (status : ℕ) → IsWholeRun ready.setup shown h → IsLegalBy ready.setup (run_of (ready_value ready)).specs shown h → h ≡ entries → All IsEntry entries
-      → text ≡ journal_of entries → (IsWholeRun ready.setup shown entries → status ≡ exit_of ready.setup (judges_of ready.setup) entries) → IsJournalReport (ready_value ready) h text status
+  pub recorded_report : (h entries : List Entry) (text : List ℕ) (status : ℕ) → IsWholeRun ready.setup shown h → IsLegalBy ready.setup (run_of (prepared_value ready)).specs shown h → h ≡ entries → All IsEntry entries
+      → text ≡ journal_of entries → (IsWholeRun ready.setup shown entries → status ≡ exit_of ready.setup (judges_of ready.setup) entries) → IsJournalReport (prepared_value ready) h text status
   recorded_report h entries text status whole by same fit text_is exits =
       let legal = whole_legal h by.legal in
       record {
@@ -108,5 +108,5 @@ module _ (ready : Ready) (is : IsToRecord ready) (shown : List Work) (are : AllZ
         text_is = text_is ∙ ap journal_of (sym same);
         status_is =
             exits (subst (IsWholeRun ready.setup shown) same whole) ∙ ap (exit_of ready.setup (judges_of ready.setup)) (sym same)
-            ∙ ap (λ (s : Setup). exit_of s (judges_of ready.setup) h) is.ready.setup ∙ sym (status_is_seen (run_of (ready_value ready)) (judges_of ready.setup) h legal);
+            ∙ ap (λ (s : Setup). exit_of s (judges_of ready.setup) h) is.ready.setup ∙ sym (status_is_seen (run_of (prepared_value ready)) (judges_of ready.setup) h legal);
       }

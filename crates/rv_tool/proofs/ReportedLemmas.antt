@@ -13,7 +13,7 @@ use Rattle.rv_model.specs.Setups.{Setup}
 use Rattle.rv_feed.specs.Lane.{LaneValue, works_of, panics_of}
 use Rattle.rv_feed.specs.AtOnce.{input_with}
 use Rattle.rv_feed.specs.Runs.{IsRunOf}
-use Rattle.rv_report.specs.Shown.{reported}
+use Rattle.rv_report.specs.Reported.{reported}
 use Rattle.rv_bind.specs.declared.bindings.Monitor.{Monitor}
 use Rattle.rv_tool.specs.Inputs.{InputValue, setup_of, run_of}
 use Rattle.rv_tool.specs.Headline.{Histories, IsReported}

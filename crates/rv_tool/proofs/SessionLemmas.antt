@@ -6,29 +6,29 @@ use Rattle.rv_bind.specs.declared.fault.BindFault.{BindFault}
 use Rattle.rv_bind.specs.Values.{BoundValue}
 use Rattle.rv_bind.specs.WellFormed.{IsWellFormed}
 use Rattle.rv_control.specs.declared.script.Numbered.{Numbered}
-use Rattle.rv_control.specs.Trees.{Tree}
+use Rattle.rv_control.specs.Trees.{ControlValue}
 use Rattle.rv_tool.specs.declared.session.Session.{Session}
-use Rattle.rv_tool.specs.Faults.{Tells}
+use Rattle.rv_tool.specs.Faults.{IsOutcome}
 use Rattle.rv_tool.specs.SessionValues.{session_value}
 use Rattle.rv_tool.specs.Sessions.{Printed, status_with, done_of, before, session_of, session_text, IsSession}
 
 -- a part of a script was done: its texts, and whether a command was refused
-pub record RanSoFar (script : List ℕ) (opening : Tree) (commands : List Numbered) (place : ℕ) (tree : Tree) (text : List ℕ) (is_refused : Bool) : Type 0 where
+pub record RanSoFar (script : List ℕ) (opening : ControlValue) (commands : List Numbered) (place : ℕ) (tree : ControlValue) (text : List ℕ) (is_refused : Bool) : Type 0 where
   pub text_is : text ++ (session_of script tree (drop place commands)).text ≡ (session_of script opening commands).text
   pub status_is : status_with is_refused (session_of script tree (drop place commands)).status ≡ (session_of script opening commands).status
 
-module _ (script : List ℕ) (opening : Tree) (commands : List Numbered) where
+module _ (script : List ℕ) (opening : ControlValue) (commands : List Numbered) where
   -- no command yet
   pub ran_none : RanSoFar script opening commands 0 opening [] false
   ran_none = record { text_is = refl; status_is = refl }
 
   -- a command, and then the later ones
-  session_before : (tree : Tree) (n : Numbered) (later : List Numbered) → session_of script tree (n ∷ later) ≡ before (done_of script tree n) (session_of script (done_of script tree n).tree later)
+  session_before : (tree : ControlValue) (n : Numbered) (later : List Numbered) → session_of script tree (n ∷ later) ≡ before (done_of script tree n) (session_of script (done_of script tree n).tree later)
   unfolding session_of
   session_before tree n later = refl
 
   -- the commands from a place on begin with the command there
-  session_after : (tree : Tree) (place : ℕ) (n : Numbered) → place < length commands → n ≡ slice_index_or commands place n → session_of script tree (drop place commands)
+  session_after : (tree : ControlValue) (place : ℕ) (n : Numbered) → place < length commands → n ≡ slice_index_or commands place n → session_of script tree (drop place commands)
       ≡ before (done_of script tree n) (session_of script (done_of script tree n).tree (drop (place + 1) commands))
   session_after tree place n within is =
       ap (session_of script tree) (drop_more commands place n within ∙ ap (λ (m : Numbered). m ∷ drop (place + 1) commands) (sym is)) ∙ session_before tree n (drop (place + 1) commands)
@@ -41,11 +41,11 @@ module _ (script : List ℕ) (opening : Tree) (commands : List Numbered) where
   refused_or is_refused false false later = refl
 
   -- one command more
-  pub ran_more : (place : ℕ) (tree after : Tree) (text longer : List ℕ) (so_far now : Bool) (n : Numbered) → place < length commands → n ≡ slice_index_or commands place n → RanSoFar script opening commands place tree text so_far
+  pub ran_more : (place : ℕ) (tree after : ControlValue) (text longer : List ℕ) (so_far now : Bool) (n : Numbered) → place < length commands → n ≡ slice_index_or commands place n → RanSoFar script opening commands place tree text so_far
       → longer ≡ text ++ (done_of script tree n).text → after ≡ (done_of script tree n).tree → now ≡ (done_of script tree n).is_refused
       → RanSoFar script opening commands (place + 1) after longer (if now then true else so_far)
   ran_more place tree after text longer so_far now n within is ran longer_is after_is now_is =
-      let rest : Tree → Printed = λ t. session_of script t (drop (place + 1) commands) in
+      let rest : ControlValue → Printed = λ t. session_of script t (drop (place + 1) commands) in
       let later : Printed = rest (done_of script tree n).tree in
       let whole : session_of script tree (drop place commands) ≡ before (done_of script tree n) later = session_after tree place n within is in
       let same : rest after ≡ later = ap rest after_is in
@@ -59,7 +59,7 @@ module _ (script : List ℕ) (opening : Tree) (commands : List Numbered) where
       }
 
   -- all commands
-  pub ran_all : (place : ℕ) (tree : Tree) (text : List ℕ) (is_refused : Bool) → drop place commands ≡ [] → RanSoFar script opening commands place tree text is_refused
+  pub ran_all : (place : ℕ) (tree : ControlValue) (text : List ℕ) (is_refused : Bool) → drop place commands ≡ [] → RanSoFar script opening commands place tree text is_refused
       → record { text = text; status = status_with is_refused 0 } ≡ session_of script opening commands
   unfolding session_of
   ran_all place tree text is_refused none ran =
@@ -69,6 +69,6 @@ module _ (script : List ℕ) (opening : Tree) (commands : List Numbered) where
       λ i. record { text = (sym (append-nil text) ∙ text_is) i; status = status_is i }
 
 -- what the text of a script came to is a session
-pub session_some : (script : List ℕ) (bound : BoundValue) (text : List ℕ) (result : Result Session BindFault) → IsWellFormed bound → Tells session_value result (session_text script bound text) → IfOk result (λ session. IsSession script (session_value session))
+pub session_some : (script : List ℕ) (bound : BoundValue) (text : List ℕ) (result : Result Session BindFault) → IsWellFormed bound → IsOutcome session_value result (session_text script bound text) → IfOk result (λ session. IsSession script (session_value session))
 session_some script bound text (Ok session) formed tells = (bound, text, formed, tells)
 session_some script bound text (Err fault) formed tells = tt

@@ -4,7 +4,7 @@ use Rattle.std.specs.Prelude.{Result, Ok, Err, IfOk}
 use Rattle.rv_text.specs.declared.refusals.Refusal.{Refusal}
 use Rattle.rv_bind.specs.declared.fault.BindFault.{BindFault}
 use Rattle.rv_bind.specs.Outcomes.{accepted, of_file}
-use Rattle.rv_tool.specs.Faults.{Tells}
+use Rattle.rv_tool.specs.Faults.{IsOutcome}
 use Rattle.rv_tool.specs.SomeTexts.{IsOfSomeText}
 
 -- where a file is accepted, its text was read
@@ -13,6 +13,6 @@ read_as file (Ok x) y is = cc
 read_as file (Err refusal) y is = absurd (cc)
 
 -- what was told of a text is of some text
-pub told_of_some : {X Y : Type 0} (view : X → Y) (read : List ℕ → Result Y Refusal) (file text : List ℕ) (result : Result X BindFault) → Tells view result (of_file file (read text)) → IfOk result (λ x. IsOfSomeText read (view x))
+pub told_of_some : {X Y : Type 0} (view : X → Y) (read : List ℕ → Result Y Refusal) (file text : List ℕ) (result : Result X BindFault) → IsOutcome view result (of_file file (read text)) → IfOk result (λ x. IsOfSomeText read (view x))
 told_of_some view read file text (Ok x) tells = (text, read_as file (read text) (view x) tells)
 told_of_some view read file text (Err fault) tells = tt

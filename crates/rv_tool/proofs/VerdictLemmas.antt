@@ -17,17 +17,17 @@ use Rattle.rv_model.proofs.OneJudgeLemmas.{lists-same}
 use Rattle.rv_bind.specs.declared.bindings.Monitor.{Monitor}
 use Rattle.rv_bind.specs.declared.fault.BindFault.{BindFault}
 use Rattle.rv_feed.specs.Lane.{panics_of, is_panic_reactor}
-use Rattle.rv_report.specs.Shown.{reported}
-use Rattle.rv_verdicts.specs.Verdicts.{IsSteady, AgreeOnLone}
-use Rattle.rv_verdicts.proofs.StatusLemmas.{all_lone_give_no_six}
-use Rattle.rv_verdicts.proofs.StopLemmas.{lone_has_no_stop}
-use Rattle.rv_verdicts.proofs.VerdictLemmas.{lone_records_are_one, all_records_are_one}
-use Rattle.rv_tool.specs.declared.input.Ready.{Ready}
+use Rattle.rv_report.specs.Reported.{reported}
+use Rattle.rv_laws.specs.Verdicts.{IsSteady, AgreeOnSingleWriter}
+use Rattle.rv_laws.proofs.StatusLemmas.{all_lone_give_no_six}
+use Rattle.rv_laws.proofs.StopLemmas.{lone_has_no_stop}
+use Rattle.rv_laws.proofs.VerdictLemmas.{lone_records_are_one, all_records_are_one}
+use Rattle.rv_tool.specs.declared.input.Prepared.{Prepared}
 use Rattle.rv_tool.specs.Headline.{GivesUp, IsReported}
 use Rattle.rv_tool.specs.Inputs.{InputValue, run_of}
-use Rattle.rv_tool.specs.Ready.{ready_value, IsReady}
-use Rattle.rv_tool.specs.Runs.{EndsRead, Runs}
-use Rattle.rv_tool.specs.Verdicts.{IsLoneIn, HasNoPanic, HasVerdicts, ReportsVerdicts, Verdicts}
+use Rattle.rv_tool.specs.Prepared.{prepared_value, IsPrepared}
+use Rattle.rv_tool.specs.Runs.{EndsRead, ReportsRead}
+use Rattle.rv_tool.specs.Verdicts.{HasOneWriterIn, HasNoPanic, HasVerdicts, ReportsVerdicts, Verdicts}
 use Rattle.rv_tool.specs.Words.{CommandValue}
 use Rattle.rv_tool.proofs.CpuLemmas.{FitCpus, ready_routed, cpu_is_lone, all_are_lone}
 
@@ -52,25 +52,25 @@ module _ (i : InputValue) (unchanged : i.changes ≡ []) (h : List Entry) (text 
   steady none = record { no_changes = unchanged; no_panics = calm i.bound.monitors none }
 
   -- nothing stops a lone slot
-  no_stop : (slot : ℕ) → IsLoneIn i slot → AtEach (λ before e. ¬ (e.act ≡ Stop slot)) h
-  no_stop slot lone = lone_has_no_stop (run_of i) is.judges h slot is.history unchanged lone
+  no_stop : (slot : ℕ) → HasOneWriterIn i slot → AtEach (λ before e. ¬ (e.act ≡ Stop slot)) h
+  no_stop slot one_writer = lone_has_no_stop (run_of i) is.judges h slot is.history unchanged one_writer
 
   -- where all slots are lone the status is not 6
-  no_six : ((slot : ℕ) → IsLoneIn i slot) → status ≢ 6
-  no_six lone six = all_lone_give_no_six (run_of i) is.judges h is.history unchanged lone (sym is.status_is ∙ six)
+  no_six : ((slot : ℕ) → HasOneWriterIn i slot) → status ≢ 6
+  no_six one_writer six = all_lone_give_no_six (run_of i) is.judges h is.history unchanged one_writer (sym is.status_is ∙ six)
 
   -- the records of a lone slot are those of one thread
-  lone_as_one : HasNoPanic i → (judges : List Judge) (k : List Entry) → AreJudges (run_of i).specs (run_of i).setup.tables judges → IsOneHistory (run_of i) judges k → AgreeOnLone (run_of i) judges judges h k
+  lone_as_one : HasNoPanic i → (judges : List Judge) (k : List Entry) → AreJudges (run_of i).specs (run_of i).setup.tables judges → IsOneHistory (run_of i) judges k → AgreeOnSingleWriter (run_of i) judges judges h k
   lone_as_one none judges k are one =
       let same : is.judges ≡ judges = lists-same (run_of i).specs (run_of i).setup.tables is.judges judges is.are_judges are in
       let agree = lone_records_are_one (run_of i) is.judges judges h k (steady none) (record { judges = is.are_judges; other_judges = are; history = is.history; other = one }) in
-      subst (λ (js : List Judge). AgreeOnLone (run_of i) js judges h k) same agree
+      subst (λ (js : List Judge). AgreeOnSingleWriter (run_of i) js judges h k) same agree
 
   -- where all slots are lone the report is that of one thread
-  all_as_one : HasNoPanic i → ((slot : ℕ) → IsLoneIn i slot) → (k : List Entry) (other : List ℕ) (said : ℕ) → IsReported IsOneHistory i k other said → (text ≡ other) × (status ≡ said)
-  all_as_one none lone k other said one =
+  all_as_one : HasNoPanic i → ((slot : ℕ) → HasOneWriterIn i slot) → (k : List Entry) (other : List ℕ) (said : ℕ) → IsReported IsOneHistory i k other said → (text ≡ other) × (status ≡ said)
+  all_as_one none one_writer k other said one =
       let same : records_of (run_of i) is.judges h ≡ records_of (run_of i) one.judges k =
-      all_records_are_one (run_of i) is.judges one.judges h k (steady none) (record { judges = is.are_judges; other_judges = one.are_judges; history = is.history; other = one.history }) lone in
+      all_records_are_one (run_of i) is.judges one.judges h k (steady none) (record { judges = is.are_judges; other_judges = one.are_judges; history = is.history; other = one.history }) one_writer in
       (is.text_is ∙ ap (report_text (map (reported i.bound.containers) i.bound.monitors) i.routed.tasks) same ∙ sym one.text_is, is.status_is ∙ ap status_of same ∙ sym one.status_is)
 
   -- the report of a run at once has its verdicts
@@ -78,7 +78,7 @@ module _ (i : InputValue) (unchanged : i.changes ≡ []) (h : List Entry) (text 
   has_verdicts routed = record {
     not_stopped = no_stop;
     not_six = no_six;
-    lone = lone_as_one;
+    single_writer = lone_as_one;
     all = all_as_one;
     by_cpu = record {
       own = routed.by_cpu;
@@ -92,8 +92,8 @@ module _ (i : InputValue) (unchanged : i.changes ≡ []) (h : List Entry) (text 
 -- ---- the top call
 module _ (old new : Option (List ℕ)) (before now status : ℕ) (h : List Entry) where
   -- a run at once that was read has its verdicts
-  pub runs_verdicts : (read : Result Ready BindFault) → IfOk read IsReady → IfOk read (λ ready. ready.changes.items ≡ []) → Runs IsLegal read old new before now status h → EndsRead ready_value ReportsVerdicts read old new before now status h
-  runs_verdicts (Ok ready) is unchanged (inl (text, said, reported, told)) = inl (text, said, reported, has_verdicts (ready_value ready) unchanged h text said reported (ready_routed ready is), told)
+  pub runs_verdicts : (read : Result Prepared BindFault) → IfOk read IsPrepared → IfOk read (λ ready. ready.changes.items ≡ []) → ReportsRead IsLegal read old new before now status h → EndsRead prepared_value ReportsVerdicts read old new before now status h
+  runs_verdicts (Ok ready) is unchanged (inl (text, said, reported, told)) = inl (text, said, reported, has_verdicts (prepared_value ready) unchanged h text said reported (ready_routed ready is), told)
   runs_verdicts (Ok ready) is unchanged (inr up) = inr up
   runs_verdicts (Err fault) is unchanged fails = fails
 

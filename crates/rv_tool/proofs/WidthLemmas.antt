@@ -18,7 +18,7 @@ use Rattle.rv_bind.specs.WellFormed.{kind_of, kinds_of, StartsIn, HasTable, Have
 use Rattle.rv_bind.proofs.TableLemmas.{labelled}
 use Rattle.rv_journal.specs.declared.words.Width.{Width}
 use Rattle.rv_journal.specs.CountedSeats.{IsWidth, AreWidths, no_width}
-use Rattle.rv_tool.specs.Numbered.{atom_count, HasState, is_narrow}
+use Rattle.rv_tool.specs.CountsFit.{atom_count, HasState, monitor_fits_counts}
 use Rattle.rv_tool.proofs.NarrowLemmas.{narrow-room}
 use Rattle.rv_tool.proofs.ReadyLemmas.{tables_counted}
 
@@ -42,7 +42,7 @@ starts-below (specs.Da a) start none = omega arith
 starts-below (specs.Ltl rule) start below = below
 
 -- the bits of one monitor
-pub width-is : (m : Monitor) (t : Table) (rows atoms : ℕ) → is_narrow m t ≡ true → HasTable (kind_of m) t → HasState m.spec → IsRows t → rows ≡ row_count t → atoms ≡ atom_count m.spec → IsWidth t m.starting (record { rows = rows; atoms = atoms })
+pub width-is : (m : Monitor) (t : Table) (rows atoms : ℕ) → monitor_fits_counts m t ≡ true → HasTable (kind_of m) t → HasState m.spec → IsRows t → rows ≡ row_count t → atoms ≡ atom_count m.spec → IsWidth t m.starting (record { rows = rows; atoms = atoms })
 width-is m t rows atoms narrow has state known rows_are atoms_are =
     let few = narrow-room m t narrow in
     record {

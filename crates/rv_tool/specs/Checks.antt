@@ -11,9 +11,9 @@ use Rattle.rv_bind.specs.Outcomes.{Outcome, accepted, reading, of_text}
 use Rattle.rv_check.specs.declared.reading.Verdict.{Verdict}
 use Rattle.rv_check.specs.declared.reading.Verdict.TheVariants.{Yes, No}
 use Rattle.rv_check.specs.Beginnings.{input_of}
-use Rattle.rv_check.specs.Verdicts.{Journal, Holds}
-use Rattle.rv_tool.specs.Faults.{FaultComes}
-use Rattle.rv_tool.specs.Headline.{Ending, TellsOf}
+use Rattle.rv_check.specs.Verdicts.{Journal, VerdictHolds}
+use Rattle.rv_tool.specs.Faults.{FaultRefines}
+use Rattle.rv_tool.specs.Headline.{Ending, PrintsSome}
 use Rattle.rv_tool.specs.Inputs.{InputValue, run_input, run_of}
 
 -- a run, and the text of a journal
@@ -39,7 +39,7 @@ judged i text = record { setup = (run_of i).setup; panics = panic_bits i; works 
 pub record IsJudged (c : CheckedValue) (verdict : Verdict) : Type 0 where
   pub are_judges : AreJudges (run_of c.input).specs (run_of c.input).setup.tables (judges_of (run_of c.input).setup)
   pub is_run : input_of (run_of c.input).setup (run_of c.input).specs (has_bit (panic_bits c.input)) (run_of c.input).works ≡ run_of c.input
-  pub holds : Holds (judged c.input c.journal) (run_of c.input).specs verdict
+  pub holds : VerdictHolds (judged c.input c.journal) (run_of c.input).specs verdict
 
 -- it is the verdict on some journal of some run
 abbrev pub IsVerdict : Verdict → Type 0
@@ -67,9 +67,9 @@ pub record IsCheckReport (c : CheckedValue) (h : List Entry) (text : List ℕ) (
 
 -- an accepted journal is judged by its run
 abbrev pub Checks : CheckedValue → Ending
-Checks c = TellsOf (IsCheckReport c)
+Checks c = PrintsSome (IsCheckReport c)
 
 -- what was read gives a verdict that holds, or it is the fault that the files come to
 abbrev pub JudgesRead : Option Files → ℕ → ℕ → Result Verdict BindFault → (Files → Outcome CheckedValue) → Type 0
 JudgesRead told before now (Ok verdict) outcome = (files : Files) → told ≡ Some files → (c : CheckedValue) × (outcome files ≡ accepted c) × IsJudged c verdict
-JudgesRead told before now (Err fault) outcome = FaultComes told before now fault outcome
+JudgesRead told before now (Err fault) outcome = FaultRefines told before now fault outcome

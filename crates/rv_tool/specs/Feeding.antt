@@ -1,17 +1,17 @@
--- A trace that is read from a store in pieces: how much of it was fed, and what stands ready for more.
+-- Private: a trace that is read from a store in pieces: how much of it was fed, and what stands ready for more.
 use Rattle.std.specs.Prelude.{◌≡◌, ◌≤◌, ℕ, List, [], length, take, true, false, Option, Some, None}
 use Rattle.rv_io.specs.Files.{Files}
 use Rattle.rv_io.specs.Pieces.{IsPiece}
 use Rattle.rv_bind.specs.declared.bindings.Bindings.{Bindings}
 use Rattle.rv_bind.specs.Outcomes.{of_name, accepted}
 use Rattle.rv_tool.specs.declared.routing.Routing.{Routing}
-use Rattle.rv_tool.specs.Pieces.{passed, IsRouted}
+use Rattle.rv_tool.specs.Pieces.{passed_text, IsRouted}
 
 -- all lines that can be taken so far were routed, and a piece may be fed
-pub record IsOpen (bindings : Bindings) (r : Routing) : Type 0 where
+pub record MayBeFed (bindings : Bindings) (r : Routing) : Type 0 where
   pub unended : r.lines.ended ≡ false
   pub idle : r.lines.idle ≡ true
-  pub routed : IsRouted bindings (passed r.lines) r.router r.late
+  pub routed : IsRouted bindings (passed_text r.lines) r.router r.late
 
 -- so many bytes of a file were fed, and none where there is no file
 abbrev pub FedOf : Option (List ℕ) → ℕ → List ℕ → Type 0
@@ -19,8 +19,8 @@ FedOf (Some bytes) place fed = (fed ≡ take place bytes) × (place ≤ length b
 FedOf None place fed = (place ≡ 0) × (fed ≡ [])
 
 -- so many bytes of the name's file were fed, where the store tells its files
-abbrev pub IsFed : Option Files → List ℕ → ℕ → List ℕ → Type 0
-IsFed told name place fed = (files : Files) → told ≡ Some files → FedOf (files name) place fed
+abbrev pub IsFileFed : Option Files → List ℕ → ℕ → List ℕ → Type 0
+IsFileFed told name place fed = (files : Files) → told ≡ Some files → FedOf (files name) place fed
 
 -- what reading the name's file gives was fed, where the store tells its files
 abbrev pub IsAll : Option Files → List ℕ → List ℕ → Type 0
@@ -32,5 +32,5 @@ PieceIn (Some bytes) place old new count = IsPiece bytes place old new count
 PieceIn None place old new count = ⊥
 
 -- a piece of the name's file, where the store tells its files
-abbrev pub IsPieceOf : Option Files → List ℕ → ℕ → List ℕ → List ℕ → ℕ → Type 0
-IsPieceOf told name place old new count = (files : Files) → told ≡ Some files → PieceIn (files name) place old new count
+abbrev pub IsFilePiece : Option Files → List ℕ → ℕ → List ℕ → List ℕ → ℕ → Type 0
+IsFilePiece told name place old new count = (files : Files) → told ≡ Some files → PieceIn (files name) place old new count

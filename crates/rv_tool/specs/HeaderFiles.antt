@@ -8,9 +8,9 @@ use Rattle.rv_header.specs.HeaderText.{header_of}
 use Rattle.rv_bind.specs.Outcomes.{Outcome, of_file, of_name}
 
 -- the C tables of an automaton file's text, or the first refusal
-abbrev pub header_text : List ℕ → List ℕ → Result (List ℕ) Refusal
-header_text name bytes = and_then (dot_of bytes) (header_of name)
+abbrev pub header_of_text : List ℕ → List ℕ → Result (List ℕ) Refusal
+header_of_text name bytes = and_then (dot_of bytes) (header_of name)
 
 -- the same of a file
 abbrev pub header_in : Files → List ℕ → List ℕ → Outcome (List ℕ)
-header_in files name file = of_name files file (λ bytes. of_file file (header_text name bytes))
+header_in files name file = of_name files file (λ bytes. of_file file (header_of_text name bytes))

@@ -5,10 +5,10 @@ use Rattle.rv_model.specs.Judging.{Judge}
 use Rattle.rv_model.specs.Histories.{Input, AreJudges}
 use Rattle.rv_model.specs.Records.{records_of, status_of}
 use Rattle.rv_model.specs.Reports.{report_text}
-use Rattle.rv_report.specs.Shown.{reported}
+use Rattle.rv_report.specs.Reported.{reported}
 use Rattle.rv_bind.specs.Outcomes.{Outcome, accepted, refused, missing}
 use Rattle.rv_tool.specs.Inputs.{InputValue, run_of}
-use Rattle.rv_tool.specs.Output.{Told, refusal_text, missing_text}
+use Rattle.rv_tool.specs.Output.{IsWritten, refusal_text, missing_text}
 
 -- which histories an input may have, by judges of its specifications: `IsOneHistory` on one thread, `IsLegal` on several
 abbrev pub Histories : Type 1
@@ -31,19 +31,19 @@ abbrev pub GivesUp : Option (List ℕ) → Option (List ℕ) → ℕ → List En
 GivesUp old new status h = (status ≡ 5) × (new ≡ old) × (h ≡ [])
 
 -- without a run a text goes with the status, and there is no history
-abbrev pub Says : List ℕ → ℕ → Ending
-Says text said old new before now status h = (Told old new before now text said status × (h ≡ [])) ⊎ GivesUp old new status h
+abbrev pub PrintsText : List ℕ → ℕ → Ending
+PrintsText text said old new before now status h = (IsWritten old new before now text said status × (h ≡ [])) ⊎ GivesUp old new status h
 
 -- there is a text that goes with a status and the history, and it was told
-abbrev pub TellsOf : (List Entry → List ℕ → ℕ → Type 0) → Ending
-TellsOf Goes old new before now status h = ((text : List ℕ) × (said : ℕ) × Goes h text said × Told old new before now text said status) ⊎ GivesUp old new status h
+abbrev pub PrintsSome : (List Entry → List ℕ → ℕ → Type 0) → Ending
+PrintsSome Goes old new before now status h = ((text : List ℕ) × (said : ℕ) × Goes h text said × IsWritten old new before now text said status) ⊎ GivesUp old new status h
 
 -- an accepted input is run
 abbrev pub Reports : Histories → InputValue → Ending
-Reports Is i = TellsOf (IsReported Is i)
+Reports Is i = PrintsSome (IsReported Is i)
 
 -- by what the words and files come to: what is accepted ends in its own way, and else the refusal or the missing file is said
 abbrev pub Ends : {Y : Type 0} → (Y → Ending) → Outcome Y → Ending
 Ends Accepted (accepted y) = Accepted y
-Ends Accepted (refused file refusal) = Says (refusal_text (Some file) refusal) 2
-Ends Accepted (missing file) = Says (missing_text file) 3
+Ends Accepted (refused file refusal) = PrintsText (refusal_text (Some file) refusal) 2
+Ends Accepted (missing file) = PrintsText (missing_text file) 3

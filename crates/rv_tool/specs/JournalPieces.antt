@@ -1,4 +1,4 @@
--- A journal that is read from a store in pieces: how much of it was fed.
+-- Private: a journal that is read from a store in pieces: how much of it was fed.
 use Rattle.std.specs.Prelude.{◌≡◌, ◌⊎◌, ℕ, List, [], ◌++◌, true, Option, Some, None}
 use Rattle.rv_io.specs.Files.{Files}
 use Rattle.rv_check.specs.Readings.{ReaderValue}

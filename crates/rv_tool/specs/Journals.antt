@@ -12,12 +12,12 @@ use Rattle.rv_model.specs.Scripts.{is_end}
 use Rattle.rv_bind.specs.Outcomes.{Outcome, reading, of_file}
 use Rattle.rv_bind.specs.Values.{OnValue}
 use Rattle.rv_journal.specs.EntryTexts.{journal_of, IsEntry}
-use Rattle.rv_tool.specs.declared.input.Ready.{Ready}
+use Rattle.rv_tool.specs.declared.input.Prepared.{Prepared}
 use Rattle.rv_text.specs.declared.numbers.TheConstants.{NOT_NUMBERED}
-use Rattle.rv_tool.specs.Headline.{Ending, TellsOf}
+use Rattle.rv_tool.specs.Headline.{Ending, PrintsSome}
 use Rattle.rv_tool.specs.Inputs.{InputValue, run_input, run_of}
-use Rattle.rv_tool.specs.Numbered.{are_narrow}
-use Rattle.rv_tool.specs.Ready.{IsReady}
+use Rattle.rv_tool.specs.CountsFit.{monitors_fit_counts}
+use Rattle.rv_tool.specs.Prepared.{IsPrepared}
 
 -- ---- which runs are recorded
 
@@ -27,15 +27,15 @@ ends_instances r = is_end r.hit.mode
 
 -- the monitors are narrow, and no rule ends an instance
 abbrev pub can_record : InputValue → Bool
-can_record i = are_narrow i.bound.monitors i.bound.tables && not (list_any ends_instances i.bound.rules)
+can_record i = monitors_fit_counts i.bound.monitors i.bound.tables && not (list_any ends_instances i.bound.rules)
 
 -- the input, where it can be recorded, or the refusal
-abbrev pub numbered : InputValue → Result InputValue Refusal
-numbered i = if can_record i then Ok i else refused_with NOT_NUMBERED
+abbrev pub if_recordable : InputValue → Result InputValue Refusal
+if_recordable i = if can_record i then Ok i else refused_with NOT_NUMBERED
 
 -- the bindings and the trace, and then whether the bindings' monitors can be numbered
-abbrev pub numbered_input : Files → List ℕ → List ℕ → Outcome InputValue
-numbered_input files bindings trace = reading (run_input files bindings trace) (λ input. of_file bindings (numbered input))
+abbrev pub recordable_input : Files → List ℕ → List ℕ → Outcome InputValue
+recordable_input files bindings trace = reading (run_input files bindings trace) (λ input. of_file bindings (if_recordable input))
 
 -- ---- how it ends
 
@@ -50,13 +50,13 @@ pub record IsJournalReport (i : InputValue) (h : List Entry) (text : List ℕ) (
 
 -- an accepted input is run and recorded
 abbrev pub Journals : InputValue → Ending
-Journals i = TellsOf (IsJournalReport i)
+Journals i = PrintsSome (IsJournalReport i)
 
 -- ---- what is read
 
 -- it is ready, nothing changes beside the CPUs, its monitors are narrow, and no rule ends an instance
-pub record IsToRecord (r : Ready) : Type 0 where
-  pub ready : IsReady r
+pub record IsRecordable (r : Prepared) : Type 0 where
+  pub ready : IsPrepared r
   pub unchanged : r.changes.items ≡ []
-  pub narrow : are_narrow r.bindings.monitors.items r.setup.tables ≡ true
+  pub narrow : monitors_fit_counts r.bindings.monitors.items r.setup.tables ≡ true
   pub no_ends : list_any ends_instances r.bindings.rules.items ≡ false

@@ -5,24 +5,24 @@ use Rattle.rv_io.specs.Files.{Rose}
 use Rattle.rv_io.specs.Taken.{Takes}
 
 -- which file it is
-abbrev pub file_text : Option (List ℕ) → List ℕ
-file_text None = []
-file_text (Some file) = codes " in " ++ file
+abbrev pub in_file_text : Option (List ℕ) → List ℕ
+in_file_text None = []
+in_file_text (Some file) = codes " in " ++ file
 
 -- which line it is; line 0 is none
-abbrev pub line_text : ℕ → List ℕ
-line_text line = if line == 0 then [] else codes " line " ++ decimal line
+abbrev pub in_line_text : ℕ → List ℕ
+in_line_text line = if line == 0 then [] else codes " line " ++ decimal line
 
 -- the number of a refusal, with its file and line where it has them
 abbrev pub refusal_text : Option (List ℕ) → Refusal → List ℕ
-refusal_text file refusal = codes "rv: refused " ++ decimal refusal.number ++ file_text file ++ line_text refusal.line ++ codes "\n"
+refusal_text file refusal = codes "rv: refused " ++ decimal refusal.number ++ in_file_text file ++ in_line_text refusal.line ++ codes "\n"
 
 -- which file cannot be read
 abbrev pub missing_text : List ℕ → List ℕ
 missing_text file = codes "rv: cannot read " ++ file ++ codes "\n"
 
 -- the sink took the whole text; or its count of faults rose, a front of the text was taken, and the status is 4
-abbrev pub Told : Option (List ℕ) → Option (List ℕ) → ℕ → ℕ → List ℕ → ℕ → ℕ → Type 0
-Told old new before now text said status =
+abbrev pub IsWritten : Option (List ℕ) → Option (List ℕ) → ℕ → ℕ → List ℕ → ℕ → ℕ → Type 0
+IsWritten old new before now text said status =
     ((status ≡ said) × Takes old new text)
     ⊎ ((status ≡ 4) × Rose before now × (front : List ℕ) × (back : List ℕ) × (text ≡ front ++ back) × Takes old new front)

@@ -1,4 +1,4 @@
--- A trace that is read and routed line by line: what has come of the text that was passed.
+-- Private: a trace that is read and routed line by line: what has come of the text that was passed.
 use Rattle.std.specs.Prelude.{◌≡◌, ◌≤◌, ℕ, List, [], ◌∷◌, ◌++◌, take, Option, Some, None, Result, Ok}
 use Rattle.rv_text.specs.declared.refusals.Refusal.{Refusal}
 use Rattle.rv_text.specs.declared.refusals.Refused.{Refused}
@@ -9,11 +9,11 @@ use Rattle.rv_trace.specs.Traces.{trace_of}
 use Rattle.rv_bind.specs.declared.bindings.Bindings.{Bindings}
 use Rattle.rv_route.specs.Fitting.{NumbersAscend}
 use Rattle.rv_route.specs.Routers.{RouterValue, IsFor}
-use Rattle.rv_route.specs.Routing.{Routes, routes_of, nothing}
+use Rattle.rv_route.specs.Routing.{Routes, routes_of, no_routes}
 
 -- the text that was passed of a stream
-abbrev pub passed : Stream → List ℕ
-passed s = take s.taken s.fed
+abbrev pub passed_text : Stream → List ℕ
+passed_text s = take s.taken s.fed
 
 -- what was routed, or why a line was refused
 abbrev pub RoutedAs : Option Refused → Result Routes Refusal → Routes → Type 0
@@ -27,4 +27,4 @@ pub record IsRouted (bindings : Bindings) (text : List ℕ) (router : RouterValu
   pub made : IsFor bindings router
   pub next : (line : TraceLine) → NumbersAscend (lines ++ line ∷ []) → router.next ≤ line.number
   pub late_is : late ≡ router.refused
-  pub routed : RoutedAs router.refused (routes_of text bindings.monitors.items bindings.rules.items lines nothing) router.routes
+  pub routed : RoutedAs router.refused (routes_of text bindings.monitors.items bindings.rules.items lines no_routes) router.routes

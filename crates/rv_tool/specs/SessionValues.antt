@@ -1,4 +1,4 @@
--- What a script came to, as a plain value.
+-- Private: what a script came to, as a plain value.
 use Rattle.rv_tool.specs.declared.session.Session.{Session}
 use Rattle.rv_tool.specs.Sessions.{Printed}
 

@@ -11,18 +11,18 @@ use Rattle.rv_model.specs.Judging.{Judge}
 use Rattle.rv_model.specs.Records.{records_of}
 use Rattle.rv_model.specs.Setups.{slot_of}
 use Rattle.rv_slots.specs.declared.shape.TheConstants.{CPUS}
-use Rattle.rv_verdicts.specs.Lone.{IsLone, IsByCpu}
-use Rattle.rv_verdicts.specs.Verdicts.{AgreeOnLone, records_on}
-use Rattle.rv_tool.specs.Headline.{Ending, GivesUp, IsReported, TellsOf, Ends}
+use Rattle.rv_laws.specs.SingleWriter.{HasOneWriter, IsByCpu}
+use Rattle.rv_laws.specs.Verdicts.{AgreeOnSingleWriter, records_on}
+use Rattle.rv_tool.specs.Headline.{Ending, GivesUp, IsReported, PrintsSome, Ends}
 use Rattle.rv_tool.specs.Inputs.{InputValue, run_input, run_of, HasCpus}
 use Rattle.rv_tool.specs.Loaded.{load_input}
-use Rattle.rv_tool.specs.Output.{Told}
+use Rattle.rv_tool.specs.Output.{IsWritten}
 use Rattle.rv_tool.specs.Runs.{AnswersBy}
 use Rattle.rv_tool.specs.Words.{CommandValue, replay, feed, load}
 
 -- only one CPU has deliveries for the slot
-abbrev pub IsLoneIn : InputValue → ℕ → Type 0
-IsLoneIn i slot = IsLone (run_of i).setup.shape (run_of i).works slot
+abbrev pub HasOneWriterIn : InputValue → ℕ → Type 0
+HasOneWriterIn i slot = HasOneWriter (run_of i).setup.shape (run_of i).works slot
 
 -- no monitor's reactor is panic
 abbrev pub HasNoPanic : InputValue → Type 0
@@ -53,21 +53,21 @@ pub record HasOneVerdict (i : InputValue) (h : List Entry) (text : List ℕ) (st
 
 -- a run on one thread is reported, and has this verdict
 abbrev pub ReportsOne : InputValue → Ending
-ReportsOne i = TellsOf (λ h text status. IsReported IsOneHistory i h text status × HasOneVerdict i h text status)
+ReportsOne i = PrintsSome (λ h text status. IsReported IsOneHistory i h text status × HasOneVerdict i h text status)
 
 -- ---- all of them
 
 -- nothing stops a lone slot; without panic its records are those of one thread; and where all slots are lone the text and the status are too, which is never 6
 pub record HasVerdicts (i : InputValue) (h : List Entry) (text : List ℕ) (status : ℕ) : Type 0 where
-  pub not_stopped : (slot : ℕ) → IsLoneIn i slot → AtEach (λ before e. ¬ (e.act ≡ Stop slot)) h
-  pub not_six : ((slot : ℕ) → IsLoneIn i slot) → status ≢ 6
-  pub lone : HasNoPanic i → (judges : List Judge) (k : List Entry) → AreJudges (run_of i).specs (run_of i).setup.tables judges → IsOneHistory (run_of i) judges k → AgreeOnLone (run_of i) judges judges h k
-  pub all : HasNoPanic i → ((slot : ℕ) → IsLoneIn i slot) → (k : List Entry) (other : List ℕ) (said : ℕ) → IsReported IsOneHistory i k other said → (text ≡ other) × (status ≡ said)
+  pub not_stopped : (slot : ℕ) → HasOneWriterIn i slot → AtEach (λ before e. ¬ (e.act ≡ Stop slot)) h
+  pub not_six : ((slot : ℕ) → HasOneWriterIn i slot) → status ≢ 6
+  pub single_writer : HasNoPanic i → (judges : List Judge) (k : List Entry) → AreJudges (run_of i).specs (run_of i).setup.tables judges → IsOneHistory (run_of i) judges k → AgreeOnSingleWriter (run_of i) judges judges h k
+  pub all : HasNoPanic i → ((slot : ℕ) → HasOneWriterIn i slot) → (k : List Entry) (other : List ℕ) (said : ℕ) → IsReported IsOneHistory i k other said → (text ≡ other) × (status ≡ said)
   pub by_cpu : HasCpuVerdicts i h text status
 
 -- a run at once is reported, and has these verdicts
 abbrev pub ReportsVerdicts : InputValue → Ending
-ReportsVerdicts i old new before now status h = ((text : List ℕ) × (said : ℕ) × IsReported IsLegal i h text said × HasVerdicts i h text said × Told old new before now text said status) ⊎ GivesUp old new status h
+ReportsVerdicts i old new before now status h = ((text : List ℕ) × (said : ℕ) × IsReported IsLegal i h text said × HasVerdicts i h text said × IsWritten old new before now text said status) ⊎ GivesUp old new status h
 
 -- what the commands that report a run answer
 abbrev pub Verdicts : Option CommandValue → Files → ℕ → ℕ → Ending

@@ -4,8 +4,8 @@ use Rattle.std.specs.declared.alloc.Global.{Global}
 use Rattle.rv_text.specs.Decimal.{decimal_of}
 use Rattle.rv_gen.specs.declared.files.TheConstants.{MAX_BLOCKS}
 use Rattle.rv_header.specs.Naming.{is_header_name}
-use Rattle.rv_tool.specs.declared.words.Command.{Command}
-use Rattle.rv_tool.specs.declared.words.Command.TheVariants as commands
+use Rattle.rv_tool.specs.declared.words.ToolCommand.{ToolCommand}
+use Rattle.rv_tool.specs.declared.words.ToolCommand.TheVariants as commands
 use Rattle.rv_tool.specs.declared.words.Kind.{Kind}
 use Rattle.rv_tool.specs.declared.words.Kind.TheVariants.{Da, Ltl}
 use Rattle.rv_tool.specs.declared.words.Verb.{Verb}
@@ -38,7 +38,7 @@ pub data CommandValue : Type 0 where
   header : List ℕ → List ℕ → CommandValue
 
 -- the command, with the bytes of its words as texts
-abbrev pub command_value : Command → CommandValue
+abbrev pub command_value : ToolCommand → CommandValue
 command_value (commands.Replay bindings trace) = replay bindings.now trace.now
 command_value (commands.Feed bindings trace) = feed bindings.now trace.now
 command_value (commands.FeedBeside bindings trace script) = feed_beside bindings.now trace.now script.now
@@ -51,17 +51,17 @@ command_value (commands.Table kind file) = table kind file.now
 command_value (commands.Header name file) = header name.now file.now
 
 -- `da` or `ltl`
-abbrev pub kind_of : List ℕ → Option Kind
-kind_of word = if bytes_eq word (codes "da") then Some Da else if bytes_eq word (codes "ltl") then Some Ltl else None
+abbrev pub kind_word : List ℕ → Option Kind
+kind_word word = if bytes_eq word (codes "da") then Some Da else if bytes_eq word (codes "ltl") then Some Ltl else None
 
 -- `table da FILE` or `table ltl FILE`
-abbrev pub table_of : Option Kind → List ℕ → Option CommandValue
-table_of None file = None
-table_of (Some kind) file = Some (table kind file)
+abbrev pub table_command : Option Kind → List ℕ → Option CommandValue
+table_command None file = None
+table_command (Some kind) file = Some (table kind file)
 
 -- `header NAME FILE`, where C tables may have the name
-abbrev pub header_of : List ℕ → List ℕ → Option CommandValue
-header_of name file = if is_header_name name then Some (header name file) else None
+abbrev pub header_command : List ℕ → List ℕ → Option CommandValue
+header_command name file = if is_header_name name then Some (header name file) else None
 
 -- what the first word asks for
 abbrev pub verb_of : List ℕ → Option Verb
@@ -81,8 +81,8 @@ command_with (Some verbs.Replay) first second = Some (replay first second)
 command_with (Some verbs.Feed) first second = Some (feed first second)
 command_with (Some verbs.Journal) first second = Some (journal first second)
 command_with (Some verbs.Control) first second = Some (control first second)
-command_with (Some verbs.Table) first second = table_of (kind_of first) second
-command_with (Some verbs.Header) first second = header_of first second
+command_with (Some verbs.Table) first second = table_command (kind_word first) second
+command_with (Some verbs.Header) first second = header_command first second
 
 -- from 1 to as many blocks as make a whole trace
 abbrev pub load_of : Option ℕ → Option CommandValue
@@ -105,6 +105,6 @@ command_of (word ∷ bindings ∷ trace ∷ monitor ∷ instance ∷ []) = if by
 command_of _ = None
 
 -- C tables may have the name that the command gives them
-abbrev pub IsWellNamed : Command → Type 0
+abbrev pub IsWellNamed : ToolCommand → Type 0
 IsWellNamed (commands.Header name file) = is_header_name name.now ≡ true
 IsWellNamed _ = Unit {0}

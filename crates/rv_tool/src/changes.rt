@@ -1,14 +1,14 @@
 //! A control script that runs beside the CPUs. All its changes are known before the run.
 ghost use Rattle.std.specs.Prelude.{◌≡◌, ◌≤◌, ◌<◌, ◌^◌, Ok, Err, length, All, IfOk, IfErr};
 ghost use Rattle.rv_text.specs.Readings.{Gives};
-ghost use Rattle.rv_bind.specs.Outcomes.{Comes, Names};
+ghost use Rattle.rv_bind.specs.Outcomes.{Refines, BlamesReached};
 ghost use Rattle.rv_control.specs.Opening.{opening_tree};
 ghost use Rattle.rv_feed.specs.Changes.{IsBelowHalt};
 ghost use Rattle.rv_tool.specs.Changes.{asked, asked_in, changes_of, changes_text, changes_in, input_beside};
-ghost use Rattle.rv_tool.specs.Faults.{Tells};
-ghost use Rattle.rv_tool.specs.Ready.{ready_value, IsReady};
+ghost use Rattle.rv_tool.specs.Faults.{IsOutcome};
+ghost use Rattle.rv_tool.specs.Prepared.{prepared_value, IsPrepared};
 
-use crate::input::{Ready, read_input};
+use crate::input::{Prepared, read_input};
 use crate::session::commands_in;
 use crate::trace_text::{read_text, refused};
 use rv_bind::{BindFault, Bindings};
@@ -89,7 +89,7 @@ fn changes_in_text(
 ) -> Result<Vec<Change>, BindFault>
     requires monitors { length bindings.now.monitors.items ≤ 32 }
     requires containers { length bindings.now.containers ≤ 32 }
-    ensures value { Tells (λ changes. changes.items) result (changes_text script.now (opening_tree bindings.now) text.now) }
+    ensures value { IsOutcome (λ changes. changes.items) result (changes_text script.now (opening_tree bindings.now) text.now) }
     ensures below_halt { IfOk result (λ changes. All IsBelowHalt changes.items) }
 {
     let commands = commands_in(alloc, script, text)?;
@@ -111,8 +111,8 @@ fn read_changes<S: Store>(
     requires containers { length bindings.now.containers ≤ 32 }
     ensures kept { S.files store.new ≡ S.files store.old }
     ensures later { S.faults store.old ≤ S.faults store.new }
-    ensures value { Comes (λ changes. changes.items) (S.files store.old) (S.faults store.old) (S.faults store.new) result (λ files. changes_in files script.now (opening_tree bindings.now)) }
-    ensures named { Names (S.files store.old) result (λ files. changes_in files script.now (opening_tree bindings.now)) }
+    ensures value { Refines (λ changes. changes.items) (S.files store.old) (S.faults store.old) (S.faults store.new) result (λ files. changes_in files script.now (opening_tree bindings.now)) }
+    ensures named { BlamesReached (S.files store.old) result (λ files. changes_in files script.now (opening_tree bindings.now)) }
     ensures below_halt { IfOk result (λ changes. All IsBelowHalt changes.items) }
 {
     let text = read_text(alloc, store, script)?;
@@ -127,12 +127,12 @@ pub(crate) fn read_beside<S: Store>(
     bindings: &str,
     trace: &str,
     script: &str,
-) -> Result<Ready, BindFault>
+) -> Result<Prepared, BindFault>
     ensures kept { S.files store.new ≡ S.files store.old }
     ensures later { S.faults store.old ≤ S.faults store.new }
-    ensures ready { IfOk result IsReady }
-    ensures value { Comes ready_value (S.files store.old) (S.faults store.old) (S.faults store.new) result (λ files. input_beside files bindings.now trace.now script.now) }
-    ensures named { Names (S.files store.old) result (λ files. input_beside files bindings.now trace.now script.now) }
+    ensures ready { IfOk result IsPrepared }
+    ensures value { Refines prepared_value (S.files store.old) (S.faults store.old) (S.faults store.new) result (λ files. input_beside files bindings.now trace.now script.now) }
+    ensures named { BlamesReached (S.files store.old) result (λ files. input_beside files bindings.now trace.now script.now) }
 {
     let mut ready = read_input(alloc, store, bindings, trace)?;
     match read_changes(alloc, store, script, &ready.bindings) {

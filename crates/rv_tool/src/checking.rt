@@ -2,14 +2,14 @@
 ghost use Rattle.std.specs.Prelude.{◌≡◌, ◌≤◌, ◌<◌, [], length, false, IfOk, IfErr, OnOk};
 ghost use Rattle.rv_model.specs.Numbers.{number_of};
 ghost use Rattle.rv_core.specs.Judged.{JudgesBySpecs};
-ghost use Rattle.rv_bind.specs.Outcomes.{Names, of_text, accepted};
+ghost use Rattle.rv_bind.specs.Outcomes.{BlamesReached, of_text, accepted};
 ghost use Rattle.rv_feed.specs.Lane.{FitLanes, panics_of, works_of};
 ghost use Rattle.rv_tool.specs.Checks.{judged, verdict_text, verdict_status, JudgesRead, IsVerdict, checked_input};
-ghost use Rattle.rv_tool.specs.Faults.{FaultComes, FaultNames};
+ghost use Rattle.rv_tool.specs.Faults.{FaultRefines, FaultBlamesReached};
 ghost use Rattle.rv_tool.specs.JournalPieces.{IsSameRun, IsEnough};
-ghost use Rattle.rv_tool.specs.Ready.{ready_value, IsReady};
+ghost use Rattle.rv_tool.specs.Prepared.{prepared_value, IsPrepared};
 
-use crate::input::{Ready, read_input};
+use crate::input::{Prepared, read_input};
 use crate::trace_text::fetch;
 use rv_bind::BindFault;
 use rv_check::{Checker, JournalReader, Verdict};
@@ -95,14 +95,14 @@ fn reader_of(
 {
     let works = works(alloc, lanes)?;
     let checker = Checker::new(alloc, setup, panics, works)?;
-    checker.known();
+    checker.assert_invariant();
     JournalReader::new(alloc, checker)
 }
 
 /// A reader of a journal of what is ready, to which nothing was fed.
-fn reader(alloc: Global, ready: Ready) -> Result<JournalReader, AllocError>
-    requires { IsReady ready }
-    ensures begins { IfOk result (λ reader. reader ≡ record { journal = judged (ready_value ready) []; stopped = false }) }
+fn reader(alloc: Global, ready: Prepared) -> Result<JournalReader, AllocError>
+    requires { IsPrepared ready }
+    ensures begins { IfOk result (λ reader. reader ≡ record { journal = judged (prepared_value ready) []; stopped = false }) }
     ensures judges { OnOk result (JudgesBySpecs ready.setup) }
 {
     let panics = panic_bits(ready.reactors.as_slice());
@@ -123,8 +123,8 @@ fn take_pieces<S: Store>(
     ensures later { S.faults store.old ≤ S.faults store.new }
     ensures same { IsSameRun reader.old.journal reader.new.journal }
     ensures all { OnOk result (IsEnough (S.files store.old) journal.now reader.new) }
-    ensures fault { IfErr result (λ fault. FaultComes (S.files store.old) (S.faults store.old) (S.faults store.new) fault (λ files. of_text journal.now (files journal.now) accepted)) }
-    ensures named { IfErr result (λ fault. FaultNames (S.files store.old) fault (λ files. of_text journal.now (files journal.now) accepted)) }
+    ensures fault { IfErr result (λ fault. FaultRefines (S.files store.old) (S.faults store.old) (S.faults store.new) fault (λ files. of_text journal.now (files journal.now) accepted)) }
+    ensures named { IfErr result (λ fault. FaultBlamesReached (S.files store.old) fault (λ files. of_text journal.now (files journal.now) accepted)) }
 {
     let mut place: u64 = 0;
     for piece in 0..u64::MAX {
@@ -158,8 +158,8 @@ fn take_journal<S: Store>(
     ensures later { S.faults store.old ≤ S.faults store.new }
     ensures same { OnOk result (IsSameRun reader.old.journal reader.new.journal) }
     ensures all { OnOk result (IsEnough (S.files store.old) journal.now reader.new) }
-    ensures fault { IfErr result (λ fault. FaultComes (S.files store.old) (S.faults store.old) (S.faults store.new) fault (λ files. of_text journal.now (files journal.now) accepted)) }
-    ensures named { IfErr result (λ fault. FaultNames (S.files store.old) fault (λ files. of_text journal.now (files journal.now) accepted)) }
+    ensures fault { IfErr result (λ fault. FaultRefines (S.files store.old) (S.faults store.old) (S.faults store.new) fault (λ files. of_text journal.now (files journal.now) accepted)) }
+    ensures named { IfErr result (λ fault. FaultBlamesReached (S.files store.old) fault (λ files. of_text journal.now (files journal.now) accepted)) }
 {
     let Ok(mut buffer) = vec![in alloc; 0u8; PIECE] else {
         return Err(BindFault::Memory);
@@ -178,7 +178,7 @@ pub(crate) fn read_verdict<S: Store>(
     ensures kept { S.files store.new ≡ S.files store.old }
     ensures later { S.faults store.old ≤ S.faults store.new }
     ensures value { JudgesRead (S.files store.old) (S.faults store.old) (S.faults store.new) result (λ files. checked_input files bindings.now trace.now journal.now) }
-    ensures named { Names (S.files store.old) result (λ files. checked_input files bindings.now trace.now journal.now) }
+    ensures named { BlamesReached (S.files store.old) result (λ files. checked_input files bindings.now trace.now journal.now) }
     ensures some { IfOk result IsVerdict }
 {
     let ready = read_input(alloc, store, bindings, trace)?;

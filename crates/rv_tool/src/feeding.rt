@@ -4,12 +4,12 @@ ghost use Rattle.rv_model.specs.Histories.{IsLegal};
 ghost use Rattle.rv_feed.specs.One.{lane_records};
 ghost use Rattle.rv_tool.specs.Headline.{IsReported};
 ghost use Rattle.rv_tool.specs.LaneReports.{ReportsLanes};
-ghost use Rattle.rv_tool.specs.Ready.{ready_value, IsReady};
+ghost use Rattle.rv_tool.specs.Prepared.{prepared_value, IsPrepared};
 
-use crate::input::Ready;
-use crate::replaying::{Done, report};
+use crate::input::Prepared;
+use crate::replaying::{FinishedRun, report};
 use rv_bind::Bindings;
-use rv_feed::{Fed, feed};
+use rv_feed::{FedLanes, feed};
 use rv_io::Gate;
 use rv_slots::Tasks;
 use std::alloc::{AllocError, Global};
@@ -20,8 +20,8 @@ fn report_fed(
     alloc: Global,
     bindings: &Bindings,
     tasks: &Tasks,
-    run: Fed,
-) -> Result<Done, AllocError>
+    run: FedLanes,
+) -> Result<FinishedRun, AllocError>
     ensures { IfOk result (ReportsLanes bindings.now tasks.now (lane_records run.lanes.items) run.closed) }
 {
     let closed = run.closed;
@@ -33,12 +33,12 @@ pub(crate) fn fed<R: Threads + Sync, G: Gate + Send>(
     rt: &R,
     alloc: Global,
     gate: &G,
-    ready: Ready,
-) -> Result<Done, AllocError>
-    requires { IsReady ready }
-    ensures { IfOk result (λ done. IsReported IsLegal (ready_value ready) done.closed done.text.items done.status) }
+    ready: Prepared,
+) -> Result<FinishedRun, AllocError>
+    requires { IsPrepared ready }
+    ensures { IfOk result (λ done. IsReported IsLegal (prepared_value ready) done.closed done.text.items done.status) }
 {
-    let Ready {
+    let Prepared {
         bindings,
         tasks,
         setup,

@@ -1,10 +1,10 @@
 //! From an automaton's file to its C tables.
 ghost use Rattle.std.specs.Prelude.{◌≡◌, ◌≤◌, true, IfOk};
 ghost use Rattle.rv_text.specs.Readings.{Gives};
-ghost use Rattle.rv_bind.specs.Outcomes.{Comes, Names, of_file};
+ghost use Rattle.rv_bind.specs.Outcomes.{Refines, BlamesReached, of_file};
 ghost use Rattle.rv_header.specs.Naming.{is_header_name};
-ghost use Rattle.rv_tool.specs.Faults.{Tells};
-ghost use Rattle.rv_tool.specs.HeaderFiles.{header_text, header_in};
+ghost use Rattle.rv_tool.specs.Faults.{IsOutcome};
+ghost use Rattle.rv_tool.specs.HeaderFiles.{header_of_text, header_in};
 ghost use Rattle.rv_tool.specs.SomeTexts.{IsOfSomeText};
 
 use crate::trace_text::{read_text, refused};
@@ -16,9 +16,9 @@ use rv_text::Refused;
 use std::alloc::Global;
 
 /// The C tables of an automaton file's text.
-fn header_text(alloc: Global, name: &str, bytes: &[u8]) -> Result<Vec<u8>, Refused>
+fn header_of_text(alloc: Global, name: &str, bytes: &[u8]) -> Result<Vec<u8>, Refused>
     requires { is_header_name name.now ≡ true }
-    ensures { Gives (λ text. text.items) result (header_text name.now bytes.now) }
+    ensures { Gives (λ text. text.items) result (header_of_text name.now bytes.now) }
 {
     let automaton = read_dot(alloc, bytes)?;
     write_header(alloc, name.as_bytes(), &automaton)
@@ -28,9 +28,9 @@ fn header_text(alloc: Global, name: &str, bytes: &[u8]) -> Result<Vec<u8>, Refus
 #[tactic(auto, using(crate::proofs::NumberLemmas::header_numbered, crate::proofs::NumberLemmas::fault_tells))]
 fn named_header(alloc: Global, name: &str, file: &str, bytes: &[u8]) -> Result<Vec<u8>, BindFault>
     requires { is_header_name name.now ≡ true }
-    ensures { Tells (λ text. text.items) result (of_file file.now (header_text name.now bytes.now)) }
+    ensures { IsOutcome (λ text. text.items) result (of_file file.now (header_of_text name.now bytes.now)) }
 {
-    match header_text(alloc, name, bytes) {
+    match header_of_text(alloc, name, bytes) {
         Ok(text) => Ok(text),
         Err(fault) => Err(refused(alloc, file, fault)),
     }
@@ -47,9 +47,9 @@ pub(crate) fn read_header<S: Store>(
     requires { is_header_name name.now ≡ true }
     ensures kept { S.files store.new ≡ S.files store.old }
     ensures later { S.faults store.old ≤ S.faults store.new }
-    ensures value { Comes (λ text. text.items) (S.files store.old) (S.faults store.old) (S.faults store.new) result (λ files. header_in files name.now file.now) }
-    ensures named { Names (S.files store.old) result (λ files. header_in files name.now file.now) }
-    ensures some { IfOk result (λ text. IsOfSomeText (header_text name.now) text.items) }
+    ensures value { Refines (λ text. text.items) (S.files store.old) (S.faults store.old) (S.faults store.new) result (λ files. header_in files name.now file.now) }
+    ensures named { BlamesReached (S.files store.old) result (λ files. header_in files name.now file.now) }
+    ensures some { IfOk result (λ text. IsOfSomeText (header_of_text name.now) text.items) }
 {
     let bytes = read_text(alloc, store, file)?;
     named_header(alloc, name, file, bytes.as_slice())

@@ -1,13 +1,13 @@
 //! From the files to what a run begins with.
 ghost use Rattle.std.specs.Prelude.{◌≡◌, ◌≤◌, [], length, map, All, IfOk};
-ghost use Rattle.rv_bind.specs.Outcomes.{Comes, Names};
+ghost use Rattle.rv_bind.specs.Outcomes.{Refines, BlamesReached};
 ghost use Rattle.rv_bind.specs.BoundViews.{bound_value};
 ghost use Rattle.rv_bind.specs.WellFormed.{HaveTables, kinds_of, IsWellFormed};
 ghost use Rattle.rv_route.specs.Routed.{routed_value};
 ghost use Rattle.rv_route.specs.Fitting.{WorksFit, FromRules};
 ghost use Rattle.rv_feed.specs.Lane.{IsNewLane, works_of};
 ghost use Rattle.rv_tool.specs.Inputs.{opened, run_input};
-ghost use Rattle.rv_tool.specs.Ready.{ready_value, IsReady};
+ghost use Rattle.rv_tool.specs.Prepared.{prepared_value, IsPrepared};
 
 use crate::trace_text::read_routed;
 use rv_bind::{BindFault, Bindings, Bound, Monitor, read_bindings};
@@ -23,7 +23,7 @@ use std::alloc::{AllocError, Global};
 
 /// What a run begins with.
 #[derive(Drop)]
-pub(crate) struct Ready {
+pub(crate) struct Prepared {
     pub(crate) bindings: Bindings,
     pub(crate) tasks: Tasks,
     pub(crate) setup: Setup,
@@ -34,7 +34,7 @@ pub(crate) struct Ready {
 
 /// The parts of what is ready that are made of monitors, tables and works.
 #[derive(Drop)]
-struct Parts {
+struct RunParts {
     setup: Setup,
     reactors: Vec<Reactor>,
     lanes: Vec<Lane>,
@@ -47,13 +47,13 @@ pub(crate) fn read_input<S: Store>(
     store: &mut S,
     bindings: &str,
     trace: &str,
-) -> Result<Ready, BindFault>
+) -> Result<Prepared, BindFault>
     ensures kept { S.files store.new ≡ S.files store.old }
     ensures later { S.faults store.old ≤ S.faults store.new }
-    ensures ready { IfOk result IsReady }
+    ensures ready { IfOk result IsPrepared }
     ensures unchanged { IfOk result (λ ready. ready.changes.items ≡ []) }
-    ensures value { Comes ready_value (S.files store.old) (S.faults store.old) (S.faults store.new) result (λ files. run_input files bindings.now trace.now) }
-    ensures named { Names (S.files store.old) result (λ files. run_input files bindings.now trace.now) }
+    ensures value { Refines prepared_value (S.files store.old) (S.faults store.old) (S.faults store.new) result (λ files. run_input files bindings.now trace.now) }
+    ensures named { BlamesReached (S.files store.old) result (λ files. run_input files bindings.now trace.now) }
 {
     let bound = read_bindings(alloc, store, bindings)?;
     let routed = read_routed(alloc, store, trace, &bound)?;
@@ -64,16 +64,16 @@ pub(crate) fn read_input<S: Store>(
 }
 
 /// What the bindings and the works make ready.
-fn prepare(alloc: Global, bound: Bound, routed: Routed) -> Result<Ready, AllocError>
+fn prepare(alloc: Global, bound: Bound, routed: Routed) -> Result<Prepared, AllocError>
     requires formed { IsWellFormed (bound_value bound) }
     requires fit { WorksFit (kinds_of bound.bindings.monitors.items) (length routed.tasks) routed.works.items }
     requires rules { FromRules bound.bindings.rules.items routed.works.items }
-    ensures ready { IfOk result IsReady }
-    ensures value { IfOk result (λ ready. ready_value ready ≡ record { bound = bound_value bound; routed = routed_value routed; changes = [] }) }
+    ensures ready { IfOk result IsPrepared }
+    ensures value { IfOk result (λ ready. prepared_value ready ≡ record { bound = bound_value bound; routed = routed_value routed; changes = [] }) }
 {
     let Bound { bindings, tables } = bound;
     let Routed { tasks, works } = routed;
-    let Parts {
+    let RunParts {
         setup,
         reactors,
         lanes,
@@ -84,7 +84,7 @@ fn prepare(alloc: Global, bound: Bound, routed: Routed) -> Result<Ready, AllocEr
         tables,
         works,
     )?;
-    Ok(Ready {
+    Ok(Prepared {
         bindings,
         tasks,
         setup,
@@ -101,7 +101,7 @@ fn make_parts(
     tasks: u32,
     tables: Vec<Table>,
     works: Vec<CpuWork>,
-) -> Result<Parts, AllocError>
+) -> Result<RunParts, AllocError>
     requires monitors { length monitors.now ≤ 32 }
     requires tasks { tasks ≤ 65536 }
     requires tables { HaveTables (kinds_of monitors.now) tables.items }
@@ -112,7 +112,7 @@ fn make_parts(
     let lanes = lanes(alloc, works)?;
     let reactors = reactors(alloc, monitors)?;
     let setup = opening(alloc, monitors, tasks, tables)?;
-    Ok(Parts {
+    Ok(RunParts {
         setup,
         reactors,
         lanes,

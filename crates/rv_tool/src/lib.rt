@@ -3,11 +3,11 @@
 
 mod changes;
 mod checking;
+mod counts_fit;
 mod feeding;
 mod headers;
 mod input;
 mod loading;
-mod numbered;
 mod output;
 mod recording;
 mod replaying;

@@ -1,6 +1,6 @@
 //! The texts of refusals and missing files, and how a text is put out.
 ghost use Rattle.std.specs.Prelude.{◌≡◌, ◌++◌, OnOk, IfOk, option_copied};
-ghost use Rattle.rv_tool.specs.Output.{refusal_text, missing_text, file_text, line_text, Told};
+ghost use Rattle.rv_tool.specs.Output.{refusal_text, missing_text, in_file_text, in_line_text, IsWritten};
 
 use rv_io::{PutFault, Sink, put_all};
 use rv_text::{Line, Refusal};
@@ -28,7 +28,7 @@ pub(crate) fn refusal_line(
 
 /// Names the file, if there is one.
 fn in_file(line: &mut Line, file: Option<&[u8]>) -> Result<(), AllocError>
-    ensures { OnOk result (line.new ≡ line.old ++ file_text (option_copied file.entry)) }
+    ensures { OnOk result (line.new ≡ line.old ++ in_file_text (option_copied file.entry)) }
 {
     if let Some(name) = file {
         line.text(b" in ")?;
@@ -39,7 +39,7 @@ fn in_file(line: &mut Line, file: Option<&[u8]>) -> Result<(), AllocError>
 
 /// Names the line, where it is not 0.
 fn at_line(line: &mut Line, number: u32) -> Result<(), AllocError>
-    ensures { OnOk result (line.new ≡ line.old ++ line_text number) }
+    ensures { OnOk result (line.new ≡ line.old ++ in_line_text number) }
 {
     if number > 0 {
         line.text(b" line ")?;
@@ -60,8 +60,8 @@ pub(crate) fn missing_line(alloc: Global, file: &[u8]) -> Result<Vec<u8>, AllocE
 }
 
 /// Puts the text of a status; 4 stands in its place where a put failed.
-pub(crate) fn tell<K: Sink>(out: &mut K, text: &[u8], status: u8) -> u8
-    ensures { Told (K.taken out.old) (K.taken out.new) (K.faults out.old) (K.faults out.new) text.now status result }
+pub(crate) fn put_text<K: Sink>(out: &mut K, text: &[u8], status: u8) -> u8
+    ensures { IsWritten (K.taken out.old) (K.taken out.new) (K.faults out.old) (K.faults out.new) text.now status result }
 {
     match put_all(out, text) {
         Ok(()) => status,

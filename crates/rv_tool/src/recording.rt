@@ -1,20 +1,20 @@
 //! A run on several threads whose entries are numbered and printed.
 ghost use Rattle.std.specs.Prelude.{◌≡◌, ◌≤◌, [], true, IfOk};
 ghost use Rattle.std.specs.List.{list_any};
-ghost use Rattle.rv_bind.specs.Outcomes.{Comes, Names, of_file, IsFaultOf};
-ghost use Rattle.rv_tool.specs.Faults.{Tells};
-ghost use Rattle.rv_tool.specs.Journals.{can_record, numbered, numbered_input, ends_instances, IsJournalReport, IsToRecord};
-ghost use Rattle.rv_tool.specs.Ready.{ready_value, IsReady};
+ghost use Rattle.rv_bind.specs.Outcomes.{Refines, BlamesReached, of_file, IsFaultOf};
+ghost use Rattle.rv_tool.specs.Faults.{IsOutcome};
+ghost use Rattle.rv_tool.specs.Journals.{can_record, if_recordable, recordable_input, ends_instances, IsJournalReport, IsRecordable};
+ghost use Rattle.rv_tool.specs.Prepared.{prepared_value, IsPrepared};
 
 use crate::checking::works;
-use crate::input::{Ready, read_input};
-use crate::numbered::are_narrow;
-use crate::replaying::Done;
+use crate::counts_fit::monitors_fit_counts;
+use crate::input::{Prepared, read_input};
+use crate::replaying::FinishedRun;
 use crate::trace_text::refused;
 use crate::widths::widths_of;
 use rv_bind::{BindFault, On};
 use rv_io::{Gate, Store};
-use rv_journal::{exit_status, journal_text, record_run, shown_works};
+use rv_journal::{enabled_works, exit_status, journal_text, record_run};
 use rv_text::{NOT_NUMBERED, Refusal, Refused};
 use std::alloc::{AllocError, Global};
 use std::thread::Threads;
@@ -27,7 +27,7 @@ fn end_instances(rules: &[On]) -> bool
 }
 
 /// The bindings are refused.
-fn not_numbered(alloc: Global, bindings: &str) -> BindFault
+fn not_recordable(alloc: Global, bindings: &str) -> BindFault
     ensures { IsFaultOf result bindings.now (record { number = NOT_NUMBERED; line = 0 }) }
 {
     refused(
@@ -38,44 +38,44 @@ fn not_numbered(alloc: Global, bindings: &str) -> BindFault
 }
 
 /// Whether the monitors can be numbered, and no rule ends an instance.
-fn can_record(ready: &Ready) -> bool
-    ensures { result ≡ can_record (ready_value ready.now) }
+fn can_record(ready: &Prepared) -> bool
+    ensures { result ≡ can_record (prepared_value ready.now) }
 {
     let monitors = ready.bindings.monitors.as_slice();
-    are_narrow(monitors, ready.setup.tables.as_slice())
+    monitors_fit_counts(monitors, ready.setup.tables.as_slice())
         && !end_instances(ready.bindings.rules.as_slice())
 }
 
 /// What is ready, where it can be recorded.
-fn numbered(alloc: Global, bindings: &str, ready: Ready) -> Result<Ready, BindFault>
-    requires ready { IsReady ready }
+fn recordable(alloc: Global, bindings: &str, ready: Prepared) -> Result<Prepared, BindFault>
+    requires ready { IsPrepared ready }
     requires unchanged { ready.changes.items ≡ [] }
-    ensures ready { IfOk result IsToRecord }
-    ensures value { Tells ready_value result (of_file bindings.now (numbered (ready_value ready))) }
+    ensures ready { IfOk result IsRecordable }
+    ensures value { IsOutcome prepared_value result (of_file bindings.now (if_recordable (prepared_value ready))) }
 {
     if can_record(&ready) {
         Ok(ready)
     } else {
-        Err(not_numbered(alloc, bindings))
+        Err(not_recordable(alloc, bindings))
     }
 }
 
 /// Reads the bindings and the trace, and finds whether the monitors can be numbered.
 #[tactic(auto, using(crate::proofs::NumberedLemmas::numbered_named))]
-pub(crate) fn read_numbered<S: Store>(
+pub(crate) fn read_recordable<S: Store>(
     alloc: Global,
     store: &mut S,
     bindings: &str,
     trace: &str,
-) -> Result<Ready, BindFault>
+) -> Result<Prepared, BindFault>
     ensures kept { S.files store.new ≡ S.files store.old }
     ensures later { S.faults store.old ≤ S.faults store.new }
-    ensures ready { IfOk result IsToRecord }
-    ensures value { Comes ready_value (S.files store.old) (S.faults store.old) (S.faults store.new) result (λ files. numbered_input files bindings.now trace.now) }
-    ensures named { Names (S.files store.old) result (λ files. numbered_input files bindings.now trace.now) }
+    ensures ready { IfOk result IsRecordable }
+    ensures value { Refines prepared_value (S.files store.old) (S.faults store.old) (S.faults store.new) result (λ files. recordable_input files bindings.now trace.now) }
+    ensures named { BlamesReached (S.files store.old) result (λ files. recordable_input files bindings.now trace.now) }
 {
     let ready = read_input(alloc, store, bindings, trace)?;
-    numbered(alloc, bindings, ready)
+    recordable(alloc, bindings, ready)
 }
 
 /// The whole run, a thread for each CPU, its history as text and the history's status.
@@ -83,12 +83,12 @@ pub(crate) fn recorded<R: Threads + Sync, G: Gate + Send>(
     rt: &R,
     alloc: Global,
     gate: &G,
-    ready: Ready,
-) -> Result<Done, AllocError>
-    requires { IsToRecord ready }
-    ensures { IfOk result (λ done. IsJournalReport (ready_value ready) done.closed done.text.items done.status) }
+    ready: Prepared,
+) -> Result<FinishedRun, AllocError>
+    requires { IsRecordable ready }
+    ensures { IfOk result (λ done. IsJournalReport (prepared_value ready) done.closed done.text.items done.status) }
 {
-    let Ready {
+    let Prepared {
         bindings,
         tasks,
         setup,
@@ -99,14 +99,14 @@ pub(crate) fn recorded<R: Threads + Sync, G: Gate + Send>(
     drop(tasks);
     drop(reactors);
     drop(changes);
-    setup.known();
+    setup.assert_invariant();
     let works = works(alloc, lanes)?;
-    let shown = shown_works(alloc, setup.switches, works)?;
+    let shown = enabled_works(alloc, setup.switches, works)?;
     let widths = widths_of(alloc, bindings.monitors.as_slice(), &setup)?;
     let recorded = record_run(rt, alloc, setup, widths, shown, gate)?;
     let text = journal_text(alloc, recorded.entries.as_slice())?;
     let status = exit_status(recorded.entries.as_slice());
-    Ok(Done {
+    Ok(FinishedRun {
         status,
         text,
         closed: recorded.closed,

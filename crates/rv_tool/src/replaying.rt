@@ -4,9 +4,9 @@ ghost use Rattle.rv_model.specs.Histories.{IsOneHistory};
 ghost use Rattle.rv_feed.specs.One.{lane_records};
 ghost use Rattle.rv_tool.specs.Headline.{IsReported};
 ghost use Rattle.rv_tool.specs.LaneReports.{ReportsLanes};
-ghost use Rattle.rv_tool.specs.Ready.{ready_value, IsReady};
+ghost use Rattle.rv_tool.specs.Prepared.{prepared_value, IsPrepared};
 
-use crate::input::Ready;
+use crate::input::Prepared;
 use rv_bind::Bindings;
 use rv_feed::{Lane, replay};
 use rv_model::Closed;
@@ -16,7 +16,7 @@ use std::alloc::{AllocError, Global};
 
 /// A run that has ended, before anything is put out.
 #[derive(Drop)]
-pub(crate) struct Done {
+pub(crate) struct FinishedRun {
     pub(crate) status: u8,
     pub(crate) text: Vec<u8>,
     pub(crate) closed: Closed,
@@ -29,12 +29,12 @@ pub(crate) fn report(
     tasks: &Tasks,
     lanes: &[Lane],
     closed: Closed,
-) -> Result<Done, AllocError>
+) -> Result<FinishedRun, AllocError>
     ensures { IfOk result (ReportsLanes bindings.now tasks.now (lane_records lanes.now) closed) }
 {
     let text = report_lanes(alloc, bindings, tasks, lanes)?;
     let status = lanes_status(lanes);
-    Ok(Done {
+    Ok(FinishedRun {
         status,
         text,
         closed,
@@ -42,12 +42,12 @@ pub(crate) fn report(
 }
 
 /// The whole run, its scripts in the order of the trace, and its report.
-pub(crate) fn replayed(alloc: Global, ready: Ready) -> Result<Done, AllocError>
-    requires ready { IsReady ready }
+pub(crate) fn replayed(alloc: Global, ready: Prepared) -> Result<FinishedRun, AllocError>
+    requires ready { IsPrepared ready }
     requires unchanged { ready.changes.items ≡ [] }
-    ensures { IfOk result (λ done. IsReported IsOneHistory (ready_value ready) done.closed done.text.items done.status) }
+    ensures { IfOk result (λ done. IsReported IsOneHistory (prepared_value ready) done.closed done.text.items done.status) }
 {
-    let Ready {
+    let Prepared {
         bindings,
         tasks,
         setup,

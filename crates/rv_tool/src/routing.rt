@@ -7,8 +7,8 @@ ghost use Rattle.rv_bind.specs.WellFormed.{FitsKind, kinds_of};
 ghost use Rattle.rv_route.specs.Fitting.{WorksFit, FromRules};
 ghost use Rattle.rv_route.specs.Routed.{routed_value};
 ghost use Rattle.rv_route.specs.Routing.{route_of};
-ghost use Rattle.rv_tool.specs.Pieces.{passed, IsRouted};
-ghost use Rattle.rv_tool.specs.Feeding.{IsOpen};
+ghost use Rattle.rv_tool.specs.Pieces.{passed_text, IsRouted};
+ghost use Rattle.rv_tool.specs.Feeding.{MayBeFed};
 
 use rv_bind::Bindings;
 use rv_route::{Routed, Router};
@@ -31,12 +31,12 @@ fn route_taken(
     bindings: &Bindings,
     late: &mut Option<Refused>,
 ) -> Result<(), Refusal>
-    requires { IsRouted bindings.now (passed lines.old) router.old late.old }
+    requires { IsRouted bindings.now (passed_text lines.old) router.old late.old }
     ensures fed { lines.new.fed ≡ lines.old.fed }
     ensures ended { lines.new.ended ≡ lines.old.ended }
     ensures idle { OnOk result (lines.new.idle ≡ true) }
-    ensures all { OnOk result (passed lines.new ≡ part_read lines.old.ended lines.old.fed) }
-    ensures routed { OnOk result (IsRouted bindings.now (passed lines.new) router.new late.new) }
+    ensures all { OnOk result (passed_text lines.new ≡ part_read lines.old.ended lines.old.fed) }
+    ensures routed { OnOk result (IsRouted bindings.now (passed_text lines.new) router.new late.new) }
     ensures refused { IfErr result (λ refusal. trace_of (part_read lines.old.ended lines.old.fed) ≡ Err refusal) }
 {
     while let Some(line) = lines.take()? {
@@ -56,7 +56,7 @@ fn route_rest(
 ) -> Result<(), Refused>
     requires unended { lines.ended ≡ false }
     requires idle { lines.idle ≡ true }
-    requires routed { IsRouted bindings.now (passed lines) router.old late }
+    requires routed { IsRouted bindings.now (passed_text lines) router.old late }
     ensures routed { OnOk result (IsRouted bindings.now lines.fed router.new None) }
     ensures refused { IfErr result (λ fault. Refuses fault (and_then (trace_of lines.fed) (route_of bindings.now.monitors.items bindings.now.rules.items lines.fed))) }
 {
@@ -72,7 +72,7 @@ impl Routing {
     /// No byte was read.
     pub(crate) fn new(alloc: Global, bindings: &Bindings) -> Result<Routing, AllocError>
         requires { All (FitsKind (kinds_of bindings.now.monitors.items)) bindings.now.rules.items }
-        ensures open { IfOk result (IsOpen bindings.now) }
+        ensures open { IfOk result (MayBeFed bindings.now) }
         ensures fed { IfOk result (λ routing. routing.lines.fed ≡ []) }
     {
         Ok(Routing {
@@ -84,8 +84,8 @@ impl Routing {
 
     /// Routes the lines that end in the next piece of the text.
     pub(crate) fn take_piece(&mut self, bindings: &Bindings, piece: &[u8]) -> Result<(), Refused>
-        requires { IsOpen bindings.now self.old }
-        ensures open { OnOk result (IsOpen bindings.now self.new) }
+        requires { MayBeFed bindings.now self.old }
+        ensures open { OnOk result (MayBeFed bindings.now self.new) }
         ensures fed { OnOk result (self.new.lines.fed ≡ self.old.lines.fed ++ piece.now) }
         ensures refused { IfErr result (λ fault. Refuses fault (trace_of (part_read false (self.old.lines.fed ++ piece.now)))) }
     {
@@ -96,7 +96,7 @@ impl Routing {
 
     /// What the whole text is routed to.
     pub(crate) fn end(self, bindings: &Bindings) -> Result<Routed, Refused>
-        requires { IsOpen bindings.now self }
+        requires { MayBeFed bindings.now self }
         ensures value { Gives routed_value result (and_then (trace_of self.lines.fed) (route_of bindings.now.monitors.items bindings.now.rules.items self.lines.fed)) }
         ensures fit { IfOk result (λ routed. WorksFit (kinds_of bindings.now.monitors.items) (length routed.tasks) routed.works.items) }
         ensures rules { IfOk result (λ routed. FromRules bindings.now.rules.items routed.works.items) }

@@ -1,14 +1,14 @@
 //! A script of commands on the control files.
 ghost use Rattle.std.specs.Prelude.{◌≡◌, ◌≤◌, ◌++◌, Some, IfOk, OnOk, OnErr};
 ghost use Rattle.rv_text.specs.Readings.{Gives};
-ghost use Rattle.rv_bind.specs.Outcomes.{Comes, Names, of_file};
+ghost use Rattle.rv_bind.specs.Outcomes.{Refines, BlamesReached, of_file};
 ghost use Rattle.rv_bind.specs.BoundViews.{bound_value};
 ghost use Rattle.rv_bind.specs.WellFormed.{IsWellFormed};
 ghost use Rattle.rv_control.specs.Opening.{opening_tree};
 ghost use Rattle.rv_control.specs.Scripts.{script_of};
 ghost use Rattle.rv_tool.specs.Output.{refusal_text};
-ghost use Rattle.rv_tool.specs.Faults.{Tells};
-ghost use Rattle.rv_tool.specs.Sessions.{replied, done_of, session_of, session_text, session_in, control_in, tree_of, IsSession};
+ghost use Rattle.rv_tool.specs.Faults.{IsOutcome};
+ghost use Rattle.rv_tool.specs.Sessions.{replied, done_of, session_of, session_text, session_in, control_in, control_value, IsSession};
 ghost use Rattle.rv_tool.specs.SessionValues.{session_value};
 
 use crate::output::refusal_line;
@@ -114,7 +114,7 @@ pub(crate) fn commands_in(
     script: &str,
     text: &[u8],
 ) -> Result<Vec<Numbered>, BindFault>
-    ensures { Tells (λ commands. commands.items) result (of_file script.now (script_of text.now)) }
+    ensures { IsOutcome (λ commands. commands.items) result (of_file script.now (script_of text.now)) }
 {
     match read_script(alloc, text) {
         Ok(commands) => Ok(commands),
@@ -130,7 +130,7 @@ fn begin(
     commands: &[Numbered],
 ) -> Result<Session, AllocError>
     requires { IsWellFormed (bound_value bound.now) }
-    ensures { IfOk result (λ session. session_value session ≡ session_of script.now (tree_of (bound_value bound.now)) commands.now) }
+    ensures { IfOk result (λ session. session_value session ≡ session_of script.now (control_value (bound_value bound.now)) commands.now) }
 {
     let mut control = Control::new(alloc, &bound.bindings)?;
     run_commands(alloc, script, &mut control, commands)
@@ -139,7 +139,7 @@ fn begin(
 /// Does the commands of the text.
 fn run_text(alloc: Global, script: &str, bound: &Bound, text: &[u8]) -> Result<Session, BindFault>
     requires { IsWellFormed (bound_value bound.now) }
-    ensures { Tells session_value result (session_text script.now (bound_value bound.now) text.now) }
+    ensures { IsOutcome session_value result (session_text script.now (bound_value bound.now) text.now) }
 {
     let commands = commands_in(alloc, script, text)?;
     match begin(alloc, script, bound, commands.as_slice()) {
@@ -159,8 +159,8 @@ fn run_script<S: Store>(
     requires { IsWellFormed (bound_value bound.now) }
     ensures kept { S.files store.new ≡ S.files store.old }
     ensures later { S.faults store.old ≤ S.faults store.new }
-    ensures value { Comes session_value (S.files store.old) (S.faults store.old) (S.faults store.new) result (λ files. session_in files script.now (bound_value bound.now)) }
-    ensures named { Names (S.files store.old) result (λ files. session_in files script.now (bound_value bound.now)) }
+    ensures value { Refines session_value (S.files store.old) (S.faults store.old) (S.faults store.new) result (λ files. session_in files script.now (bound_value bound.now)) }
+    ensures named { BlamesReached (S.files store.old) result (λ files. session_in files script.now (bound_value bound.now)) }
     ensures some { IfOk result (λ session. IsSession script.now (session_value session)) }
 {
     let text = read_text(alloc, store, script)?;
@@ -177,8 +177,8 @@ pub(crate) fn read_control<S: Store>(
 ) -> Result<Session, BindFault>
     ensures kept { S.files store.new ≡ S.files store.old }
     ensures later { S.faults store.old ≤ S.faults store.new }
-    ensures value { Comes session_value (S.files store.old) (S.faults store.old) (S.faults store.new) result (λ files. control_in files bindings.now script.now) }
-    ensures named { Names (S.files store.old) result (λ files. control_in files bindings.now script.now) }
+    ensures value { Refines session_value (S.files store.old) (S.faults store.old) (S.faults store.new) result (λ files. control_in files bindings.now script.now) }
+    ensures named { BlamesReached (S.files store.old) result (λ files. control_in files bindings.now script.now) }
     ensures some { IfOk result (λ session. IsSession script.now (session_value session)) }
 {
     let bound = read_bindings(alloc, store, bindings)?;

@@ -1,8 +1,8 @@
 //! From a specification's file to its printed table.
 ghost use Rattle.std.specs.Prelude.{◌≡◌, ◌≤◌, IfOk};
 ghost use Rattle.rv_text.specs.Readings.{Gives};
-ghost use Rattle.rv_bind.specs.Outcomes.{Comes, Names, of_file};
-ghost use Rattle.rv_tool.specs.Faults.{Tells};
+ghost use Rattle.rv_bind.specs.Outcomes.{Refines, BlamesReached, of_file};
+ghost use Rattle.rv_tool.specs.Faults.{IsOutcome};
 ghost use Rattle.rv_tool.specs.SomeTexts.{IsOfSomeText};
 ghost use Rattle.rv_tool.specs.Tables.{rule_text, table_text, table_in};
 
@@ -58,7 +58,7 @@ fn table_text(alloc: Global, kind: Kind, bytes: &[u8]) -> Result<Vec<u8>, Refuse
 /// The same, with the file in its fault.
 #[tactic(auto, using(crate::proofs::NumberLemmas::table_numbered, crate::proofs::NumberLemmas::fault_tells))]
 fn named_text(alloc: Global, kind: Kind, name: &str, bytes: &[u8]) -> Result<Vec<u8>, BindFault>
-    ensures { Tells (λ text. text.items) result (of_file name.now (table_text kind bytes.now)) }
+    ensures { IsOutcome (λ text. text.items) result (of_file name.now (table_text kind bytes.now)) }
 {
     match table_text(alloc, kind, bytes) {
         Ok(text) => Ok(text),
@@ -76,8 +76,8 @@ pub(crate) fn read_table<S: Store>(
 ) -> Result<Vec<u8>, BindFault>
     ensures kept { S.files store.new ≡ S.files store.old }
     ensures later { S.faults store.old ≤ S.faults store.new }
-    ensures value { Comes (λ text. text.items) (S.files store.old) (S.faults store.old) (S.faults store.new) result (λ files. table_in files kind name.now) }
-    ensures named { Names (S.files store.old) result (λ files. table_in files kind name.now) }
+    ensures value { Refines (λ text. text.items) (S.files store.old) (S.faults store.old) (S.faults store.new) result (λ files. table_in files kind name.now) }
+    ensures named { BlamesReached (S.files store.old) result (λ files. table_in files kind name.now) }
     ensures some { IfOk result (λ text. IsOfSomeText (table_text kind) text.items) }
 {
     let bytes = read_text(alloc, store, name)?;

@@ -5,28 +5,28 @@ ghost use Rattle.rv_model.specs.Histories.{IsOneHistory, IsLegal};
 ghost use Rattle.rv_tool.specs.Loaded.{load_input};
 ghost use Rattle.rv_tool.specs.Output.{refusal_text, missing_text};
 ghost use Rattle.rv_io.specs.Files.{Files};
-ghost use Rattle.rv_tool.specs.Headline.{Says, Reports, Ends};
-ghost use Rattle.rv_tool.specs.Journals.{IsToRecord};
-ghost use Rattle.rv_tool.specs.Runs.{Ended, Fails, Runs, RecordsRead, WatchesRead, PrintsRead, SaysVerdict, SaysSession, Answers};
-ghost use Rattle.rv_tool.specs.WatchReports.{IsToWatch};
-ghost use Rattle.rv_tool.specs.Untold.{AnswersUntold};
+ghost use Rattle.rv_tool.specs.Headline.{PrintsText, Reports, Ends};
+ghost use Rattle.rv_tool.specs.Journals.{IsRecordable};
+ghost use Rattle.rv_tool.specs.Runs.{EndsReported, PrintsFault, ReportsRead, RecordsRead, WatchesRead, PrintsRead, PrintsVerdict, PrintsScript, Answers};
+ghost use Rattle.rv_tool.specs.WatchReports.{IsPreparedWatch};
+ghost use Rattle.rv_tool.specs.Opaque.{AnswersOpaque};
 ghost use Rattle.rv_tool.specs.Verdicts.{ReportsVerdicts, Verdicts};
 ghost use Rattle.rv_tool.specs.Words.{command_of, texts_of};
-ghost use Rattle.rv_tool.specs.Ready.{ready_value, IsReady};
+ghost use Rattle.rv_tool.specs.Prepared.{prepared_value, IsPrepared};
 
 use crate::changes::read_beside;
 use crate::checking::{read_verdict, verdict_line, verdict_status};
 use crate::feeding::fed;
 use crate::headers::read_header;
-use crate::input::{Ready, read_input};
+use crate::input::{Prepared, read_input};
 use crate::loading::{BINDINGS, TRACE, generated_store};
-use crate::output::{missing_line, refusal_line, tell};
-use crate::recording::{read_numbered, recorded};
-use crate::replaying::{Done, replayed};
+use crate::output::{missing_line, put_text, refusal_line};
+use crate::recording::{read_recordable, recorded};
+use crate::replaying::{FinishedRun, replayed};
 use crate::session::{Session, read_control};
 use crate::tables::read_table;
-use crate::watching::{ToWatch, read_watched, watched};
-use crate::words::{Command, read_words};
+use crate::watching::{PreparedWatch, read_watched, watched};
+use crate::words::{ToolCommand, read_words};
 use rv_bind::BindFault;
 use rv_check::Verdict;
 use rv_io::{Gate, Sink, Store};
@@ -68,15 +68,15 @@ pub fn rv<R: Threads + Sync, S: Store, K: Sink, G: Gate + Send>(
     ensures kept { S.files store.new ≡ S.files store.old }
     ensures answers { (files : Files) → S.files store.old ≡ Some files → Answers (command_of (texts_of words.now)) files (S.faults store.old) (S.faults store.new) (K.taken out.old) (K.taken out.new) (K.faults out.old) (K.faults out.new) result.status result.closed }
     ensures verdicts { (files : Files) → S.files store.old ≡ Some files → Verdicts (command_of (texts_of words.now)) files (S.faults store.old) (S.faults store.new) (K.taken out.old) (K.taken out.new) (K.faults out.old) (K.faults out.new) result.status result.closed }
-    ensures untold { S.files store.old ≡ None → AnswersUntold (command_of (texts_of words.now)) (S.faults store.old) (S.faults store.new) (K.taken out.old) (K.taken out.new) (K.faults out.old) (K.faults out.new) result.status result.closed }
+    ensures opaque { S.files store.old ≡ None → AnswersOpaque (command_of (texts_of words.now)) (S.faults store.old) (S.faults store.new) (K.taken out.old) (K.taken out.new) (K.faults out.old) (K.faults out.new) result.status result.closed }
 {
     match read_words(words) {
-        Some(Command::Replay { bindings, trace }) => run(
+        Some(ToolCommand::Replay { bindings, trace }) => run(
             alloc,
             out,
             read_input(alloc, store, bindings, trace),
         ),
-        Some(Command::Feed { bindings, trace }) => run_at_once(
+        Some(ToolCommand::Feed { bindings, trace }) => run_at_once(
             rt,
             alloc,
             out,
@@ -84,7 +84,7 @@ pub fn rv<R: Threads + Sync, S: Store, K: Sink, G: Gate + Send>(
             read_input(alloc, store, bindings, trace),
         ),
         Some(
-            Command::FeedBeside {
+            ToolCommand::FeedBeside {
                 bindings,
                 trace,
                 script,
@@ -97,7 +97,7 @@ pub fn rv<R: Threads + Sync, S: Store, K: Sink, G: Gate + Send>(
             read_beside(alloc, store, bindings, trace, script),
         ),
         Some(
-            Command::Watch {
+            ToolCommand::Watch {
                 bindings,
                 trace,
                 monitor,
@@ -110,40 +110,40 @@ pub fn rv<R: Threads + Sync, S: Store, K: Sink, G: Gate + Send>(
             gate,
             read_watched(alloc, store, bindings, trace, monitor, instance),
         ),
-        Some(Command::Journal { bindings, trace }) => run_recorded(
+        Some(ToolCommand::Journal { bindings, trace }) => run_recorded(
             rt,
             alloc,
             out,
             gate,
-            read_numbered(alloc, store, bindings, trace),
+            read_recordable(alloc, store, bindings, trace),
         ),
         Some(
-            Command::Check {
+            ToolCommand::Check {
                 bindings,
                 trace,
                 journal,
             },
-        ) => tell_verdict(
+        ) => put_verdict(
             alloc,
             out,
             read_verdict(alloc, store, bindings, trace, journal),
         ),
-        Some(Command::Table { kind, file }) => print(
+        Some(ToolCommand::Table { kind, file }) => print(
             alloc,
             out,
             read_table(alloc, store, kind, file),
         ),
-        Some(Command::Header { name, file }) => print(
+        Some(ToolCommand::Header { name, file }) => print(
             alloc,
             out,
             read_header(alloc, store, name, file),
         ),
-        Some(Command::Control { bindings, script }) => tell_session(
+        Some(ToolCommand::Control { bindings, script }) => put_session(
             alloc,
             out,
             read_control(alloc, store, bindings, script),
         ),
-        Some(Command::Load { blocks }) => load(rt, alloc, out, gate, blocks),
+        Some(ToolCommand::Load { blocks }) => load(rt, alloc, out, gate, blocks),
         None => refused(
             alloc,
             out,
@@ -157,10 +157,10 @@ pub fn rv<R: Threads + Sync, S: Store, K: Sink, G: Gate + Send>(
 }
 
 /// Runs what was read on one thread, or says why there is nothing to run.
-fn run<K: Sink>(alloc: Global, out: &mut K, read: Result<Ready, BindFault>) -> Finished
-    requires ready { ForOk read IsReady }
+fn run<K: Sink>(alloc: Global, out: &mut K, read: Result<Prepared, BindFault>) -> Finished
+    requires ready { ForOk read IsPrepared }
     requires unchanged { ForOk read (λ ready. ready.changes.items ≡ []) }
-    ensures { Runs IsOneHistory read (K.taken out.old) (K.taken out.new) (K.faults out.old) (K.faults out.new) result.status result.closed }
+    ensures { ReportsRead IsOneHistory read (K.taken out.old) (K.taken out.new) (K.faults out.old) (K.faults out.new) result.status result.closed }
 {
     match read {
         Ok(ready) => end(out, replayed(alloc, ready)),
@@ -174,10 +174,10 @@ fn run_at_once<R: Threads + Sync, K: Sink, G: Gate + Send>(
     alloc: Global,
     out: &mut K,
     gate: &G,
-    read: Result<Ready, BindFault>,
+    read: Result<Prepared, BindFault>,
 ) -> Finished
-    requires { ForOk read IsReady }
-    ensures { Runs IsLegal read (K.taken out.old) (K.taken out.new) (K.faults out.old) (K.faults out.new) result.status result.closed }
+    requires { ForOk read IsPrepared }
+    ensures { ReportsRead IsLegal read (K.taken out.old) (K.taken out.new) (K.faults out.old) (K.faults out.new) result.status result.closed }
 {
     match read {
         Ok(ready) => end(out, fed(rt, alloc, gate, ready)),
@@ -191,9 +191,9 @@ fn run_watched<R: Threads + Sync, K: Sink, G: Gate + Send>(
     alloc: Global,
     out: &mut K,
     gate: &G,
-    read: Result<ToWatch, BindFault>,
+    read: Result<PreparedWatch, BindFault>,
 ) -> Finished
-    requires { ForOk read IsToWatch }
+    requires { ForOk read IsPreparedWatch }
     ensures { WatchesRead read (K.taken out.old) (K.taken out.new) (K.faults out.old) (K.faults out.new) result.status result.closed }
 {
     match read {
@@ -208,9 +208,9 @@ fn run_recorded<R: Threads + Sync, K: Sink, G: Gate + Send>(
     alloc: Global,
     out: &mut K,
     gate: &G,
-    read: Result<Ready, BindFault>,
+    read: Result<Prepared, BindFault>,
 ) -> Finished
-    requires { ForOk read IsToRecord }
+    requires { ForOk read IsRecordable }
     ensures { RecordsRead read (K.taken out.old) (K.taken out.new) (K.faults out.old) (K.faults out.new) result.status result.closed }
 {
     match read {
@@ -248,7 +248,7 @@ fn print<K: Sink>(alloc: Global, out: &mut K, read: Result<Vec<u8>, BindFault>) 
 {
     match read {
         Ok(text) => {
-            let status = tell(out, text.as_slice(), PRINTED);
+            let status = put_text(out, text.as_slice(), PRINTED);
             let closed = Closed::new();
             Finished { status, closed }
         }
@@ -257,13 +257,13 @@ fn print<K: Sink>(alloc: Global, out: &mut K, read: Result<Vec<u8>, BindFault>) 
 }
 
 /// Says a verdict, or why there is none.
-fn tell_verdict<K: Sink>(alloc: Global, out: &mut K, read: Result<Verdict, BindFault>) -> Finished
-    ensures { SaysVerdict read (K.taken out.old) (K.taken out.new) (K.faults out.old) (K.faults out.new) result.status result.closed }
+fn put_verdict<K: Sink>(alloc: Global, out: &mut K, read: Result<Verdict, BindFault>) -> Finished
+    ensures { PrintsVerdict read (K.taken out.old) (K.taken out.new) (K.faults out.old) (K.faults out.new) result.status result.closed }
 {
     match read {
         Ok(verdict) => match verdict_line(alloc, verdict) {
             Ok(text) => Finished {
-                status: tell(out, text.as_slice(), verdict_status(verdict)),
+                status: put_text(out, text.as_slice(), verdict_status(verdict)),
                 closed: Closed::new(),
             },
             Err(AllocError) => give_up(),
@@ -273,12 +273,12 @@ fn tell_verdict<K: Sink>(alloc: Global, out: &mut K, read: Result<Verdict, BindF
 }
 
 /// Puts the texts of a script's commands, or says why there are none.
-fn tell_session<K: Sink>(alloc: Global, out: &mut K, read: Result<Session, BindFault>) -> Finished
-    ensures { SaysSession read (K.taken out.old) (K.taken out.new) (K.faults out.old) (K.faults out.new) result.status result.closed }
+fn put_session<K: Sink>(alloc: Global, out: &mut K, read: Result<Session, BindFault>) -> Finished
+    ensures { PrintsScript read (K.taken out.old) (K.taken out.new) (K.faults out.old) (K.faults out.new) result.status result.closed }
 {
     match read {
         Ok(session) => Finished {
-            status: tell(out, session.text.as_slice(), session.status),
+            status: put_text(out, session.text.as_slice(), session.status),
             closed: Closed::new(),
         },
         Err(fault) => failed(alloc, out, fault),
@@ -287,7 +287,7 @@ fn tell_session<K: Sink>(alloc: Global, out: &mut K, read: Result<Session, BindF
 
 /// Says why there is nothing to put.
 fn failed<K: Sink>(alloc: Global, out: &mut K, fault: BindFault) -> Finished
-    ensures { Fails fault (K.taken out.old) (K.taken out.new) (K.faults out.old) (K.faults out.new) result.status result.closed }
+    ensures { PrintsFault fault (K.taken out.old) (K.taken out.new) (K.faults out.old) (K.faults out.new) result.status result.closed }
 {
     match fault {
         BindFault::Refused { file, refusal } => refused(alloc, out, Some(file.bytes()), refusal),
@@ -297,18 +297,18 @@ fn failed<K: Sink>(alloc: Global, out: &mut K, fault: BindFault) -> Finished
 }
 
 /// Puts the report.
-fn end<K: Sink>(out: &mut K, done: Result<Done, AllocError>) -> Finished
-    ensures { Ended done (K.taken out.old) (K.taken out.new) (K.faults out.old) (K.faults out.new) result.status result.closed }
+fn end<K: Sink>(out: &mut K, done: Result<FinishedRun, AllocError>) -> Finished
+    ensures { EndsReported done (K.taken out.old) (K.taken out.new) (K.faults out.old) (K.faults out.new) result.status result.closed }
 {
     match done {
         Ok(
-            Done {
+            FinishedRun {
                 status,
                 text,
                 closed,
             },
         ) => Finished {
-            status: tell(out, text.as_slice(), status),
+            status: put_text(out, text.as_slice(), status),
             closed,
         },
         Err(AllocError) => give_up(),
@@ -317,11 +317,11 @@ fn end<K: Sink>(out: &mut K, done: Result<Done, AllocError>) -> Finished
 
 /// Puts the line of a refusal.
 fn refused<K: Sink>(alloc: Global, out: &mut K, file: Option<&[u8]>, refusal: Refusal) -> Finished
-    ensures { Says (refusal_text (option_copied file.entry) refusal) 2 (K.taken out.old) (K.taken out.new) (K.faults out.old) (K.faults out.new) result.status result.closed }
+    ensures { PrintsText (refusal_text (option_copied file.entry) refusal) 2 (K.taken out.old) (K.taken out.new) (K.faults out.old) (K.faults out.new) result.status result.closed }
 {
     match refusal_line(alloc, file, refusal) {
         Ok(text) => Finished {
-            status: tell(out, text.as_slice(), REFUSED),
+            status: put_text(out, text.as_slice(), REFUSED),
             closed: Closed::new(),
         },
         Err(AllocError) => give_up(),
@@ -330,11 +330,11 @@ fn refused<K: Sink>(alloc: Global, out: &mut K, file: Option<&[u8]>, refusal: Re
 
 /// Puts the line of a file that cannot be read.
 fn unread<K: Sink>(alloc: Global, out: &mut K, file: &[u8]) -> Finished
-    ensures { Says (missing_text file.now) 3 (K.taken out.old) (K.taken out.new) (K.faults out.old) (K.faults out.new) result.status result.closed }
+    ensures { PrintsText (missing_text file.now) 3 (K.taken out.old) (K.taken out.new) (K.faults out.old) (K.faults out.new) result.status result.closed }
 {
     match missing_line(alloc, file) {
         Ok(text) => Finished {
-            status: tell(out, text.as_slice(), UNREAD),
+            status: put_text(out, text.as_slice(), UNREAD),
             closed: Closed::new(),
         },
         Err(AllocError) => give_up(),

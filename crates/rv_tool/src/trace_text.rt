@@ -1,6 +1,6 @@
 //! From the trace's file to what each CPU has to do.
 ghost use Rattle.std.specs.Prelude.{◌≡◌, ◌<◌, ◌≤◌, ◌+◌, ◌⊎◌, [], length, IfOk, IfErr, OnOk};
-ghost use Rattle.rv_bind.specs.Outcomes.{Comes, Names, of_file, of_name, accepted};
+ghost use Rattle.rv_bind.specs.Outcomes.{Refines, BlamesReached, of_file, of_name, accepted};
 ghost use Rattle.rv_bind.specs.BoundViews.{bound_value};
 ghost use Rattle.rv_bind.specs.WellFormed.{IsWellFormed, kinds_of};
 ghost use Rattle.rv_bind.specs.declared.fault.BindFault.TheVariants as faults;
@@ -10,8 +10,8 @@ ghost use Rattle.rv_text.specs.Readings.{and_then};
 ghost use Rattle.rv_trace.specs.Traces.{trace_of};
 ghost use Rattle.rv_route.specs.Fitting.{WorksFit, FromRules};
 ghost use Rattle.rv_tool.specs.Inputs.{routed_in};
-ghost use Rattle.rv_tool.specs.Faults.{IsFaultIn, Tells, FaultComes, FaultNames};
-ghost use Rattle.rv_tool.specs.Feeding.{IsOpen, IsFed, IsAll, IsPieceOf};
+ghost use Rattle.rv_tool.specs.Faults.{IsFaultIn, IsOutcome, FaultRefines, FaultBlamesReached};
+ghost use Rattle.rv_tool.specs.Feeding.{MayBeFed, IsFileFed, IsAll, IsFilePiece};
 
 use crate::routing::Routing;
 use rv_bind::{BindFault, Bound};
@@ -33,8 +33,8 @@ pub(crate) fn read_text<S: Store>(
 ) -> Result<Vec<u8>, BindFault>
     ensures kept { S.files store.new ≡ S.files store.old }
     ensures later { S.faults store.old ≤ S.faults store.new }
-    ensures text { Comes (λ text. text.items) (S.files store.old) (S.faults store.old) (S.faults store.new) result (λ files. of_name files name.now accepted) }
-    ensures named { Names (S.files store.old) result (λ files. of_name files name.now accepted) }
+    ensures text { Refines (λ text. text.items) (S.files store.old) (S.faults store.old) (S.faults store.new) result (λ files. of_name files name.now accepted) }
+    ensures named { BlamesReached (S.files store.old) result (λ files. of_name files name.now accepted) }
 {
     match store.read(alloc, name) {
         Ok(text) => Ok(text),
@@ -79,9 +79,9 @@ pub(crate) fn fetch<S: Store>(
     ensures later { S.faults store.old ≤ S.faults store.new }
     ensures room { IfOk result (λ count. count ≤ length buffer.old) }
     ensures len { length buffer.new ≡ length buffer.old }
-    ensures piece { IfOk result (λ count. IsPieceOf (S.files store.old) trace.now place buffer.old buffer.new count) }
-    ensures fault { IfErr result (λ fault. FaultComes (S.files store.old) (S.faults store.old) (S.faults store.new) fault (λ files. of_name files trace.now accepted)) }
-    ensures named { IfErr result (λ fault. FaultNames (S.files store.old) fault (λ files. of_name files trace.now accepted)) }
+    ensures piece { IfOk result (λ count. IsFilePiece (S.files store.old) trace.now place buffer.old buffer.new count) }
+    ensures fault { IfErr result (λ fault. FaultRefines (S.files store.old) (S.faults store.old) (S.faults store.new) fault (λ files. of_name files trace.now accepted)) }
+    ensures named { IfErr result (λ fault. FaultBlamesReached (S.files store.old) fault (λ files. of_name files trace.now accepted)) }
 {
     match store.piece(alloc, trace, place, buffer) {
         Ok(count) => Ok(count),
@@ -101,16 +101,16 @@ fn take_next<S: Store>(
     routing: &mut Routing,
 ) -> Result<usize, BindFault>
     requires room { place + length buffer.old ≤ READ_LIMIT }
-    requires open { IsOpen bound.now.bindings routing.old }
-    requires fed { IsFed (S.files store.old) trace.now place routing.old.lines.fed }
+    requires open { MayBeFed bound.now.bindings routing.old }
+    requires fed { IsFileFed (S.files store.old) trace.now place routing.old.lines.fed }
     ensures kept { S.files store.new ≡ S.files store.old }
     ensures later { S.faults store.old ≤ S.faults store.new }
     ensures count { IfOk result (λ count. count ≤ length buffer.old) }
-    ensures open { OnOk result (IsOpen bound.now.bindings routing.new) }
-    ensures fed { IfOk result (λ count. IsFed (S.files store.old) trace.now (place + count) routing.new.lines.fed) }
+    ensures open { OnOk result (MayBeFed bound.now.bindings routing.new) }
+    ensures fed { IfOk result (λ count. IsFileFed (S.files store.old) trace.now (place + count) routing.new.lines.fed) }
     ensures all { IfOk result (λ count. count ≡ 0 → 0 < length buffer.old → IsAll (S.files store.old) trace.now routing.new.lines.fed) }
-    ensures fault { IfErr result (λ fault. FaultComes (S.files store.old) (S.faults store.old) (S.faults store.new) fault (λ files. routed_in files trace.now (bound_value bound.now))) }
-    ensures named { IfErr result (λ fault. FaultNames (S.files store.old) fault (λ files. routed_in files trace.now (bound_value bound.now))) }
+    ensures fault { IfErr result (λ fault. FaultRefines (S.files store.old) (S.faults store.old) (S.faults store.new) fault (λ files. routed_in files trace.now (bound_value bound.now))) }
+    ensures named { IfErr result (λ fault. FaultBlamesReached (S.files store.old) fault (λ files. routed_in files trace.now (bound_value bound.now))) }
 {
     let count = fetch(alloc, store, trace, place as u64, buffer)?;
     match routing.take_piece(&bound.bindings, &buffer[..count]) {
@@ -129,14 +129,14 @@ fn take_pieces<S: Store>(
     routing: &mut Routing,
 ) -> Result<(), BindFault>
     requires room { 0 < length buffer.old }
-    requires open { IsOpen bound.now.bindings routing.old }
+    requires open { MayBeFed bound.now.bindings routing.old }
     requires fed { routing.old.lines.fed ≡ [] }
     ensures kept { S.files store.new ≡ S.files store.old }
     ensures later { S.faults store.old ≤ S.faults store.new }
-    ensures open { OnOk result (IsOpen bound.now.bindings routing.new) }
+    ensures open { OnOk result (MayBeFed bound.now.bindings routing.new) }
     ensures all { OnOk result (IsAll (S.files store.old) trace.now routing.new.lines.fed) }
-    ensures fault { IfErr result (λ fault. FaultComes (S.files store.old) (S.faults store.old) (S.faults store.new) fault (λ files. routed_in files trace.now (bound_value bound.now))) }
-    ensures named { IfErr result (λ fault. FaultNames (S.files store.old) fault (λ files. routed_in files trace.now (bound_value bound.now))) }
+    ensures fault { IfErr result (λ fault. FaultRefines (S.files store.old) (S.faults store.old) (S.faults store.new) fault (λ files. routed_in files trace.now (bound_value bound.now))) }
+    ensures named { IfErr result (λ fault. FaultBlamesReached (S.files store.old) fault (λ files. routed_in files trace.now (bound_value bound.now))) }
 {
     let mut place = 0;
     while place < READ_LIMIT {
@@ -166,14 +166,14 @@ fn take_trace<S: Store>(
     bound: &Bound,
     routing: &mut Routing,
 ) -> Result<(), BindFault>
-    requires open { IsOpen bound.now.bindings routing.old }
+    requires open { MayBeFed bound.now.bindings routing.old }
     requires fed { routing.old.lines.fed ≡ [] }
     ensures kept { S.files store.new ≡ S.files store.old }
     ensures later { S.faults store.old ≤ S.faults store.new }
-    ensures open { OnOk result (IsOpen bound.now.bindings routing.new) }
+    ensures open { OnOk result (MayBeFed bound.now.bindings routing.new) }
     ensures all { OnOk result (IsAll (S.files store.old) trace.now routing.new.lines.fed) }
-    ensures fault { IfErr result (λ fault. FaultComes (S.files store.old) (S.faults store.old) (S.faults store.new) fault (λ files. routed_in files trace.now (bound_value bound.now))) }
-    ensures named { IfErr result (λ fault. FaultNames (S.files store.old) fault (λ files. routed_in files trace.now (bound_value bound.now))) }
+    ensures fault { IfErr result (λ fault. FaultRefines (S.files store.old) (S.faults store.old) (S.faults store.new) fault (λ files. routed_in files trace.now (bound_value bound.now))) }
+    ensures named { IfErr result (λ fault. FaultBlamesReached (S.files store.old) fault (λ files. routed_in files trace.now (bound_value bound.now))) }
 {
     let Ok(mut buffer) = vec![in alloc; 0u8; PIECE] else {
         return Err(BindFault::Memory);
@@ -193,8 +193,8 @@ pub(crate) fn read_routed<S: Store>(
     ensures later { S.faults store.old ≤ S.faults store.new }
     ensures fit { IfOk result (λ routed. WorksFit (kinds_of bound.now.bindings.monitors.items) (length routed.tasks) routed.works.items) }
     ensures rules { IfOk result (λ routed. FromRules bound.now.bindings.rules.items routed.works.items) }
-    ensures value { Comes routed_value (S.files store.old) (S.faults store.old) (S.faults store.new) result (λ files. routed_in files trace.now (bound_value bound.now)) }
-    ensures named { Names (S.files store.old) result (λ files. routed_in files trace.now (bound_value bound.now)) }
+    ensures value { Refines routed_value (S.files store.old) (S.faults store.old) (S.faults store.new) result (λ files. routed_in files trace.now (bound_value bound.now)) }
+    ensures named { BlamesReached (S.files store.old) result (λ files. routed_in files trace.now (bound_value bound.now)) }
 {
     let Ok(mut routing) = Routing::new(alloc, &bound.bindings) else {
         return Err(BindFault::Memory);
@@ -211,10 +211,10 @@ fn end_routing(
     bound: &Bound,
     routing: Routing,
 ) -> Result<Routed, BindFault>
-    requires { IsOpen bound.now.bindings routing }
+    requires { MayBeFed bound.now.bindings routing }
     ensures fit { IfOk result (λ routed. WorksFit (kinds_of bound.now.bindings.monitors.items) (length routed.tasks) routed.works.items) }
     ensures rules { IfOk result (λ routed. FromRules bound.now.bindings.rules.items routed.works.items) }
-    ensures value { Tells routed_value result (of_file name.now (and_then (trace_of routing.lines.fed) (route_of bound.now.bindings.monitors.items bound.now.bindings.rules.items routing.lines.fed))) }
+    ensures value { IsOutcome routed_value result (of_file name.now (and_then (trace_of routing.lines.fed) (route_of bound.now.bindings.monitors.items bound.now.bindings.rules.items routing.lines.fed))) }
 {
     match routing.end(&bound.bindings) {
         Ok(routed) => Ok(routed),

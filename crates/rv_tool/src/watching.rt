@@ -1,14 +1,14 @@
 //! A run on several threads, with a reader of one slot beside them.
 ghost use Rattle.std.specs.Prelude.{◌≡◌, ◌≤◌, [], IfOk};
-ghost use Rattle.rv_bind.specs.Outcomes.{Comes, Names, of_file};
-ghost use Rattle.rv_tool.specs.Faults.{Tells};
-ghost use Rattle.rv_tool.specs.LaneReports.{watched_text, ReportsWatched};
-ghost use Rattle.rv_tool.specs.Ready.{ready_value, IsReady};
+ghost use Rattle.rv_bind.specs.Outcomes.{Refines, BlamesReached, of_file};
+ghost use Rattle.rv_tool.specs.Faults.{IsOutcome};
+ghost use Rattle.rv_tool.specs.LaneReports.{watch_report_text, ReportsWatched};
+ghost use Rattle.rv_tool.specs.Prepared.{prepared_value, IsPrepared};
 ghost use Rattle.rv_tool.specs.Watched.{watched_slot, watched_by, watched_input};
-ghost use Rattle.rv_tool.specs.WatchReports.{IsWatchReport, watch_value, IsToWatch};
+ghost use Rattle.rv_tool.specs.WatchReports.{IsWatchReport, watch_value, IsPreparedWatch};
 
-use crate::input::{Ready, read_input};
-use crate::replaying::Done;
+use crate::input::{Prepared, read_input};
+use crate::replaying::FinishedRun;
 use crate::trace_text::refused;
 use rv_bind::{BindFault, Bindings};
 use rv_io::{Gate, Store};
@@ -21,8 +21,8 @@ use std::thread::Threads;
 
 /// What a watched run begins with.
 #[derive(Drop)]
-pub(crate) struct ToWatch {
-    pub(crate) ready: Ready,
+pub(crate) struct PreparedWatch {
+    pub(crate) ready: Prepared,
     pub(crate) slot: u32,
 }
 
@@ -30,14 +30,14 @@ pub(crate) struct ToWatch {
 fn find_slot(
     alloc: Global,
     trace: &str,
-    ready: Ready,
+    ready: Prepared,
     monitor: &str,
     instance: &str,
-) -> Result<ToWatch, BindFault>
-    requires ready { IsReady ready }
+) -> Result<PreparedWatch, BindFault>
+    requires ready { IsPrepared ready }
     requires unchanged { ready.changes.items ≡ [] }
-    ensures ready { IfOk result IsToWatch }
-    ensures value { Tells watch_value result (of_file trace.now (watched_by (ready_value ready) (watched_slot (ready_value ready) monitor.now instance.now))) }
+    ensures ready { IfOk result IsPreparedWatch }
+    ensures value { IsOutcome watch_value result (of_file trace.now (watched_by (prepared_value ready) (watched_slot (prepared_value ready) monitor.now instance.now))) }
 {
     let slot = watched_slot(
         &ready.bindings,
@@ -47,7 +47,7 @@ fn find_slot(
         instance.as_bytes(),
     );
     match slot {
-        Some(slot) => Ok(ToWatch { ready, slot }),
+        Some(slot) => Ok(PreparedWatch { ready, slot }),
         None => {
             drop(ready);
             Err(refused(alloc, trace, Refused::Because(Refusal::whole(NO_INSTANCE))))
@@ -64,12 +64,12 @@ pub(crate) fn read_watched<S: Store>(
     trace: &str,
     monitor: &str,
     instance: &str,
-) -> Result<ToWatch, BindFault>
+) -> Result<PreparedWatch, BindFault>
     ensures kept { S.files store.new ≡ S.files store.old }
     ensures later { S.faults store.old ≤ S.faults store.new }
-    ensures ready { IfOk result IsToWatch }
-    ensures value { Comes watch_value (S.files store.old) (S.faults store.old) (S.faults store.new) result (λ files. watched_input files bindings.now trace.now monitor.now instance.now) }
-    ensures named { Names (S.files store.old) result (λ files. watched_input files bindings.now trace.now monitor.now instance.now) }
+    ensures ready { IfOk result IsPreparedWatch }
+    ensures value { Refines watch_value (S.files store.old) (S.faults store.old) (S.faults store.new) result (λ files. watched_input files bindings.now trace.now monitor.now instance.now) }
+    ensures named { BlamesReached (S.files store.old) result (λ files. watched_input files bindings.now trace.now monitor.now instance.now) }
 {
     let ready = read_input(alloc, store, bindings, trace)?;
     find_slot(alloc, trace, ready, monitor, instance)
@@ -82,7 +82,7 @@ fn report_watched(
     tasks: &Tasks,
     run: &Watched,
 ) -> Result<Vec<u8>, AllocError>
-    ensures { IfOk result (λ text. text.items ≡ watched_text bindings.now tasks.now run.now) }
+    ensures { IfOk result (λ text. text.items ≡ watch_report_text bindings.now tasks.now run.now) }
 {
     let mut text = report_lanes(alloc, bindings, tasks, run.lanes.as_slice())?;
     let lines = watch_lines(alloc, run.words.as_slice(), run.last)?;
@@ -96,12 +96,12 @@ fn end_watched(
     bindings: &Bindings,
     tasks: &Tasks,
     run: Watched,
-) -> Result<Done, AllocError>
+) -> Result<FinishedRun, AllocError>
     ensures { IfOk result (ReportsWatched bindings.now tasks.now run) }
 {
     let text = report_watched(alloc, bindings, tasks, &run)?;
     let status = lanes_status(run.lanes.as_slice());
-    Ok(Done {
+    Ok(FinishedRun {
         status,
         text,
         closed: run.closed,
@@ -113,13 +113,13 @@ pub(crate) fn watched<R: Threads + Sync, G: Gate + Send>(
     rt: &R,
     alloc: Global,
     gate: &G,
-    to_watch: ToWatch,
-) -> Result<Done, AllocError>
-    requires { IsToWatch to_watch }
+    to_watch: PreparedWatch,
+) -> Result<FinishedRun, AllocError>
+    requires { IsPreparedWatch to_watch }
     ensures { IfOk result (λ done. IsWatchReport (watch_value to_watch) done.closed done.text.items done.status) }
 {
-    let ToWatch { ready, slot } = to_watch;
-    let Ready {
+    let PreparedWatch { ready, slot } = to_watch;
+    let Prepared {
         bindings,
         tasks,
         setup,

@@ -2,9 +2,9 @@
 ghost use Rattle.std.specs.Prelude.{◌≡◌, true, IfOk, map};
 ghost use Rattle.rv_bind.specs.WellFormed.{kind_of, kinds_of, HasTable, HaveTables};
 ghost use Rattle.rv_journal.specs.CountedSeats.{AreWidths, IsWidth};
-ghost use Rattle.rv_tool.specs.Numbered.{HasState, is_narrow, are_narrow};
+ghost use Rattle.rv_tool.specs.CountsFit.{HasState, monitor_fits_counts, monitors_fit_counts};
 
-use crate::numbered::{atom_count, row_count};
+use crate::counts_fit::{atom_count, row_count};
 use rv_bind::Monitor;
 use rv_core::Setup;
 use rv_journal::Width;
@@ -13,7 +13,7 @@ use rv_table::Table;
 use std::alloc::{AllocError, Global};
 
 /// What is known of every specification: an automaton has a state.
-fn known(spec: &Spec)
+fn assert_states(spec: &Spec)
     ensures { HasState spec.now }
 {
     match spec {
@@ -26,12 +26,12 @@ fn known(spec: &Spec)
 
 /// The bits of one monitor's words.
 fn width_of(monitor: &Monitor, table: &Table) -> Width
-    requires narrow { is_narrow monitor.now table.now ≡ true }
+    requires narrow { monitor_fits_counts monitor.now table.now ≡ true }
     requires table { HasTable (kind_of monitor.now) table.now }
     ensures { IsWidth table.now monitor.now.starting result }
 {
-    known(&monitor.spec);
-    table.known();
+    assert_states(&monitor.spec);
+    table.assert_invariant();
     Width {
         rows: row_count(table) as u8,
         atoms: atom_count(&monitor.spec) as u8,
@@ -46,7 +46,7 @@ pub(crate) fn widths_of(
 ) -> Result<Vec<Width>, AllocError>
     requires tables { HaveTables (kinds_of monitors.now) setup.now.tables }
     requires starts { setup.now.starts ≡ map (λ m. m.starting) monitors.now }
-    requires narrow { are_narrow monitors.now setup.now.tables ≡ true }
+    requires narrow { monitors_fit_counts monitors.now setup.now.tables ≡ true }
     ensures { IfOk result (λ widths. AreWidths setup.now widths.items) }
 {
     let tables = setup.tables.as_slice();

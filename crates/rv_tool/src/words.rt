@@ -1,5 +1,5 @@
 //! What the words of the command line ask for.
-ghost use Rattle.rv_tool.specs.Words.{load, load_of, verb_of, command_with, command_of, command_value, kind_of, header_of, texts_of, IsWellNamed};
+ghost use Rattle.rv_tool.specs.Words.{load, load_of, verb_of, command_with, command_of, command_value, kind_word, header_command, texts_of, IsWellNamed};
 ghost use Rattle.std.specs.Prelude.{◌≡◌, ◌∷◌, [], Some, option_map, bytes_eq, IfSome};
 ghost use Rattle.rv_text.specs.Decimal.{decimal_of};
 
@@ -35,7 +35,7 @@ pub enum Verb {
 
 /// A command, and the files that it names.
 #[derive(Clone, Copy, Drop)]
-pub(crate) enum Command<'a> {
+pub(crate) enum ToolCommand<'a> {
     Replay {
         bindings: &'a str,
         trace: &'a str,
@@ -89,8 +89,8 @@ fn is(word: &str, said: &str) -> bool
 }
 
 /// The kind that the word is, if it is one.
-fn kind_of(word: &str) -> Option<Kind>
-    ensures { result ≡ kind_of word.now }
+fn kind_word(word: &str) -> Option<Kind>
+    ensures { result ≡ kind_word word.now }
 {
     if is(word, "da") {
         Some(Kind::Da)
@@ -123,40 +123,40 @@ fn verb_of(word: &str) -> Option<Verb>
 }
 
 /// The command `header`, if the word may be the name of C tables.
-fn header_with<'a>(name: &'a str, file: &'a str) -> Option<Command<'a>>
-    ensures value { option_map command_value result ≡ header_of name.now file.now }
+fn header_with<'a>(name: &'a str, file: &'a str) -> Option<ToolCommand<'a>>
+    ensures value { option_map command_value result ≡ header_command name.now file.now }
     ensures named { IfSome result IsWellNamed }
 {
     if !is_header_name(name.as_bytes()) {
         return None;
     }
-    Some(Command::Header { name, file })
+    Some(ToolCommand::Header { name, file })
 }
 
 /// The command of two further words, if they make one.
-fn command_with<'a>(verb: Verb, first: &'a str, second: &'a str) -> Option<Command<'a>>
+fn command_with<'a>(verb: Verb, first: &'a str, second: &'a str) -> Option<ToolCommand<'a>>
     ensures value { option_map command_value result ≡ command_with (Some verb) first.now second.now }
     ensures named { IfSome result IsWellNamed }
 {
     match verb {
-        Verb::Replay => Some(Command::Replay {
+        Verb::Replay => Some(ToolCommand::Replay {
             bindings: first,
             trace: second,
         }),
-        Verb::Feed => Some(Command::Feed {
+        Verb::Feed => Some(ToolCommand::Feed {
             bindings: first,
             trace: second,
         }),
-        Verb::Journal => Some(Command::Journal {
+        Verb::Journal => Some(ToolCommand::Journal {
             bindings: first,
             trace: second,
         }),
-        Verb::Control => Some(Command::Control {
+        Verb::Control => Some(ToolCommand::Control {
             bindings: first,
             script: second,
         }),
-        Verb::Table => match kind_of(first) {
-            Some(kind) => Some(Command::Table { kind, file: second }),
+        Verb::Table => match kind_word(first) {
+            Some(kind) => Some(ToolCommand::Table { kind, file: second }),
             None => None,
         },
         Verb::Header => header_with(first, second),
@@ -174,7 +174,7 @@ fn blocks_of(number: &str) -> Option<u32>
 }
 
 /// The command of one further word, if they make one.
-fn load_with<'a>(word: &str, number: &str) -> Option<Command<'a>>
+fn load_with<'a>(word: &str, number: &str) -> Option<ToolCommand<'a>>
     ensures value { option_map command_value result ≡ command_of (word.now ∷ number.now ∷ []) }
     ensures named { IfSome result IsWellNamed }
 {
@@ -182,7 +182,7 @@ fn load_with<'a>(word: &str, number: &str) -> Option<Command<'a>>
         return None;
     }
     match blocks_of(number) {
-        Some(blocks) => Some(Command::Load { blocks }),
+        Some(blocks) => Some(ToolCommand::Load { blocks }),
         None => None,
     }
 }
@@ -193,18 +193,18 @@ fn with_third<'a>(
     bindings: &'a str,
     trace: &'a str,
     third: &'a str,
-) -> Option<Command<'a>>
+) -> Option<ToolCommand<'a>>
     ensures value { option_map command_value result ≡ command_of (word.now ∷ bindings.now ∷ trace.now ∷ third.now ∷ []) }
     ensures named { IfSome result IsWellNamed }
 {
     if is(word, "feed") {
-        Some(Command::FeedBeside {
+        Some(ToolCommand::FeedBeside {
             bindings,
             trace,
             script: third,
         })
     } else if is(word, "check") {
-        Some(Command::Check {
+        Some(ToolCommand::Check {
             bindings,
             trace,
             journal: third,
@@ -221,14 +221,14 @@ fn watch_with<'a>(
     trace: &'a str,
     monitor: &'a str,
     instance: &'a str,
-) -> Option<Command<'a>>
+) -> Option<ToolCommand<'a>>
     ensures value { option_map command_value result ≡ command_of (word.now ∷ bindings.now ∷ trace.now ∷ monitor.now ∷ instance.now ∷ []) }
     ensures named { IfSome result IsWellNamed }
 {
     if !is(word, "watch") {
         return None;
     }
-    Some(Command::Watch {
+    Some(ToolCommand::Watch {
         bindings,
         trace,
         monitor,
@@ -237,7 +237,7 @@ fn watch_with<'a>(
 }
 
 /// The command that the words are, if they are one.
-pub(crate) fn read_words(words: &[String]) -> Option<Command<'_>>
+pub(crate) fn read_words(words: &[String]) -> Option<ToolCommand<'_>>
     ensures value { option_map command_value result ≡ command_of (texts_of words.now) }
     ensures named { IfSome result IsWellNamed }
 {

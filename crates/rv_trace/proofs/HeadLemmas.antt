@@ -3,7 +3,7 @@ use Rattle.std.proofs.Common.{◌≡◌, ℕ, zero, suc, ◌+◌, ◌-◌, ◌<�
 use Rattle.std.proofs.lemmas.Bool.{false≢true, and_parts, and_from, and_left, and_right, ltb-true, eqb-true, eq-eqb, ne_eqb, cases_lt, cases_order}
 use Rattle.std.proofs.lemmas.List.{get_or_past}
 use Rattle.rv_text.specs.Places.{is_digit, is_blank, least}
-use Rattle.rv_text.specs.declared.runs.Kind.TheVariants as kinds
+use Rattle.rv_text.specs.declared.runs.ByteClass.TheVariants as kinds
 use Rattle.rv_text.proofs.LeastLemmas.{run_end-each, least-is, least-before, least-at}
 use Rattle.rv_trace.specs.declared.head.Head.{Head}
 use Rattle.rv_trace.specs.Heads.{first_some, some_or, head_at, head_of, is_head, head_ending, IsHead}

@@ -4,7 +4,7 @@ use Rattle.std.proofs.lemmas.Bool.{cases_lt, false≢true}
 use Rattle.std.proofs.lemmas.List.{drop-drop, get_or-drop, get_or_append_left, drop-append-le, take-append-le}
 use Rattle.rv_text.specs.TextLines.{line_end}
 use Rattle.rv_text.proofs.TextLineLemmas.{line_end-other}
-use Rattle.rv_trace.specs.Held.{LooksAt, IsHeld}
+use Rattle.rv_trace.specs.Held.{LooksAt, IsHeldPart}
 use Rattle.rv_trace.specs.Streams.{StandsAt}
 
 -- no line end stands up to where the search found the first one
@@ -24,8 +24,8 @@ looks-first held from within = record {
 }
 
 -- the stream grows by a piece, and what was passed of it is let go
-pub held-fed : (fed held piece : List ℕ) (passed from searched number first last : ℕ) → IsHeld fed held passed from searched number first last false →
-    IsHeld (fed ++ piece) (drop from (held ++ piece)) (passed + from) 0 (searched - from) number 0 0 false
+pub held-fed : (fed held piece : List ℕ) (passed from searched number first last : ℕ) → IsHeldPart fed held passed from searched number first last false →
+    IsHeldPart (fed ++ piece) (drop from (held ++ piece)) (passed + from) 0 (searched - from) number 0 0 false
 held-fed fed held piece passed from searched number first last is =
     let low : passed ≤ length fed = is.piece.low in
     let order : from ≤ searched = is.looks.order in

@@ -7,16 +7,16 @@ use Rattle.rv_text.specs.Decimal.{number_of}
 use Rattle.rv_text.specs.Readings.{and_then}
 use Rattle.rv_text.specs.declared.numbers.TheConstants.{TRACE_SYNTAX, TOO_MANY_CPUS}
 use Rattle.rv_text.specs.declared.refusals.Refusal.{Refusal}
-use Rattle.rv_text.specs.declared.runs.Kind.TheVariants as kinds
+use Rattle.rv_text.specs.declared.runs.ByteClass.TheVariants as kinds
 use Rattle.rv_text.proofs.LeastLemmas.{run_end-low, run_end-high}
 use Rattle.rv_text.proofs.ReadingLaws.{bind_some, map_some, and_then_ok, chosen}
 use Rattle.rv_trace.specs.declared.head.Head.{Head}
-use Rattle.rv_trace.specs.declared.parts.Part.{Part}
+use Rattle.rv_trace.specs.declared.parts.LinePart.{LinePart}
 use Rattle.rv_trace.specs.declared.parts.Parts.{Parts}
 use Rattle.rv_trace.specs.declared.line.TraceLine.{TraceLine}
 use Rattle.rv_trace.specs.declared.line.TheConstants.{LAST_CPU}
 use Rattle.rv_trace.specs.Heads.{IsHead, head_of}
-use Rattle.rv_trace.specs.Lines.{word_at, is_stamp, stamp_end, event_at, parts_of, is_skipped, is_lost, number_up_to, pid_of, cpu_of, line_with, said, line_of, LiesIn}
+use Rattle.rv_trace.specs.Lines.{word_at, is_stamp, stamp_end, event_part, parts_of, is_skipped, is_lost, number_up_to, head_pid, cpu_of, line_with, said, line_of, LiesIn}
 use Rattle.rv_trace.proofs.HeadLemmas.{head-inside}
 use Rattle.rv_trace.proofs.PlaceLemmas.{first_or_none}
 
@@ -59,7 +59,7 @@ head_of-is text head is =
     ]
 
 -- a word lies from its place on
-record Within (text : List ℕ) (place : ℕ) (word : Part) : Type 0 where
+record Within (text : List ℕ) (place : ℕ) (word : LinePart) : Type 0 where
   low : place ≤ word.from
   order : word.from ≤ word.to
   high : word.to ≤ length text
@@ -90,14 +90,14 @@ stamp_end-high text place end inside is =
     ]
 
 -- the name of an event lies within the text, before its colon
-event_at-within : (text : List ℕ) (place : ℕ) (name : Part) → place ≤ length text → event_at text place ≡ Some name → (name.from ≤ name.to) × (name.to < length text)
-unfolding event_at
-event_at-within text place name inside is =
+event_part-within : (text : List ℕ) (place : ℕ) (name : LinePart) → place ≤ length text → event_part text place ≡ Some name → (name.from ≤ name.to) × (name.to < length text)
+unfolding event_part
+event_part-within text place name inside is =
     let word : Within text place (word_at text place) = word_at-within text place inside in
-    let whole : Part = record { from = (word_at text place).from; to = (word_at text place).to - 1 } in
+    let whole : LinePart = record { from = (word_at text place).from; to = (word_at text place).to - 1 } in
     let here = picked (ltb ((word_at text place).from + 1) (word_at text place).to && eqb (get_or text ((word_at text place).to - 1) 0) 58) whole name is in
     let some : (word_at text place).from + 1 < (word_at text place).to = ltb-true _ _ (and_parts _ _ here.0).0 in
-    subst (λ (n : Part). (n.from ≤ n.to) × (n.to < length text)) here.1 (omega arith, omega (arith, word.high))
+    subst (λ (n : LinePart). (n.from ≤ n.to) × (n.to < length text)) here.1 (omega arith, omega (arith, word.high))
 
 -- the parts of a line lie in it
 parts_of-within : (text : List ℕ) (parts : Parts) → parts_of text ≡ Some parts → (parts.name.from ≤ parts.name.to) × (parts.name.to < length text)
@@ -107,7 +107,7 @@ parts_of-within text parts is =
     let place = bind_some _ _ parts head.2 in
     let name = map_some _ _ parts place.2 in
     subst (λ (p : Parts). (p.name.from ≤ p.name.to) × (p.name.to < length text)) name.2
-    (event_at-within text place.0 name.0 (stamp_end-high text (head.0.close + 2) place.0 (head-inside text head.0 (head_of-is text head.0 head.1)) place.1) name.1)
+    (event_part-within text place.0 name.0 (stamp_end-high text (head.0.close + 2) place.0 (head-inside text head.0 (head_of-is text head.0 head.1)) place.1) name.1)
 
 -- a number up to a limit is no larger
 up_to-fits : (digits : List ℕ) (limit n : ℕ) → number_up_to digits limit ≡ Some n → n ≤ limit
@@ -120,7 +120,7 @@ up_to-fits digits limit n is =
 said-lies : (whole text : List ℕ) (from number : ℕ) (parts : Parts) (line : TraceLine) → from + length text ≤ length whole → parts.name.from ≤ parts.name.to → parts.name.to < length text → said text from number parts ≡ Ok line → LiesIn whole line
 unfolding said
 said-lies whole text from number parts line inside order high is =
-    let pid = and_then_ok (ok_or (pid_of text parts.head) (record { number = TRACE_SYNTAX; line = number })) (λ pid. and_then (ok_or (cpu_of text parts.head) (record { number = TOO_MANY_CPUS; line = number })) (λ cpu. Ok (line_with text from number parts.name pid cpu))) line is in
+    let pid = and_then_ok (ok_or (head_pid text parts.head) (record { number = TRACE_SYNTAX; line = number })) (λ pid. and_then (ok_or (cpu_of text parts.head) (record { number = TOO_MANY_CPUS; line = number })) (λ cpu. Ok (line_with text from number parts.name pid cpu))) line is in
     let cpu = and_then_ok (ok_or (cpu_of text parts.head) (record { number = TOO_MANY_CPUS; line = number })) (λ cpu. Ok (line_with text from number parts.name pid.0 cpu)) line pid.2 in
     subst (λ (l : TraceLine). LiesIn whole l) (ok_one (line_with text from number parts.name pid.0 cpu.0) line cpu.2) (record {
       cpu = up_to-fits (between text (parts.head.bracket + 1) parts.head.close) LAST_CPU cpu.0 (ok_or_some (cpu_of text parts.head) (record { number = TOO_MANY_CPUS; line = number }) cpu.0 cpu.1);

@@ -10,7 +10,7 @@ use Rattle.rv_trace.specs.declared.line.TheConstants.{LAST_PID}
 use Rattle.rv_trace.specs.declared.line.TraceLine.{TraceLine}
 use Rattle.rv_trace.specs.declared.parts.Parts.{Parts}
 use Rattle.rv_trace.specs.Runs.{CountsAs}
-use Rattle.rv_trace.specs.Lines.{number_up_to, pid_of, cpu_of, line_with, said}
+use Rattle.rv_trace.specs.Lines.{number_up_to, head_pid, cpu_of, line_with, said}
 
 module _ (digits : List ℕ) (n limit : ℕ) (is : CountsAs n (number_of digits)) (small : limit ≤ LAST_PID) where
   -- a number up to the limit is the number
@@ -39,18 +39,18 @@ module _ (text : List ℕ) (from number : ℕ) (parts : Parts) where
   read = and_then (said text from number parts) (λ line. Ok (Some line))
 
   -- with the numbers of its head, what is read is what the line says
-  read-with : (pid cpu : Option ℕ) → pid ≡ pid_of text parts.head → cpu ≡ cpu_of text parts.head → read_with text from number parts pid cpu ≡ read
+  read-with : (pid cpu : Option ℕ) → pid ≡ head_pid text parts.head → cpu ≡ cpu_of text parts.head → read_with text from number parts pid cpu ≡ read
   unfolding said
   read-with pid cpu is has = ap₂ (read_with text from number parts) is has
 
   -- no PID stands in the head
-  pub read-no_pid : (refusal : Refusal) → refusal ≡ record { number = TRACE_SYNTAX; line = number } → None ≡ pid_of text parts.head → Err refusal ≡ read
+  pub read-no_pid : (refusal : Refusal) → refusal ≡ record { number = TRACE_SYNTAX; line = number } → None ≡ head_pid text parts.head → Err refusal ≡ read
   read-no_pid refusal same none = ap Err same ∙ read-with None (cpu_of text parts.head) none refl
 
   -- no CPU does
-  pub read-no_cpu : (refusal : Refusal) (pid : ℕ) → refusal ≡ record { number = TOO_MANY_CPUS; line = number } → Some pid ≡ pid_of text parts.head → None ≡ cpu_of text parts.head → Err refusal ≡ read
+  pub read-no_cpu : (refusal : Refusal) (pid : ℕ) → refusal ≡ record { number = TOO_MANY_CPUS; line = number } → Some pid ≡ head_pid text parts.head → None ≡ cpu_of text parts.head → Err refusal ≡ read
   read-no_cpu refusal pid same is none = ap Err same ∙ read-with (Some pid) None is none
 
   -- both stand there
-  pub read-line : (pid cpu : ℕ) → Some pid ≡ pid_of text parts.head → Some cpu ≡ cpu_of text parts.head → Ok (Some (line_with text from number parts.name pid cpu)) ≡ read
+  pub read-line : (pid cpu : ℕ) → Some pid ≡ head_pid text parts.head → Some cpu ≡ cpu_of text parts.head → Ok (Some (line_with text from number parts.name pid cpu)) ≡ read
   read-line pid cpu is has = read-with (Some pid) (Some cpu) is has

@@ -4,10 +4,10 @@ use Rattle.std.specs.Option.{ok_or}
 use Rattle.rv_text.specs.Readings.{and_then}
 use Rattle.rv_text.specs.declared.numbers.TheConstants.{TRACE_SYNTAX, LOST_EVENTS, TOO_MANY_CPUS}
 use Rattle.rv_text.specs.declared.refusals.Refusal.{Refusal}
-use Rattle.rv_trace.specs.declared.parts.Part.{Part}
+use Rattle.rv_trace.specs.declared.parts.LinePart.{LinePart}
 use Rattle.rv_trace.specs.declared.parts.Parts.{Parts}
 use Rattle.rv_trace.specs.declared.line.TraceLine.{TraceLine}
-use Rattle.rv_trace.specs.Lines.{is_skipped, is_lost, parts_of, pid_of, cpu_of, line_with, said, line_of, moved_line, moved}
+use Rattle.rv_trace.specs.Lines.{is_skipped, is_lost, parts_of, head_pid, cpu_of, line_with, said, line_of, moved_line, moved}
 
 -- under a choice
 pub moved-cond : (by : ℕ) (b : Bool) (x y : Result (Option TraceLine) Refusal) → moved by (cond b x y) ≡ cond b (moved by x) (moved by y)
@@ -23,7 +23,7 @@ both-moved by (Some p) None no_pid no_cpu here there same = refl
 both-moved by (Some p) (Some c) no_pid no_cpu here there same = ap (λ line. Ok (Some line)) (same p c)
 
 -- a line with its numbers
-line_with-moved : (text : List ℕ) (from number : ℕ) (name : Part) (pid cpu : ℕ) → line_with text from number name pid cpu ≡ moved_line from (line_with text 0 number name pid cpu)
+line_with-moved : (text : List ℕ) (from number : ℕ) (name : LinePart) (pid cpu : ℕ) → line_with text from number name pid cpu ≡ moved_line from (line_with text 0 number name pid cpu)
 line_with-moved text from number part pid cpu =
     let name : from + (0 + part.from) ≡ from + part.from = omega arith in
     let name_end : from + (0 + part.to) ≡ from + part.to = omega arith in
@@ -38,7 +38,7 @@ parts-moved : (text : List ℕ) (from number : ℕ) (parts : Option Parts) (faul
 unfolding said
 parts-moved text from number None fault = refl
 parts-moved text from number (Some p) fault =
-    both-moved from (pid_of text p.head) (cpu_of text p.head) (record { number = TRACE_SYNTAX; line = number }) (record { number = TOO_MANY_CPUS; line = number })
+    both-moved from (head_pid text p.head) (cpu_of text p.head) (record { number = TRACE_SYNTAX; line = number }) (record { number = TOO_MANY_CPUS; line = number })
     (line_with text from number p.name) (line_with text 0 number p.name) (line_with-moved text from number p.name)
 
 -- a line says the same wherever it stands

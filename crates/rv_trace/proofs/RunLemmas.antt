@@ -7,19 +7,19 @@ use Rattle.std.proofs.lemmas.Nat.{shr-shr}
 use Rattle.std.proofs.lemmas.Nat.Bits.{bit_at-zero}
 use Rattle.rv_trace.specs.Runs.{IsMask}
 use Rattle.rv_trace.proofs.BitLemmas.{zero_false, one_true}
-use Rattle.rv_text.specs.Places.{is_digit, is_blank, is_of, run_end, between}
+use Rattle.rv_text.specs.Places.{is_digit, is_blank, has_class, run_end, between}
 use Rattle.rv_text.specs.Decimal.{number_of}
-use Rattle.rv_text.specs.declared.runs.Kind.{Kind}
-use Rattle.rv_text.specs.declared.runs.Kind.TheVariants as kinds
+use Rattle.rv_text.specs.declared.runs.ByteClass.{ByteClass}
+use Rattle.rv_text.specs.declared.runs.ByteClass.TheVariants as kinds
 use Rattle.rv_text.proofs.DecimalLemmas.{number-more, number-front}
 use Rattle.rv_text.proofs.LeastLemmas.{run_end-is, run_end-low, run_end-high, run_end-each, run_end-stop}
 
 -- the bytes from one place up to another are of the kind
-abbrev pub AreOf : Kind → List ℕ → ℕ → ℕ → Type 0
-AreOf kind text from to = (k : ℕ) → from ≤ k → k < to → is_of kind (get_or text k 0) ≡ true
+abbrev pub AreOf : ByteClass → List ℕ → ℕ → ℕ → Type 0
+AreOf kind text from to = (k : ℕ) → from ≤ k → k < to → has_class kind (get_or text k 0) ≡ true
 
 -- and from there on
-pub AreOf-then : (kind : Kind) (text : List ℕ) (from place to : ℕ) → AreOf kind text from place → AreOf kind text place to → AreOf kind text from to
+pub AreOf-then : (kind : ByteClass) (text : List ℕ) (from place to : ℕ) → AreOf kind text from place → AreOf kind text place to → AreOf kind text from to
 AreOf-then kind text from place to front back k low high =
     elim (cases_lt k place) [
       | inl before ↦ front k low before
@@ -27,13 +27,13 @@ AreOf-then kind text from place to front back k low high =
     ]
 
 -- and one more
-pub AreOf-more : (kind : Kind) (text : List ℕ) (from place : ℕ) → AreOf kind text from place → is_of kind (get_or text place 0) ≡ true → AreOf kind text from (place + 1)
+pub AreOf-more : (kind : ByteClass) (text : List ℕ) (from place : ℕ) → AreOf kind text from place → has_class kind (get_or text place 0) ≡ true → AreOf kind text from (place + 1)
 AreOf-more kind text from place front one =
     AreOf-then kind text from place (place + 1) front (λ k low high.
-    subst (λ (n : ℕ). is_of kind (get_or text n 0) ≡ true) (let e : place ≡ k = omega arith in e) one)
+    subst (λ (n : ℕ). has_class kind (get_or text n 0) ≡ true) (let e : place ≡ k = omega arith in e) one)
 
 -- a run ends where it ends from one of its places on
-pub run_end-on : (kind : Kind) (text : List ℕ) (from place : ℕ) → from ≤ place → place ≤ length text → AreOf kind text from place → run_end kind text from ≡ run_end kind text place
+pub run_end-on : (kind : ByteClass) (text : List ℕ) (from place : ℕ) → from ≤ place → place ≤ length text → AreOf kind text from place → run_end kind text from ≡ run_end kind text place
 run_end-on kind text from place low high each =
     run_end-is kind text from (run_end kind text place) (omega (arith, run_end-low kind text place)) (run_end-high kind text place high)
     (λ k l h. elim (cases_lt k place) [
@@ -42,21 +42,21 @@ run_end-on kind text from place low high each =
     ]) (λ h. run_end-stop kind text place high h)
 
 -- a run that has a byte goes on
-pub run_end-past : (kind : Kind) (text : List ℕ) (from : ℕ) → from < length text → is_of kind (get_or text from 0) ≡ true → from < run_end kind text from
+pub run_end-past : (kind : ByteClass) (text : List ℕ) (from : ℕ) → from < length text → has_class kind (get_or text from 0) ≡ true → from < run_end kind text from
 run_end-past kind text from inside one =
     elim (cases_lt from (run_end kind text from)) [
       | inl past ↦ past
       | inr here ↦ (let same : run_end kind text from ≡ from = omega (arith, run_end-low kind text from) in
-          absurd (false≢true (sym (run_end-stop kind text from (omega arith) (omega (arith, same))) ∙ ap (λ n. is_of kind (get_or text n 0)) same ∙ one)))
+          absurd (false≢true (sym (run_end-stop kind text from (omega arith) (omega (arith, same))) ∙ ap (λ n. has_class kind (get_or text n 0)) same ∙ one)))
     ]
 
 -- one blank is a run of blanks
-pub blank_one : (text : List ℕ) (from : ℕ) → from ≤ length text → is_of kinds.Blank (get_or text from 0) ≡ true → is_of kinds.Blank (get_or text (from + 1) 0) ≡ false → run_end kinds.Blank text from ≡ from + 1
+pub blank_one : (text : List ℕ) (from : ℕ) → from ≤ length text → has_class kinds.Blank (get_or text from 0) ≡ true → has_class kinds.Blank (get_or text (from + 1) 0) ≡ false → run_end kinds.Blank text from ≡ from + 1
 blank_one text from inside blank other =
     elim (cases_lt from (length text)) [
       | inl within ↦ run_end-is kinds.Blank text from (from + 1) (omega arith) (omega arith)
-          (λ k l h. subst (λ (n : ℕ). is_of kinds.Blank (get_or text n 0) ≡ true) (let e : from ≡ k = omega arith in e) blank) (λ _. other)
-      | inr past ↦ absurd (false≢true (ap (is_of kinds.Blank) (sym (get_or_past text from 0 past)) ∙ blank))
+          (λ k l h. subst (λ (n : ℕ). has_class kinds.Blank (get_or text n 0) ≡ true) (let e : from ≡ k = omega arith in e) blank) (λ _. other)
+      | inr past ↦ absurd (false≢true (ap (has_class kinds.Blank) (sym (get_or_past text from 0 past)) ∙ blank))
     ]
 
 -- the largest digit is 9
@@ -98,10 +98,10 @@ module _ (text : List ℕ) (place blanks : ℕ) (low : place ≤ length text) (h
       ∙ ap {B = ℕ} (λ n. cond (is_blank (get_or text n 0)) 1 0) here
 
   -- a place whose bit is not set is of the word
-  rest-word : (k : ℕ) → place ≤ k → k < length text → bit_at rest_bits (k - place) ≡ 0 → is_of kinds.Word (get_or text k 0) ≡ true
+  rest-word : (k : ℕ) → place ≤ k → k < length text → bit_at rest_bits (k - place) ≡ 0 → has_class kinds.Word (get_or text k 0) ≡ true
   rest-word k from inside clear =
       let here : place + (k - place) ≡ k = omega arith in
-      ap (λ n. is_of kinds.Word (get_or text n 0)) (sym here) ∙ ap not (zero_false _ (sym (rest-bit (k - place) (omega arith)) ∙ clear))
+      ap (λ n. has_class kinds.Word (get_or text n 0)) (sym here) ∙ ap not (zero_false _ (sym (rest-bit (k - place) (omega arith)) ∙ clear))
 
   -- no blank is left
   pub rest-none : rest_bits ≡ 0 → run_end kinds.Word text place ≡ length text

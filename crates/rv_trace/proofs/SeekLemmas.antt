@@ -11,8 +11,8 @@ use Rattle.rv_trace.specs.declared.line.TraceLine.{TraceLine}
 use Rattle.rv_trace.specs.declared.trace.TheConstants.{MAX_BYTES}
 use Rattle.rv_trace.specs.Lines.{moved, moved_line}
 use Rattle.rv_trace.specs.Traces.{reading_of}
-use Rattle.rv_trace.specs.Held.{IsPieceOf, EndsAt, IsOpen}
-use Rattle.rv_trace.specs.Streams.{ended_front, is_whole, part_read, Adds, TakesLine, Answers, StandsAt, IsPassed}
+use Rattle.rv_trace.specs.Held.{IsPieceOf, EndsAt, HasNoLineEnd}
+use Rattle.rv_trace.specs.Streams.{ended_front, is_whole, part_read, Adds, TakesLine, AnswersLine, StandsAt, IsPassed}
 use Rattle.rv_trace.proofs.StreamLemmas.{NoEnd, ended_front-none, line_before, behind_line, Steps, steps-ended, steps-last, stands-next}
 use Rattle.rv_trace.proofs.AddLemmas.{Moves, adds-line, adds-skip, reading-fits, reading-moved}
 
@@ -32,7 +32,7 @@ module _ (fed held : List ℕ) (passed from number : ℕ) (closed : Bool) (piece
   reads k = sym (get_or-drop passed fed k 0) ∙ ap (λ text. get_or text k 0) (sym piece.is)
 
   -- no line is left
-  pub open-is : IsPassed fed closed (passed + from) number → IsOpen held from (closed || ltb MAX_BYTES (passed + length held)) → done ≡ part_read closed fed
+  pub open-is : IsPassed fed closed (passed + from) number → HasNoLineEnd held from (closed || ltb MAX_BYTES (passed + length held)) → done ≡ part_read closed fed
   open-is stands left =
       let same : passed + length held ≡ length fed = omega (arith, size) in
       elim (is_whole closed fed) as (λ b. is_whole closed fed ≡ b → done ≡ cond b fed (ended_front fed)) [
@@ -152,7 +152,7 @@ module _ (fed held : List ℕ) (passed from number : ℕ) (closed : Bool) (piece
           adds-skip before done after move.line adds move.steps.only (says stands ∙ ap (moved (passed + from)) is)
 
       -- it is taken
-      pub take-line : (line : TraceLine) → read_here ≡ Ok (Some line) → Answers before after (part_read closed fed) bytes (Ok (Some line))
+      pub take-line : (line : TraceLine) → read_here ≡ Ok (Some line) → AnswersLine before after (part_read closed fed) bytes (Ok (Some line))
       take-line line is =
           let move = moves stands in
           record {
@@ -165,7 +165,7 @@ module _ (fed held : List ℕ) (passed from number : ℕ) (closed : Bool) (piece
           }
 
       -- it is refused
-      pub refuse-line : (refusal : Refusal) → read_here ≡ Err refusal → Answers before done (part_read closed fed) [] (Err refusal)
+      pub refuse-line : (refusal : Refusal) → read_here ≡ Err refusal → AnswersLine before done (part_read closed fed) [] (Err refusal)
       refuse-line refusal is =
           let move = moves stands in
           record {
@@ -190,11 +190,11 @@ module _ (fed held : List ℕ) (passed from number : ℕ) (closed : Bool) (piece
         pub behind-skipped : read ≡ Ok None → Adds before (take (passed + end) fed) []
         behind-skipped is = subst (λ (n : ℕ). Adds before (take (passed + n) fed) []) (sym behind) (skip-line (here ∙ is))
 
-        pub behind-taken : (line : TraceLine) → read ≡ Ok (Some line) → Answers before (take (passed + end) fed) (part_read closed fed) bytes read
+        pub behind-taken : (line : TraceLine) → read ≡ Ok (Some line) → AnswersLine before (take (passed + end) fed) (part_read closed fed) bytes read
         behind-taken line is =
-            subst (λ (r : Result (Option TraceLine) Refusal). Answers before (take (passed + end) fed) (part_read closed fed) bytes r) (sym is)
+            subst (λ (r : Result (Option TraceLine) Refusal). AnswersLine before (take (passed + end) fed) (part_read closed fed) bytes r) (sym is)
             (subst (λ (n : ℕ). TakesLine before (take (passed + n) fed) (part_read closed fed) bytes line) (sym behind) (take-line line (here ∙ is)))
 
-        pub behind-refused : (refusal : Refusal) (text : List ℕ) → read ≡ Err refusal → Answers before done (part_read closed fed) text read
+        pub behind-refused : (refusal : Refusal) (text : List ℕ) → read ≡ Err refusal → AnswersLine before done (part_read closed fed) text read
         behind-refused refusal text is =
-            subst (λ (r : Result (Option TraceLine) Refusal). Answers before done (part_read closed fed) text r) (sym is) (refuse-line refusal (here ∙ is))
+            subst (λ (r : Result (Option TraceLine) Refusal). AnswersLine before done (part_read closed fed) text r) (sym is) (refuse-line refusal (here ∙ is))

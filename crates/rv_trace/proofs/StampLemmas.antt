@@ -2,11 +2,11 @@
 use Rattle.std.proofs.Common.{◌≡◌, ℕ, suc, ◌+◌, ◌<◌, ◌≤◌, ◌||◌, ◌==◌, inl, inr, true, false, not, cond, List, length, get_or, Some, None, refl, sym, ◌∙◌, ap, subst, arith}
 use Rattle.std.proofs.lemmas.Bool.{false≢true, not-false, and_parts, and_from, or_cases, or_left, or_right, ltb-true, eqb-true, eq-eqb, ne_eqb, lt-ltb, cases_lt, cases_order}
 use Rattle.std.proofs.lemmas.List.{get_or_past}
-use Rattle.rv_text.specs.Places.{is_digit, is_blank, is_of, run_end}
-use Rattle.rv_text.specs.declared.runs.Kind.TheVariants as kinds
+use Rattle.rv_text.specs.Places.{is_digit, is_blank, has_class, run_end}
+use Rattle.rv_text.specs.declared.runs.ByteClass.TheVariants as kinds
 use Rattle.rv_text.proofs.LeastLemmas.{run_end-is, run_end-each, run_end-stop}
-use Rattle.rv_trace.specs.declared.parts.Part.{Part}
-use Rattle.rv_trace.specs.Lines.{is_stamp, word_from, word_at, end_from, stamp_end}
+use Rattle.rv_trace.specs.declared.parts.LinePart.{LinePart}
+use Rattle.rv_trace.specs.Lines.{is_stamp, word_part, word_at, end_from, stamp_end}
 use Rattle.rv_trace.specs.Stamps.{AreDigits, IsStampTo, IsStamp}
 
 -- a run of digits that has one is digits
@@ -29,7 +29,7 @@ digits-run : (text : List ℕ) (from to : ℕ) → AreDigits text from to → to
 digits-run text from to digits high other = run_end-is kinds.Digit text from to (omega (arith, digits.some)) high digits.each (λ _. other)
 
 -- what passes the test is a timestamp by its places
-pub stamp-places : (text : List ℕ) (word : Part) → is_stamp text word ≡ true → IsStamp text word
+pub stamp-places : (text : List ℕ) (word : LinePart) → is_stamp text word ≡ true → IsStamp text word
 unfolding is_stamp
 stamp-places text word is =
     let whole : ℕ = run_end kinds.Digit text word.from in
@@ -58,7 +58,7 @@ stamp-places text word is =
     ]
 
 -- what is a timestamp by its places passes the test
-pub places-stamp : (text : List ℕ) (word : Part) (colon : ℕ) → IsStampTo text word colon → is_stamp text word ≡ true
+pub places-stamp : (text : List ℕ) (word : LinePart) (colon : ℕ) → IsStampTo text word colon → is_stamp text word ≡ true
 unfolding is_stamp
 places-stamp text word colon is =
     let within : colon < length text = inside text colon 57 is.mark in
@@ -74,7 +74,7 @@ places-stamp text word colon is =
     ]
 
 -- a digit is no blank
-digit-word : (byte : ℕ) → is_digit byte ≡ true → is_of kinds.Word byte ≡ true
+digit-word : (byte : ℕ) → is_digit byte ≡ true → has_class kinds.Word byte ≡ true
 digit-word byte digit =
     elim (is_blank byte) as (λ b. is_blank byte ≡ b → not b ≡ true) [
       | true ↦ (λ blank. absurd (false≢true (sym (elim (or_cases _ _ blank) [
@@ -85,11 +85,11 @@ digit-word byte digit =
     ] refl
 
 -- this byte stands there, and it is no blank
-marked-word : (text : List ℕ) (place k byte : ℕ) → place ≡ k → get_or text place 0 ≡ byte → is_of kinds.Word byte ≡ true → is_of kinds.Word (get_or text k 0) ≡ true
-marked-word text place k byte same is word = subst (λ (n : ℕ). is_of kinds.Word (get_or text n 0) ≡ true) same (ap (is_of kinds.Word) is ∙ word)
+marked-word : (text : List ℕ) (place k byte : ℕ) → place ≡ k → get_or text place 0 ≡ byte → has_class kinds.Word byte ≡ true → has_class kinds.Word (get_or text k 0) ≡ true
+marked-word text place k byte same is word = subst (λ (n : ℕ). has_class kinds.Word (get_or text n 0) ≡ true) same (ap (has_class kinds.Word) is ∙ word)
 
 -- no blank stands in a timestamp
-stamp-word : (text : List ℕ) (word : Part) (colon : ℕ) → IsStampTo text word colon → (k : ℕ) → word.from ≤ k → k < word.to → is_of kinds.Word (get_or text k 0) ≡ true
+stamp-word : (text : List ℕ) (word : LinePart) (colon : ℕ) → IsStampTo text word colon → (k : ℕ) → word.from ≤ k → k < word.to → has_class kinds.Word (get_or text k 0) ≡ true
 stamp-word text word colon is k low high =
     elim (cases_lt k colon) [
       | inl before ↦ elim is.digits [
@@ -127,7 +127,7 @@ module _ (text : List ℕ) (from end : ℕ) (within : end ≤ length text) where
       ])
 
   -- so the word that begins there is a timestamp with this end
-  pub stamp-is : stands → (end == length text || is_blank (get_or text end 0)) ≡ true → Some end ≡ cond (is_stamp text (word_from text from)) (Some (run_end kinds.Word text from)) None
+  pub stamp-is : stands → (end == length text || is_blank (get_or text end 0)) ≡ true → Some end ≡ cond (is_stamp text (word_part text from)) (Some (run_end kinds.Word text from)) None
   stamp-is is behind =
       let whole = stamp-whole is behind in
       sym (ap (λ b. cond b (Some (run_end kinds.Word text from)) None) (is (run_end kinds.Word text from) ∙ eq-eqb _ _ (sym whole)) ∙ ap Some whole)
@@ -144,7 +144,7 @@ module _ (text : List ℕ) (from end : ℕ) (within : end ≤ length text) where
       ]
 
   -- a word that goes on is none
-  pub stamp-is_not : from ≤ length text → stands → (end == length text || is_blank (get_or text end 0)) ≡ false → None ≡ cond (is_stamp text (word_from text from)) (Some (run_end kinds.Word text from)) None
+  pub stamp-is_not : from ≤ length text → stands → (end == length text || is_blank (get_or text end 0)) ≡ false → None ≡ cond (is_stamp text (word_part text from)) (Some (run_end kinds.Word text from)) None
   stamp-is_not inside_text is behind =
       sym (ap (λ b. cond b (Some (run_end kinds.Word text from)) None) (is (run_end kinds.Word text from) ∙ ne_eqb _ _ (goes_on inside_text behind)))
 
@@ -161,7 +161,7 @@ module _ (text : List ℕ) (place : ℕ) where
   pub first-end : (end : ℕ) → Some end ≡ end_from text first → Some end ≡ stamp_end text place
   unfolding stamp_end word_at
   first-end end =
-      elim (is_stamp text (word_from text first)) as (λ b. Some end ≡ cond b (Some (run_end kinds.Word text first)) None → Some end ≡ cond b (Some (run_end kinds.Word text first)) (end_from text second)) [
+      elim (is_stamp text (word_part text first)) as (λ b. Some end ≡ cond b (Some (run_end kinds.Word text first)) None → Some end ≡ cond b (Some (run_end kinds.Word text first)) (end_from text second)) [
         | true ↦ (λ is. is)
         | false ↦ (λ is. absurd cc)
       ]
@@ -170,7 +170,7 @@ module _ (text : List ℕ) (place : ℕ) where
   pub second-end : None ≡ end_from text first → end_from text second ≡ stamp_end text place
   unfolding stamp_end word_at
   second-end =
-      elim (is_stamp text (word_from text first)) as (λ b. None ≡ cond b (Some (run_end kinds.Word text first)) None → end_from text second ≡ cond b (Some (run_end kinds.Word text first)) (end_from text second)) [
+      elim (is_stamp text (word_part text first)) as (λ b. None ≡ cond b (Some (run_end kinds.Word text first)) None → end_from text second ≡ cond b (Some (run_end kinds.Word text first)) (end_from text second)) [
         | true ↦ (λ is. absurd cc)
         | false ↦ (λ is. refl)
       ]

@@ -7,23 +7,23 @@ use Rattle.rv_text.specs.declared.refusals.Refusal.{Refusal}
 use Rattle.rv_text.specs.Readings.{and_then}
 use Rattle.rv_trace.specs.declared.line.TraceLine.{TraceLine}
 use Rattle.rv_trace.specs.Lines.{moved_line}
-use Rattle.rv_trace.specs.Traces.{reading_of, shown, onto, all_read, trace_of}
+use Rattle.rv_trace.specs.Traces.{reading_of, line_added, onto, all_read, trace_of}
 use Rattle.rv_trace.specs.Streams.{IsSkipped, Adds, TakesLine, IsRefused}
 use Rattle.rv_trace.proofs.TraceLemmas.{onto-onto, onto-none, all_read-none, all_read-ok, all_read-err}
 
 -- a reading before two others
 joined : (read : Result (Option TraceLine) Refusal) (first second : Result (List TraceLine) Refusal) →
-    and_then read (λ r. onto (shown r) (and_then first (λ lines. onto lines second))) ≡ and_then (and_then read (λ r. onto (shown r) first)) (λ lines. onto lines second)
+    and_then read (λ r. onto (line_added r) (and_then first (λ lines. onto lines second))) ≡ and_then (and_then read (λ r. onto (line_added r) first)) (λ lines. onto lines second)
 joined (Err refusal) first second = refl
 joined (Ok r) (Err refusal) second = refl
-joined (Ok r) (Ok lines) second = onto-onto (shown r) lines second
+joined (Ok r) (Ok lines) second = onto-onto (line_added r) lines second
 
 -- lines that are read one after the other
 pub all_read-append : (front back : List LineText) → all_read (front ++ back) ≡ and_then (all_read front) (λ lines. onto lines (all_read back))
 unfolding all_read
 all_read-append [] back = onto-none (all_read back)
 all_read-append (line ∷ front) back =
-    ap (λ later. and_then (reading_of line) (λ read. onto (shown read) later)) (all_read-append front back) ∙ joined (reading_of line) (all_read front) (all_read back)
+    ap (λ later. and_then (reading_of line) (λ read. onto (line_added read) later)) (all_read-append front back) ∙ joined (reading_of line) (all_read front) (all_read back)
 
 -- lines that are skipped add nothing
 skipped-nothing : (skipped back : List LineText) → All IsSkipped skipped → all_read (skipped ++ back) ≡ all_read back

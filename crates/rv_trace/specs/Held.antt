@@ -23,12 +23,12 @@ pub record EndsAt (held : List ℕ) (from : ℕ) (whole : Bool) (to : ℕ) : Typ
   pub last : to ≡ length held → (from < to) × (whole ≡ true)
 
 -- no line ends behind a place
-pub record IsOpen (held : List ℕ) (from : ℕ) (whole : Bool) : Type 0 where
+pub record HasNoLineEnd (held : List ℕ) (from : ℕ) (whole : Bool) : Type 0 where
   pub none : (k : ℕ) → from ≤ k → k < length held → slice_index held k ≢ 10
   pub last : whole ≡ true → from ≡ length held
 
 -- what holds of the bytes that are held, of the places of the next line, and of those of the last line that was taken
-pub record IsHeld (fed held : List ℕ) (passed from searched number first last : ℕ) (ended : Bool) : Type 0 where
+pub record IsHeldPart (fed held : List ℕ) (passed from searched number first last : ℕ) (ended : Bool) : Type 0 where
   pub piece : IsPieceOf fed held passed
   pub looks : LooksAt held from searched
   pub fits : passed + from ≤ MAX_BYTES

@@ -5,12 +5,12 @@ use Rattle.std.specs.List.{starts_with, ends_with}
 use Rattle.std.specs.Option.{ok_or}
 use Rattle.rv_text.specs.Places.{run_end, between}
 use Rattle.rv_text.specs.Decimal.{number_of}
-use Rattle.rv_text.specs.declared.runs.Kind.TheVariants as kinds
+use Rattle.rv_text.specs.declared.runs.ByteClass.TheVariants as kinds
 use Rattle.rv_text.specs.Readings.{and_then, refused_at}
 use Rattle.rv_text.specs.declared.numbers.TheConstants.{TRACE_SYNTAX, LOST_EVENTS, TOO_MANY_CPUS}
 use Rattle.rv_text.specs.declared.refusals.Refusal.{Refusal}
 use Rattle.rv_trace.specs.declared.head.Head.{Head}
-use Rattle.rv_trace.specs.declared.parts.Part.{Part}
+use Rattle.rv_trace.specs.declared.parts.LinePart.{LinePart}
 use Rattle.rv_trace.specs.declared.parts.Parts.{Parts}
 use Rattle.rv_trace.specs.declared.line.TheConstants.{LAST_PID, LAST_CPU}
 use Rattle.rv_trace.specs.declared.line.Span.{Span}
@@ -19,12 +19,12 @@ use Rattle.rv_trace.specs.Heads.{head_of}
 use Rattle.rv_trace.specs.Runs.{CountsAs}
 
 -- the first word from a place on
-unfoldable pub word_at : List ℕ → ℕ → Part
+unfoldable pub word_at : List ℕ → ℕ → LinePart
 word_at text place = let from = run_end kinds.Blank text place in record { from = from; to = run_end kinds.Word text from }
 
 -- the word that begins at a place
-abbrev pub word_from : List ℕ → ℕ → Part
-word_from text from = record { from = from; to = run_end kinds.Word text from }
+abbrev pub word_part : List ℕ → ℕ → LinePart
+word_part text from = record { from = from; to = run_end kinds.Word text from }
 
 -- whether this is the end, where there is one
 abbrev pub is_end : Option ℕ → ℕ → Bool
@@ -32,7 +32,7 @@ is_end None to = false
 is_end (Some end) to = end == to
 
 -- digits, then nothing or a point and digits, then a colon, which ends it
-unfoldable pub is_stamp : List ℕ → Part → Bool
+unfoldable pub is_stamp : List ℕ → LinePart → Bool
 is_stamp text word =
     let whole = run_end kinds.Digit text word.from in
     let part = run_end kinds.Digit text (whole + 1) in
@@ -42,7 +42,7 @@ is_stamp text word =
 
 -- the end of the word that begins at a place, where it is a timestamp
 abbrev pub end_from : List ℕ → ℕ → Option ℕ
-end_from text from = if is_stamp text (word_from text from) then Some (run_end kinds.Word text from) else None
+end_from text from = if is_stamp text (word_part text from) then Some (run_end kinds.Word text from) else None
 
 -- the end of the timestamp: the first word from a place on, or else the second
 unfoldable pub stamp_end : List ℕ → ℕ → Option ℕ
@@ -52,8 +52,8 @@ stamp_end text place =
     if is_stamp text first then Some first.to else if is_stamp text second then Some second.to else None
 
 -- the name of the event: the first word from a place on, without its last colon
-unfoldable pub event_at : List ℕ → ℕ → Option Part
-event_at text place =
+unfoldable pub event_part : List ℕ → ℕ → Option LinePart
+event_part text place =
     let word = word_at text place in
     if nat_lt (word.from + 1) word.to && slice_index text (word.to - 1) == 58 then Some (record { from = word.from; to = word.to - 1 }) else None
 
@@ -62,7 +62,7 @@ unfoldable pub parts_of : List ℕ → Option Parts
 parts_of text =
     option_and_then (λ head.
     option_and_then (λ place.
-    option_map (λ name. record { head = head; name = name }) (event_at text place))
+    option_map (λ name. record { head = head; name = name }) (event_part text place))
     (stamp_end text (head.close + 2)))
     (head_of text)
 
@@ -79,20 +79,20 @@ unfoldable pub number_up_to : List ℕ → ℕ → Option ℕ
 number_up_to digits limit = if nat_le (number_of digits) limit then Some (number_of digits) else None
 
 -- the PID that stands in a head
-abbrev pub pid_of : List ℕ → Head → Option ℕ
-pid_of text head = number_up_to (between text (head.dash + 1) head.digits) LAST_PID
+abbrev pub head_pid : List ℕ → Head → Option ℕ
+head_pid text head = number_up_to (between text (head.dash + 1) head.digits) LAST_PID
 
 -- the CPU that stands in a head
 abbrev pub cpu_of : List ℕ → Head → Option ℕ
 cpu_of text head = number_up_to (between text (head.bracket + 1) head.close) LAST_CPU
 
 -- these stand for the numbers of a head
-pub record Tells (text : List ℕ) (head : Head) (pid cpu : ℕ) : Type 0 where
+pub record HasHeadNumbers (text : List ℕ) (head : Head) (pid cpu : ℕ) : Type 0 where
   pub tells_pid : CountsAs pid (number_of (between text (head.dash + 1) head.digits))
   pub tells_cpu : CountsAs cpu (number_of (between text (head.bracket + 1) head.close))
 
 -- a line's number, its two numbers and the places of its pieces, counted from the line's own place in the text
-abbrev pub line_with : List ℕ → ℕ → ℕ → Part → ℕ → ℕ → TraceLine
+abbrev pub line_with : List ℕ → ℕ → ℕ → LinePart → ℕ → ℕ → TraceLine
 line_with text from number name pid cpu = record {
   number = number;
   pid = pid;
@@ -104,7 +104,7 @@ line_with text from number name pid cpu = record {
 -- what the parts say
 unfoldable pub said : List ℕ → ℕ → ℕ → Parts → Result TraceLine Refusal
 said text from number parts =
-    and_then (ok_or (pid_of text parts.head) (record { number = TRACE_SYNTAX; line = number })) (λ pid.
+    and_then (ok_or (head_pid text parts.head) (record { number = TRACE_SYNTAX; line = number })) (λ pid.
     and_then (ok_or (cpu_of text parts.head) (record { number = TOO_MANY_CPUS; line = number })) (λ cpu.
     Ok (line_with text from number parts.name pid cpu)))
 

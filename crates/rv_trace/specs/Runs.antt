@@ -1,4 +1,4 @@
--- A run of bytes within one load: the bytes of a load are looked at together, from the first one on.
+-- Private: a run of bytes within one load: the bytes of a load are looked at together, from the first one on.
 use Rattle.std.specs.Prelude.{◌≡◌, ◌≤◌, ◌<◌, ◌⊎◌, ℕ, ◌+◌, Bool, true, false, ◌==◌, List, slice_index, if◌then◌else◌}
 use Rattle.std.specs.Int.{bit_at, trailing_zeros, w64}
 use Rattle.rv_trace.specs.declared.line.TheConstants.{LAST_PID}

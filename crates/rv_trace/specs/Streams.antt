@@ -69,10 +69,10 @@ pub record IsTaken (before after whole : List ℕ) : Type 0 where
   pub all : after ≡ whole
 
 -- what a call answers, from the text that was passed before to the one after
-abbrev pub Answers : List ℕ → List ℕ → List ℕ → List ℕ → Result (Option TraceLine) Refusal → Type 0
-Answers before after whole text (Ok (Some line)) = TakesLine before after whole text line
-Answers before after whole text (Ok None) = IsTaken before after whole
-Answers before after whole text (Err refusal) = IsRefused before after whole refusal
+abbrev pub AnswersLine : List ℕ → List ℕ → List ℕ → List ℕ → Result (Option TraceLine) Refusal → Type 0
+AnswersLine before after whole text (Ok (Some line)) = TakesLine before after whole text line
+AnswersLine before after whole text (Ok None) = IsTaken before after whole
+AnswersLine before after whole text (Err refusal) = IsRefused before after whole refusal
 
 -- no line is left
 abbrev pub is_none_left : Result (Option TraceLine) Refusal → Bool
@@ -81,11 +81,11 @@ is_none_left (Ok None) = true
 is_none_left (Err refusal) = false
 
 -- a call takes the next line of a stream
-pub record Takes (old new : Stream) (result : Result (Option TraceLine) Refusal) : Type 0 where
+pub record TakesNextLine (old new : Stream) (result : Result (Option TraceLine) Refusal) : Type 0 where
   pub fed : new.fed ≡ old.fed
   pub ended : new.ended ≡ old.ended
   pub idle : new.idle ≡ is_none_left result
-  pub answers : Answers (take old.taken old.fed) (take new.taken new.fed) (part_read old.ended old.fed) new.text result
+  pub answers : AnswersLine (take old.taken old.fed) (take new.taken new.fed) (part_read old.ended old.fed) new.text result
 
 -- lines can be read on from here, whatever follows
 pub record StandsAt (done : List ℕ) (number : ℕ) : Type 0 where

@@ -17,9 +17,9 @@ unfoldable pub reading_of : LineText → Result (Option TraceLine) Refusal
 reading_of line = if is_too_long line then refused_at TOO_LONG line.number else line_of line.bytes line.from line.number
 
 -- what a line adds: nothing where it is skipped
-abbrev pub shown : Option TraceLine → List TraceLine
-shown None = []
-shown (Some line) = line ∷ []
+abbrev pub line_added : Option TraceLine → List TraceLine
+line_added None = []
+line_added (Some line) = line ∷ []
 
 -- lines in front of those that are read later
 abbrev pub onto : List TraceLine → Result (List TraceLine) Refusal → Result (List TraceLine) Refusal
@@ -28,7 +28,7 @@ onto lines later = and_then later (λ more. Ok (lines ++ more))
 -- what lines say, one after the other: the first fault decides
 unfoldable pub all_read : List LineText → Result (List TraceLine) Refusal
 all_read [] = Ok []
-all_read (line ∷ later) = and_then (reading_of line) (λ read. onto (shown read) (all_read later))
+all_read (line ∷ later) = and_then (reading_of line) (λ read. onto (line_added read) (all_read later))
 
 -- the lines of the text that are not skipped, or the first fault
 unfoldable pub trace_of : List ℕ → Result (List TraceLine) Refusal

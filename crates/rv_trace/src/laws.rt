@@ -2,7 +2,7 @@
 ghost use Rattle.std.specs.Prelude.{◌≡◌, ◌↔◌, ◌<◌, ◌≤◌, ◌++◌, [], ◌∷◌, length, ℕ, List, Some, None, Ok, Err, true, false, AllPairs};
 ghost use Rattle.rv_text.specs.TextLines.{line_end, line_here};
 ghost use Rattle.rv_trace.specs.declared.head.Head.{Head};
-ghost use Rattle.rv_trace.specs.declared.parts.Part.{Part};
+ghost use Rattle.rv_trace.specs.declared.parts.LinePart.{LinePart};
 ghost use Rattle.rv_trace.specs.Heads.{head_of, IsHead, EndsFirst};
 ghost use Rattle.rv_trace.specs.Stamps.{IsStamp};
 ghost use Rattle.rv_trace.specs.Lines.{is_stamp, line_of, moved};
@@ -20,7 +20,7 @@ pub fn heads_by_places()
 
 /// A timestamp is said by its places alone.
 pub fn stamps_by_places()
-    ensures { (text : List ℕ) (word : Part) → (is_stamp text word ≡ true) ↔ IsStamp text word }
+    ensures { (text : List ℕ) (word : LinePart) → (is_stamp text word ≡ true) ↔ IsStamp text word }
 {}
 
 /// A line says the same wherever it stands in a text: only its places move.

@@ -1,9 +1,9 @@
 //! One line of trace text.
 ghost use Rattle.std.specs.Prelude.{◌≡◌, ◌<◌, ◌≤◌, ◌+◌, ◌^◌, length, slice_index, slice_range, EachIndex, ◌≢◌, Ok, Some};
 ghost use Rattle.rv_text.specs.Readings.{and_then};
-ghost use Rattle.rv_trace.specs.Lines.{Tells, is_skipped, is_lost, said, line_of};
+ghost use Rattle.rv_trace.specs.Lines.{HasHeadNumbers, is_skipped, is_lost, said, line_of};
 
-use crate::parts::{Found, parts_of};
+use crate::parts::{ReadParts, parts_of};
 use crate::runs::{blanks_end, byte_at};
 use rv_text::{LOST_EVENTS, Refusal, TOO_MANY_CPUS, TRACE_SYNTAX};
 
@@ -52,8 +52,8 @@ fn is_lost(text: &[u8]) -> bool
 
 /// What the parts say of a line that stands at a place of a text.
 #[inline(always)]
-fn said(text: &[u8], from: u32, number: u32, found: Found) -> Result<Option<TraceLine>, Refusal>
-    requires numbers { Tells text.now found.parts.head found.pid found.cpu }
+fn said(text: &[u8], from: u32, number: u32, found: ReadParts) -> Result<Option<TraceLine>, Refusal>
+    requires numbers { HasHeadNumbers text.now found.parts.head found.pid found.cpu }
     requires order { found.parts.name.from ≤ found.parts.name.to }
     requires within { found.parts.name.to < length text.now }
     requires fits { from + length text.now < 2 ^ 32 }

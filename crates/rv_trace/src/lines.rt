@@ -1,7 +1,7 @@
 //! The lines of a stream that is fed in pieces and never held whole.
 ghost use Rattle.std.specs.Prelude.{◌≡◌, ◌≤◌, ◌++◌, ◌&&◌, [], true, false, not, drop, take, length, IsTrue, IfOk, IfSome, OnOk, OnErr};
 ghost use Rattle.rv_trace.specs.Lines.{LiesIn};
-ghost use Rattle.rv_trace.specs.Streams.{Takes};
+ghost use Rattle.rv_trace.specs.Streams.{TakesNextLine};
 
 use crate::fed::Fed;
 use crate::line::TraceLine;
@@ -33,11 +33,11 @@ impl Model for Lines {
 
     ghost Value = { Stream };
 
-    ghost use Rattle.rv_trace.specs.Held.{IsHeld};
+    ghost use Rattle.rv_trace.specs.Held.{IsHeldPart};
 
     ghost view = { λ l. record { fed = l.stream; taken = l.passed + l.at.from; text = between l.held.items l.first l.last; ended = l.ended; idle = l.idle } };
 
-    ghost invariant = { λ l. IsHeld l.stream l.held.items l.passed l.at.from l.at.searched l.at.number l.first l.last l.ended };
+    ghost invariant = { λ l. IsHeldPart l.stream l.held.items l.passed l.at.from l.at.searched l.at.number l.first l.last l.ended };
 }
 
 /// Lets go of so many bytes at the front.
@@ -118,7 +118,7 @@ impl Lines {
     /// The next line that is not skipped, or None where no line is left of what can be read: before the end of the
     /// stream that is all up to its last line end. After a refusal each call refuses the same. No memory is taken.
     pub fn take(&mut self) -> Result<Option<TraceLine>, Refusal>
-        ensures takes { Takes self.old self.new result }
+        ensures takes { TakesNextLine self.old self.new result }
         ensures lies { IfOk result (λ found. IfSome found (LiesIn self.new.text)) }
         ensures small { length self.new.text ≤ MAX_BYTES }
     {

@@ -1,16 +1,16 @@
 //! The parts of a trace line: behind its head stand a timestamp, the name of an event, and the fields.
 ghost use Rattle.std.specs.Prelude.{◌≡◌, ◌<◌, ◌≤◌, ◌+◌, ◌||◌, ◌==◌, ℕ, length, slice_index, IfSome, option_map};
 ghost use Rattle.rv_text.specs.Places.{is_blank, run_end};
-ghost use Rattle.rv_text.specs.declared.runs.Kind.TheVariants as kinds;
-ghost use Rattle.rv_trace.specs.Lines.{Tells, is_end, end_from, word_at, is_stamp, stamp_end, event_at, parts_of};
+ghost use Rattle.rv_text.specs.declared.runs.ByteClass.TheVariants as kinds;
+ghost use Rattle.rv_trace.specs.Lines.{HasHeadNumbers, is_end, end_from, word_at, is_stamp, stamp_end, event_part, parts_of};
 
 use crate::head::{Head, find_head};
 use crate::runs::{blanks_end, byte_at, digits_end, word_end};
-use rv_text::Kind;
+use rv_text::ByteClass;
 
 /// A piece of the line, by its places.
 #[derive(Clone, Copy, Debug, Drop, PartialEq, Eq)]
-pub struct Part {
+pub struct LinePart {
     pub from: usize,
     pub to: usize,
 }
@@ -19,12 +19,12 @@ pub struct Part {
 #[derive(Clone, Copy, Debug, Drop, PartialEq, Eq)]
 pub struct Parts {
     pub head: Head,
-    pub name: Part,
+    pub name: LinePart,
 }
 
 /// The parts of a line, with the numbers of its head.
 #[derive(Clone, Copy, Debug, Drop, PartialEq, Eq)]
-pub struct Found {
+pub struct ReadParts {
     pub parts: Parts,
     /// The PID, where it is one.
     pub pid: u64,
@@ -35,7 +35,7 @@ pub struct Found {
 /// The first word from a place on.
 #[inline(always)]
 #[tactic(auto, unfolding(crate::specs::Lines::word_at))]
-fn word_at(text: &[u8], place: usize) -> Part
+fn word_at(text: &[u8], place: usize) -> LinePart
     requires { place ≤ length text.now }
     ensures value { result ≡ word_at text.now place }
     ensures low { place ≤ result.from }
@@ -44,7 +44,7 @@ fn word_at(text: &[u8], place: usize) -> Part
 {
     let from = blanks_end(text, place);
     let to = word_end(text, from);
-    Part { from, to }
+    LinePart { from, to }
 }
 
 /// The place behind the timestamp that begins here, whatever stands there.
@@ -78,7 +78,7 @@ fn is_word_end(text: &[u8], place: usize) -> bool
     requires { place ≤ length text.now }
     ensures { result ≡ (place == length text.now || is_blank (slice_index text.now place)) }
 {
-    place >= text.len() || Kind::Blank.has(text[place])
+    place >= text.len() || ByteClass::Blank.has(text[place])
 }
 
 /// Where the timestamp ends that is the word that begins here.
@@ -124,16 +124,16 @@ fn second_stamp(text: &[u8], first: usize) -> Option<usize>
 
 /// The name of the event.
 #[inline(always)]
-#[tactic(auto, unfolding(crate::specs::Lines::event_at))]
-fn event_at(text: &[u8], place: usize) -> Option<Part>
+#[tactic(auto, unfolding(crate::specs::Lines::event_part))]
+fn event_part(text: &[u8], place: usize) -> Option<LinePart>
     requires { place ≤ length text.now }
-    ensures value { result ≡ event_at text.now place }
+    ensures value { result ≡ event_part text.now place }
     ensures order { IfSome result (λ name. name.from ≤ name.to) }
     ensures high { IfSome result (λ name. name.to < length text.now) }
 {
     let word = word_at(text, place);
     if word.to > word.from + 1 && text[word.to - 1] == b':' {
-        Some(Part {
+        Some(LinePart {
             from: word.from,
             to: word.to - 1,
         })
@@ -145,16 +145,16 @@ fn event_at(text: &[u8], place: usize) -> Option<Part>
 /// The parts of the line.
 #[inline(always)]
 #[tactic(auto, unfolding(crate::specs::Lines::parts_of))]
-pub fn parts_of(text: &[u8]) -> Option<Found>
+pub fn parts_of(text: &[u8]) -> Option<ReadParts>
     ensures value { option_map (λ found. found.parts) result ≡ parts_of text.now }
-    ensures numbers { IfSome result (λ found. Tells text.now found.parts.head found.pid found.cpu) }
+    ensures numbers { IfSome result (λ found. HasHeadNumbers text.now found.parts.head found.pid found.cpu) }
     ensures order { IfSome result (λ found. found.parts.name.from ≤ found.parts.name.to) }
     ensures high { IfSome result (λ found. found.parts.name.to < length text.now) }
 {
     let told = find_head(text)?;
     let place = stamp_end(text, told.head.close + 2)?;
-    let name = event_at(text, place)?;
-    Some(Found {
+    let name = event_part(text, place)?;
+    Some(ReadParts {
         parts: Parts {
             head: told.head,
             name,

@@ -1,16 +1,16 @@
 //! Where runs of bytes end in a line. Sixteen bytes are looked at together, as long as so many are left.
 ghost use Rattle.std.specs.Prelude.{◌≡◌, ◌≢◌, ℕ, ◌<◌, ◌≤◌, ◌+◌, ◌-◌, ◌==◌, not, length, slice_index};
 ghost use Rattle.rv_text.specs.Decimal.{number_of};
-ghost use Rattle.rv_text.specs.Places.{is_blank, is_of, least, run_end, between};
-ghost use Rattle.rv_text.specs.declared.runs.Kind.TheVariants as kinds;
+ghost use Rattle.rv_text.specs.Places.{is_blank, has_class, least, run_end, between};
+ghost use Rattle.rv_text.specs.declared.runs.ByteClass.TheVariants as kinds;
 ghost use Rattle.rv_trace.specs.Runs.{CountsAs, IsMask, IsRunIn, first_set};
 ghost use Rattle.std.specs.Int.{bit_at};
 
-use rv_text::{Kind, run_end};
+use rv_text::{ByteClass, run_end};
 use std::simd::prelude::*;
 
 /// How many bytes are looked at together.
-pub const LANES: usize = 16;
+pub const WIDTH: usize = 16;
 /// A number is too large for any use of a trace where another digit follows a larger one than this.
 const LAST_TENTH: u64 = 429_496_729;
 /// A number that is too large for any use of a trace.
@@ -37,10 +37,10 @@ pub fn byte_at(text: &[u8], place: usize) -> u8
 /// The place of the lowest bit that is set, or the number of lanes.
 #[inline(always)]
 fn first_set(mask: u64) -> usize
-    ensures { result ≡ first_set mask LANES }
+    ensures { result ≡ first_set mask WIDTH }
 {
     if mask == 0 {
-        LANES
+        WIDTH
     } else {
         mask.trailing_zeros() as usize
     }
@@ -60,8 +60,8 @@ pub(crate) fn lowest(mask: u64) -> usize
 /// A bit for each of the next bytes, set at a blank.
 #[inline(always)]
 pub(crate) fn blank_bits(text: &[u8], place: usize) -> u64
-    requires { place + LANES ≤ length text.now }
-    ensures { IsMask is_blank text.now place LANES result }
+    requires { place + WIDTH ≤ length text.now }
+    ensures { IsMask is_blank text.now place WIDTH result }
 {
     let bytes = u8x16::from_slice(&text[place..]);
     let blanks = bytes.simd_eq(u8x16::splat(b' ')) | bytes.simd_eq(u8x16::splat(b'\t'));
@@ -71,8 +71,8 @@ pub(crate) fn blank_bits(text: &[u8], place: usize) -> u64
 /// A bit for each of the next bytes, set at `=`.
 #[inline(always)]
 pub(crate) fn equals_bits(text: &[u8], place: usize) -> u64
-    requires { place + LANES ≤ length text.now }
-    ensures { IsMask (λ byte. byte == 61) text.now place LANES result }
+    requires { place + WIDTH ≤ length text.now }
+    ensures { IsMask (λ byte. byte == 61) text.now place WIDTH result }
 {
     let bytes = u8x16::from_slice(&text[place..]);
     bytes.simd_eq(u8x16::splat(b'=')).to_bitmask()
@@ -80,22 +80,22 @@ pub(crate) fn equals_bits(text: &[u8], place: usize) -> u64
 
 /// How many of the next bytes are of the kind, from the first on.
 #[inline(always)]
-fn run_in(kind: Kind, text: &[u8], place: usize) -> usize
-    requires { place + LANES ≤ length text.now }
-    ensures { IsRunIn (is_of kind) text.now place LANES result }
+fn run_in(kind: ByteClass, text: &[u8], place: usize) -> usize
+    requires { place + WIDTH ≤ length text.now }
+    ensures { IsRunIn (has_class kind) text.now place WIDTH result }
 {
     match kind {
-        Kind::Digit => digits_in(text, place),
-        Kind::Blank => blanks_in(text, place),
-        Kind::Word => word_in(text, place),
+        ByteClass::Digit => digits_in(text, place),
+        ByteClass::Blank => blanks_in(text, place),
+        ByteClass::Word => word_in(text, place),
     }
 }
 
 /// How many of the next bytes are digits.
 #[inline(always)]
 fn digits_in(text: &[u8], place: usize) -> usize
-    requires { place + LANES ≤ length text.now }
-    ensures { IsRunIn (is_of kinds.Digit) text.now place LANES result }
+    requires { place + WIDTH ≤ length text.now }
+    ensures { IsRunIn (has_class kinds.Digit) text.now place WIDTH result }
 {
     let bytes = u8x16::from_slice(&text[place..]);
     let stops = bytes.simd_lt(u8x16::splat(b'0')) | bytes.simd_gt(u8x16::splat(b'9'));
@@ -105,8 +105,8 @@ fn digits_in(text: &[u8], place: usize) -> usize
 /// How many of the next bytes are blanks.
 #[inline(always)]
 fn blanks_in(text: &[u8], place: usize) -> usize
-    requires { place + LANES ≤ length text.now }
-    ensures { IsRunIn (is_of kinds.Blank) text.now place LANES result }
+    requires { place + WIDTH ≤ length text.now }
+    ensures { IsRunIn (has_class kinds.Blank) text.now place WIDTH result }
 {
     let bytes = u8x16::from_slice(&text[place..]);
     let stops = bytes.simd_ne(u8x16::splat(b' ')) & bytes.simd_ne(u8x16::splat(b'\t'));
@@ -116,8 +116,8 @@ fn blanks_in(text: &[u8], place: usize) -> usize
 /// How many of the next bytes are no blanks.
 #[inline(always)]
 fn word_in(text: &[u8], place: usize) -> usize
-    requires { place + LANES ≤ length text.now }
-    ensures { IsRunIn (is_of kinds.Word) text.now place LANES result }
+    requires { place + WIDTH ≤ length text.now }
+    ensures { IsRunIn (has_class kinds.Word) text.now place WIDTH result }
 {
     let bytes = u8x16::from_slice(&text[place..]);
     let stops = bytes.simd_eq(u8x16::splat(b' ')) | bytes.simd_eq(u8x16::splat(b'\t'));
@@ -127,8 +127,8 @@ fn word_in(text: &[u8], place: usize) -> usize
 /// How many of the next bytes are no dashes.
 #[inline(always)]
 fn undashed_in(text: &[u8], place: usize) -> usize
-    requires { place + LANES ≤ length text.now }
-    ensures { IsRunIn (λ byte. not (byte == 45)) text.now place LANES result }
+    requires { place + WIDTH ≤ length text.now }
+    ensures { IsRunIn (λ byte. not (byte == 45)) text.now place WIDTH result }
 {
     let bytes = u8x16::from_slice(&text[place..]);
     let stops = bytes.simd_eq(u8x16::splat(b'-'));
@@ -137,17 +137,17 @@ fn undashed_in(text: &[u8], place: usize) -> usize
 
 /// The first byte from `from` on that is not of the kind, or the end.
 #[inline(always)]
-fn wide_end(kind: Kind, text: &[u8], from: usize) -> usize
+fn wide_end(kind: ByteClass, text: &[u8], from: usize) -> usize
     requires { from ≤ length text.now }
     ensures value { result ≡ run_end kind text.now from }
     ensures low { from ≤ result }
     ensures high { result ≤ length text.now }
 {
     let mut place = from;
-    while text.len() - place >= LANES {
+    while text.len() - place >= WIDTH {
         let run = run_in(kind, text, place);
         place += run;
-        if run < LANES {
+        if run < WIDTH {
             return place;
         }
     }
@@ -158,15 +158,15 @@ fn wide_end(kind: Kind, text: &[u8], from: usize) -> usize
 #[inline(never)]
 fn last_word_end(text: &[u8], place: usize) -> usize
     requires low { place ≤ length text.now }
-    requires high { length text.now < place + LANES }
+    requires high { length text.now < place + WIDTH }
     ensures value { result ≡ run_end kinds.Word text.now place }
     ensures low { place ≤ result }
     ensures high { result ≤ length text.now }
 {
-    if text.len() < LANES {
-        return run_end(Kind::Word, text, place);
+    if text.len() < WIDTH {
+        return run_end(ByteClass::Word, text, place);
     }
-    let start = text.len() - LANES;
+    let start = text.len() - WIDTH;
     let bits = blank_bits(text, start) >> (place - start);
     if bits == 0 {
         text.len()
@@ -184,10 +184,10 @@ pub(crate) fn word_end(text: &[u8], from: usize) -> usize
     ensures high { result ≤ length text.now }
 {
     let mut place = from;
-    while text.len() - place >= LANES {
+    while text.len() - place >= WIDTH {
         let run = word_in(text, place);
         place += run;
-        if run < LANES {
+        if run < WIDTH {
             return place;
         }
     }
@@ -202,7 +202,7 @@ pub(crate) fn digits_end(text: &[u8], from: usize) -> usize
     ensures low { from ≤ result }
     ensures high { result ≤ length text.now }
 {
-    wide_end(Kind::Digit, text, from)
+    wide_end(ByteClass::Digit, text, from)
 }
 
 /// The same, at more than one blank.
@@ -213,7 +213,7 @@ fn far_blanks_end(text: &[u8], from: usize) -> usize
     ensures low { from ≤ result }
     ensures high { result ≤ length text.now }
 {
-    wide_end(Kind::Blank, text, from)
+    wide_end(ByteClass::Blank, text, from)
 }
 
 /// The first byte from `from` on that is no blank, or the end. Mostly one blank stands there.
@@ -224,10 +224,10 @@ pub(crate) fn blanks_end(text: &[u8], from: usize) -> usize
     ensures low { from ≤ result }
     ensures high { result ≤ length text.now }
 {
-    if !Kind::Blank.has(byte_at(text, from)) {
+    if !ByteClass::Blank.has(byte_at(text, from)) {
         return from;
     }
-    if !Kind::Blank.has(byte_at(text, from + 1)) {
+    if !ByteClass::Blank.has(byte_at(text, from + 1)) {
         return from + 1;
     }
     far_blanks_end(text, from)
@@ -242,10 +242,10 @@ pub(crate) fn dash_from(text: &[u8], from: usize) -> usize
     ensures high { result ≤ length text.now }
 {
     let mut place = from;
-    while text.len() - place >= LANES {
+    while text.len() - place >= WIDTH {
         let run = undashed_in(text, place);
         place += run;
-        if run < LANES {
+        if run < WIDTH {
             return place;
         }
     }
@@ -281,7 +281,7 @@ pub(crate) fn digits_from(text: &[u8], from: usize) -> Digits
 {
     let mut end = from;
     let mut number = 0;
-    while end < text.len() && Kind::Digit.has(text[end]) {
+    while end < text.len() && ByteClass::Digit.has(text[end]) {
         if number > LAST_TENTH {
             return too_large(text, end);
         }

@@ -2,9 +2,9 @@
 ghost use Rattle.std.specs.Prelude.{◌≡◌, ◌≤◌, ◌+◌, ◌||◌, ℕ, List, length, take, min, nat_lt, IfOk, IfSome, IfNone};
 ghost use Rattle.rv_text.specs.Places.{between};
 ghost use Rattle.rv_text.specs.TextLines.{line_end, next_number};
-ghost use Rattle.rv_trace.specs.Held.{EndsAt, IsOpen, IsPieceOf, LooksAt};
+ghost use Rattle.rv_trace.specs.Held.{EndsAt, HasNoLineEnd, IsPieceOf, LooksAt};
 ghost use Rattle.rv_trace.specs.Lines.{LiesIn};
-ghost use Rattle.rv_trace.specs.Streams.{Answers, IsPassed, part_read};
+ghost use Rattle.rv_trace.specs.Streams.{AnswersLine, IsPassed, part_read};
 ghost use Rattle.rv_trace.specs.Traces.{reading_of};
 
 use crate::line::TraceLine;
@@ -50,7 +50,7 @@ fn line_end(held: &[u8], from: usize) -> usize
 fn line_to(held: &[u8], at: At, whole: bool) -> Option<usize>
     requires { LooksAt held.now at.from at.searched }
     ensures some { IfSome result (EndsAt held.now at.from whole) }
-    ensures none { IfNone result (IsOpen held.now at.from whole) }
+    ensures none { IfNone result (HasNoLineEnd held.now at.from whole) }
 {
     let to = line_end(held, at.searched);
     if to < held.len() {
@@ -121,7 +121,7 @@ pub fn seek(held: &[u8], passed: usize, start: At, ended: bool) -> Sought
     ensures small { result.to ≤ MAX_BYTES }
     ensures lies { IfOk result.read (λ found. IfSome found (LiesIn (between held.now result.from result.to))) }
     ensures found { (fed : List ℕ) → IsPieceOf fed held.now passed → IsPassed fed ended (passed + start.from) start.number →
-        Answers (take (passed + start.from) fed) (take (passed + result.at.from) fed) (part_read ended fed) (between held.now result.from result.to) result.read }
+        AnswersLine (take (passed + start.from) fed) (take (passed + result.at.from) fed) (part_read ended fed) (between held.now result.from result.to) result.read }
     ensures passes { (fed : List ℕ) → IsPieceOf fed held.now passed → IsPassed fed ended (passed + start.from) start.number →
         IsPassed fed ended (passed + result.at.from) result.at.number }
 {

@@ -4,7 +4,7 @@ ghost use Rattle.std.specs.List.{All};
 ghost use Rattle.rv_text.specs.Readings.{Gives};
 ghost use Rattle.rv_text.specs.TextLines.{line_text};
 ghost use Rattle.rv_trace.specs.Lines.{LiesIn};
-ghost use Rattle.rv_trace.specs.Traces.{reading_of, shown, trace_of};
+ghost use Rattle.rv_trace.specs.Traces.{reading_of, line_added, trace_of};
 
 use crate::line::{TraceLine, read_text};
 use rv_text::{Cursor, Refusal, Refused, TOO_LONG, TextLine};
@@ -29,7 +29,7 @@ pub(crate) fn reading_of(line: TextLine) -> Result<Option<TraceLine>, Refusal>
 
 /// Appends the line, where there is one.
 fn keep(lines: &mut Vec<TraceLine>, read: Option<TraceLine>) -> Result<(), AllocError>
-    ensures { OnOk result (lines.new.items ≡ lines.old.items ++ shown read) }
+    ensures { OnOk result (lines.new.items ≡ lines.old.items ++ line_added read) }
 {
     if let Some(line) = read {
         lines.push(line)?;

@@ -14,8 +14,8 @@ use Rattle.rv_model.specs.SharedWords.{word_of}
 use Rattle.rv_model.proofs.NumberLemmas.{nat_lt_or}
 use Rattle.rv_core.specs.Setup.{judges_of}
 use Rattle.rv_board.specs.Known.{known_by, part}
-use Rattle.rv_board.specs.RunSeats.{Holds}
-use Rattle.rv_board.specs.Seats.{BoardId, SeatValue, SeatGrows, seat_value, Follows, Joins, Closes}
+use Rattle.rv_board.specs.RunSeats.{HasTakenIn}
+use Rattle.rv_board.specs.Seats.{BoardId, SeatValue, SeatGrows, seat_value, ExtendsSeen, Joins, Closes}
 use Rattle.rv_board.proofs.GrowLemmas.{same_known}
 use Rattle.rv_board.proofs.Knowing.{known_is, knows_own, none_of, none_either}
 use Rattle.rv_board.proofs.SoundLemmas.{sound-empty}
@@ -30,7 +30,7 @@ use Rattle.rv_feed.proofs.AtOnceLemmas.{IsFed, fed-says, fed-works}
 use Rattle.rv_feed.proofs.ChangeLemmas.{does-none}
 use Rattle.rv_watch.specs.declared.watcher.Watcher.{Watcher}
 use Rattle.rv_watch.specs.Runs.{IsWatched, IsWatchedOf}
-use Rattle.rv_watch.specs.Watching.{Watches}
+use Rattle.rv_watch.specs.Watching.{WatchesSlot}
 use Rattle.rv_watch.specs.Words.{AreWords, word_after}
 use Rattle.rv_watch.proofs.IdleLemmas.{grows-holds, holds-through, none-of-fresh, two-known, zero-known, other-known, from-one, from-one-within}
 use Rattle.rv_watch.proofs.WordLemmas.{words-later, words-anywhere}
@@ -39,15 +39,15 @@ module _ {G : Type 0} (board : BoardId) (panics : ℕ → Bool) (h : List Entry)
   -- the calls of a watched run: seats were made and split off, the feeders and the watcher ran, all seats were joined, the last word was read, and the board was closed
   pub record IsRun (slot last : ℕ) (start first own before mid read final : SeatValue) (lanes : List LaneValue) (fs fs' : List (Feeder G)) (w w' : Watcher G) : Type 0 where
     pub start_is : start ≡ seat_value (part 0 67 [] []) board
-    pub first_is : first ≡ seat_value (part start.part.number 66 start.part.gone start.part.seen) start.board
+    pub first_is : first ≡ seat_value (part start.part.number 66 start.part.joined_in start.part.seen) start.board
     pub own_is : own ≡ seat_value (part 66 start.part.end [] start.part.seen) start.board
     pub watcher_is : w.seat ≡ own
     pub slot_is : w.slot ≡ slot
     pub seated : AreSeated board first.part.end before lanes [] fs
     pub ran : AllZip (RunsFeeder panics) fs fs'
-    pub watched : Watches w w'
-    pub held : Holds mid before
-    pub feeders : All (λ (f : Feeder G). Holds mid f.seat) fs'
+    pub watched : WatchesSlot w w'
+    pub permitted : HasTakenIn mid before
+    pub feeders : All (λ (f : Feeder G). HasTakenIn mid f.seat) fs'
     pub joins : Joins mid w'.seat read
     pub reads : SeatGrows read final []
     pub last_is : last ≡ word_of board.setup (judges_of board.setup) (reverse final.part.seen) slot
@@ -57,22 +57,22 @@ module _ {G : Type 0} (board : BoardId) (panics : ℕ → Bool) (h : List Entry)
   module _ (slot last : ℕ) (start first own before mid read final : SeatValue) (lanes : List LaneValue) (fs fs' : List (Feeder G)) (w w' : Watcher G) (run : IsRun slot last start first own before mid read final lanes fs fs' w w') where
     -- ---- what the last seat holds
 
-    read-held : Holds final read
+    read-held : HasTakenIn final read
     read-held = grows-holds read final run.reads
 
-    mid-held : Holds final mid
+    mid-held : HasTakenIn final mid
     mid-held = holds-through final read mid read-held (holds-still mid w'.seat read run.joins mid (holds-itself mid))
 
-    before-held : Holds final before
-    before-held = holds-through final mid before mid-held run.held
+    before-held : HasTakenIn final before
+    before-held = holds-through final mid before mid-held run.permitted
 
-    feeders-held : All (λ (f : Feeder G). Holds final f.seat) fs'
-    feeders-held = All-weaker (λ (f : Feeder G). Holds mid f.seat) (λ (f : Feeder G). Holds final f.seat) (λ f holds. holds-through final mid f.seat mid-held holds) fs' run.feeders
+    feeders-held : All (λ (f : Feeder G). HasTakenIn final f.seat) fs'
+    feeders-held = All-weaker (λ (f : Feeder G). HasTakenIn mid f.seat) (λ (f : Feeder G). HasTakenIn final f.seat) (λ f holds. holds-through final mid f.seat mid-held holds) fs' run.feeders
 
-    watched-held : Holds final w'.seat
+    watched-held : HasTakenIn final w'.seat
     watched-held = holds-through final read w'.seat read-held (holds-joined mid w'.seat read run.joins)
 
-    own-held : Holds final w.seat
+    own-held : HasTakenIn final w.seat
     own-held = holds-through final w'.seat w.seat watched-held (grows-holds w.seat w'.seat run.watched.grows)
 
     -- ---- numbers
@@ -89,8 +89,8 @@ module _ {G : Type 0} (board : BoardId) (panics : ℕ → Bool) (h : List Entry)
     end-is = ap (λ (s : SeatValue). s.part.end) run.first_is
 
     -- what the first seat knows after it has handed on numbers
-    before-known : (n : ℕ) → known_of before.part n ≡ known_by 0 before.part.end before.part.gone n
-    before-known n = (λ i. known_is before.part i n) ∙ (λ i. known_by (run.seated.is_first.number i) before.part.end before.part.gone n)
+    before-known : (n : ℕ) → known_of before.part n ≡ known_by 0 before.part.end before.part.joined_in n
+    before-known n = (λ i. known_is before.part i n) ∙ (λ i. known_by (run.seated.is_first.number i) before.part.end before.part.joined_in n)
 
     -- the last seat knows all numbers
     all-known : (n : ℕ) → n < 67 → known_of final.part n ≡ true
@@ -106,7 +106,7 @@ module _ {G : Type 0} (board : BoardId) (panics : ℕ → Bool) (h : List Entry)
         Knows f f' = known_of f.seat.part n ≡ true → known_of final.part n ≡ true
 
         both : AllZip Knows fs fs'
-        both = zip-with (RunsFeeder panics) (IsSeated board) (λ (f : Feeder G). Holds final f.seat) Knows (λ f f' runs seated holds t. holds.within n (ap (λ (k : ℕ → Bool). k n) (same_known f.seat f'.seat _ runs.adds.grows) ∙ t)) fs fs' run.ran run.seated.seated feeders-held
+        both = zip-with (RunsFeeder panics) (IsSeated board) (λ (f : Feeder G). HasTakenIn final f.seat) Knows (λ f f' runs seated holds t. holds.within n (ap (λ (k : ℕ → Bool). k n) (same_known f.seat f'.seat _ runs.adds.grows) ∙ t)) fs fs' run.ran run.seated.seated feeders-held
 
         each : All (λ (f : Feeder G). known_of f.seat.part n ≡ true → known_of final.part n ≡ true) fs
         each = zip-left Knows (λ (f : Feeder G). known_of f.seat.part n ≡ true → known_of final.part n ≡ true) (λ f f' k. k) fs fs' both
@@ -118,7 +118,7 @@ module _ {G : Type 0} (board : BoardId) (panics : ℕ → Bool) (h : List Entry)
     -- ---- the history
 
     -- a seat that is held by the last one is in the history
-    in-history : (seat : SeatValue) → Holds final seat → Follows h seat.part
+    in-history : (seat : SeatValue) → HasTakenIn final seat → ExtendsSeen h seat.part
     in-history seat holds = follows-then final seat h holds run.closes.list
 
     -- the seat of 0 and of the watcher's number
@@ -127,7 +127,7 @@ module _ {G : Type 0} (board : BoardId) (panics : ℕ → Bool) (h : List Entry)
 
     -- the control actor's seat, which does nothing
     abbrev actor : SeatValue
-    actor = seat_value (part 1 before.part.end before.part.gone []) board
+    actor = seat_value (part 1 before.part.end before.part.joined_in []) board
 
     none-before : entries_of (known_of before.part) h ≡ []
     none-before = none-of-fresh before.part h run.seated.is_first.seen (in-history before before-held)
@@ -135,21 +135,21 @@ module _ {G : Type 0} (board : BoardId) (panics : ℕ → Bool) (h : List Entry)
     none-watched : entries_of (known_of w.seat.part) h ≡ []
     none-watched = none-of-fresh w.seat.part h (ap (λ (s : SeatValue). s.part.seen) own-value) (in-history w.seat own-held)
 
-    idle-in : Follows h idle.part
+    idle-in : ExtendsSeen h idle.part
     idle-in = record {
       rest = h;
       list = refl;
       none = none_either (known_of before.part) (known_of w.seat.part) (known_of idle.part) h (λ n t. elim (two-known 66 n (sym (λ i. known_is idle.part i n) ∙ t)) [
-        | inl zero ↦ inl (before-known n ∙ ap (known_by 0 before.part.end before.part.gone) zero ∙ knows_own 0 before.part.end before.part.gone (let e = run.seated.is_first.end in omega arith))
+        | inl zero ↦ inl (before-known n ∙ ap (known_by 0 before.part.end before.part.joined_in) zero ∙ knows_own 0 before.part.end before.part.joined_in (let e = run.seated.is_first.end in omega arith))
         | inr is ↦ inr (ap (known_of w.seat.part) is ∙ watcher-known)
       ]) none-before none-watched;
     }
 
-    actor-in : Follows h actor.part
+    actor-in : ExtendsSeen h actor.part
     actor-in = record {
       rest = h;
       list = refl;
-      none = none_of (known_of before.part) (known_of actor.part) h (λ n t. before-known n ∙ from-one-within before.part.end before.part.gone n (sym (λ i. known_is actor.part i n) ∙ t)) none-before;
+      none = none_of (known_of before.part) (known_of actor.part) h (λ n t. before-known n ∙ from-one-within before.part.end before.part.joined_in n (sym (λ i. known_is actor.part i n) ∙ t)) none-before;
     }
 
     -- the run is one of all scripts at once, without changes
@@ -158,7 +158,7 @@ module _ {G : Type 0} (board : BoardId) (panics : ℕ → Bool) (h : List Entry)
       sound = subst (λ (b : BoardId). IsSound b.setup (judges_of b.setup) h) run.on run.closes.sound;
       seated = run.seated.seated;
       ran = run.ran;
-      feeders_in = All-weaker (λ (f : Feeder G). Holds final f.seat) (λ (f : Feeder G). Follows h f.seat.part) (λ f holds. in-history f.seat holds) fs' feeders-held;
+      feeders_in = All-weaker (λ (f : Feeder G). HasTakenIn final f.seat) (λ (f : Feeder G). ExtendsSeen h f.seat.part) (λ f holds. in-history f.seat holds) fs' feeders-held;
       actor_is = refl;
       actor_fresh = record { has = run.seated.is_first.end; seen = refl };
       did = does-none actor (sound-empty board.setup (judges_of board.setup));
@@ -167,7 +167,7 @@ module _ {G : Type 0} (board : BoardId) (panics : ℕ → Bool) (h : List Entry)
       first_in = idle-in;
       cover = λ n lt. elim (nat_lt_or n 66 (omega arith)) [
         | inl below ↦ elim (run.seated.cover n (let e = end-is in omega arith)) [
-          | inl t ↦ elim (from-one before.part.end before.part.gone n (sym (before-known n) ∙ t)) [
+          | inl t ↦ elim (from-one before.part.end before.part.joined_in n (sym (before-known n) ∙ t)) [
             | inl zero ↦ inl ((λ i. known_is idle.part i n) ∙ ap (known_by 0 1 (66 ∷ [])) zero ∙ zero-known 66)
             | inr more ↦ inr (inl ((λ i. known_is actor.part i n) ∙ more))
           ]

@@ -15,8 +15,8 @@ use Rattle.rv_board.specs.Seats.{BoardId, SeatValue, SeatGrows}
 use Rattle.rv_board.proofs.GrowLemmas.{same_known, grows_none}
 use Rattle.rv_board.proofs.Knowing.{none_append}
 use Rattle.rv_watch.specs.declared.watcher.Watcher.{Watcher}
-use Rattle.rv_watch.specs.Watching.{word_seen, CanWatch, Watches, CanRead, Reads}
-use Rattle.rv_watch.specs.Words.{AreWords, AreApart, IsSeen, last_of}
+use Rattle.rv_watch.specs.Watching.{word_seen, CanWatch, WatchesSlot, CanRead, ReadsSlot}
+use Rattle.rv_watch.specs.Words.{AreWords, AreApart, IsSeen, last_word}
 use Rattle.rv_watch.proofs.WordLemmas.{words-none, words-later, words-push, last-push, apart-push}
 
 -- a list grows twice by no entry of its seat's own
@@ -35,7 +35,7 @@ grows-on a b c g h =
         sound = subst (λ (z : BoardId). IsSound z.setup (judges_of z.setup) c.part.seen) g.board q.sound;
         number = q.number ∙ p.number;
         end = q.end ∙ p.end;
-        gone = q.gone ∙ p.gone;
+        joined_in = q.joined_in ∙ p.joined_in;
       };
       board = h.board ∙ g.board;
     }
@@ -77,7 +77,7 @@ module _ {G : Type 0} where
   }
 
   -- one reading more
-  pub way-goes : (old cur new : Watcher G) (n m : ℕ) → IsUnderWay old cur n → Reads cur new → IsUnderWay old new m
+  pub way-goes : (old cur new : Watcher G) (n m : ℕ) → IsUnderWay old cur n → ReadsSlot cur new → IsUnderWay old new m
   way-goes old cur new n m way reads = elim reads.keeps [
     | inl put ↦ record {
       grows = grows;
@@ -85,7 +85,7 @@ module _ {G : Type 0} where
       words = subst (AreWords s js new.seat.part.seen old.slot least) (sym put.2) (subst (λ (z : ℕ). AreWords s js new.seat.part.seen old.slot least (cur.words.items ++ z ∷ [])) (sym word) (words-push s js old.slot least new.seat.part.seen cur.words.items long later));
       few = let count = ap length put.2 ∙ length_push cur.words.items seen in let below = put.0 in omega arith;
       apart = subst AreApart (sym put.2) (apart-push cur.words.items seen way.apart put.1);
-      newest = λ some below. (let count = ap length put.2 ∙ length_push cur.words.items seen in omega arith, ap last_of put.2 ∙ last-push cur.words.items seen ∙ same);
+      newest = λ some below. (let count = ap length put.2 ∙ length_push cur.words.items seen in omega arith, ap last_word put.2 ∙ last-push cur.words.items seen ∙ same);
       room = room;
     }
     | inr still ↦ record {
@@ -131,7 +131,7 @@ module _ {G : Type 0} where
       room = let had = way.room in let has = reads.room in omega arith
 
   -- it ends after a reading
-  pub way-ends : (old cur : Watcher G) (n : ℕ) → 0 < n → IsUnderWay old cur n → Watches old cur
+  pub way-ends : (old cur : Watcher G) (n : ℕ) → 0 < n → IsUnderWay old cur n → WatchesSlot old cur
   way-ends old cur n some way = record {
     grows = way.grows;
     slot_is = way.slot_is;

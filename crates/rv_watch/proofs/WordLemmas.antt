@@ -9,7 +9,7 @@ use Rattle.rv_model.specs.Judging.{Judge}
 use Rattle.rv_model.specs.Setups.{Setup}
 use Rattle.rv_model.specs.SharedWords.{word_of}
 use Rattle.rv_model.proofs.NumberLemmas.{nat_lt_or}
-use Rattle.rv_watch.specs.Words.{word_after, AreWords, last_of, AreApart}
+use Rattle.rv_watch.specs.Words.{word_after, AreWords, last_word, AreApart}
 
 -- functions that agree on a list map it alike
 map-same : {X Y : Type 0} (f g : X → Y) (xs : List X) → All (λ x. f x ≡ g x) xs → map f xs ≡ map g xs
@@ -54,11 +54,11 @@ module _ (s : Setup) (js : List Judge) (slot least : ℕ) where
 -- ---- what is kept
 
 -- the last one
-pub last-push : (words : List ℕ) (word : ℕ) → last_of (words ++ word ∷ []) ≡ word
+pub last-push : (words : List ℕ) (word : ℕ) → last_word (words ++ word ∷ []) ≡ word
 last-push words word = let count = length_push words word in get_or_at words word [] 0 (length (words ++ word ∷ []) - 1) (omega arith)
 
 -- another word behind words that are apart
-pub apart-push : (words : List ℕ) (word : ℕ) → AreApart words → (0 < length words → last_of words ≢ word) → AreApart (words ++ word ∷ [])
+pub apart-push : (words : List ℕ) (word : ℕ) → AreApart words → (0 < length words → last_word words ≢ word) → AreApart (words ++ word ∷ [])
 apart-push words word apart other k within =
     let count = length_push words word in
     let this : slice_index (words ++ word ∷ []) k ≡ slice_index words k = get_or_append_left words (word ∷ []) 0 k (omega arith) in
@@ -69,6 +69,6 @@ apart-push words word apart other k within =
       | inr end ↦
           let next : slice_index (words ++ word ∷ []) (k + 1) ≡ word = get_or_at words word [] 0 (k + 1) (sym end) in
           let place : length words - 1 ≡ k = omega arith in
-          let last : last_of words ≡ slice_index words k = ap (slice_index words) place in
+          let last : last_word words ≡ slice_index words k = ap (slice_index words) place in
           λ same. other (omega arith) (last ∙ sym this ∙ same ∙ next)
     ]

@@ -9,11 +9,11 @@ use Rattle.rv_text.specs.Decimal.{decimal_of}
 use Rattle.rv_slots.specs.Shapes.{count_of}
 use Rattle.rv_slots.specs.Tasks.{task_of, same_task}
 use Rattle.rv_bind.specs.declared.bindings.Monitor.{Monitor}
-use Rattle.rv_control.specs.Trees.{shown_in}
+use Rattle.rv_control.specs.Trees.{display_name}
 
 -- the monitor's shown name is this one
 abbrev pub is_named : List (List ℕ) → List ℕ → Monitor → Bool
-is_named containers name m = bytes_eq (shown_in containers m.container m.name) name
+is_named containers name m = bytes_eq (display_name containers m.container m.name) name
 
 -- a pid is from 1 on, and below 2 ^ 32; the idle tasks have pid 0
 abbrev pub task_by : List Task → ℕ → Option ℕ

@@ -4,7 +4,7 @@ use Rattle.rv_model.specs.SharedWords.{word_of}
 use Rattle.rv_core.specs.Setup.{judges_of}
 use Rattle.rv_board.specs.Seats.{BoardId, SeatValue, SeatGrows}
 use Rattle.rv_watch.specs.declared.watcher.Watcher.{Watcher}
-use Rattle.rv_watch.specs.Words.{AreWords, AreKept, IsSeen, Keeps}
+use Rattle.rv_watch.specs.Words.{AreWords, AreKept, IsSeen, AppendsWord}
 
 -- the slot's word by the board's tables, after all that the seat has seen
 abbrev pub word_seen : SeatValue → ℕ → ℕ
@@ -27,7 +27,7 @@ module _ {G : Type 0} where
 
   -- the seat's list grew by no entry of its own, and the words are the slot's after beginnings of it, none shorter than the list was;
   -- the last word is that after the whole list, unless there are 1,024
-  pub record Watches (old new : Watcher G) : Type 0 where
+  pub record WatchesSlot (old new : Watcher G) : Type 0 where
     pub grows : SeatGrows old.seat new.seat []
     pub slot_is : new.slot ≡ old.slot
     pub words : AreWords new.seat.board.setup (judges_of new.seat.board.setup) new.seat.part.seen old.slot (length old.seat.part.seen) new.words.items
@@ -44,8 +44,8 @@ module _ {G : Type 0} where
     pub room : 1024 ≤ vec_capacity w.words
 
   -- the slot's word was read, and is kept where it is not that before it
-  pub record Reads (old new : Watcher G) : Type 0 where
+  pub record ReadsSlot (old new : Watcher G) : Type 0 where
     pub grows : SeatGrows old.seat new.seat []
     pub slot_is : new.slot ≡ old.slot
-    pub keeps : Keeps old.words.items (word_seen new.seat old.slot) new.words.items
+    pub keeps : AppendsWord old.words.items (word_seen new.seat old.slot) new.words.items
     pub room : vec_capacity old.words ≤ vec_capacity new.words

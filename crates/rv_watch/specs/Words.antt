@@ -20,8 +20,8 @@ pub record AreWords (s : Setup) (js : List Judge) (h : List Entry) (slot least :
 -- ---- what is kept
 
 -- the last word, and 0 where there is none
-abbrev pub last_of : List ℕ → ℕ
-last_of words = slice_index words (length words - 1)
+abbrev pub last_word : List ℕ → ℕ
+last_word words = slice_index words (length words - 1)
 
 -- no word is the one before it
 abbrev pub AreApart : List ℕ → Type 0
@@ -35,8 +35,8 @@ pub record AreKept (words : List ℕ) : Type 0 where
 
 -- the word is the last one, or there are 1,024
 abbrev pub IsSeen : List ℕ → ℕ → Type 0
-IsSeen words word = length words < 1024 → (0 < length words) × (last_of words ≡ word)
+IsSeen words word = length words < 1024 → (0 < length words) × (last_word words ≡ word)
 
 -- the word is put behind the others where there are fewer than 1,024 and the last one is another, and else they stay as they are
-abbrev pub Keeps : List ℕ → ℕ → List ℕ → Type 0
-Keeps old word new = ((length old < 1024) × (0 < length old → last_of old ≢ word) × (new ≡ old ++ word ∷ [])) ⊎ (IsSeen old word × (new ≡ old))
+abbrev pub AppendsWord : List ℕ → ℕ → List ℕ → Type 0
+AppendsWord old word new = ((length old < 1024) × (0 < length old → last_word old ≢ word) × (new ≡ old ++ word ∷ [])) ⊎ (IsSeen old word × (new ≡ old))

@@ -9,7 +9,7 @@ ghost use Rattle.rv_feed.specs.Feeders.{FitsFeeder, RunsFeeder};
 ghost use Rattle.rv_feed.specs.Lane.{FitsLane, panics_of, works_of};
 ghost use Rattle.rv_feed.specs.One.{lane_records};
 ghost use Rattle.rv_watch.specs.Runs.{IsWatchedOf};
-ghost use Rattle.rv_watch.specs.Watching.{CanWatch, Watches};
+ghost use Rattle.rv_watch.specs.Watching.{CanWatch, WatchesSlot};
 ghost use Rattle.rv_watch.specs.Words.{AreKept};
 
 use crate::watcher::{WATCHER, Watcher, watch};
@@ -61,7 +61,7 @@ fn run_watched<R: Threads + Sync, G: Gate + Send>(
     requires feeders { All (FitsFeeder board.now) feeders.old }
     requires watcher { CanWatch board.now watcher.old }
     ensures feeders { AllZip (RunsFeeder (panics_of reactors.now)) feeders.old feeders.new }
-    ensures watcher { Watches watcher.old watcher.new }
+    ensures watcher { WatchesSlot watcher.old watcher.new }
 {
     let done = AtomicBool::new(false);
     let mut left = ||
@@ -70,7 +70,7 @@ fn run_watched<R: Threads + Sync, G: Gate + Send>(
     { run_then_tell(rt, board, reactors, feeders, &done) };
     let mut right = ||
         requires { CanWatch board.now watcher.now }
-        ensures { Watches watcher.entry.now watcher.exit.now }
+        ensures { WatchesSlot watcher.entry.now watcher.exit.now }
     { watch(board, watcher, &done) };
     join_mut(rt, &mut left, &mut right);
 }
@@ -94,7 +94,7 @@ pub fn feed_watched<R: Threads + Sync, G: Gate + Send>(
     ensures words { IfOk result (λ run. (specs : List Spec) → AllMean specs setup.tables → IsWatchedOf slot run.words.items run.last (input_with setup specs (panics_of reactors.now) lanes.items []) (lane_records run.lanes.items) run.closed) }
     ensures kept { IfOk result (λ run. AreKept run.words.items) }
 {
-    setup.known();
+    setup.assert_invariant();
     let BoardStart { board, mut seat } = Board::new(alloc, setup)?;
     let own = board.split(&mut seat, SEAT);
     let mut watcher = Watcher::new(alloc, own, slot, gate.for_cpu(WATCHER))?;

@@ -1,7 +1,7 @@
 //! A seat that reads the word of one slot, and keeps what it read.
 ghost use Rattle.std.specs.Prelude.{◌≡◌, ◌<◌, ◌≤◌, [], length, vec_capacity, IfOk};
-ghost use Rattle.rv_watch.specs.Watching.{CanWatch, IsWatcher, Watches, CanRead, Reads};
-ghost use Rattle.rv_watch.specs.Words.{Keeps};
+ghost use Rattle.rv_watch.specs.Watching.{CanWatch, IsWatcher, WatchesSlot, CanRead, ReadsSlot};
+ghost use Rattle.rv_watch.specs.Words.{AppendsWord};
 
 use rv_board::{Board, Seat};
 use rv_io::Gate;
@@ -45,7 +45,7 @@ impl<G: Gate> Watcher<G> {
 fn keep(words: &mut Vec<u64>, word: u64)
     requires few { length words.old.items ≤ 1024 }
     requires room { 1024 ≤ vec_capacity words.old }
-    ensures words { Keeps words.old.items word words.new.items }
+    ensures words { AppendsWord words.old.items word words.new.items }
     ensures room { vec_capacity words.old ≤ vec_capacity words.new }
 {
     if words.len() == KEPT || words.last() == Some(&word) {
@@ -60,7 +60,7 @@ fn keep(words: &mut Vec<u64>, word: u64)
 /// One reading.
 fn read<G: Gate>(board: &Board, watcher: &mut Watcher<G>)
     requires { CanRead board.now watcher.old }
-    ensures { Reads watcher.old watcher.new }
+    ensures { ReadsSlot watcher.old watcher.new }
 {
     let word = board.word(&mut watcher.seat, watcher.slot);
     keep(&mut watcher.words, word);
@@ -70,7 +70,7 @@ fn read<G: Gate>(board: &Board, watcher: &mut Watcher<G>)
 /// waits for nobody.
 pub fn watch<G: Gate>(board: &Board, watcher: &mut Watcher<G>, done: &AtomicBool)
     requires { CanWatch board.now watcher.old }
-    ensures { Watches watcher.old watcher.new }
+    ensures { WatchesSlot watcher.old watcher.new }
 {
     watcher.seat.number();
     for reading in 0..READINGS {

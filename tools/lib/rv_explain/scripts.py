@@ -97,5 +97,5 @@ def no_value(words, line_number, bindings, is_beside):
         if not value:
             return Finding("nothing cannot be appended", "`write enabled_monitors` without a text disables all", line_number, *path[:2])
         names = [*bindings.containers, *(monitor.shown for monitor in bindings.monitors.values())] if bindings else []
-        return Finding(f"`{value}` is no container's or monitor's shown name" + ("" if names else " (or it is misspelled)"), did_you_mean(value.lstrip("!"), names, "the names") if names else "give the words of the command, and its bindings are looked at", line_number, *place)
+        return Finding(f"`{value}` is no container's or monitor's display name" + ("" if names else " (or it is misspelled)"), did_you_mean(value.lstrip("!"), names, "the names") if names else "give the words of the command, and its bindings are looked at", line_number, *place)
     return None

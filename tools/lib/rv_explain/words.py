@@ -104,7 +104,7 @@ def no_instance(words, bindings, path):
         inner = bindings.monitors.get(name)
         start = len(line) - len(instance) - 1 - len(name)
         mend = f"write `{inner.shown}`: it is in a container" if inner else did_you_mean(name, [it.shown for it in bindings.monitors.values()], "the monitors")
-        return Finding(f"no monitor has the shown name `{name}`", mend, 0, start, start + len(name))
+        return Finding(f"no monitor has the display name `{name}`", mend, 0, start, start + len(name))
     if monitor.scope == "global":
         return Finding(f"`{name}` is global: it has the instance 0 alone", "write `0`", 0, *at)
     if monitor.scope == "cpu":

@@ -21,4 +21,4 @@ returns c =
     let n : c.slots-slots.result ≡ sum c.args.setup.now.shape = rw (← c.setup.view_is) c.slots-slots.ensures.sum in
     let all : c.loop-slot.slot ≡ sum c.args.setup.now.shape = omega arith in
     let whole = c.loop-slot.invariant ∙ ap (opening_words c.args.setup.now) all in
-    subst (IsOpening c.args.setup.now) (sym whole) (opening-is c.args.setup.now c.known.ensures)
+    subst (IsOpening c.args.setup.now) (sym whole) (opening-is c.args.setup.now c.assert_invariant.ensures)

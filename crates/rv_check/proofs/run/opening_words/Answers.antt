@@ -20,4 +20,4 @@ pub returns : goal.returns
 returns c =
     let n : c.slots-slots.result ≡ sum c.args.setup.now.shape = c.slots-slots.ensures.sum ∙ ap (λ (s : Setup). sum s.shape) c.setup.view_is in
     let all : c.loop-slot.slot ≡ sum c.args.setup.now.shape = omega arith in
-    subst (λ (ws : List ℕ). IsCore c.args.setup.now ws []) (sym (c.loop-slot.invariant ∙ ap (opening_words c.args.setup.now) all)) (core-opens c.args.setup.now c.known.ensures)
+    subst (λ (ws : List ℕ). IsCore c.args.setup.now ws []) (sym (c.loop-slot.invariant ∙ ap (opening_words c.args.setup.now) all)) (core-opens c.args.setup.now c.assert_invariant.ensures)

@@ -3,8 +3,8 @@ use Rattle.std.proofs.lemmas.Result.{err_from_is_err_and}
 use Rattle.std.specs.Option.{option_to_list}
 use Rattle.rv_text.specs.TextLines.{line_text}
 use Rattle.rv_text.proofs.ReadingLaws.{Refuses-same}
-use Rattle.rv_control.specs.Scripts.{onto, all_said, script_of}
-use Rattle.rv_control.proofs.ScriptLemmas.{onto-none, all_said-none, all_said-ok, all_said-refused}
+use Rattle.rv_control.specs.Scripts.{onto, commands_of_lines, script_of}
+use Rattle.rv_control.proofs.ScriptLemmas.{onto-none, commands_of_lines-none, commands_of_lines-ok, commands_of_lines-refused}
 use Rattle.rv_control.proofs.script.read_script.Goals as goal
 
 pub loop-line-init : goal.loop-line-init
@@ -15,17 +15,17 @@ pub loop-line-preserved : goal.loop-line-preserved
 loop-line-preserved c =
     let later = c.next_line.new.self in
     c.loop-line.invariant
-    ∙ ap (λ lines. onto c.loop-line.commands.items (all_said lines)) c.in-Some.ensures.some
-    ∙ all_said-ok (line_text c.in-Some.line) later c.loop-line.commands.items (option_to_list c.in_ok-read.read) c.in_ok-read.ensures
-    ∙ ap (λ items. onto items (all_said later)) (sym c.in_ok-keep.ensures)
+    ∙ ap (λ lines. onto c.loop-line.commands.items (commands_of_lines lines)) c.in-Some.ensures.some
+    ∙ commands_of_lines-ok (line_text c.in-Some.line) later c.loop-line.commands.items (option_to_list c.in_ok-read.read) c.in_ok-read.ensures
+    ∙ ap (λ items. onto items (commands_of_lines later)) (sym c.in_ok-keep.ensures)
 
 pub returns-in_err-read : goal.returns-in_err-read
 returns-in_err-read c =
     let given = err_from_is_err_and c.from_residual.result c.from_residual.ensures.1 in
     rw (given.1, given.2)
-    (Refuses-same c.in_err-read.field-0.0 _ _ (c.loop-line.invariant ∙ ap (λ lines. onto c.loop-line.commands.items (all_said lines)) c.in-Some.ensures.some)
-    (all_said-refused (line_text c.in-Some.line) c.next_line.new.self c.loop-line.commands.items c.in_err-read.field-0.0 c.in_err-read.ensures))
+    (Refuses-same c.in_err-read.field-0.0 _ _ (c.loop-line.invariant ∙ ap (λ lines. onto c.loop-line.commands.items (commands_of_lines lines)) c.in-Some.ensures.some)
+    (commands_of_lines-refused (line_text c.in-Some.line) c.next_line.new.self c.loop-line.commands.items c.in_err-read.field-0.0 c.in_err-read.ensures))
 
 pub returns : goal.returns
 returns c =
-    c.loop-line.invariant ∙ ap (λ lines. onto c.loop-line.commands.items (all_said lines)) c.in_default.ensures.none.0 ∙ all_said-none c.loop-line.commands.items
+    c.loop-line.invariant ∙ ap (λ lines. onto c.loop-line.commands.items (commands_of_lines lines)) c.in_default.ensures.none.0 ∙ commands_of_lines-none c.loop-line.commands.items

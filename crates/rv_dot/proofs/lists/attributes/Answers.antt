@@ -31,4 +31,4 @@ pub returns-clause-value : goal.returns-clause-value
 returns-clause-value c =
     let so_far = c.attributes.invariant in
     let few : length (lexemes c.attributes.rest.now) ≤ so_far.0 = rw (length_lexemes c.attributes.rest.now) so_far.1 in
-    rw c.without.ensures.value (attributes_are_done (settings c.attributes.found.items) so_far.0 (lexemes c.attributes.rest.now) (attributes_at (lexemes c.args.tokens.now)) (sym c.begins.ensures.value ∙ c.attributes-test.false) few so_far.3)
+    rw c.past_mark.ensures.value (attributes_are_done (settings c.attributes.found.items) so_far.0 (lexemes c.attributes.rest.now) (attributes_at (lexemes c.args.tokens.now)) (sym c.begins.ensures.value ∙ c.attributes-test.false) few so_far.3)

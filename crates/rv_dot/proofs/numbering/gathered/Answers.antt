@@ -1,11 +1,11 @@
 use Rattle.std.proofs.Common.{ap}
 use Rattle.std.specs.Prelude.{map}
-use Rattle.rv_dot.specs.Sets.{set_of, bytes_of}
+use Rattle.rv_dot.specs.Sets.{ascending, bytes_of}
 use Rattle.rv_dot.proofs.SetLaws.{gathers_more}
 use Rattle.rv_dot.proofs.numbering.gathered.Goals as goal
 
 pub names-init : goal.names-init
-unfolding set_of
+unfolding ascending
 names-init c = ap (map bytes_of) c.new-set.ensures.empty
 
 pub names-preserved : goal.names-preserved

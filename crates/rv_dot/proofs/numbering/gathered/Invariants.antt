@@ -1,7 +1,7 @@
 use Rattle.std.proofs.Common.{◌≡◌, take}
 use Rattle.std.specs.Prelude.{map}
-use Rattle.rv_dot.specs.Sets.{set_of, bytes_of}
+use Rattle.rv_dot.specs.Sets.{ascending, bytes_of}
 use Rattle.rv_dot.proofs.numbering.gathered.Given as goal
 
 abbrev pub invariant-names : goal.invariant-names
-invariant-names l = map bytes_of l.set.keys ≡ set_of (map bytes_of (take l.name-index l.names))
+invariant-names l = map bytes_of l.set.keys ≡ ascending (map bytes_of (take l.name-index l.names))

@@ -1,7 +1,7 @@
 use Rattle.std.proofs.Common.{◌≡◌, take}
 use Rattle.rv_dot.specs.Statements.{claims}
-use Rattle.rv_dot.specs.Sayings.{all_said}
+use Rattle.rv_dot.specs.Sayings.{sayings_claims}
 use Rattle.rv_dot.proofs.saying.sayings.Given as goal
 
 abbrev pub invariant-loop-fact : goal.invariant-loop-fact
-invariant-loop-fact l = all_said l.found.items ≡ claims (take l.fact-index l.facts)
+invariant-loop-fact l = sayings_claims l.found.items ≡ claims (take l.fact-index l.facts)

@@ -22,10 +22,10 @@ pub statements-preserved : goal.statements-preserved
 statements-preserved c =
     let so_far = c.statements.invariant in
     let was = c.statements.rest.now in
-    let behind = c.without-rest.result.now in
+    let behind = c.past_mark-rest.result.now in
     let shorter : length (lexemes behind) < length (lexemes was) = rw (length_lexemes behind, length_lexemes was) (omega (arith, c.in_ok-facts.ensures.within)) in
     let few : length (lexemes was) ≤ so_far.0 = rw (length_lexemes was) so_far.1 in
-    let more = go_on (claims c.statements.found.items) so_far.0 (lexemes was) (claims c.in_ok-facts.facts.items) (lexemes c.in_ok-facts.after.now) (lexemes behind) (statements_at (lexemes c.args.tokens.now)) (sym c.begins.ensures.value ∙ c.statements-test.true) c.in_ok-facts.ensures.value c.without-rest.ensures.value shorter few so_far.3 in
+    let more = go_on (claims c.statements.found.items) so_far.0 (lexemes was) (claims c.in_ok-facts.facts.items) (lexemes c.in_ok-facts.after.now) (lexemes behind) (statements_at (lexemes c.args.tokens.now)) (sym c.begins.ensures.value ∙ c.statements-test.true) c.in_ok-facts.ensures.value c.past_mark-rest.ensures.value shorter few so_far.3 in
     let all : c.extend_from_slice.new.self.items ≡ c.statements.found.items ++ c.in_ok-facts.facts.items = rw (c.in_ok-extend_from_slice.ensures.items, c.deref.ensures.value) refl in
     let found : claims c.extend_from_slice.new.self.items ≡ claims c.statements.found.items ++ claims c.in_ok-facts.facts.items = ap claims all ∙ map-append claim c.statements.found.items c.in_ok-facts.facts.items in
     (more.0, omega (arith, more.1, length_lexemes behind), omega (arith, c.in_ok-facts.ensures.within, so_far.2), rw found more.2)
@@ -34,4 +34,4 @@ pub returns : goal.returns
 returns c =
     let so_far = c.statements.invariant in
     let few : length (lexemes c.statements.rest.now) ≤ so_far.0 = rw (length_lexemes c.statements.rest.now) so_far.1 in
-    rw c.without.ensures.value (are_done (claims c.statements.found.items) so_far.0 (lexemes c.statements.rest.now) (statements_at (lexemes c.args.tokens.now)) (sym c.begins.ensures.value ∙ c.statements-test.false) few so_far.3)
+    rw c.past_mark.ensures.value (are_done (claims c.statements.found.items) so_far.0 (lexemes c.statements.rest.now) (statements_at (lexemes c.args.tokens.now)) (sym c.begins.ensures.value ∙ c.statements-test.false) few so_far.3)

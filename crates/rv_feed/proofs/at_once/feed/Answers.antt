@@ -47,7 +47,7 @@ returns-clause-legal g c = λ specs mean.
     are (ap (λ (s : SeatValue). s.part.end) c.in_ok-board.ensures.seat) c.split.ensures.old c.split.ensures.new ran c.run_all.ensures.changer.does c.join.ensures c.join_all.ensures.into c.join_all.ensures.seats c.join_all.ensures.board c.close.ensures in
     let setup_is : board.setup ≡ setup = c.in_ok-board.ensures.board in
     let back : c.join_all.new.lanes.items ≡ lanes_of fs' = c.join_all.ensures.lanes ∙ ap (λ (z : List LaneValue). z ++ lanes_of fs') c.in_ok-feeders.ensures.empty in
-    let judges : AreJudges specs board.setup.tables (judges_of board.setup) = subst (λ (s : Setup). AreJudges specs s.tables (judges_of s)) (sym setup_is) (are-judges specs setup.tables c.known.ensures.are_tables mean) in
+    let judges : AreJudges specs board.setup.tables (judges_of board.setup) = subst (λ (s : Setup). AreJudges specs s.tables (judges_of s)) (sym setup_is) (are-judges specs setup.tables c.assert_invariant.ensures.are_tables mean) in
     let legal = fed-legal board panics c.close.result c.split.new.seat c.split.result c.run_all.new.changer.seat changes fs fs' fed specs judges in
     subst (λ (z : Setup × (List LaneValue × List LaneValue)). IsLegalOf (input_with z.0 specs panics z.1.0 changes) (lane_records z.1.1) c.close.result) (λ i. (setup_is i, (sym are.lanes_are i, sym back i))) legal
 

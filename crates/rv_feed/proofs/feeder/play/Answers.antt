@@ -21,7 +21,7 @@ play_turn-requires-clause-order g c =
     let t : Turn = c.turn_at-turn.result in
     let t_is : t ≡ get_or w.turns place t = c.turn_at-turn.ensures t ∙ ap (λ (v : Work). get_or v.turns place t) c.loop-place.invariant.work_is in
     let lt : place < length w.turns = let a = c.loop-place-test.true in let b = c.turn_count-place-end.ensures in omega arith in
-    subst (λ (x : Turn). x.from ≤ x.to) (sym t_is) (names-in 0 w.turns (length w.deliveries) c.known.ensures place t lt).0
+    subst (λ (x : Turn). x.from ≤ x.to) (sym t_is) (names-in 0 w.turns (length w.deliveries) c.assert_invariant.ensures place t lt).0
 
 pub play_turn-requires-clause-in_list : goal.play_turn-requires-clause-in_list
 play_turn-requires-clause-in_list g c =
@@ -31,7 +31,7 @@ play_turn-requires-clause-in_list g c =
     let same = c.loop-place.invariant.work_is in
     let t_is : t ≡ get_or w.turns place t = c.turn_at-turn.ensures t ∙ ap (λ (v : Work). get_or v.turns place t) same in
     let lt : place < length w.turns = let a = c.loop-place-test.true in let b = c.turn_count-place-end.ensures in omega arith in
-    subst (λ (v : Work). t.to ≤ length v.deliveries) (sym same) (subst (λ (x : Turn). x.to ≤ length w.deliveries) (sym t_is) (names-in 0 w.turns (length w.deliveries) c.known.ensures place t lt).1)
+    subst (λ (v : Work). t.to ≤ length v.deliveries) (sym same) (subst (λ (x : Turn). x.to ≤ length w.deliveries) (sym t_is) (names-in 0 w.turns (length w.deliveries) c.assert_invariant.ensures place t lt).1)
 
 pub play_turn-requires-clause-kept : goal.play_turn-requires-clause-kept
 play_turn-requires-clause-kept g c =
@@ -62,7 +62,7 @@ loop-place-preserved g c =
     let lt : place < length w.turns = let a = c.loop-place-test.true in let b = c.turn_count-place-end.ensures in omega arith in
     let panics = panics_of c.args.reactors.now in
     let v = subst (λ (b : Bool). FeedsTurn c.loop-place.seat c.play_turn.new.seat panics t c.loop-place.lane c.play_turn.new.lane b) c.if-play_turn.false c.play_turn.ensures in
-    fed-more panics c.args.seat.now c.loop-place.seat c.play_turn.new.seat c.args.lane.now c.loop-place.lane c.play_turn.new.lane place c.loop-place.invariant t t_is lt c.known.ensures v
+    fed-more panics c.args.seat.now c.loop-place.seat c.play_turn.new.seat c.args.lane.now c.loop-place.lane c.play_turn.new.lane place c.loop-place.invariant t t_is lt c.assert_invariant.ensures v
 
 pub returns : goal.returns
 returns g c =

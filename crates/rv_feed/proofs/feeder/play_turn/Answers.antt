@@ -3,14 +3,14 @@ use Rattle.std.proofs.Common.{◌≡◌, ◌+◌, ◌<◌, length, ℕ, Bool, tr
 use Rattle.std.proofs.lemmas.List.Elements.{All-get_or}
 use Rattle.rv_model.specs.declared.work.Delivery.{Delivery}
 use Rattle.rv_model.specs.Numbers.{has_bit}
-use Rattle.rv_model.specs.Scripts.{is_shown}
+use Rattle.rv_model.specs.Scripts.{is_enabled_by}
 use Rattle.rv_model.specs.Setups.{Setup}
 use Rattle.rv_model.specs.Works.{Work}
 use Rattle.rv_feed.specs.Feeding.{FeedsDelivery, FeedsPart}
 use Rattle.rv_feed.specs.Lane.{panics_of, FitsDelivery}
 use Rattle.rv_feed.proofs.FeedLemmas.{part-start, turn-off, part-hidden, part-shown, part-ends, part-all}
 use Rattle.rv_feed.proofs.feeder.play_turn.Goals as goal
-use Rattle.rv_feed.proofs.feeder.play_turn.Goals.{then-is_shown+else-deliver, else-is_shown}
+use Rattle.rv_feed.proofs.feeder.play_turn.Goals.{then-is_enabled_by+else-deliver, else-is_enabled_by}
 
 pub returns-then-has_switch : goal.returns-then-has_switch
 returns-then-has_switch g c =
@@ -68,7 +68,7 @@ returns-then-deliver g c =
     let lt : place < length lane.work.deliveries = let a = c.loop-place-test.true in let b = c.requires.in_list in omega arith in
     let panics = panics_of c.args.reactors.now in
     let on : has_bit word 34 ≡ false = sym c.has_switch.ensures ∙ c.if-has_switch.false in
-    let shown : is_shown word d ≡ true = sym c.is_shown.ensures ∙ c.if-is_shown.true in
+    let shown : is_enabled_by word d ≡ true = sym c.is_enabled_by.ensures ∙ c.if-is_enabled_by.true in
     let one = subst (λ (x : Delivery). FeedsDelivery c.loop-place.seat c.deliver.new.seat panics word turn.line x c.loop-place.lane c.deliver.new.lane c.deliver.result) (sym (c.delivery_at-delivery.ensures d)) (c.deliver.ensures d) in
     let v = subst (λ (b : Bool). FeedsDelivery c.loop-place.seat c.deliver.new.seat panics word turn.line d c.loop-place.lane c.deliver.new.lane b) c.if-deliver.true one in
     part-ends panics word turn lane c.args.seat.now c.loop-place.seat c.loop-place.lane place inv d d_is c.loop-place.auto.place lt c.deliver.new.seat c.deliver.new.lane on c.loop-place-test.true shown v
@@ -84,14 +84,14 @@ loop-place-preserved g c =
     let d_is : d ≡ get_or lane.work.deliveries place d = c.delivery_at-delivery.ensures d ∙ ap (λ (w : Work). get_or w.deliveries place d) inv.kept.work_is in
     let lt : place < length lane.work.deliveries = let a = c.loop-place-test.true in let b = c.requires.in_list in omega arith in
     let panics = panics_of c.args.reactors.now in
-    elim c.if-is_shown.branch [
-      | then-is_shown+else-deliver w ↦
-          let shown : is_shown word d ≡ true = sym c.is_shown.ensures ∙ w.if-is_shown.true in
+    elim c.if-is_enabled_by.branch [
+      | then-is_enabled_by+else-deliver w ↦
+          let shown : is_enabled_by word d ≡ true = sym c.is_enabled_by.ensures ∙ w.if-is_enabled_by.true in
           let one = subst (λ (x : Delivery). FeedsDelivery c.loop-place.seat w.deliver.new.seat panics word turn.line x c.loop-place.lane w.deliver.new.lane w.deliver.result) (sym (c.delivery_at-delivery.ensures d)) (w.deliver.ensures d) in
           let v = subst (λ (b : Bool). FeedsDelivery c.loop-place.seat w.deliver.new.seat panics word turn.line d c.loop-place.lane w.deliver.new.lane b) w.if-deliver.false one in
           rw (w.seat-is, w.lane-is) (part-shown panics word turn lane c.args.seat.now c.loop-place.seat c.loop-place.lane place inv d d_is c.loop-place.auto.place lt w.deliver.new.seat w.deliver.new.lane shown v)
-      | else-is_shown w ↦
-          let hidden : is_shown word d ≡ false = sym c.is_shown.ensures ∙ w.if-is_shown.false in
+      | else-is_enabled_by w ↦
+          let hidden : is_enabled_by word d ≡ false = sym c.is_enabled_by.ensures ∙ w.if-is_enabled_by.false in
           rw (w.seat-is, w.lane-is) (part-hidden panics word turn lane c.args.seat.now c.loop-place.seat c.loop-place.lane place inv d d_is c.loop-place.auto.place lt hidden)
     ]
 

@@ -24,5 +24,5 @@ returns c = λ specs mean.
     let last_is : last ≡ end = λ i. record { setup = setup_is i; history = history_is i } in
     let panics = panics_of c.args.reactors.now in
     let ran = subst (λ (v : CoreValue). Ran panics v end c.args.lanes.now c.run_in_order.new.lanes) opens (subst (λ (v : CoreValue). Ran panics first v c.args.lanes.now c.run_in_order.new.lanes) last_is c.run_in_order.ensures) in
-    one-of-run s panics h c.args.lanes.now c.run_in_order.new.lanes specs (subst JudgesBySpecs setup_is c.known.ensures.judges specs mean)
-    (subst (λ (v : CoreValue). Replays v.setup (judges_of v.setup) v.history) last_is c.known.ensures.replays) ran
+    one-of-run s panics h c.args.lanes.now c.run_in_order.new.lanes specs (subst JudgesBySpecs setup_is c.assert_invariant.ensures.judges specs mean)
+    (subst (λ (v : CoreValue). Replays v.setup (judges_of v.setup) v.history) last_is c.assert_invariant.ensures.replays) ran

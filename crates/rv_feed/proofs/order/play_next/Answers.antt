@@ -8,13 +8,13 @@ pub play_turn-requires-clause-order : goal.play_turn-requires-clause-order
 play_turn-requires-clause-order c =
     let w = c.args.lane.now.work in
     let t : Turn = c.turn_at-turn.result in
-    subst (λ (x : Turn). x.from ≤ x.to) (sym (c.turn_at-turn.ensures t)) (names-in 0 w.turns (length w.deliveries) c.known.ensures c.args.place t c.requires.place).0
+    subst (λ (x : Turn). x.from ≤ x.to) (sym (c.turn_at-turn.ensures t)) (names-in 0 w.turns (length w.deliveries) c.assert_invariant.ensures c.args.place t c.requires.place).0
 
 pub play_turn-requires-clause-in_list : goal.play_turn-requires-clause-in_list
 play_turn-requires-clause-in_list c =
     let w = c.args.lane.now.work in
     let t : Turn = c.turn_at-turn.result in
-    subst (λ (x : Turn). x.to ≤ length w.deliveries) (sym (c.turn_at-turn.ensures t)) (names-in 0 w.turns (length w.deliveries) c.known.ensures c.args.place t c.requires.place).1
+    subst (λ (x : Turn). x.to ≤ length w.deliveries) (sym (c.turn_at-turn.ensures t)) (names-in 0 w.turns (length w.deliveries) c.assert_invariant.ensures c.args.place t c.requires.place).1
 
 pub play_turn-requires-clause-kept : goal.play_turn-requires-clause-kept
 play_turn-requires-clause-kept c =

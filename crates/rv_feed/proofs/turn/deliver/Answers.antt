@@ -8,14 +8,14 @@ use Rattle.rv_model.specs.declared.record.Delivered.TheVariants.{Done}
 use Rattle.rv_model.specs.Numbers.{has_bit}
 use Rattle.rv_model.specs.Setups.{slot_of}
 use Rattle.rv_model.specs.Scripts.{fails, hit_act}
-use Rattle.rv_model.specs.Histories.{IsNoStop, IsHeldBy, look_count}
+use Rattle.rv_model.specs.Histories.{IsNoStop, IsPermittedTo, look_count}
 use Rattle.rv_core.specs.Advance.{FitsHit}
 use Rattle.rv_core.specs.Core.{CoreValue}
 use Rattle.rv_core.specs.Setup.{FitsAct, table_at}
 use Rattle.rv_model.specs.declared.work.Delivery.{Delivery}
 use Rattle.rv_feed.specs.Kept.{record_on}
 use Rattle.rv_feed.specs.Lane.{panics_of, AddsRecords, FitsDelivery}
-use Rattle.rv_feed.specs.Turns.{Delivers}
+use Rattle.rv_feed.specs.Turns.{DeliversRecorded}
 use Rattle.rv_model.specs.Records.{record_of}
 use Rattle.rv_model.specs.declared.record.Record.{Record}
 use Rattle.rv_model.proofs.ScriptPartLemmas.{part-one, last-one, part-quiet}
@@ -59,7 +59,7 @@ returns-then-ends c = λ any.
     let act : e.act ≡ hit_act (slot_of s.shape d.monitor d.instance) d.hit = t.act_is ∙ c.hit_act.ensures ∙ ap (λ (n : ℕ). hit_act n d.hit) slot in
     let known = subst (λ (x : Delivery). AddsRecords c.args.lane.now c.keep.new.lane (record_on c.args.line (Done a) c.has_switch.result x ∷ [])) (sym (c.delivery_at-delivery.ensures d)) (c.keep.ensures d) in
     let kept = subst (λ (b : Bool). AddsRecords c.args.lane.now c.keep.new.lane (record_on c.args.line (Done a) b d ∷ [])) c.has_switch.ensures known in
-    let did = did-step old c.step-answer.new.self c.args.seat c.hit_act.result a t (subst IsNoStop (sym c.hit_act.ensures) (hit-free c.slot-slot.result d.hit)) (subst (λ (z : Act). IsHeldBy z c.args.seat) (sym c.hit_act.ensures) (hit-held c.args.seat c.slot-slot.result d.hit)) in
+    let did = did-step old c.step-answer.new.self c.args.seat c.hit_act.result a t (subst IsNoStop (sym c.hit_act.ensures) (hit-free c.slot-slot.result d.hit)) (subst (λ (z : Act). IsPermittedTo z c.args.seat) (sym c.hit_act.ensures) (hit-held c.args.seat c.slot-slot.result d.hit)) in
     let still = part-quiet s panics c.args.word c.args.line d e a (inl act) in
     let u = c.step-answer-then-ends.ensures in
     let b = c.step-answer-then-ends.result in
@@ -68,7 +68,7 @@ returns-then-ends c = λ any.
     let quiet_too : look_count u.entry.act ≡ 0 = rw u.act_is refl in
     let made : Record = record { order = d.order; line = c.args.line; monitor = d.monitor; instance = d.instance; hit = d.hit; outcome = Done a; reacting = has_bit c.args.word 33 } in
     let made_is : record_of c.args.line c.args.word (d, (e, a)) ≡ made = rw act (ap (record-for c.args.line c.args.word d) (hit-done (slot_of s.shape d.monitor d.instance) d.hit a)) in
-    let made_so : Delivers old c.step-answer-then-ends.new.self panics c.args.seat c.args.word c.args.line d c.args.lane.now c.keep.new.lane c.halts-ends.result =
+    let made_so : DeliversRecorded old c.step-answer-then-ends.new.self panics c.args.seat c.args.word c.args.line d c.args.lane.now c.keep.new.lane c.halts-ends.result =
     record {
       ps = (e, a) ∷ (u.entry, b) ∷ [];
       made = made;
@@ -77,7 +77,7 @@ returns-then-ends c = λ any.
       part = rw c.if-ends.true (last-one s panics c.args.word c.args.line d e a (inl act) made made_is ends u.entry b raise);
       kept = kept;
     } in
-    subst (λ (x : Delivery). Delivers old c.step-answer-then-ends.new.self panics c.args.seat c.args.word c.args.line x c.args.lane.now c.keep.new.lane c.halts-ends.result) (c.delivery_at-delivery.ensures any) made_so
+    subst (λ (x : Delivery). DeliversRecorded old c.step-answer-then-ends.new.self panics c.args.seat c.args.word c.args.line x c.args.lane.now c.keep.new.lane c.halts-ends.result) (c.delivery_at-delivery.ensures any) made_so
 
 pub returns-else-ends : goal.returns-else-ends
 returns-else-ends c = λ any.
@@ -92,12 +92,12 @@ returns-else-ends c = λ any.
     let act : e.act ≡ hit_act (slot_of s.shape d.monitor d.instance) d.hit = t.act_is ∙ c.hit_act.ensures ∙ ap (λ (n : ℕ). hit_act n d.hit) slot in
     let known = subst (λ (x : Delivery). AddsRecords c.args.lane.now c.keep.new.lane (record_on c.args.line (Done a) c.has_switch.result x ∷ [])) (sym (c.delivery_at-delivery.ensures d)) (c.keep.ensures d) in
     let kept = subst (λ (b : Bool). AddsRecords c.args.lane.now c.keep.new.lane (record_on c.args.line (Done a) b d ∷ [])) c.has_switch.ensures known in
-    let did = did-step old c.step-answer.new.self c.args.seat c.hit_act.result a t (subst IsNoStop (sym c.hit_act.ensures) (hit-free c.slot-slot.result d.hit)) (subst (λ (z : Act). IsHeldBy z c.args.seat) (sym c.hit_act.ensures) (hit-held c.args.seat c.slot-slot.result d.hit)) in
+    let did = did-step old c.step-answer.new.self c.args.seat c.hit_act.result a t (subst IsNoStop (sym c.hit_act.ensures) (hit-free c.slot-slot.result d.hit)) (subst (λ (z : Act). IsPermittedTo z c.args.seat) (sym c.hit_act.ensures) (hit-held c.args.seat c.slot-slot.result d.hit)) in
     let still = part-quiet s panics c.args.word c.args.line d e a (inl act) in
     let on : (fails a && (panics d.monitor && has_bit c.args.word 33)) ≡ false = sym c.halts-ends.ensures ∙ c.if-ends.false in
     let made : Record = record { order = d.order; line = c.args.line; monitor = d.monitor; instance = d.instance; hit = d.hit; outcome = Done a; reacting = has_bit c.args.word 33 } in
     let made_is : record_of c.args.line c.args.word (d, (e, a)) ≡ made = rw act (ap (record-for c.args.line c.args.word d) (hit-done (slot_of s.shape d.monitor d.instance) d.hit a)) in
-    let made_so : Delivers old c.step-answer.new.self panics c.args.seat c.args.word c.args.line d c.args.lane.now c.keep.new.lane c.halts-ends.result =
+    let made_so : DeliversRecorded old c.step-answer.new.self panics c.args.seat c.args.word c.args.line d c.args.lane.now c.keep.new.lane c.halts-ends.result =
     record {
       ps = (e, a) ∷ [];
       made = made;
@@ -106,4 +106,4 @@ returns-else-ends c = λ any.
       part = rw c.if-ends.false (part-one s panics c.args.word c.args.line d e a (inl act) made made_is on);
       kept = kept;
     } in
-    subst (λ (x : Delivery). Delivers old c.step-answer.new.self panics c.args.seat c.args.word c.args.line x c.args.lane.now c.keep.new.lane c.halts-ends.result) (c.delivery_at-delivery.ensures any) made_so
+    subst (λ (x : Delivery). DeliversRecorded old c.step-answer.new.self panics c.args.seat c.args.word c.args.line x c.args.lane.now c.keep.new.lane c.halts-ends.result) (c.delivery_at-delivery.ensures any) made_so

@@ -3,15 +3,15 @@ use Rattle.std.proofs.Common.{◌≡◌, ◌+◌, ◌<◌, ◌≤◌, length, �
 use Rattle.std.proofs.lemmas.List.Elements.{All-get_or}
 use Rattle.rv_model.specs.declared.work.Delivery.{Delivery}
 use Rattle.rv_model.specs.Numbers.{has_bit}
-use Rattle.rv_model.specs.Scripts.{is_shown}
+use Rattle.rv_model.specs.Scripts.{is_enabled_by}
 use Rattle.rv_model.specs.Setups.{Setup}
 use Rattle.rv_model.specs.Works.{Work}
 use Rattle.rv_core.specs.Core.{CoreValue}
 use Rattle.rv_feed.specs.Lane.{panics_of, FitsDelivery}
-use Rattle.rv_feed.specs.Turns.{Delivers, PartDone}
+use Rattle.rv_feed.specs.Turns.{DeliversRecorded, PartDone}
 use Rattle.rv_feed.proofs.TurnLemmas.{done-start, done-hidden, done-shown, done-ends, done-all, done-halted}
 use Rattle.rv_feed.proofs.turn.play_turn.Goals as goal
-use Rattle.rv_feed.proofs.turn.play_turn.Goals.{then-is_shown+else-deliver, else-is_shown}
+use Rattle.rv_feed.proofs.turn.play_turn.Goals.{then-is_enabled_by+else-deliver, else-is_enabled_by}
 
 pub returns-then-has_switch : goal.returns-then-has_switch
 returns-then-has_switch c =
@@ -70,9 +70,9 @@ returns-then-deliver c =
     let panics = panics_of c.args.reactors.now in
     let on : has_bit c.look-word.result 34 ≡ false = sym c.has_switch.ensures ∙ c.if-has_switch.false in
     let from : c.args.turn.now.from ≤ place = c.loop-place.auto.place in
-    let shown : is_shown c.look-word.result d ≡ true = sym c.is_shown.ensures ∙ c.if-is_shown.true in
-    let one = subst (λ (x : Delivery). Delivers c.loop-place.core c.deliver.new.core panics c.seat_of-seat.result c.look-word.result c.args.turn.now.line x c.loop-place.lane c.deliver.new.lane c.deliver.result) (sym (c.delivery_at-delivery.ensures d)) (c.deliver.ensures d) in
-    let v = subst (λ (b : Bool). Delivers c.loop-place.core c.deliver.new.core panics c.seat_of-seat.result c.look-word.result c.args.turn.now.line d c.loop-place.lane c.deliver.new.lane b) c.if-deliver.true one in
+    let shown : is_enabled_by c.look-word.result d ≡ true = sym c.is_enabled_by.ensures ∙ c.if-is_enabled_by.true in
+    let one = subst (λ (x : Delivery). DeliversRecorded c.loop-place.core c.deliver.new.core panics c.seat_of-seat.result c.look-word.result c.args.turn.now.line x c.loop-place.lane c.deliver.new.lane c.deliver.result) (sym (c.delivery_at-delivery.ensures d)) (c.deliver.ensures d) in
+    let v = subst (λ (b : Bool). DeliversRecorded c.loop-place.core c.deliver.new.core panics c.seat_of-seat.result c.look-word.result c.args.turn.now.line d c.loop-place.lane c.deliver.new.lane b) c.if-deliver.true one in
     done-ends panics c.seat_of-seat.result c.look-word.result c.args.turn.now lane c.look-word.new.core c.loop-place.core c.loop-place.lane place inv d d_is from lt c.args.core.now c.deliver.new.core c.deliver.new.lane c.look-word.ensures on c.seat_of-seat.ensures c.loop-place-test.true shown v
 
 pub loop-place-preserved : goal.loop-place-preserved
@@ -85,14 +85,14 @@ loop-place-preserved c =
     let lt : place < length lane.work.deliveries = let a = c.loop-place-test.true in let b = c.requires.in_list in omega arith in
     let panics = panics_of c.args.reactors.now in
     let from : c.args.turn.now.from ≤ place = c.loop-place.auto.place in
-    elim c.if-is_shown.branch [
-      | then-is_shown+else-deliver w ↦
-          let shown : is_shown c.look-word.result d ≡ true = sym c.is_shown.ensures ∙ w.if-is_shown.true in
-          let one = subst (λ (x : Delivery). Delivers c.loop-place.core w.deliver.new.core panics c.seat_of-seat.result c.look-word.result c.args.turn.now.line x c.loop-place.lane w.deliver.new.lane w.deliver.result) (sym (c.delivery_at-delivery.ensures d)) (w.deliver.ensures d) in
-          let v = subst (λ (b : Bool). Delivers c.loop-place.core w.deliver.new.core panics c.seat_of-seat.result c.look-word.result c.args.turn.now.line d c.loop-place.lane w.deliver.new.lane b) w.if-deliver.false one in
+    elim c.if-is_enabled_by.branch [
+      | then-is_enabled_by+else-deliver w ↦
+          let shown : is_enabled_by c.look-word.result d ≡ true = sym c.is_enabled_by.ensures ∙ w.if-is_enabled_by.true in
+          let one = subst (λ (x : Delivery). DeliversRecorded c.loop-place.core w.deliver.new.core panics c.seat_of-seat.result c.look-word.result c.args.turn.now.line x c.loop-place.lane w.deliver.new.lane w.deliver.result) (sym (c.delivery_at-delivery.ensures d)) (w.deliver.ensures d) in
+          let v = subst (λ (b : Bool). DeliversRecorded c.loop-place.core w.deliver.new.core panics c.seat_of-seat.result c.look-word.result c.args.turn.now.line d c.loop-place.lane w.deliver.new.lane b) w.if-deliver.false one in
           rw (w.core-is, w.lane-is) (done-shown panics c.seat_of-seat.result c.look-word.result c.args.turn.now lane c.look-word.new.core c.loop-place.core c.loop-place.lane place inv d d_is from lt w.deliver.new.core w.deliver.new.lane shown v)
-      | else-is_shown w ↦
-          let hidden : is_shown c.look-word.result d ≡ false = sym c.is_shown.ensures ∙ w.if-is_shown.false in
+      | else-is_enabled_by w ↦
+          let hidden : is_enabled_by c.look-word.result d ≡ false = sym c.is_enabled_by.ensures ∙ w.if-is_enabled_by.false in
           rw (w.core-is, w.lane-is) (done-hidden panics c.seat_of-seat.result c.look-word.result c.args.turn.now lane c.look-word.new.core c.loop-place.core c.loop-place.lane place inv d d_is from lt hidden)
     ]
 

@@ -1,15 +1,15 @@
 use Rattle.std.proofs.Common.{◌≡◌, ◌∙◌, ℕ, true, List, [], map, ap, sym, get_or, drop}
 use Rattle.rv_dot.specs.Sets.{bytes_of}
-use Rattle.rv_header.specs.Taking.{pieces, piece, quoted_in, members_in, states_in, events_in, rows_in, marks_in, are_few}
+use Rattle.rv_header.specs.Taking.{pieces, piece_from, quoted_in, members_in, state_names_in, events_in, rows_in, marks_in, are_few}
 use Rattle.rv_header.proofs.FilesTaken.{many_states, many_events, file_is}
 use Rattle.rv_header.proofs.reading.file_in.Goals as goal
 use Rattle.rv_header.proofs.reading.file_in.Goals.{then-not-are_few-via-then-not-are_few, then-not-are_few-via-else-not-are_few+then-not-are_few-2}
 
 pub returns-then-not-are_few : goal.returns-then-not-are_few
-unfolding piece
+unfolding piece_from
 returns-then-not-are_few c =
     let at : ℕ → List (List ℕ) → List ℕ = λ k ps. get_or ps k [] in
-    let states : map bytes_of c.in_ok-states.states.items ≡ states_in c.args.bytes.now = c.in_ok-states.ensures ∙ ap quoted_in (c.text_at.ensures ∙ ap (at 1) (ap (map bytes_of) c.deref.ensures.value ∙ c.in_ok-texts.ensures)) in
+    let states : map bytes_of c.in_ok-states.states.items ≡ state_names_in c.args.bytes.now = c.in_ok-states.ensures ∙ ap quoted_in (c.text_at.ensures ∙ ap (at 1) (ap (map bytes_of) c.deref.ensures.value ∙ c.in_ok-texts.ensures)) in
     let events : map bytes_of c.in_ok-events.events.items ≡ events_in c.args.bytes.now = c.in_ok-events.ensures ∙ ap quoted_in (c.text_at-2.ensures ∙ ap (at 2) (ap (map bytes_of) c.deref-2.ensures.value ∙ c.in_ok-texts.ensures)) in
     let first : are_few 31 (map bytes_of c.in_ok-states.states.items) ≡ c.are_few.result = sym (c.are_few.ensures ∙ ap (are_few 31) (ap (map bytes_of) c.deref-3.ensures.value)) in
     elim c.then-not-are_few.branch [
@@ -19,14 +19,14 @@ returns-then-not-are_few c =
     ]
 
 pub returns : goal.returns
-unfolding piece
+unfolding piece_from
 returns c =
     let at : ℕ → List (List ℕ) → List ℕ = λ k ps. get_or ps k [] in
-    let states : map bytes_of c.in_ok-states.states.items ≡ states_in c.args.bytes.now = c.in_ok-states.ensures ∙ ap quoted_in (c.text_at.ensures ∙ ap (at 1) (ap (map bytes_of) c.deref.ensures.value ∙ c.in_ok-texts.ensures)) in
+    let states : map bytes_of c.in_ok-states.states.items ≡ state_names_in c.args.bytes.now = c.in_ok-states.ensures ∙ ap quoted_in (c.text_at.ensures ∙ ap (at 1) (ap (map bytes_of) c.deref.ensures.value ∙ c.in_ok-texts.ensures)) in
     let events : map bytes_of c.in_ok-events.events.items ≡ events_in c.args.bytes.now = c.in_ok-events.ensures ∙ ap quoted_in (c.text_at-2.ensures ∙ ap (at 2) (ap (map bytes_of) c.deref-2.ensures.value ∙ c.in_ok-texts.ensures)) in
-    let lines : map bytes_of c.in_ok-lines.lines.items ≡ pieces 123 (piece 46 3 c.args.bytes.now) = c.in_ok-lines.ensures ∙ ap (pieces 123) (c.text_at-3.ensures ∙ ap (at 3) (ap (map bytes_of) c.deref-4.ensures.value ∙ c.in_ok-texts.ensures)) in
+    let lines : map bytes_of c.in_ok-lines.lines.items ≡ pieces 123 (piece_from 46 3 c.args.bytes.now) = c.in_ok-lines.ensures ∙ ap (pieces 123) (c.text_at-3.ensures ∙ ap (at 3) (ap (map bytes_of) c.deref-4.ensures.value ∙ c.in_ok-texts.ensures)) in
     let rows : map bytes_of c.behind_two.result.now ≡ rows_in c.args.bytes.now = c.behind_two.ensures ∙ ap (drop 2) (ap (map bytes_of) c.deref-8.ensures.value ∙ lines) in
-    let last : c.in_ok-piece.field-0.now ≡ piece 123 1 (piece 46 5 c.args.bytes.now) = c.in_ok-piece.ensures ∙ ap (piece 123 1) (c.text_at-4.ensures ∙ ap (at 5) (ap (map bytes_of) c.deref-5.ensures.value ∙ c.in_ok-texts.ensures)) in
+    let last : c.in_ok-piece_from.field-0.now ≡ piece_from 123 1 (piece_from 46 5 c.args.bytes.now) = c.in_ok-piece_from.ensures ∙ ap (piece_from 123 1) (c.text_at-4.ensures ∙ ap (at 5) (ap (map bytes_of) c.deref-5.ensures.value ∙ c.in_ok-texts.ensures)) in
     let marks : map bytes_of c.in_ok-marks.marks.items ≡ marks_in c.args.bytes.now = c.in_ok-marks.ensures ∙ ap members_in last in
     let few : are_few 31 (map bytes_of c.in_ok-states.states.items) ≡ true = sym (c.are_few.ensures ∙ ap (are_few 31) (ap (map bytes_of) c.deref-3.ensures.value)) ∙ c.if-not-are_few.false in
     let few' : are_few 64 (map bytes_of c.in_ok-events.events.items) ≡ true = sym (c.are_few-else-not-are_few.ensures ∙ ap (are_few 64) (ap (map bytes_of) c.deref-else-not-are_few.ensures.value)) ∙ c.if-not-are_few-2.false in

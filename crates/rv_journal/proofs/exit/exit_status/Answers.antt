@@ -2,7 +2,7 @@ use Rattle.std.proofs.Common.{◌≡◌, ℕ, Bool, true, false, List, sym, ◌�
 use Rattle.std.specs.Prelude.{if◌then◌else◌}
 use Rattle.std.specs.List.{list_any}
 use Rattle.rv_model.specs.declared.entry.Entry.{Entry}
-use Rattle.rv_verdicts.specs.Exits.{has_stop}
+use Rattle.rv_laws.specs.Exits.{has_stop}
 use Rattle.rv_journal.specs.Whole.{is_failed_entry}
 use Rattle.rv_journal.proofs.ExitLemmas.{exit-shown}
 use Rattle.rv_journal.proofs.exit.exit_status.Goals as goal

@@ -1,7 +1,7 @@
 -- The board's delivery, to the slot of the instance.
 use Rattle.std.proofs.Common.{List, ℕ, ◌≡◌, ◌-◌, ap, sym, ◌∙◌, subst}
 use Rattle.rv_model.specs.Setups.{slot_of}
-use Rattle.rv_board.specs.Deliveries.{Delivers}
+use Rattle.rv_board.specs.Deliveries.{DeliversOrStops}
 use Rattle.rv_board.specs.Seats.{BoardId}
 use Rattle.rv_core.specs.Advance.{FitsTable}
 use Rattle.rv_core.specs.Setup.{table_at}
@@ -31,5 +31,5 @@ returns g c =
     c.slot-slot.ensures.slot ∙ ap (λ (shape : List ℕ). slot_of shape d.monitor d.instance) c.shape.ensures ∙ ap (λ (b : BoardId). slot_of b.setup.shape d.monitor d.instance) (sym c.requires.board) in
     fed-one c.args.seat.now c.deliver.new.seat d c.deliver.result
     (subst (λ (slot : ℕ). Counts c.args.seat.now.seat c.deliver.new.seat.seat slot c.deliver.result) at c.deliver.ensures.counts)
-    (subst (λ (slot : ℕ). Delivers c.args.seat.now.seat c.deliver.new.seat.seat slot d.hit c.deliver.result.outcome) at c.deliver.ensures.delivers)
+    (subst (λ (slot : ℕ). DeliversOrStops c.args.seat.now.seat c.deliver.new.seat.seat slot d.hit c.deliver.result.outcome) at c.deliver.ensures.delivers)
     c.deliver.ensures.left

@@ -1,8 +1,8 @@
 -- Where no lane's next step is ready, all is placed.
-use Rattle.rv_journal.specs.MergeRuns.{run_of}
+use Rattle.rv_journal.specs.MergeRuns.{merge_run}
 use Rattle.rv_journal.proofs.FinishLemmas.{done}
 use Rattle.rv_journal.proofs.merging.merge_lanes.Goals as goal
 
 pub returns : goal.returns
 returns g c =
-    done (run_of c.args.setup.now g.seen) c.args.lanes.now c.loop-place.merging.placed.items c.loop-place.merging.cursors.items c.loop-place.merging.changes.items c.loop-place.merging.waits c.loop-place.invariant c.in_default.ensures
+    done (merge_run c.args.setup.now g.seen) c.args.lanes.now c.loop-place.merging.placed.items c.loop-place.merging.cursors.items c.loop-place.merging.changes.items c.loop-place.merging.waits c.loop-place.invariant c.in_default.ensures

@@ -2,7 +2,7 @@
 use Rattle.std.proofs.Common.{◌≡◌, List, [], ◌∷◌, ◌++◌, refl, sym, ap, ◌∙◌, subst, append_assoc, append-nil}
 use Rattle.std.specs.Prelude.{All}
 use Rattle.std.proofs.lemmas.List.Elements.{All-nil, All-head}
-use Rattle.rv_board.specs.RunSeats.{Holds}
+use Rattle.rv_board.specs.RunSeats.{HasTakenIn}
 use Rattle.rv_board.proofs.ListLemmas.{All-front, All-back}
 use Rattle.rv_board.proofs.RunSeatLemmas.{holds-itself, holds-still}
 use Rattle.rv_journal.specs.declared.feeding.CountedFeeder.{CountedFeeder}
@@ -12,12 +12,12 @@ use Rattle.rv_journal.proofs.running.join_all.Goals as goal
 
 pub loop-feeder-init : goal.loop-feeder-init
 loop-feeder-init g c = record {
-  gone = [];
+  joined_in = [];
   split = sym (append-nil c.args.feeders.items);
   on = c.requires.seats;
   board = c.requires.into;
   into = holds-itself c.args.into.now.seat;
-  seats = All-nil (λ (f : CountedFeeder g.row.G.Denot). Holds c.args.into.now.seat f.seat.seat);
+  seats = All-nil (λ (f : CountedFeeder g.row.G.Denot). HasTakenIn c.args.into.now.seat f.seat.seat);
   lanes = c.new-lanes.ensures.items;
 }
 
@@ -37,11 +37,11 @@ loop-feeder-preserved g c =
     let popped : c.loop-feeder.feeders.items ≡ left ++ f ∷ [] = c.in-Some.ensures.items in
     let j = c.join.ensures.seats in
     record {
-      gone = f ∷ i.gone;
-      split = i.split ∙ ap (λ (z : List (CountedFeeder g.row.G.Denot)). z ++ i.gone) popped ∙ append_assoc left (f ∷ []) i.gone;
+      joined_in = f ∷ i.joined_in;
+      split = i.split ∙ ap (λ (z : List (CountedFeeder g.row.G.Denot)). z ++ i.joined_in) popped ∙ append_assoc left (f ∷ []) i.joined_in;
       on = All-front on left (f ∷ []) (subst (All on) popped i.on);
       board = j.board ∙ i.board;
       into = holds-still c.loop-feeder.into.seat f.seat.seat c.join.new.into.seat j c.args.into.now.seat i.into;
-      seats = counted-held c.loop-feeder.into.seat f.seat.seat c.join.new.into.seat j f i.gone refl i.seats;
-      lanes = c.in_ok-push.ensures.items ∙ (ap (λ (z : List CountedLaneValue). z ++ f.lane ∷ []) i.lanes ∙ sym (lanes-in-more f i.gone));
+      seats = counted-held c.loop-feeder.into.seat f.seat.seat c.join.new.into.seat j f i.joined_in refl i.seats;
+      lanes = c.in_ok-push.ensures.items ∙ (ap (λ (z : List CountedLaneValue). z ++ f.lane ∷ []) i.lanes ∙ sym (lanes-in-more f i.joined_in));
     }

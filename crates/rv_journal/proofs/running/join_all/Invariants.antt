@@ -1,20 +1,20 @@
 -- What was joined is in the seat, and its lanes are back.
 use Rattle.std.proofs.Common.{◌≡◌, List, ◌++◌, vec_len}
 use Rattle.std.specs.Prelude.{All}
-use Rattle.rv_board.specs.RunSeats.{Holds}
+use Rattle.rv_board.specs.RunSeats.{HasTakenIn}
 use Rattle.rv_journal.specs.declared.feeding.CountedFeeder.{CountedFeeder}
 use Rattle.rv_journal.specs.Running.{lanes_in}
 use Rattle.rv_journal.proofs.running.join_all.Given as goal
 
 abbrev pub invariant-loop-feeder : goal.invariant-loop-feeder
 invariant-loop-feeder g l = record {
-  gone : List (CountedFeeder g.row.G.Denot);
-  split : l.fn.feeders.items ≡ l.feeders.items ++ gone;
+  joined_in : List (CountedFeeder g.row.G.Denot);
+  split : l.fn.feeders.items ≡ l.feeders.items ++ joined_in;
   on : All (λ (f : CountedFeeder g.row.G.Denot). f.seat.seat.board ≡ l.fn.board) l.feeders.items;
   board : l.into.seat.board ≡ l.fn.board;
-  into : Holds l.into.seat l.fn.into.seat;
-  seats : All (λ (f : CountedFeeder g.row.G.Denot). Holds l.into.seat f.seat.seat) gone;
-  lanes : l.lanes.items ≡ lanes_in gone;
+  into : HasTakenIn l.into.seat l.fn.into.seat;
+  seats : All (λ (f : CountedFeeder g.row.G.Denot). HasTakenIn l.into.seat f.seat.seat) joined_in;
+  lanes : l.lanes.items ≡ lanes_in joined_in;
 }
 
 abbrev pub decreases-loop-feeder : goal.decreases-loop-feeder

@@ -1,5 +1,5 @@
 use Rattle.std.proofs.Common.{ℕ, List, true, sym, ap, ◌∙◌, arith}
-use Rattle.rv_ltl.specs.Collected.{stands, below}
+use Rattle.rv_ltl.specs.Collected.{stands, count_below}
 use Rattle.rv_ltl.proofs.Inserting.{put_there, put_new, length-inserted_new}
 use Rattle.rv_ltl.proofs.atoms.put.Goals as goal
 
@@ -14,5 +14,5 @@ returns-then-len-eq32 c =
 
 pub returns : goal.returns
 returns c =
-    put_new c.args.x c.below-place.result c.args.out.now.items c.insert.new.self.items (c.if-stands.ensures ∙ ap (λ (m : List ℕ). stands c.args.x m) c.deref.ensures.value)
-    (c.below-place.ensures.is ∙ ap (λ (m : List ℕ). below c.args.x m) c.deref-2.ensures.value) c.in_ok-insert.ensures.items c.requires (λ e. c.if-len-eq32.false (c.len.ensures ∙ c.args.out.now.ok.0 ∙ e))
+    put_new c.args.x c.count_below-place.result c.args.out.now.items c.insert.new.self.items (c.if-stands.ensures ∙ ap (λ (m : List ℕ). stands c.args.x m) c.deref.ensures.value)
+    (c.count_below-place.ensures.is ∙ ap (λ (m : List ℕ). count_below c.args.x m) c.deref-2.ensures.value) c.in_ok-insert.ensures.items c.requires (λ e. c.if-len-eq32.false (c.len.ensures ∙ c.args.out.now.ok.0 ∙ e))

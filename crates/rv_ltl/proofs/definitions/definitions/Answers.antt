@@ -1,5 +1,5 @@
 use Rattle.std.proofs.Common.{◌++◌, ◌∷◌, [], List, refl, sym, ap, ◌∙◌}
-use Rattle.rv_ltl.specs.declared.token.Step.{Step}
+use Rattle.rv_ltl.specs.declared.token.CodeStep.{CodeStep}
 use Rattle.rv_ltl.specs.Postfix.{code}
 use Rattle.std.proofs.lemmas.Result.{err_from_is_err_and}
 use Rattle.std.proofs.lemmas.Bool.{eqb-true, eqb-false}
@@ -31,7 +31,7 @@ loop-rest-preserved c =
     let b = two_drops c.loop-rest.rest.now c.after.result.now c.after-in-loop-rest.result.now c.after.ensures c.after-in-loop-rest.ensures in
     let r = coded_some c.new-code.result.items c.expression.new.out.items _ c.in_ok-rest.rest.now c.in_ok-rest.ensures in
     let d : Def = record { name = c.in-Some.name; body = r.tree } in
-    (i.0 ++ d ∷ [], more_codes i.0 c.loop-rest.out.items d _ c.push.new.self.items c.in_ok-push.ensures.items refl (r.text ∙ ap (λ (x : List Step). x ++ code r.tree) c.new-code.ensures.items) i.1, goes_on 256 c.loop-rest.more i.0 c.loop-rest.rest.now c.after-in-loop-rest.result.now c.in_ok-rest.rest.now c.in-Some.name r.tree _ (sym c.in-Some.ensures) c.if-more-eq0.false b r.is i.2)
+    (i.0 ++ d ∷ [], more_codes i.0 c.loop-rest.out.items d _ c.push.new.self.items c.in_ok-push.ensures.items refl (r.text ∙ ap (λ (x : List CodeStep). x ++ code r.tree) c.new-code.ensures.items) i.1, goes_on 256 c.loop-rest.more i.0 c.loop-rest.rest.now c.after-in-loop-rest.result.now c.in_ok-rest.rest.now c.in-Some.name r.tree _ (sym c.in-Some.ensures) c.if-more-eq0.false b r.is i.2)
 
 pub returns : goal.returns
 returns c =

@@ -10,21 +10,21 @@ expression-returns-then-more-eq0 t c =
     let i = c.loop-other.invariant in
     sym i.2 ∙ ap (λ (n : ℕ). chain_at (term_at c.args.depth) c.in-Some.op n i.0 c.loop-other.rest.now) c.if-more-eq0.true ∙ chain_full (term_at c.args.depth) c.in-Some.op c.in-Some-operator.other i.0 c.loop-other.rest.now (sym c.in-Some-operator.ensures)
 
-pub expression-returns-then-not-is_same : goal.expression-returns-then-not-is_same
-expression-returns-then-not-is_same t c =
+pub expression-returns-then-not-is_same_operator : goal.expression-returns-then-not-is_same_operator
+expression-returns-then-not-is_same_operator t c =
     let i = c.loop-other.invariant in
-    sym i.2 ∙ chain_other (term_at c.args.depth) c.in-Some.op c.in-Some-operator.other c.loop-other.more i.0 c.loop-other.rest.now (sym c.in-Some-operator.ensures) (sym c.if-not-is_same.ensures)
+    sym i.2 ∙ chain_other (term_at c.args.depth) c.in-Some.op c.in-Some-operator.other c.loop-other.more i.0 c.loop-other.rest.now (sym c.in-Some-operator.ensures) (sym c.if-not-is_same_operator.ensures)
 
 pub expression-returns-in_err-rest-2 : goal.expression-returns-in_err-rest-2
 expression-returns-in_err-rest-2 t c =
     let i = c.loop-other.invariant in
     let p = err_from_is_err_and c.from_residual-in_err-rest-2.result c.from_residual-in_err-rest-2.ensures.1 in
-    rw (p.1, p.2) (chain_ends c.in_err-rest-2.field-0.0 (term_at c.args.depth) c.in-Some.op c.in-Some-operator.other c.loop-other.more i.0 c.loop-other.rest.now c.after.result.now _ (sym c.in-Some-operator.ensures) (sym c.if-not-is_same.ensures) (omega arith) c.after.ensures c.in_err-rest-2.ensures i.2)
+    rw (p.1, p.2) (chain_ends c.in_err-rest-2.field-0.0 (term_at c.args.depth) c.in-Some.op c.in-Some-operator.other c.loop-other.more i.0 c.loop-other.rest.now c.after.result.now _ (sym c.in-Some-operator.ensures) (sym c.if-not-is_same_operator.ensures) (omega arith) c.after.ensures c.in_err-rest-2.ensures i.2)
 
 pub expression-loop-other-preserved : goal.expression-loop-other-preserved
 expression-loop-other-preserved t c =
     let i = c.loop-other.invariant in
-    post_more c.args.depth c.loop-other.more c.in-Some.op c.in-Some-operator.other i.0 c.args.out.now.items c.loop-other.out.items c.term-in-Some-operator.new.out.items c.push.new.self.items c.loop-other.rest.now c.after.result.now c.in_ok-rest-2.rest.now _ (sym c.in-Some-operator.ensures) (sym c.if-not-is_same.ensures) (omega arith) c.after.ensures i.1 c.in_ok-rest-2.ensures c.in_ok-push.ensures.items i.2
+    post_more c.args.depth c.loop-other.more c.in-Some.op c.in-Some-operator.other i.0 c.args.out.now.items c.loop-other.out.items c.term-in-Some-operator.new.out.items c.push.new.self.items c.loop-other.rest.now c.after.result.now c.in_ok-rest-2.rest.now _ (sym c.in-Some-operator.ensures) (sym c.if-not-is_same_operator.ensures) (omega arith) c.after.ensures i.1 c.in_ok-rest-2.ensures c.in_ok-push.ensures.items i.2
 
 pub expression-returns : goal.expression-returns
 expression-returns t c =

@@ -6,7 +6,7 @@ use Rattle.rv_model.specs.Formulas.{RuleValue, IsRule, ltl}
 use Rattle.rv_ltl.specs.Texts.{texts}
 use Rattle.rv_ltl.specs.Names.{place_in}
 use Rattle.rv_ltl.specs.Machine.{defs}
-use Rattle.rv_ltl.specs.Atoms.{Has, numbered, name_at}
+use Rattle.rv_ltl.specs.Atoms.{Has, formula_over, name_at}
 use Rattle.rv_ltl.specs.Collected.{built}
 use Rattle.rv_ltl.specs.RuleFile.{atoms_of}
 use Rattle.rv_ltl.proofs.Elements.{length-defs}
@@ -25,7 +25,7 @@ assembled-requires c =
     let count : length names ≡ length c.args.names.now = length-map c.args.names.now (λ s. s.now) in
     let R : List (List ℕ) → Ltl → RuleValue = λ a f. record { atoms = a; formula = f } in
     let list : c.in_ok-list.list ≡ map (name_at names) (atoms_of g.0) = c.in_ok-list.ensures ∙ ap (λ (xs : List ℕ). map (name_at names) xs) (c.deref-2.ensures.value ∙ g.3) in
-    let formula : ltl c.in_ok-formula.formula ≡ numbered (atoms_of g.0) g.0 =
+    let formula : ltl c.in_ok-formula.formula ≡ formula_over (atoms_of g.0) g.0 =
     c.in_ok-formula.ensures ∙ ap (λ (n : ℕ). built ds c.deref.result.now n c.in-Some.root) (sym (length-defs c.args.definitions.now)) ∙ ap (λ (xs : List ℕ). built ds xs (length ds) c.in-Some.root) (c.deref.ensures.value ∙ g.3) ∙ built_is ds (atoms_of g.0) (length ds) c.in-Some.root g.0 g.2 in
     let P : RuleValue → Type 0 = λ r. IsRule r in
     let inside : (y : ℕ) → Has (atoms_of g.0) y → y < length names = λ y h.
@@ -43,7 +43,7 @@ returns c =
     let g = c.in_ok-atoms.ensures in
     let R : List (List ℕ) → Ltl → RuleValue = λ a f. record { atoms = a; formula = f } in
     let list : c.in_ok-list.list ≡ map (name_at names) (atoms_of g.0) = c.in_ok-list.ensures ∙ ap (λ (xs : List ℕ). map (name_at names) xs) (c.deref-2.ensures.value ∙ g.3) in
-    let formula : ltl c.in_ok-formula.formula ≡ numbered (atoms_of g.0) g.0 =
+    let formula : ltl c.in_ok-formula.formula ≡ formula_over (atoms_of g.0) g.0 =
     c.in_ok-formula.ensures ∙ ap (λ (n : ℕ). built ds c.deref.result.now n c.in-Some.root) (sym (length-defs c.args.definitions.now)) ∙ ap (λ (xs : List ℕ). built ds xs (length ds) c.in-Some.root) (c.deref.ensures.value ∙ g.3) ∙ built_is ds (atoms_of g.0) (length ds) c.in-Some.root g.0 g.2 in
     let root = sym (c.in-Some.ensures ∙ ap (λ (w : List ℕ). place_in names w) c.as_slice.ensures) in
     let made = ap (λ (a : List (List ℕ)). R a (ltl c.in_ok-formula.formula)) list ∙ ap (λ (f : Ltl). R (map (name_at names) (atoms_of g.0)) f) formula in

@@ -4,7 +4,7 @@ use Rattle.std.proofs.lemmas.List.{length-map}
 use Rattle.std.proofs.lemmas.Result.{IfOk-weaker}
 use Rattle.rv_model.specs.declared.record.Record.{Record}
 use Rattle.rv_model.specs.Reports.{report_text}
-use Rattle.rv_report.specs.Shown.{reported, reported_of}
+use Rattle.rv_report.specs.Reported.{reported, reported_of}
 use Rattle.rv_report.specs.Tallies.{IsFound}
 use Rattle.rv_report.proofs.lines.report.Goals as goal
 

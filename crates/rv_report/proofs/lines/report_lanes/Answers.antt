@@ -7,7 +7,7 @@ use Rattle.rv_model.specs.Records.{sort_records}
 use Rattle.rv_model.specs.Reports.{report_text}
 use Rattle.rv_feed.specs.Lane.{LaneValue}
 use Rattle.rv_feed.specs.One.{lane_records}
-use Rattle.rv_report.specs.Shown.{reported, reported_of}
+use Rattle.rv_report.specs.Reported.{reported, reported_of}
 use Rattle.rv_report.specs.Tallies.{IsFound}
 use Rattle.rv_report.proofs.FoundLemmas.{lanes-more}
 use Rattle.rv_report.proofs.lines.report_lanes.Goals as goal

@@ -4,7 +4,7 @@ use Rattle.std.specs.Prelude.{flat_map, slice_get}
 use Rattle.std.proofs.lemmas.List.{take_all}
 use Rattle.rv_model.specs.declared.record.Record.{Record}
 use Rattle.rv_model.specs.Reports.{Reported, record_text, summaries_text}
-use Rattle.rv_report.specs.Shown.{reported_of}
+use Rattle.rv_report.specs.Reported.{reported_of}
 use Rattle.rv_report.specs.Tallies.{AreTallies}
 use Rattle.rv_report.proofs.PrintedLemmas.{printed-text}
 use Rattle.rv_report.proofs.lines.text_of.Goals as goal

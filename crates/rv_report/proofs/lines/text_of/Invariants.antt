@@ -2,7 +2,7 @@
 use Rattle.std.proofs.Common.{◌≡◌, take}
 use Rattle.std.specs.Prelude.{flat_map, slice_get}
 use Rattle.rv_model.specs.Reports.{record_text}
-use Rattle.rv_report.specs.Shown.{reported_of}
+use Rattle.rv_report.specs.Reported.{reported_of}
 use Rattle.rv_report.proofs.lines.text_of.Given as goal
 
 abbrev pub invariant-loop-record : goal.invariant-loop-record

@@ -2,9 +2,9 @@ use Rattle.std.proofs.Common.{◌≡◌, ◌<◌, true, false, length, take, Som
 use Rattle.std.specs.Prelude.{filter, slice_get}
 use Rattle.std.proofs.lemmas.Option.{slice_get-get_or}
 use Rattle.rv_bind.specs.RuleValues.{OnValue}
-use Rattle.rv_route.specs.Events.{shown, IsAsked, is_on}
+use Rattle.rv_route.specs.Events.{names_in_set, IsAsked, is_on_event}
 use Rattle.rv_route.proofs.EventLemmas.{asked-more, on-more}
-use Rattle.rv_route.proofs.event.asked_on.Goals.{then-is_same+in_ok-asked_of+in_ok-push, else-is_same}
+use Rattle.rv_route.proofs.event.asked_on.Goals.{then-has_value+in_ok-asked_of+in_ok-push, else-has_value}
 use Rattle.rv_route.proofs.event.asked_on.Goals as goal
 
 pub loop-place-preserved : goal.loop-place-preserved
@@ -15,19 +15,19 @@ loop-place-preserved c =
     let rule = c.index-rules-place.result in
     let inside : i < length all = omega arith in
     let named : c.bytes.result.now ≡ rule.event = c.bytes.ensures ∙ ap (λ (r : OnValue). r.event) c.rule.view_is in
-    elim c.if-is_same.branch [
-      | then-is_same+in_ok-asked_of+in_ok-push w ↦
-          let yes : c.is_same.result ≡ true = w.if-is_same.true in
-          let more = on-more all event c.bytes.result.now i rule true inside c.index-rules-place.is named (sym yes ∙ c.is_same.ensures) in
-          let old = shown c.loop-place.names in
-          let new = shown w.asked_of.new.names in
+    elim c.if-has_value.branch [
+      | then-has_value+in_ok-asked_of+in_ok-push w ↦
+          let yes : c.has_value.result ≡ true = w.if-has_value.true in
+          let more = on-more all event c.bytes.result.now i rule true inside c.index-rules-place.is named (sym yes ∙ c.has_value.ensures) in
+          let old = names_in_set c.loop-place.names in
+          let new = names_in_set w.asked_of.new.names in
           let asked = w.in_ok-asked_of.field-0 in
           let there : slice_get all asked.rule ≡ Some rule = ap (slice_get all) w.in_ok-asked_of.ensures.rule ∙ slice_get-get_or all i rule inside ∙ ap Some (sym c.index-rules-place.is) in
           let is : IsAsked all new asked rule = record { there = there; fields = w.in_ok-asked_of.ensures.fields } in
-          let longer = asked-more all old new c.loop-place.list.items (filter (is_on event) (take i all)) asked rule w.in_ok-asked_of.ensures.grown c.loop-place.invariant is in
+          let longer = asked-more all old new c.loop-place.list.items (filter (is_on_event event) (take i all)) asked rule w.in_ok-asked_of.ensures.grown c.loop-place.invariant is in
           rw (w.names-is, w.list-is, w.in_ok-push.ensures.items, more) longer
-      | else-is_same w ↦
-          let no_match : c.is_same.result ≡ false = w.if-is_same.false in
-          let more = on-more all event c.bytes.result.now i rule false inside c.index-rules-place.is named (sym no_match ∙ c.is_same.ensures) ∙ append-nil (filter (is_on event) (take i all)) in
+      | else-has_value w ↦
+          let no_match : c.has_value.result ≡ false = w.if-has_value.false in
+          let more = on-more all event c.bytes.result.now i rule false inside c.index-rules-place.is named (sym no_match ∙ c.has_value.ensures) ∙ append-nil (filter (is_on_event event) (take i all)) in
           rw (w.names-is, w.list-is, more) c.loop-place.invariant
     ]

@@ -1,8 +1,8 @@
 use Rattle.std.proofs.Common.{take}
 use Rattle.std.specs.Prelude.{filter}
 use Rattle.std.specs.List.{AllZip}
-use Rattle.rv_route.specs.Events.{shown, IsAsked, is_on}
+use Rattle.rv_route.specs.Events.{names_in_set, IsAsked, is_on_event}
 use Rattle.rv_route.proofs.event.asked_on.Given as goal
 
 abbrev pub invariant-loop-place : goal.invariant-loop-place
-invariant-loop-place l = AllZip (IsAsked l.rules (shown l.names)) l.list.items (filter (is_on l.event) (take l.place l.rules))
+invariant-loop-place l = AllZip (IsAsked l.rules (names_in_set l.names)) l.list.items (filter (is_on_event l.event) (take l.place l.rules))

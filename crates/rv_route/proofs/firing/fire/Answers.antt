@@ -8,7 +8,7 @@ use Rattle.rv_text.specs.declared.refusals.Refusal.{Refusal}
 use Rattle.rv_trace.specs.Fields.{field_of}
 use Rattle.rv_route.specs.declared.event.Asked.{Asked}
 use Rattle.rv_route.specs.Asking.{text_at, ask_on}
-use Rattle.rv_route.specs.Events.{is_on, IsAsked, HasFound}
+use Rattle.rv_route.specs.Events.{is_on_event, IsAsked, HasFound}
 use Rattle.rv_route.specs.Routing.{Routes, line_routes}
 use Rattle.rv_text.specs.Readings.{and_then}
 use Rattle.rv_route.proofs.EventLemmas.{asked_at, asked-many, has_found, itself}
@@ -21,7 +21,7 @@ index-rule-requires c =
     let all = c.args.bindings.now.rules.items in
     let event = c.args.event.now in
     let name = text_at c.args.text.now c.args.line.now.name in
-    let those = filter (is_on name) all in
+    let those = filter (is_on_event name) all in
     let are = subst (λ (list : List Asked). AllZip (IsAsked all event.fields.items) list those) (sym c.deref-asked-items.ensures.value) c.requires.event in
     let at = asked_at all event.fields.items c.deref-asked-items.result.now those c.loop-asked.asked-index c.asked-item.result are (omega arith) c.asked-item.is in
     let inside : c.asked-item.result.rule < length all = slice_get_within all c.asked-item.result.rule at.rule at.asks.there in
@@ -33,7 +33,7 @@ ask_for-ask-requires-clause-found c =
     let all = c.args.bindings.now.rules.items in
     let event = c.args.event.now in
     let name = text_at c.args.text.now c.args.line.now.name in
-    let those = filter (is_on name) all in
+    let those = filter (is_on_event name) all in
     let are = subst (λ (list : List Asked). AllZip (IsAsked all event.fields.items) list those) (sym c.deref-asked-items.ensures.value) c.requires.event in
     let at = asked_at all event.fields.items c.deref-asked-items.result.now those c.loop-asked.asked-index c.asked-item.result are (omega arith) c.asked-item.is in
     let rule : c.index-rule.result.now ≡ at.rule = c.index-rule.ensures ∙ get_or_from_slice_get all c.asked-item.result.rule at.rule _ at.asks.there in
@@ -46,7 +46,7 @@ loop-asked-preserved c =
     let all = c.args.bindings.now.rules.items in
     let event = c.args.event.now in
     let name = text_at c.args.text.now c.args.line.now.name in
-    let those = filter (is_on name) all in
+    let those = filter (is_on_event name) all in
     let are = subst (λ (list : List Asked). AllZip (IsAsked all event.fields.items) list those) (sym c.deref-asked-items.ensures.value) c.requires.event in
     let at = asked_at all event.fields.items c.deref-asked-items.result.now those c.loop-asked.asked-index c.asked-item.result are (omega arith) c.asked-item.is in
     let rule : c.index-rule.result.now ≡ at.rule = c.index-rule.ensures ∙ get_or_from_slice_get all c.asked-item.result.rule at.rule _ at.asks.there in
@@ -64,7 +64,7 @@ returns-in_err-answer c =
     let all = c.args.bindings.now.rules.items in
     let event = c.args.event.now in
     let name = text_at c.args.text.now c.args.line.now.name in
-    let those = filter (is_on name) all in
+    let those = filter (is_on_event name) all in
     let are = subst (λ (list : List Asked). AllZip (IsAsked all event.fields.items) list those) (sym c.deref-asked-items.ensures.value) c.requires.event in
     let at = asked_at all event.fields.items c.deref-asked-items.result.now those c.loop-asked.asked-index c.asked-item.result are (omega arith) c.asked-item.is in
     let rule : c.index-rule.result.now ≡ at.rule = c.index-rule.ensures ∙ get_or_from_slice_get all c.asked-item.result.rule at.rule _ at.asks.there in
@@ -84,6 +84,6 @@ returns c =
     let all = c.args.bindings.now.rules.items in
     let event = c.args.event.now in
     let name = text_at c.args.text.now c.args.line.now.name in
-    let those = filter (is_on name) all in
+    let those = filter (is_on_event name) all in
     let many : length c.deref-asked-items.result.now ≡ length those = ap length c.deref-asked-items.ensures.value ∙ asked-many all event.fields.items event.rules.items those c.requires.event in
     c.loop-asked.invariant ∙ rules-end c.args.text.now c.args.line.now c.args.bindings.now.monitors.items those c.loop-asked.asked-index c.loop-asked.deliveries (omega arith)

@@ -1,7 +1,7 @@
 use Rattle.std.proofs.Common.{refl, sym, ap, ◌∙◌, subst}
 use Rattle.std.specs.Prelude.{option_copied}
 use Rattle.rv_route.specs.Asking.{text_at}
-use Rattle.rv_route.specs.Routing.{Reaches}
+use Rattle.rv_route.specs.Routing.{GivesRoutes}
 use Rattle.rv_route.proofs.IndexLemmas.{found-event, line-event, line-none}
 use Rattle.rv_route.proofs.firing.take.Goals as goal
 
@@ -13,7 +13,7 @@ fire-requires-clause-event c =
 pub returns-in-Some : goal.returns-in-Some
 returns-in-Some c =
     let name = text_at c.args.text.now c.args.line.now.name in
-    subst (Reaches c.fire.result c.fire.new.deliveries) (line-event c.args.text.now c.args.line.now c.args.bindings.now.monitors.items c.args.bindings.now.rules.items name c.args.deliveries.now refl) c.fire.ensures
+    subst (GivesRoutes c.fire.result c.fire.new.deliveries) (line-event c.args.text.now c.args.line.now c.args.bindings.now.monitors.items c.args.bindings.now.rules.items name c.args.deliveries.now refl) c.fire.ensures
 
 pub returns-in-None : goal.returns-in-None
 returns-in-None c =

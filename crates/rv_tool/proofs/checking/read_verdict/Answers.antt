@@ -6,9 +6,9 @@ use Rattle.rv_io.specs.Files.{Files}
 use Rattle.rv_check.specs.declared.reading.Verdict.{Verdict}
 use Rattle.rv_check.specs.Readings.{ReaderValue}
 use Rattle.rv_check.specs.Verdicts.{Journal}
-use Rattle.rv_tool.specs.Faults.{FaultNames}
+use Rattle.rv_tool.specs.Faults.{FaultBlamesReached}
 use Rattle.rv_tool.specs.Inputs.{InputValue}
-use Rattle.rv_tool.specs.Ready.{ready_value}
+use Rattle.rv_tool.specs.Prepared.{prepared_value}
 use Rattle.rv_tool.specs.JournalPieces.{IsSameRun}
 use Rattle.rv_tool.proofs.CheckLemmas.{shifted_comes, checked_comes, checked_named}
 use Rattle.rv_tool.proofs.JudgedLemmas.{verdict_judged, verdict_some}
@@ -20,7 +20,7 @@ returns-in_err-take_journal-clause-value g c =
     let fault = c.in_err-take_journal.field-0.0 in
     let given = err_from_is_err_and c.from_residual-in_err-take_journal.result c.from_residual-in_err-take_journal.ensures.1 in
     rw (given.1, given.2)
-    (checked_comes (g.S.Store.files c.args.store.now) c.args.bindings.now c.args.trace.now journal (ready_value c.in_ok-ready.ready) c.in_ok-ready.ensures.value (g.S.Store.faults c.args.store.now) (g.S.Store.faults c.take_journal.new.store) fault
+    (checked_comes (g.S.Store.files c.args.store.now) c.args.bindings.now c.args.trace.now journal (prepared_value c.in_ok-ready.ready) c.in_ok-ready.ensures.value (g.S.Store.faults c.args.store.now) (g.S.Store.faults c.take_journal.new.store) fault
     (shifted_comes (λ files. of_text journal (files journal) accepted) (g.S.Store.files c.args.store.now) (g.S.Store.files c.read_input.new.store) (g.S.Store.faults c.args.store.now) (g.S.Store.faults c.read_input.new.store) (g.S.Store.faults c.take_journal.new.store) fault c.in_ok-ready.ensures.kept c.in_ok-ready.ensures.later c.in_err-take_journal.ensures.fault))
 
 pub returns-in_err-take_journal-clause-named : goal.returns-in_err-take_journal-clause-named
@@ -29,14 +29,14 @@ returns-in_err-take_journal-clause-named g c =
     let fault = c.in_err-take_journal.field-0.0 in
     let given = err_from_is_err_and c.from_residual-in_err-take_journal.result c.from_residual-in_err-take_journal.ensures.1 in
     rw (given.1, given.2)
-    (checked_named (g.S.Store.files c.args.store.now) c.args.bindings.now c.args.trace.now journal (ready_value c.in_ok-ready.ready) c.in_ok-ready.ensures.value (List ℕ) Verdict fault
-    (subst (λ (told : Option Files). FaultNames told fault (λ files. of_text journal (files journal) accepted)) c.in_ok-ready.ensures.kept c.in_err-take_journal.ensures.named))
+    (checked_named (g.S.Store.files c.args.store.now) c.args.bindings.now c.args.trace.now journal (prepared_value c.in_ok-ready.ready) c.in_ok-ready.ensures.value (List ℕ) Verdict fault
+    (subst (λ (told : Option Files). FaultBlamesReached told fault (λ files. of_text journal (files journal) accepted)) c.in_ok-ready.ensures.kept c.in_err-take_journal.ensures.named))
 
 pub returns-clause-value : goal.returns-clause-value
 returns-clause-value g c = λ files known.
     let journal = c.args.journal.now in
     let ready = c.in_ok-ready.ready in
-    let i : InputValue = ready_value ready in
+    let i : InputValue = prepared_value ready in
     let new = c.take_journal.new.reader in
     let run = subst (λ (j : Journal). IsSameRun j new.journal) (ap (λ (x : ReaderValue). x.journal) c.in-Ok.ensures.begins) c.in_ok-take_journal.ensures.same in
     let found = verdict_judged ready c.in_ok-ready.ensures.ready c.in_ok-ready.ensures.unchanged c.in-Ok.ensures.judges new c.verdict.result run c.verdict.ensures.holds c.verdict.ensures.stays (files journal) (c.in_ok-take_journal.ensures.all files (c.in_ok-ready.ensures.kept ∙ known)) in (

@@ -4,7 +4,7 @@ use Rattle.std.proofs.lemmas.Result.{err_from_is_err_and}
 use Rattle.rv_io.specs.Files.{Files}
 use Rattle.rv_bind.specs.Outcomes.{of_text, accepted}
 use Rattle.rv_check.specs.Readings.{ReaderValue}
-use Rattle.rv_tool.specs.Feeding.{FedOf, IsPieceOf}
+use Rattle.rv_tool.specs.Feeding.{FedOf, IsFilePiece}
 use Rattle.rv_tool.proofs.CheckLemmas.{shifted_comes, whole_comes, fed_all, fed_enough}
 use Rattle.rv_tool.proofs.JudgedLemmas.{same_longer}
 use Rattle.rv_tool.proofs.FeedingLemmas.{fed-more}
@@ -25,8 +25,8 @@ returns-then-count-eq0-clause-all g c =
     let journal = c.args.journal.now in
     let kept = c.loop-piece.invariant in
     let told = g.S.Store.files c.args.store.now in
-    let piece : IsPieceOf told journal c.loop-piece.place c.loop-piece.buffer c.fetch.new.buffer c.in_ok-count.count =
-    subst (λ (t : Option Files). IsPieceOf t journal c.loop-piece.place c.loop-piece.buffer c.fetch.new.buffer c.in_ok-count.count) kept.0 c.in_ok-count.ensures.piece in
+    let piece : IsFilePiece told journal c.loop-piece.place c.loop-piece.buffer c.fetch.new.buffer c.in_ok-count.count =
+    subst (λ (t : Option Files). IsFilePiece t journal c.loop-piece.place c.loop-piece.buffer c.fetch.new.buffer c.in_ok-count.count) kept.0 c.in_ok-count.ensures.piece in
     let room : 0 < length c.loop-piece.buffer = let many = kept.2 in let some = c.requires.room in omega arith in
     fed_all told journal c.loop-piece.place c.in_ok-count.count c.loop-piece.buffer c.fetch.new.buffer c.loop-piece.reader c.if-count-eq0.true room kept.4 piece
 
@@ -36,8 +36,8 @@ returns-in-Ok-false-clause-all g c =
     let kept = c.loop-piece.invariant in
     let told = g.S.Store.files c.args.store.now in
     let count = c.in_ok-count.count in
-    let piece : IsPieceOf told journal c.loop-piece.place c.loop-piece.buffer c.fetch.new.buffer count =
-    subst (λ (t : Option Files). IsPieceOf t journal c.loop-piece.place c.loop-piece.buffer c.fetch.new.buffer count) kept.0 c.in_ok-count.ensures.piece in
+    let piece : IsFilePiece told journal c.loop-piece.place c.loop-piece.buffer c.fetch.new.buffer count =
+    subst (λ (t : Option Files). IsFilePiece t journal c.loop-piece.place c.loop-piece.buffer c.fetch.new.buffer count) kept.0 c.in_ok-count.ensures.piece in
     let more = fed-more told journal c.loop-piece.place count c.loop-piece.reader.journal.text c.loop-piece.buffer c.fetch.new.buffer kept.4 piece in
     let ok = c.in-Ok-false.ensures.ok in
     fed_enough told journal c.loop-piece.place count (c.loop-piece.reader.journal.text ++ take count c.fetch.new.buffer) c.loop-piece.buffer c.fetch.new.buffer c.feed.new.self more piece
@@ -49,8 +49,8 @@ loop-piece-preserved g c =
     let kept = c.loop-piece.invariant in
     let told = g.S.Store.files c.args.store.now in
     let count = c.in_ok-count.count in
-    let piece : IsPieceOf told journal c.loop-piece.place c.loop-piece.buffer c.fetch.new.buffer count =
-    subst (λ (t : Option Files). IsPieceOf t journal c.loop-piece.place c.loop-piece.buffer c.fetch.new.buffer count) kept.0 c.in_ok-count.ensures.piece in
+    let piece : IsFilePiece told journal c.loop-piece.place c.loop-piece.buffer c.fetch.new.buffer count =
+    subst (λ (t : Option Files). IsFilePiece t journal c.loop-piece.place c.loop-piece.buffer c.fetch.new.buffer count) kept.0 c.in_ok-count.ensures.piece in
     let more = fed-more told journal c.loop-piece.place count c.loop-piece.reader.journal.text c.loop-piece.buffer c.fetch.new.buffer kept.4 piece in
     let ok = c.in-Ok-true.ensures.ok in
     let text : c.feed.new.self.journal.text ≡ c.loop-piece.reader.journal.text ++ take count c.fetch.new.buffer = ap (λ (r : ReaderValue). r.journal.text) ok in

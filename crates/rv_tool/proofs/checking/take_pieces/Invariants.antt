@@ -1,6 +1,6 @@
 -- What was fed so far is the front of the file.
 use Rattle.std.proofs.Common.{◌≡◌, ◌≤◌, length}
-use Rattle.rv_tool.specs.Feeding.{IsFed}
+use Rattle.rv_tool.specs.Feeding.{IsFileFed}
 use Rattle.rv_tool.specs.JournalPieces.{IsSameRun}
 use Rattle.rv_tool.proofs.checking.take_pieces.Given as goal
 
@@ -10,4 +10,4 @@ invariant-loop-piece g l =
     × (g.S.Store.faults l.fn.store ≤ g.S.Store.faults l.store)
     × (length l.buffer ≡ length l.fn.buffer)
     × IsSameRun l.fn.reader.journal l.reader.journal
-    × IsFed (g.S.Store.files l.fn.store) l.journal l.place l.reader.journal.text
+    × IsFileFed (g.S.Store.files l.fn.store) l.journal l.place l.reader.journal.text

@@ -2,10 +2,10 @@ use Rattle.std.proofs.Common.{refl, ◌∙◌}
 use Rattle.std.proofs.lemmas.Result.{IfOk-weaker}
 use Rattle.rv_model.specs.Histories.{IsLegal}
 use Rattle.rv_feed.specs.One.{lane_records}
-use Rattle.rv_tool.specs.declared.replaying.Done.{Done}
+use Rattle.rv_tool.specs.declared.replaying.FinishedRun.{FinishedRun}
 use Rattle.rv_tool.specs.Headline.{IsReported}
 use Rattle.rv_tool.specs.LaneReports.{ReportsLanes}
-use Rattle.rv_tool.specs.Ready.{ready_value}
+use Rattle.rv_tool.specs.Prepared.{prepared_value}
 use Rattle.rv_tool.proofs.ReportedLemmas.{reported_is}
 use Rattle.rv_tool.proofs.feeding.fed.Goals as goal
 
@@ -14,8 +14,8 @@ returns g c =
     let ready = c.args.ready in
     let run = c.in_ok-run.run' in
     IfOk-weaker c.report_fed.result (ReportsLanes ready.bindings ready.tasks (lane_records run.lanes.items) run.closed)
-    (λ (done : Done). IsReported IsLegal (ready_value ready) done.closed done.text.items done.status)
-    (λ (done : Done) is.
-    reported_is IsLegal (ready_value ready) ready.setup c.as_slice.result.now ready.lanes.items ready.changes.items c.requires.setup (c.as_slice.ensures.value ∙ c.requires.reactors) refl refl
+    (λ (done : FinishedRun). IsReported IsLegal (prepared_value ready) done.closed done.text.items done.status)
+    (λ (done : FinishedRun) is.
+    reported_is IsLegal (prepared_value ready) ready.setup c.as_slice.result.now ready.lanes.items ready.changes.items c.requires.setup (c.as_slice.ensures.value ∙ c.requires.reactors) refl refl
     (lane_records run.lanes.items) done.closed done.text.items done.status (rw is.history_is (c.in_ok-run.ensures.legal _ c.requires.mean)) is.text_is is.status_is)
     c.report_fed.ensures

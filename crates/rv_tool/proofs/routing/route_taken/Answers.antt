@@ -1,7 +1,7 @@
 use Rattle.std.proofs.Common.{◌≡◌, ◌∙◌, sym, ap, subst}
 use Rattle.std.specs.Prelude.{Option, Some, Ok}
 use Rattle.std.proofs.lemmas.Result.{err_from_is_err_and}
-use Rattle.rv_trace.specs.Streams.{Takes, part_read}
+use Rattle.rv_trace.specs.Streams.{TakesNextLine, part_read}
 use Rattle.rv_trace.specs.Traces.{trace_of}
 use Rattle.rv_trace.specs.declared.line.TraceLine.{TraceLine}
 use Rattle.rv_route.specs.Routers.{refusal_of}
@@ -41,4 +41,4 @@ returns-in_err-line-clause-refused c =
 
 pub returns-clause-routed : goal.returns-clause-routed
 returns-clause-routed c = rest-routed c.args.bindings.now c.loop-line.lines c.take.new.self c.loop-line.router c.loop-line.late
-    (subst (λ (found : Option TraceLine). Takes c.loop-line.lines c.take.new.self (Ok found)) c.in_default.is c.in_ok-line.ensures.takes) c.loop-line.invariant.2
+    (subst (λ (found : Option TraceLine). TakesNextLine c.loop-line.lines c.take.new.self (Ok found)) c.in_default.is c.in_ok-line.ensures.takes) c.loop-line.invariant.2

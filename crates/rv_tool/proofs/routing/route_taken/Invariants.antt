@@ -2,11 +2,11 @@
 use Rattle.std.proofs.Common.{◌≡◌, ◌-◌, length}
 use Rattle.rv_text.specs.TextLines.{lines_of}
 use Rattle.rv_trace.specs.Streams.{part_read}
-use Rattle.rv_tool.specs.Pieces.{passed, IsRouted}
+use Rattle.rv_tool.specs.Pieces.{passed_text, IsRouted}
 use Rattle.rv_tool.proofs.routing.route_taken.Given as goal
 
 abbrev pub invariant-loop-line : goal.invariant-loop-line
-invariant-loop-line l = (l.lines.fed ≡ l.fn.lines.fed) × (l.lines.ended ≡ l.fn.lines.ended) × IsRouted l.bindings (passed l.lines) l.router l.late
+invariant-loop-line l = (l.lines.fed ≡ l.fn.lines.fed) × (l.lines.ended ≡ l.fn.lines.ended) × IsRouted l.bindings (passed_text l.lines) l.router l.late
 
 abbrev pub decreases-loop-line : goal.decreases-loop-line
-decreases-loop-line l = length (lines_of (part_read l.lines.ended l.lines.fed)) - length (lines_of (passed l.lines))
+decreases-loop-line l = length (lines_of (part_read l.lines.ended l.lines.fed)) - length (lines_of (passed_text l.lines))

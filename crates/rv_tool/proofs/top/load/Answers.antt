@@ -5,7 +5,7 @@ use Rattle.rv_model.specs.Histories.{IsLegal}
 use Rattle.rv_tool.specs.Headline.{Reports, Ends}
 use Rattle.rv_tool.specs.Inputs.{run_input}
 use Rattle.rv_tool.specs.Loaded.{named_files}
-use Rattle.rv_tool.specs.Ready.{ready_value}
+use Rattle.rv_tool.specs.Prepared.{prepared_value}
 use Rattle.rv_tool.specs.Verdicts.{ReportsVerdicts}
 use Rattle.rv_tool.proofs.AnswerLemmas.{no_report, read_answers, no_blame}
 use Rattle.rv_tool.proofs.VerdictLemmas.{runs_verdicts, no_verdicts}
@@ -19,7 +19,7 @@ returns-in-Ok-clause-answers g c =
     subst (λ (files : Files). Ends (Reports IsLegal) (run_input files (codes "gen.rv") (codes "gen.txt")) (taken c.args.out.now) (taken c.run_at_once.new.out) (faults c.args.out.now) (faults c.run_at_once.new.out) c.run_at_once.result.status c.run_at_once.result.closed)
     c.in-Ok.ensures
     (no_blame _ _ _ _ _ _ (Reports IsLegal) (λ files. run_input files (codes "gen.rv") (codes "gen.txt")) told
-    (read_answers _ _ _ _ _ _ ready_value (Reports IsLegal) (λ files. run_input files (codes "gen.rv") (codes "gen.txt")) (no_report _ _ _ _ _ _ IsLegal) (Some told) 0 0
+    (read_answers _ _ _ _ _ _ prepared_value (Reports IsLegal) (λ files. run_input files (codes "gen.rv") (codes "gen.txt")) (no_report _ _ _ _ _ _ IsLegal) (Some told) 0 0
     c.read_input.result c.read_input.ensures.value c.read_input.ensures.named c.run_at_once.ensures told refl))
 
 pub returns-in-Ok-clause-verdicts : goal.returns-in-Ok-clause-verdicts
@@ -30,5 +30,5 @@ returns-in-Ok-clause-verdicts g c =
     subst (λ (files : Files). Ends ReportsVerdicts (run_input files (codes "gen.rv") (codes "gen.txt")) (taken c.args.out.now) (taken c.run_at_once.new.out) (faults c.args.out.now) (faults c.run_at_once.new.out) c.run_at_once.result.status c.run_at_once.result.closed)
     c.in-Ok.ensures
     (no_blame _ _ _ _ _ _ ReportsVerdicts (λ files. run_input files (codes "gen.rv") (codes "gen.txt")) told
-    (read_answers _ _ _ _ _ _ ready_value ReportsVerdicts (λ files. run_input files (codes "gen.rv") (codes "gen.txt")) (no_verdicts _ _ _ _ _ _) (Some told) 0 0
+    (read_answers _ _ _ _ _ _ prepared_value ReportsVerdicts (λ files. run_input files (codes "gen.rv") (codes "gen.txt")) (no_verdicts _ _ _ _ _ _) (Some told) 0 0
     c.read_input.result c.read_input.ensures.value c.read_input.ensures.named (runs_verdicts _ _ _ _ _ _ c.read_input.result c.read_input.ensures.ready c.read_input.ensures.unchanged c.run_at_once.ensures) told refl))

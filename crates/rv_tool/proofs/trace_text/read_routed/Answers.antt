@@ -4,7 +4,7 @@ use Rattle.rv_bind.specs.BoundViews.{bound_value}
 use Rattle.rv_route.specs.Routed.{routed_value}
 use Rattle.rv_route.specs.Routing.{RoutedValue, route_of}
 use Rattle.rv_trace.specs.Traces.{trace_of}
-use Rattle.rv_tool.specs.Faults.{Tells}
+use Rattle.rv_tool.specs.Faults.{IsOutcome}
 use Rattle.rv_tool.specs.Inputs.{routed_in}
 use Rattle.rv_tool.proofs.ComesLemmas.{routed_comes}
 use Rattle.rv_tool.proofs.NamedLemmas.{tells_named}
@@ -17,7 +17,7 @@ returns-clause-value g c =
     let text = c.take_trace.new.routing.lines.fed in
     routed_comes (g.S.Store.files c.args.store.now) c.args.trace.now text (bound_value c.args.bound.now) c.in_ok-take_trace.ensures.all
     routed_value (g.S.Store.faults c.args.store.now) (g.S.Store.faults c.take_trace.new.store) c.end_routing.result
-    (subst (λ (o : Outcome RoutedValue). Tells routed_value c.end_routing.result o) (of_file-and_then c.args.trace.now (trace_of text) (route_of bound.monitors.items bound.rules.items text)) c.end_routing.ensures.value)
+    (subst (λ (o : Outcome RoutedValue). IsOutcome routed_value c.end_routing.result o) (of_file-and_then c.args.trace.now (trace_of text) (route_of bound.monitors.items bound.rules.items text)) c.end_routing.ensures.value)
 
 pub returns-clause-named : goal.returns-clause-named
 returns-clause-named g c = tells_named (g.S.Store.files c.args.store.now) routed_value c.end_routing.result _ (λ files. routed_in files c.args.trace.now (bound_value c.args.bound.now)) c.end_routing.ensures.value

@@ -1,7 +1,7 @@
 -- What was fed so far is the front of the file, and its lines were routed.
 use Rattle.std.proofs.Common.{◌-◌, ◌≡◌, ◌≤◌, length}
 use Rattle.rv_io.specs.declared.store.TheConstants.{READ_LIMIT}
-use Rattle.rv_tool.specs.Feeding.{IsOpen, IsFed}
+use Rattle.rv_tool.specs.Feeding.{MayBeFed, IsFileFed}
 use Rattle.rv_tool.proofs.trace_text.take_pieces.Given as goal
 
 abbrev pub invariant-loop-place : goal.invariant-loop-place
@@ -10,8 +10,8 @@ invariant-loop-place g l =
     × (g.S.Store.faults l.fn.store ≤ g.S.Store.faults l.store)
     × (l.place ≤ READ_LIMIT)
     × (length l.buffer ≡ length l.fn.buffer)
-    × IsOpen l.bound.bindings l.routing
-    × IsFed (g.S.Store.files l.fn.store) l.trace l.place l.routing.lines.fed
+    × MayBeFed l.bound.bindings l.routing
+    × IsFileFed (g.S.Store.files l.fn.store) l.trace l.place l.routing.lines.fed
 
 abbrev pub decreases-loop-place : goal.decreases-loop-place
 decreases-loop-place g l = READ_LIMIT - l.place

@@ -3,7 +3,7 @@ use Rattle.std.specs.Prelude.{slice_index_or}
 use Rattle.rv_model.specs.Setups.{Setup}
 use Rattle.rv_model.specs.Table.{Table}
 use Rattle.rv_bind.specs.WellFormed.{kinds_of, HaveTables}
-use Rattle.rv_tool.specs.Numbered.{are_narrow}
+use Rattle.rv_tool.specs.CountsFit.{monitors_fit_counts}
 use Rattle.rv_tool.proofs.NarrowLemmas.{narrow-at}
 use Rattle.rv_tool.proofs.ReadyLemmas.{tables_counted}
 use Rattle.rv_tool.proofs.WidthLemmas.{have-at, widths-next}
@@ -13,7 +13,7 @@ pub width_of-requires-clause-narrow : goal.width_of-requires-clause-narrow
 width_of-requires-clause-narrow c =
     let same : c.args.setup.now.tables ≡ c.as_slice-tables.result.now = sym (c.as_slice-tables.ensures.value ∙ ap (λ (s : Setup). s.tables) c.setup.view_is) in
     narrow-at c.args.monitors.now c.as_slice-tables.result.now c.loop-place.place c.index-monitors-place.result c.index-tables-place.result c.index-monitors-place.is c.index-tables-place.is c.loop-place-test.true
-    (ap (are_narrow c.args.monitors.now) (sym same) ∙ c.requires.narrow)
+    (ap (monitors_fit_counts c.args.monitors.now) (sym same) ∙ c.requires.narrow)
 
 pub width_of-requires-clause-table : goal.width_of-requires-clause-table
 width_of-requires-clause-table c =

@@ -3,8 +3,8 @@ use Rattle.std.proofs.lemmas.Bool.{cases_lt, not-true, not-false, eq-eqb}
 use Rattle.rv_trace.proofs.HeadLemmas.{dash-is}
 use Rattle.rv_trace.proofs.runs.dash_from.Goals as goal
 
-pub returns-then-run-lt-LANES-clause-value : goal.returns-then-run-lt-LANES-clause-value
-returns-then-run-lt-LANES-clause-value c =
+pub returns-then-run-lt-WIDTH-clause-value : goal.returns-then-run-lt-WIDTH-clause-value
+returns-then-run-lt-WIDTH-clause-value c =
     let kept = c.loop-place.invariant in
     let run = c.undashed_in-run.ensures in
     let none : (k : ℕ) → c.args.from ≤ k → k < c.loop-place.place + c.undashed_in-run.result → eqb (get_or c.args.text.now k 0) 45 ≡ false =
@@ -13,7 +13,7 @@ returns-then-run-lt-LANES-clause-value c =
       | inr on ↦ not-true _ (run.each k on high)
     ] in
     dash-is c.args.text.now c.args.from (c.loop-place.place + c.undashed_in-run.result) (omega arith) (omega (arith, run.most)) none
-    (λ _. not-false _ (run.stop c.if-run-lt-LANES.true))
+    (λ _. not-false _ (run.stop c.if-run-lt-WIDTH.true))
 
 pub returns-else-text-place-ne45-clause-value : goal.returns-else-text-place-ne45-clause-value
 returns-else-text-place-ne45-clause-value c =

@@ -1,6 +1,6 @@
 use Rattle.std.proofs.Common.{◌≡◌, true, get_or, sym, ◌∙◌, arith, inr, ◌+◌}
 use Rattle.rv_text.specs.Places.{is_digit}
-use Rattle.rv_text.specs.declared.runs.Kind.TheVariants as kinds
+use Rattle.rv_text.specs.declared.runs.ByteClass.TheVariants as kinds
 use Rattle.rv_text.proofs.LeastLemmas.{run_end-is}
 use Rattle.rv_trace.proofs.RunLemmas.{AreOf-more, run_end-on, number-start, number-on, number-longer, run_end-past, digit-most}
 use Rattle.rv_trace.proofs.runs.digits_from.Goals as goal

@@ -1,7 +1,7 @@
 use Rattle.std.proofs.Common.{◌≡◌, ◌≤◌, length, ◌-◌}
 use Rattle.rv_text.specs.Decimal.{number_of}
 use Rattle.rv_text.specs.Places.{between}
-use Rattle.rv_text.specs.declared.runs.Kind.TheVariants as kinds
+use Rattle.rv_text.specs.declared.runs.ByteClass.TheVariants as kinds
 use Rattle.rv_trace.proofs.RunLemmas.{AreOf}
 use Rattle.rv_trace.proofs.runs.digits_from.Given as goal
 

@@ -12,13 +12,13 @@ loop-place-preserved c =
       AreOf-then c.args.kind c.args.text.now c.args.from c.loop-place.place (c.loop-place.place + c.run_in-run.result) kept.2 run.each,
     )
 
-pub returns-then-run-lt-LANES-clause-value : goal.returns-then-run-lt-LANES-clause-value
-returns-then-run-lt-LANES-clause-value c =
+pub returns-then-run-lt-WIDTH-clause-value : goal.returns-then-run-lt-WIDTH-clause-value
+returns-then-run-lt-WIDTH-clause-value c =
     let kept = c.loop-place.invariant in
     let run = c.run_in-run.ensures in
     sym (run_end-is c.args.kind c.args.text.now c.args.from (c.loop-place.place + c.run_in-run.result) (omega arith) (omega (arith, run.most))
     (AreOf-then c.args.kind c.args.text.now c.args.from c.loop-place.place (c.loop-place.place + c.run_in-run.result) kept.2 run.each)
-    (λ _. run.stop c.if-run-lt-LANES.true))
+    (λ _. run.stop c.if-run-lt-WIDTH.true))
 
 pub returns-clause-value : goal.returns-clause-value
 returns-clause-value c =

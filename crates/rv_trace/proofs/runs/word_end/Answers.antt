@@ -1,5 +1,5 @@
 use Rattle.std.proofs.Common.{◌+◌, sym, ◌∙◌, arith}
-use Rattle.rv_text.specs.declared.runs.Kind.TheVariants as kinds
+use Rattle.rv_text.specs.declared.runs.ByteClass.TheVariants as kinds
 use Rattle.rv_text.proofs.LeastLemmas.{run_end-is}
 use Rattle.rv_trace.proofs.RunLemmas.{run_end-on, AreOf-then}
 use Rattle.rv_trace.proofs.runs.word_end.Goals as goal
@@ -13,13 +13,13 @@ loop-place-preserved c =
       AreOf-then kinds.Word c.args.text.now c.args.from c.loop-place.place (c.loop-place.place + c.word_in-run.result) kept.2 run.each,
     )
 
-pub returns-then-run-lt-LANES-clause-value : goal.returns-then-run-lt-LANES-clause-value
-returns-then-run-lt-LANES-clause-value c =
+pub returns-then-run-lt-WIDTH-clause-value : goal.returns-then-run-lt-WIDTH-clause-value
+returns-then-run-lt-WIDTH-clause-value c =
     let kept = c.loop-place.invariant in
     let run = c.word_in-run.ensures in
     sym (run_end-is kinds.Word c.args.text.now c.args.from (c.loop-place.place + c.word_in-run.result) (omega arith) (omega (arith, run.most))
     (AreOf-then kinds.Word c.args.text.now c.args.from c.loop-place.place (c.loop-place.place + c.word_in-run.result) kept.2 run.each)
-    (λ _. run.stop c.if-run-lt-LANES.true))
+    (λ _. run.stop c.if-run-lt-WIDTH.true))
 
 pub returns-clause-value : goal.returns-clause-value
 returns-clause-value c =

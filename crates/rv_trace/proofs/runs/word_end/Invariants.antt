@@ -1,5 +1,5 @@
 use Rattle.std.proofs.Common.{◌≤◌, length, ◌-◌}
-use Rattle.rv_text.specs.declared.runs.Kind.TheVariants as kinds
+use Rattle.rv_text.specs.declared.runs.ByteClass.TheVariants as kinds
 use Rattle.rv_trace.proofs.RunLemmas.{AreOf}
 use Rattle.rv_trace.proofs.runs.word_end.Given as goal
 

@@ -5,9 +5,9 @@ use Rattle.rv_text.specs.TextLines.{LineText}
 use Rattle.rv_text.specs.declared.refusals.Refusal.{Refusal}
 use Rattle.rv_trace.specs.declared.line.TraceLine.{TraceLine}
 use Rattle.rv_trace.specs.declared.trace.TheConstants.{MAX_BYTES}
-use Rattle.rv_trace.specs.Held.{EndsAt, IsOpen}
+use Rattle.rv_trace.specs.Held.{EndsAt, HasNoLineEnd}
 use Rattle.rv_trace.specs.Lines.{LiesIn}
-use Rattle.rv_trace.specs.Streams.{Answers, part_read}
+use Rattle.rv_trace.specs.Streams.{AnswersLine, part_read}
 use Rattle.rv_trace.proofs.SeekLemmas.{open-is, behind-passed, behind-skipped, behind-taken, behind-refused}
 use Rattle.rv_trace.proofs.HeldLemmas.{looks-first}
 use Rattle.rv_trace.proofs.AddLemmas.{adds-none, reading-fits}
@@ -63,7 +63,7 @@ returns-in-Some-found-clause-found c fed piece stands =
     let before = c.loop-to.invariant.3 fed piece stands in
     let is : ◌≡◌ {A = Result (Option TraceLine) Refusal} c.read_at-read.result (Ok (Some c.in-Some-found.field-0)) = c.in-Ok.is ∙ ap Ok c.in-Some-found.is in
     subst (λ (r : Result (Option TraceLine) Refusal).
-    Answers (take (c.args.passed + c.args.start.from) fed) (take (c.args.passed + c.behind-end.result) fed) (part_read c.args.ended fed) (between c.args.held.now c.loop-to.at.from c.in-Some.to) r) c.in-Ok.is
+    AnswersLine (take (c.args.passed + c.args.start.from) fed) (take (c.args.passed + c.behind-end.result) fed) (part_read c.args.ended fed) (between c.args.held.now c.loop-to.at.from c.in-Some.to) r) c.in-Ok.is
     (behind-taken fed c.args.held.now c.args.passed c.loop-to.at.from c.loop-to.at.number c.args.ended piece inside c.in-Some.to ends _ before.1 before.0
     c.behind-end.result c.next_number.result c.behind-end.ensures.value c.next_number.ensures c.read_at-read.result c.read_at-read.ensures
     c.in-Some-found.field-0 is)
@@ -100,5 +100,5 @@ returns-clause-found c fed piece stands =
     record {
       adds = before.0;
       all = open-is fed c.args.held.now c.args.passed c.loop-to.at.from c.loop-to.at.number c.args.ended piece (omega (arith, looks.order, looks.within)) before.1
-          (subst (λ w. IsOpen c.args.held.now c.loop-to.at.from w) c.loop-to.invariant.2 c.in_default.ensures.none);
+          (subst (λ w. HasNoLineEnd c.args.held.now c.loop-to.at.from w) c.loop-to.invariant.2 c.in_default.ensures.none);
     }

@@ -48,7 +48,7 @@ returns-clause-words g c = λ specs mean.
       seated = c.in_ok-feeders.ensures.feeders;
       ran = ran;
       watched = c.run_watched.ensures.watcher;
-      held = c.join_all.ensures.into;
+      permitted = c.join_all.ensures.into;
       feeders = c.join_all.ensures.seats;
       joins = c.join.ensures;
       reads = c.word-last.ensures.grows;
@@ -58,7 +58,7 @@ returns-clause-words g c = λ specs mean.
     } in
     let back : c.join_all.new.lanes.items ≡ lanes_of fs' = c.join_all.ensures.lanes ∙ ap (λ (z : List LaneValue). z ++ lanes_of fs') c.in_ok-feeders.ensures.empty in
     run-promised board panics c.close.result c.args.slot c.word-last.result c.in_ok-board.field-0.seat c.split-own.new.seat c.split-own.result c.seat_lanes.new.seat c.join_all.new.into c.join.new.into c.word-last.new.seat c.args.lanes.items fs fs' c.in_ok-watcher.watcher c.run_watched.new.watcher run
-    c.args.setup c.join_all.new.lanes.items specs c.in_ok-board.ensures.board back (are-judges specs c.args.setup.tables c.known.ensures.are_tables mean)
+    c.args.setup c.join_all.new.lanes.items specs c.in_ok-board.ensures.board back (are-judges specs c.args.setup.tables c.assert_invariant.ensures.are_tables mean)
 
 pub returns-clause-legal : goal.returns-clause-legal
 returns-clause-legal g c = λ specs mean. legal-of-watched c.args.slot c.run_watched.new.watcher.words.items c.word-last.result _ _ c.close.result (returns-clause-words g c specs mean)
@@ -79,7 +79,7 @@ returns-clause-works g c =
       seated = c.in_ok-feeders.ensures.feeders;
       ran = ran;
       watched = c.run_watched.ensures.watcher;
-      held = c.join_all.ensures.into;
+      permitted = c.join_all.ensures.into;
       feeders = c.join_all.ensures.seats;
       joins = c.join.ensures;
       reads = c.word-last.ensures.grows;

@@ -10,4 +10,4 @@ pub returns : goal.returns
 returns c =
     let r = c.self.inside.run in
     subst (λ (v : CheckerValue). IsBegun (record v { lines = [] })) c.self.view_is
-    ([], record { entries = λ k d lt. absurd (omega arith); texts = refl }, begins-before r.setup (judges_of r.setup) (has_bit r.panics) r.works r.history [] c.known.ensures)
+    ([], record { entries = λ k d lt. absurd (omega arith); texts = refl }, begins-before r.setup (judges_of r.setup) (has_bit r.panics) r.works r.history [] c.assert_invariant.ensures)

@@ -5,7 +5,7 @@ use Rattle.rv_model.specs.declared.entry.Answer.{Answer}
 use Rattle.rv_model.specs.declared.entry.Entry.{Entry}
 use Rattle.rv_model.specs.Numbers.{has_bit}
 use Rattle.rv_model.specs.Works.{Work}
-use Rattle.rv_core.specs.Setup.{FitsAct, place_of}
+use Rattle.rv_core.specs.Setup.{FitsAct, word_index}
 use Rattle.rv_check.specs.declared.next.Next.{Next}
 use Rattle.rv_check.specs.declared.next.Next.TheVariants as next
 use Rattle.rv_check.specs.Nexts.{Allows, Moves}
@@ -48,7 +48,7 @@ index-requires-2 c =
     let allowed : Allows w n e.act = c.allows.ensures.yes c.if-not-allows.false in
     let fits : FitsAct i.setup e.act = allowed-fits i.setup w n (stand-at i.setup i.panics i.works.items i.words.items i.nexts.items i.history c.self.invariant k found.0 w c.index-work.ensures n c.index.ensures).is_next e.act allowed in
     let lt = place-in i.setup i.words.items e.act c.self.invariant.core.count fits in
-    let at = c.place_of-at.ensures in
+    let at = c.word_index-at.ensures in
     let long = c.self.inside.words.ok.0 in
     omega arith
 
@@ -63,7 +63,7 @@ index_mut-requires c =
     let allowed : Allows w n e.act = c.allows.ensures.yes c.if-not-allows.false in
     let fits : FitsAct i.setup e.act = allowed-fits i.setup w n (stand-at i.setup i.panics i.works.items i.words.items i.nexts.items i.history c.self.invariant k found.0 w c.index-work.ensures n c.index.ensures).is_next e.act allowed in
     let lt = place-in i.setup i.words.items e.act c.self.invariant.core.count fits in
-    let at = c.place_of-at.ensures in
+    let at = c.word_index-at.ensures in
     let long = c.self.inside.words.ok.0 in
     omega arith
 
@@ -91,7 +91,7 @@ returns-then-entry-index-clause-no c = λ _ b.
     let fits : FitsAct i.setup e.act = allowed-fits i.setup w n (stand-at i.setup i.panics i.works.items i.words.items i.nexts.items i.history c.self.invariant k found.0 w c.index-work.ensures n c.index.ensures).is_next e.act allowed in
     let begun = subst (λ (v : RunValue). BeginsRun v (v.history ++ e ∷ [])) (sym c.self.view_is) b in
     let lt = place-in i.setup i.words.items e.act c.self.invariant.core.count fits in
-    let read : c.index-2.result.now ≡ get_or i.words.items (place_of e.act) 0 = c.index-2.ensures ∙ ap (λ (j : ℕ). get_or i.words.items j c.index-2.result.now) c.place_of-at.ensures ∙ get_or_default i.words.items (place_of e.act) c.index-2.result.now 0 lt in
+    let read : c.index-2.result.now ≡ get_or i.words.items (word_index e.act) 0 = c.index-2.ensures ∙ ap (λ (j : ℕ). get_or i.words.items j c.index-2.result.now) c.word_index-at.ensures ∙ get_or_default i.words.items (word_index e.act) c.index-2.result.now 0 lt in
     c.if-entry-index.true (begun-before i.setup i.panics i.works.items i.words.items i.nexts.items i.history c.self.invariant e k found.0 w c.index-work.ensures n c.index.ensures found.1 begun fits ∙ sym read)
 
 pub returns-then-entry-step-clause-no : goal.returns-then-entry-step-clause-no
@@ -105,7 +105,7 @@ returns-then-entry-step-clause-no c = λ _ b.
     let allowed : Allows w n e.act = c.allows.ensures.yes c.if-not-allows.false in
     let fits : FitsAct i.setup e.act = allowed-fits i.setup w n (stand-at i.setup i.panics i.works.items i.words.items i.nexts.items i.history c.self.invariant k found.0 w c.index-work.ensures n c.index.ensures).is_next e.act allowed in
     let begun = subst (λ (v : RunValue). BeginsRun v (v.history ++ e ∷ [])) (sym c.self.view_is) b in
-    let read : e.before ≡ get_or i.words.items (place_of e.act) e.before = c.if-entry-index.false ∙ c.index-2.ensures ∙ ap (λ (j : ℕ). get_or i.words.items j c.index-2.result.now) c.place_of-at.ensures ∙ ap (get_or i.words.items (place_of e.act)) (sym c.if-entry-index.false) in
+    let read : e.before ≡ get_or i.words.items (word_index e.act) e.before = c.if-entry-index.false ∙ c.index-2.ensures ∙ ap (λ (j : ℕ). get_or i.words.items j c.index-2.result.now) c.word_index-at.ensures ∙ ap (get_or i.words.items (word_index e.act)) (sym c.if-entry-index.false) in
     let told = c.act_on-step.ensures in
     c.if-entry-step.true (begun-after i.setup i.panics i.works.items i.words.items i.nexts.items i.history c.self.invariant e k found.0 w c.index-work.ensures n c.index.ensures found.1 begun c.act_on-step.result.word fits told.fits read told.word told.range)
 
@@ -142,7 +142,7 @@ invariant_of-self c =
     let found = found-work i.works.items e.seat c.as_slice.result.now k w c.as_slice.ensures.value c.in-Some.ensures.some c.in-Some.ensures.seat c.index-work.ensures in
     let allowed : Allows w n e.act = c.allows.ensures.yes c.if-not-allows.false in
     let told = c.act_on-step.ensures in
-    let read : e.before ≡ get_or i.words.items (place_of e.act) e.before = c.if-entry-index.false ∙ c.index-2.ensures ∙ ap (λ (j : ℕ). get_or i.words.items j c.index-2.result.now) c.place_of-at.ensures ∙ ap (get_or i.words.items (place_of e.act)) (sym c.if-entry-index.false) in
+    let read : e.before ≡ get_or i.words.items (word_index e.act) e.before = c.if-entry-index.false ∙ c.index-2.ensures ∙ ap (λ (j : ℕ). get_or i.words.items j c.index-2.result.now) c.word_index-at.ensures ∙ ap (get_or i.words.items (word_index e.act)) (sym c.if-entry-index.false) in
     let word : e.after ≡ c.act_on-step.result.word = c.if-entry-step.false in
     let range : e.after < 2 ^ 64 = subst (λ (x : ℕ). x < 2 ^ 64) (sym word) told.range in
     let m : Next = c.after-then.result in
@@ -154,5 +154,5 @@ invariant_of-self c =
     let in_list : k < length watched = (let lt = found.0 in omega arith) in
     let takes = run-takes i.setup i.panics i.works.items i.words.items i.nexts.items i.history c.self.invariant e k found.0 w c.index-work.ensures n c.index.ensures found.1 allowed told.fits read range (word ∙ told.word) m moves (set watched k m) (length-set watched k m ∙ long ∙ many) (get_or-set_same watched k m next.Over in_list)
     (λ j lt ne. get_or-set_other watched k j m next.Over ne ∙ c.watch_all.ensures.watched j next.Over (omega arith)) in
-    subst (λ (h : List Entry). IsRun i.setup i.panics i.works.items (set i.words.items c.place_of-at.result e.after) (set watched k m) h) (sym c.push.ensures)
-    (subst (λ (j : ℕ). IsRun i.setup i.panics i.works.items (set i.words.items j e.after) (set watched k m) (i.history ++ e ∷ [])) (sym c.place_of-at.ensures) takes)
+    subst (λ (h : List Entry). IsRun i.setup i.panics i.works.items (set i.words.items c.word_index-at.result e.after) (set watched k m) h) (sym c.push.ensures)
+    (subst (λ (j : ℕ). IsRun i.setup i.panics i.works.items (set i.words.items j e.after) (set watched k m) (i.history ++ e ∷ [])) (sym c.word_index-at.ensures) takes)

@@ -18,4 +18,4 @@ pub invariant_of-result : goal.invariant_of-result
 invariant_of-result c =
     let n : c.slots-slots.result ≡ sum c.args.setup.shape = rw (← c.setup.view_is) c.slots-slots.ensures.sum in
     let all : c.loop-slot.slot ≡ sum c.args.setup.shape = omega arith in
-    rw (c.loop-slot.invariant, all, c.new.ensures) (core-opens c.args.setup c.known.ensures)
+    rw (c.loop-slot.invariant, all, c.new.ensures) (core-opens c.args.setup c.assert_invariant.ensures)

@@ -8,7 +8,7 @@ use Rattle.rv_core.specs.Setup.{table_at}
 use Rattle.rv_board.specs.declared.view.View.{View}
 use Rattle.rv_board.specs.Seats.{BoardId}
 use Rattle.rv_board.proofs.RaceLemmas.{at_same, at_other, opened_is, given_up}
-use Rattle.rv_journal.specs.CountedWords.{IsNarrow, IsBelow, word_in, count_in, counted_word, rows_at}
+use Rattle.rv_journal.specs.CountedWords.{FitsCountedWord, IsBelow, word_in, count_in, counted_word, rows_at}
 use Rattle.rv_journal.specs.CountedSteps.{SawCounted, MadeCounted, next_counted}
 use Rattle.rv_journal.specs.CountedSeats.{CountedValue, IsCountedSeat}
 use Rattle.rv_journal.proofs.CountedCallLemmas.{seat-seen, seat-made, made-plain}
@@ -64,7 +64,7 @@ counted_word-requires-clause-narrow g c =
     let before = c.word_in-before.ensures ∙ ap (λ (n : ℕ). word_in n c.loop-lost.raw) rows in
     let word = c.advance-next.ensures.word ∙ (λ j. (advanced (c.table-table.ensures j) (before j) c.args.hit.now).1) in
     let below = subst (λ (s : Setup). IsBelow (32 - rows_at s c.args.slot) c.args.hit.now.what) (sym now) c.requires.levels in
-    subst (λ (z : ℕ × ℕ). IsNarrow z.0 z.1) (λ j. (sym rows j, sym word j)) (next-narrow _ _ _ _ _ _ i.lost setup low c.args.hit.now below)
+    subst (λ (z : ℕ × ℕ). FitsCountedWord z.0 z.1) (λ j. (sym rows j, sym word j)) (next-narrow _ _ _ _ _ _ i.lost setup low c.args.hit.now below)
 
 pub compare_exchange_with-found-requires : goal.compare_exchange_with-found-requires
 compare_exchange_with-found-requires g c =

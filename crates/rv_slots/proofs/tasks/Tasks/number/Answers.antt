@@ -2,7 +2,7 @@ use Rattle.std.proofs.Common.{◌≡◌, ℕ, List, Ok, Err, sym, ◌∙◌, ap,
 use Rattle.std.proofs.lemmas.Bool.{false≢true}
 use Rattle.rv_model.specs.declared.record.Task.{Task}
 use Rattle.rv_slots.specs.declared.tasks.TaskFault.{TaskFault}
-use Rattle.rv_slots.specs.Tasks.{task_of, is_held, same_task, number_of}
+use Rattle.rv_slots.specs.Tasks.{task_of, is_held, same_task, task_number}
 use Rattle.rv_slots.proofs.TaskLemmas.{held-at}
 use Rattle.rv_slots.proofs.tasks.Tasks.number.Goals as goal
 use Rattle.rv_slots.proofs.tasks.Tasks.number.Goals.{in-Ok, in-Err}
@@ -25,6 +25,6 @@ returns-in-Some-clause-full c =
 pub returns-after-insert_full-clause-number : goal.returns-after-insert_full-clause-number
 returns-after-insert_full-clause-number c =
     elim c.match-insert_full.branch [
-      | in-Ok w ↦ rw w.result-is (w.in-Ok.ensures.index ∙ ap (number_of c.self.inside.set.keys) c.task_of-task.ensures ∙ ap (λ (tasks : List Task). number_of tasks (task_of c.args.pid c.args.cpu)) c.self.view_is)
+      | in-Ok w ↦ rw w.result-is (w.in-Ok.ensures.index ∙ ap (task_number c.self.inside.set.keys) c.task_of-task.ensures ∙ ap (λ (tasks : List Task). task_number tasks (task_of c.args.pid c.args.cpu)) c.self.view_is)
       | in-Err w ↦ rw w.result-is tt
     ]

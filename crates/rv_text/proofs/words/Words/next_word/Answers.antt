@@ -1,6 +1,6 @@
 use Rattle.std.proofs.Common.{◌≡◌, length, arith, sym, ◌∙◌}
 use Rattle.rv_text.specs.Places.{run_end}
-use Rattle.rv_text.specs.declared.runs.Kind.TheVariants as kinds
+use Rattle.rv_text.specs.declared.runs.ByteClass.TheVariants as kinds
 use Rattle.rv_text.proofs.WordLemmas.{words_from-next, words_from-end, words_from-past, blank-behind}
 use Rattle.rv_text.proofs.words.Words.next_word.Goals as goal
 

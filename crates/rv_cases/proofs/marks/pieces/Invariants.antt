@@ -1,5 +1,0 @@
-use Rattle.std.proofs.Common.{ℕ, length}
-use Rattle.rv_cases.proofs.marks.pieces.Given as goal
-
-abbrev pub decreases-loop-line : goal.decreases-loop-line
-decreases-loop-line l = length l.lines

@@ -1,5 +1,0 @@
-use Rattle.std.proofs.Common.{ℕ, length}
-use Rattle.rv_cases.proofs.run_all.Given as goal
-
-abbrev pub decreases-loop-line : goal.decreases-loop-line
-decreases-loop-line g l = length l.lines

@@ -1,5 +1,0 @@
-use Rattle.std.proofs.Common.{ℕ, length}
-use Rattle.rv_cases.proofs.words.words_of.Given as goal
-
-abbrev pub decreases-loop-word : goal.decreases-loop-word
-decreases-loop-word l = length l.words

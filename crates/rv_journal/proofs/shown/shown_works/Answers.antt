@@ -1,9 +1,0 @@
-use Rattle.std.proofs.Common.{subst, sym}
-use Rattle.std.specs.List.{AllZip}
-use Rattle.std.proofs.lemmas.List.Elements.{AllZip-push}
-use Rattle.rv_journal.specs.Shown.{IsShownWork}
-use Rattle.rv_journal.proofs.shown.shown_works.Goals as goal
-
-pub loop-work-preserved : goal.loop-work-preserved
-loop-work-preserved c =
-    subst (AllZip (IsShownWork c.args.switches) _) (sym c.in_ok-push.ensures.items) (AllZip-push (IsShownWork c.args.switches) _ _ c.in-Some.work c.in_ok-shown_work.field-0 c.loop-work.invariant c.in_ok-shown_work.ensures)

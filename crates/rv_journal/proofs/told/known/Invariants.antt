@@ -1,7 +1,0 @@
-use Rattle.std.proofs.Common.{take}
-use Rattle.std.specs.Prelude.{All}
-use Rattle.rv_journal.specs.Merging.{NumbersFit}
-use Rattle.rv_journal.proofs.told.known.Given as goal
-
-abbrev pub invariant-loop-item : goal.invariant-loop-item
-invariant-loop-item l = All NumbersFit (take l.item-index l.item-items)

@@ -1,0 +1,130 @@
+//! For how many things each gap has to stay open: for entries that leave its word and are not placed, and for Stops that
+//! were lost from it on and are not yet the next steps of their lanes.
+ghost use Rattle.std.specs.Prelude.{◌≡◌, ◌+◌, ◌-◌, ◌<◌, ◌≤◌, OnOk};
+ghost use Rattle.rv_journal.specs.MergeSteps.{leaves_in, lost_in};
+ghost use Rattle.rv_journal.specs.MergePending.{pending_at, SetsPending, item_pending, lane_pending, Grown, Fallen, step_pending, next_pending};
+ghost use Rattle.rv_journal.specs.declared.steps.VersionInterval.{VersionInterval};
+
+use crate::counted::Counted;
+use crate::steps::{MergeStep, NextStep, VersionInterval, interval_of, leaves, lost_from};
+use std::alloc::AllocError;
+use std::collections::HashMap;
+
+/// The count of each gap, and 0 where it has none.
+pub type Pending = HashMap<VersionInterval, u64>;
+
+/// The count of a gap.
+pub fn waiting(waits: &Pending, gap: VersionInterval) -> u64
+    ensures { result ≡ pending_at waits.now gap }
+{
+    waits.get(&gap).copied().unwrap_or(0)
+}
+
+/// The gap has to stay open for one thing more.
+fn hold(waits: &mut Pending, gap: VersionInterval) -> Result<(), AllocError>
+    ensures { OnOk result (SetsPending waits.old waits.new gap (pending_at waits.old gap + 1)) }
+{
+    match waiting(waits, gap).checked_add(1) {
+        Some(more) => {
+            waits.insert(gap, more)?;
+            Ok(())
+        }
+        None => Err(AllocError),
+    }
+}
+
+/// The gap has to stay open for one thing less.
+fn release(waits: &mut Pending, gap: VersionInterval) -> Result<(), AllocError>
+    requires { 0 < pending_at waits.old gap }
+    ensures { OnOk result (SetsPending waits.old waits.new gap (pending_at waits.old gap - 1)) }
+{
+    let left = waiting(waits, gap) - 1;
+    waits.insert(gap, left)?;
+    Ok(())
+}
+
+/// An item that leaves its word holds its gap.
+fn hold_left(waits: &mut Pending, item: &Counted) -> Result<(), AllocError>
+    ensures { OnOk result (Grown waits.old waits.new (λ g. leaves_in g.slot g.version item.now)) }
+{
+    if leaves(&item.entry) {
+        hold(waits, interval_of(item))?;
+    }
+    Ok(())
+}
+
+/// A Stop holds the gap that it was lost from.
+fn hold_lost(waits: &mut Pending, item: &Counted) -> Result<(), AllocError>
+    ensures { OnOk result (Grown waits.old waits.new (λ g. lost_in g.slot g.version item.now.entry.act item.now.first)) }
+{
+    if let Some(gap) = lost_from(item) {
+        hold(waits, gap)?;
+    }
+    Ok(())
+}
+
+/// All that an item holds before anything is placed.
+fn hold_item(waits: &mut Pending, item: &Counted) -> Result<(), AllocError>
+    ensures { OnOk result (Grown waits.old waits.new (λ g. item_pending g item.now)) }
+{
+    hold_left(waits, item)?;
+    hold_lost(waits, item)
+}
+
+/// The same of all items of a lane.
+pub fn hold_items(waits: &mut Pending, items: &[Counted]) -> Result<(), AllocError>
+    ensures { OnOk result (Grown waits.old waits.new (λ g. lane_pending g items.now)) }
+{
+    for item in items {
+        hold_item(waits, item)?;
+    }
+    Ok(())
+}
+
+/// A step is placed.
+fn release_step(waits: &mut Pending, step: &MergeStep) -> Result<(), AllocError>
+    requires { (g : VersionInterval) → step_pending g step.now ≤ pending_at waits.old g }
+    ensures { OnOk result (Fallen waits.old waits.new (λ g. step_pending g step.now)) }
+{
+    match step {
+        MergeStep::TurnLook => Ok(()),
+        MergeStep::Item(item) => {
+            if leaves(&item.entry) {
+                release(waits, interval_of(item))?;
+            }
+            Ok(())
+        }
+    }
+}
+
+/// A step is its lane's next.
+fn release_next(waits: &mut Pending, next: &Option<NextStep>) -> Result<(), AllocError>
+    requires { (g : VersionInterval) → next_pending g next.now ≤ pending_at waits.old g }
+    ensures { OnOk result (Fallen waits.old waits.new (λ g. next_pending g next.now)) }
+{
+    match next {
+        None => Ok(()),
+        Some(next) => match &next.step {
+            MergeStep::TurnLook => Ok(()),
+            MergeStep::Item(item) => {
+                if let Some(gap) = lost_from(item) {
+                    release(waits, gap)?;
+                }
+                Ok(())
+            }
+        },
+    }
+}
+
+/// A step is placed, and behind it another one is its lane's next.
+pub fn release_pending(
+    waits: &mut Pending,
+    step: &MergeStep,
+    next: &Option<NextStep>,
+) -> Result<(), AllocError>
+    requires { (g : VersionInterval) → step_pending g step.now + next_pending g next.now ≤ pending_at waits.old g }
+    ensures { OnOk result (Fallen waits.old waits.new (λ g. step_pending g step.now + next_pending g next.now)) }
+{
+    release_step(waits, step)?;
+    release_next(waits, next)
+}

@@ -1,5 +1,0 @@
-use Rattle.rv_plain.proofs.SpecJudgeLemmas.{every_spec_is_judged}
-use Rattle.rv_plain.proofs.laws.specifications_are_judged.Goals as goal
-
-pub returns : goal.returns
-returns c = every_spec_is_judged

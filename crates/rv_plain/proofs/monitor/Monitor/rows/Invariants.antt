@@ -1,5 +1,0 @@
-use Rattle.rv_plain.proofs.PhaseLemmas.{RowsBelow}
-use Rattle.rv_plain.proofs.monitor.Monitor.rows.Given as goal
-
-abbrev pub invariant-loop-row : goal.invariant-loop-row
-invariant-loop-row l = RowsBelow l.self l.letters l.row l.set

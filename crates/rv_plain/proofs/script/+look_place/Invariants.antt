@@ -1,5 +1,0 @@
-use Rattle.std.proofs.Common.{length}
-use Rattle.rv_plain.proofs.script.+look_place.Given as goal
-
-abbrev pub decreases-look_place : goal.decreases-look_place
-decreases-look_place l = length l.script.now

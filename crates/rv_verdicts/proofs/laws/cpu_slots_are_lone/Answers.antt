@@ -1,8 +1,0 @@
-use Rattle.rv_verdicts.proofs.CpuLemmas.{cpu_slots_are_lone, all_by_cpu_are_lone}
-use Rattle.rv_verdicts.proofs.laws.cpu_slots_are_lone.Goals as goal
-
-pub returns-clause-slot : goal.returns-clause-slot
-returns-clause-slot c = cpu_slots_are_lone
-
-pub returns-clause-all : goal.returns-clause-all
-returns-clause-all c = all_by_cpu_are_lone

@@ -1,9 +1,0 @@
-use Rattle.rv_verdicts.proofs.CpuJoinLemmas.{cpu_works_are_parts}
-use Rattle.rv_verdicts.proofs.CpuPartLemmas.{cpu_work_is_part}
-use Rattle.rv_verdicts.proofs.laws.cpu_works_are_parts.Goals as goal
-
-pub returns-clause-part : goal.returns-clause-part
-returns-clause-part c = cpu_work_is_part
-
-pub returns-clause-all : goal.returns-clause-all
-returns-clause-all c = cpu_works_are_parts

@@ -1,8 +1,0 @@
-use Rattle.rv_verdicts.proofs.VerdictLemmas.{lone_records_agree, all_records_agree}
-use Rattle.rv_verdicts.proofs.laws.lone_records_agree.Goals as goal
-
-pub returns-clause-slot : goal.returns-clause-slot
-returns-clause-slot c = lone_records_agree
-
-pub returns-clause-all : goal.returns-clause-all
-returns-clause-all c = all_records_agree

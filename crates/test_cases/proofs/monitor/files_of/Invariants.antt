@@ -1,0 +1,5 @@
+use Rattle.std.proofs.Common.{ℕ, length}
+use Rattle.test_cases.proofs.monitor.files_of.Given as goal
+
+abbrev pub decreases-loop-name : goal.decreases-loop-name
+decreases-loop-name g l = length l.names

@@ -1,0 +1,5 @@
+use Rattle.std.proofs.Common.{ℕ, length}
+use Rattle.test_cases.proofs.run_all.Given as goal
+
+abbrev pub decreases-loop-line : goal.decreases-loop-line
+decreases-loop-line g l = length l.lines
