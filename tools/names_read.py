@@ -1,5 +1,8 @@
-"""Reads the crates' .rt and .antt files and resolves names: what is defined where, and by which `use` line a file has it."""
-import bisect
+"""Reads the crates' .rt and .antt files and resolves names: what is defined where, and by which `use` line a file has it.
+
+It reads lines and brackets and no more, so what rt refuses may be read. It stands beside `names`, which alone reads by it,
+and not in lib/, which is installed with the tools of users.
+"""
 import os
 import re
 
@@ -11,9 +14,11 @@ GHOST_USE = re.compile(r"ghost\s+use\s+([^\s{;]+?)(?:\.\{([^}]*)\}|\s+as\s+(\S+)
 TACTIC = re.compile(r"\b([a-z]\w*)::(specs|proofs)::(\w+(?:::\w+)*)::(\w+)")
 WORD = re.compile(r"[A-Za-z_][A-Za-z_0-9]*")
 MADE = object()  # stands for what rt makes from the code
-GENERATED = {"TheImpl", "TheKnot", "TheSendSync", "TheLaws", "Key"}
+MADE_MODULES = {"TheImpl", "TheKnot", "TheSendSync", "TheLaws", "Key"}
+# what is no name in a definition
 SIGNS = set("(){}[],;.λ:→=×⊎≡∷++ + - * / | && || == < ≤ ≢ ¬ ∙ ^ % _ let in where record data use pub abbrev module if then else ↔".split())
-TYPES = ("struct", "enum", "trait", "type")
+TYPES = ("struct", "enum", "trait", "type")  # the kinds of items that are types of code
+OPENS, CLOSES = {"(": ")", "{": "}", "[": "]"}, {")", "}", "]"}
 
 
 class Item:
@@ -22,7 +27,10 @@ class Item:
     def __init__(self, kind, name, crate, module, path, line, owner=None, public=False):
         self.kind, self.name, self.crate, self.module = kind, name, crate, module
         self.path, self.line, self.owner, self.public = path, line, owner, public
-        self.chunks = []  # of a definition: lists of tokens
+        self.chunks = []  # of a definition or lemma: the tokens of its signature, and of each equation
+        self.cites = []  # of these: (item, token) for each name in them, once Checkout.find_citations was called
+        self.clauses = []  # of a function
+        self.params = set()  # of a function
 
     @property
     def place(self):
@@ -37,22 +45,25 @@ class Item:
 
 
 class Token:
-    """A token with its place in the file; `after` says that a dot stands right before it."""
-    __slots__ = ("text", "line", "start", "end", "after")
+    """A token with its place in the file; `after` says that a dot stands right before it. A clause of code is one token."""
+    __slots__ = ("text", "line", "start", "end", "after", "clause")
 
-    def __init__(self, text, line, start, end, after):
-        self.text, self.line, self.start, self.end, self.after = text, line, start, end, after
+    def __init__(self, text, line, start, end, after=False, clause=None):
+        self.text, self.line, self.start, self.end, self.after, self.clause = text, line, start, end, after, clause
 
     def __repr__(self):
         return self.text
 
 
 class Import:
-    """One name of a `use` line: `local` in the file, `name` where it comes from. With no name, `local` is the module itself."""
-    __slots__ = ("path", "name", "local", "start", "end", "line", "scope")
+    """One name of a `use` line: `local` in the file, `name` where it comes from. With no name, `local` is the module itself.
 
-    def __init__(self, path, name, local, start, end, line, scope=None):
-        self.path, self.name, self.local, self.start, self.end, self.line, self.scope = path, name, local, start, end, line, scope
+    The scope is the part of a file of code in which it stands (None: all of it), or whether the line gives it on.
+    """
+    __slots__ = ("path", "name", "local", "line", "scope")
+
+    def __init__(self, path, name, local, line, scope=None):
+        self.path, self.name, self.local, self.line, self.scope = path, name, local, line, scope
 
 
 def code_of(row):
@@ -80,46 +91,39 @@ def antt_tokens(text, base=0, line=1):
 
 
 def names_of(inside):
-    """The names between the braces of a `use` line, with their places in it: (name, local, start)."""
-    found = []
-    at = 0
-    for part in inside.split(","):
-        words = part.split()
-        if words:
-            start = at + part.index(words[0])
-            found.append((words[0], words[2] if len(words) == 3 and words[1] == "as" else words[0], start))
-        at += len(part) + 1
-    return found
+    """The names between the braces of a `use` line: (name, local)."""
+    parts = [part.split() for part in inside.split(",")]
+    return [(words[0], words[2] if len(words) == 3 and words[1] == "as" else words[0]) for words in parts if words]
 
 
 class AnttFile:
     """A file of definitions or proofs: its imports, and its items with their chunks of tokens."""
 
     def __init__(self, crate, module, path, text):
-        self.crate, self.module, self.path, self.text = crate, module, path, text
-        self.imports, self.items, self.rest, self.header = [], [], [], None
+        self.crate, self.module, self.path = crate, module, path
+        self.imports, self.items = [], []
         self.head = text.split("\n", 1)[0]
-        self.read()
+        self.read(text)
         self.local = {}
         for item in self.items:
             if item.owner is None or item.kind == "constructor":
                 self.local.setdefault(item.name, item)
         self.names = {i.local: i for i in self.imports}
 
-    def read(self):
-        offset, number = 0, 0
+    def read(self, text):
+        """Reads line by line: an item begins at the level of its `module`, and what stands deeper belongs to it."""
+        offset = 0
         levels = [0]
-        fresh = False
-        current, members = None, None
-        for row in self.text.split("\n"):
-            number += 1
+        fresh = False  # the line before began a module, so this one's level is that of its items
+        current, members, header = None, None, None
+        for number, row in enumerate(text.split("\n"), 1):
             start, offset = offset, offset + len(row) + 1
             code = code_of(row)
             if not code.strip():
                 continue
             used = USE.match(code)
             if used:
-                self.use(used, start, number)
+                self.use(used, number)
                 continue
             indent = len(code) - len(code.lstrip())
             if fresh:
@@ -133,32 +137,28 @@ class AnttFile:
                 if current:
                     self.member(current, members, indent, code, number)
                     current.chunks[-1].extend(tokens)
-                else:
-                    self.rest.extend(tokens)
-                if current is self.header and code.rstrip().endswith("where"):
+                if current is header and code.rstrip().endswith("where"):
                     fresh, current = True, None
                 continue
             words = code.split()
-            if words[0] in ("module",):
-                current = self.header = Item("module", "_", self.crate, self.module, self.path, number)
+            if words[0] == "module":
+                current = header = Item("module", "_", self.crate, self.module, self.path, number)
                 current.chunks.append(tokens)
-                self.rest.append(tokens)
                 if code.rstrip().endswith("where"):
                     fresh, current = True, None
                 continue
             current, members = self.top(words, tokens, number, current)
 
-    def use(self, m, start, number):
+    def use(self, m, number):
+        """A `use` line, as USE found it."""
         path, scope = m[2], "pub" if m[0].lstrip().startswith("pub") else None
         if m[3] is not None:
-            base = start + m.start(3)
-            for name, local, at in names_of(m[3]):
-                self.imports.append(Import(path, name, local, base + at, base + at + len(name), number, scope))
+            self.imports += [Import(path, name, local, number, scope) for name, local in names_of(m[3])]
         else:
-            self.imports.append(Import(path, None, m[4] or path.rsplit(".", 1)[-1], start + m.start(2), start + m.end(2), number, scope))
+            self.imports.append(Import(path, None, m[4] or path.rsplit(".", 1)[-1], number, scope))
 
     def top(self, words, tokens, number, current):
-        """A line at the level of definitions."""
+        """A line at the level of items: returns the item that it begins or goes on with, and what is known of its members' lines."""
         marks = []
         while words and words[0] in ("abbrev", "pub", "unfoldable"):
             marks.append(words.pop(0))
@@ -241,31 +241,21 @@ def bound_names(tokens, constructors, clause=False):
     starts = {}
     for t in tokens:
         starts.setdefault(t.line, []).append(t)
-    for first, row in enumerate(() if clause else starts.values()):
+    for number, row in enumerate(() if clause else starts.values()):
         words = [t.text for t in row]
         if "=" in words and "let" not in words[:words.index("=")] and words[0] not in ("record", "{", "pub", "("):
             left = row[:words.index("=")]
-            if len(left) == 1 and first or sum((t.text in "({[") - (t.text in ")}]") for t in left):
+            if len(left) == 1 and number or sum((t.text in "({[") - (t.text in ")}]") for t in left):
                 continue  # a field of a record
             for t, behind in zip(left[1:], left[2:] + [None]):
                 if t.text not in SIGNS and not t.after and t.text not in constructors and (behind is None or behind.text != "."):
                     bound.add(t.text)
-        if len(words) > 1 and words[1] == ":" and first and words[0] != "pub":
+        if len(words) > 1 and words[1] == ":" and number and words[0] != "pub":
             bound.add(words[0])
     return bound
 
 
 # ---- .rt
-
-class RtToken:
-    __slots__ = ("text", "line", "start", "end", "clause")
-
-    def __init__(self, text, line, start, end, clause=None):
-        self.text, self.line, self.start, self.end, self.clause = text, line, start, end, clause
-
-    def __repr__(self):
-        return self.text
-
 
 RUST = re.compile(r"""
     (?P<space>\s+) | (?P<comment>//[^\n]*|/\*.*?\*/) | (?P<raw>b?r(\#*)".*?"\4) | (?P<string>b?"(?:\\.|[^"\\])*")
@@ -277,27 +267,20 @@ RUST = re.compile(r"""
 
 
 class Clause:
-    """A requires, an ensures, or a ghost item: its words before the brace, and its tokens."""
+    """A requires, an ensures, or a ghost item: its label, or the item's name, and its tokens."""
 
-    def __init__(self, word, label, label_at, tokens, line):
-        self.word, self.label, self.label_at, self.tokens, self.line = word, label, label_at, tokens, line
+    def __init__(self, label, tokens):
+        self.label, self.tokens = label, tokens
 
 
 def rt_tokens(text):
-    found, imports, comments = [], [], []
+    """The tokens of code, and its lines of `ghost use`: (place, line's text, number). Comments are left out, a string is one quote."""
+    found, imports = [], []
     at, line = 0, 1
     while at < len(text):
         m = RUST.match(text, at)
-        kind = m.lastgroup if m.lastgroup else "sign"
-        for name in ("space", "comment", "raw", "string", "char", "life", "ghost", "clause", "word", "number", "sign"):
-            if m[name] is not None:
-                kind = name
-                break
-        piece = m[0]
-        end = m.end()
-        if kind == "comment":
-            comments.append((m.start(), end, line))
-        elif kind == "ghost":
+        kind, piece, end = m.lastgroup, m[0], m.end()
+        if kind == "ghost":
             imports.append((m.start(), piece, line))
         elif kind == "clause":
             level, j = 1, end
@@ -309,49 +292,50 @@ def rt_tokens(text):
                 level -= text[j] == "}"
                 j += 1
             words = re.findall(r"\w+", piece)
-            label = words[1] if len(words) > 1 else None
-            label_at = m.start() + piece.index(label, len(words[0])) if label else None
-            clause = Clause(words[0], label, label_at, antt_tokens(text[end:j - 1], end, line + piece.count("\n")), line)
-            found.append(RtToken("#clause", line, m.start(), j, clause))
+            clause = Clause(words[1] if len(words) > 1 else None, antt_tokens(text[end:j - 1], end, line + piece.count("\n")))
+            found.append(Token("#clause", line, m.start(), j, clause=clause))
             piece, end = text[m.start():j], j
-        elif kind == "word":
-            found.append(RtToken(piece, line, m.start(), end))
-        elif kind in ("sign", "number", "life"):
-            found.append(RtToken(piece, line, m.start(), end))
+        elif kind in ("word", "sign", "number", "life"):
+            found.append(Token(piece, line, m.start(), end))
         elif kind in ("string", "raw", "char"):
-            found.append(RtToken("\"", line, m.start(), end))
+            found.append(Token("\"", line, m.start(), end))
         line += piece.count("\n")
         at = end
-    return found, imports, comments
-
-
-OPENS, CLOSES = {"(": ")", "{": "}", "[": "]"}, {")", "}", "]"}
+    return found, imports
 
 
 class RtFile:
     """A file of code: its items, its imports in both scopes, and its clauses with the function that they stand at."""
 
     def __init__(self, crate, module, path, text):
-        self.crate, self.module, self.path, self.text = crate, module, path, text
-        self.tokens, ghosts, self.comments = rt_tokens(text)
-        self.items, self.uses, self.clauses, self.imports, self.functions, self.blocks = [], [], [], [], [], []
-        self.tactics = [Import((m[1], m[2], m[3].replace("::", ".")), m[4], None, m.start(4), m.end(4), text.count("\n", 0, m.start()) + 1)
-                        for m in TACTIC.finditer(text)]
+        self.crate, self.module, self.path = crate, module, path
+        self.tokens, ghosts = rt_tokens(text)
+        self.items, self.functions = [], []
+        self.uses, self.imports = [], []  # of `use`, and of `ghost use`
+        self.clauses = []  # (clause, its function, the type or trait whose block it is in)
+        self.blocks = []  # the first and last token of each type and impl
+        self.tactics = [Import((m[1], m[2], m[3].replace("::", ".")), m[4], None, text.count("\n", 0, m.start()) + 1) for m in TACTIC.finditer(text)]
         self.match = self.pairs()
         self.scan(0, len(self.tokens), None, None)
         for start, piece, line in ghosts:
             self.ghost(start, piece, line)
 
     def pairs(self):
+        """Of each opening bracket, by its place among the tokens, the closing one."""
         pairs, open_at = {}, []
         for i, t in enumerate(self.tokens):
             if t.text in OPENS:
                 open_at.append(i)
-            elif t.text in CLOSES and open_at:
+            elif t.text in CLOSES:
+                if not open_at or OPENS[self.tokens[open_at[-1]].text] != t.text:
+                    raise ValueError(f"{self.path}:{t.line}: no bracket is open for this {t.text}")
                 pairs[open_at.pop()] = i
+        if open_at:
+            raise ValueError(f"{self.path}:{self.tokens[open_at[-1]].line}: this {self.tokens[open_at[-1]].text} is not closed")
         return pairs
 
     def ghost(self, start, piece, line):
+        """A `ghost use` line, whose scope is the type or block that it stands in."""
         m = GHOST_USE.match(piece)
         if not m:
             return
@@ -360,21 +344,17 @@ class RtFile:
             if self.tokens[f[0]].start < start < self.tokens[f[1]].end:
                 scope = (self.tokens[f[0]].start, self.tokens[f[1]].end)
         if m[2] is not None:
-            for name, local, at in names_of(m[2]):
-                s = start + m.start(2) + at
-                self.imports.append(Import(m[1], name, local, s, s + len(name), line, scope))
+            self.imports += [Import(m[1], name, local, line, scope) for name, local in names_of(m[2])]
         else:
-            self.imports.append(Import(m[1], None, m[3] or m[1].rsplit(".", 1)[-1], start + m.start(1), start + m.end(1), line, scope))
+            self.imports.append(Import(m[1], None, m[3] or m[1].rsplit(".", 1)[-1], line, scope))
 
     def item(self, kind, t, owner, public):
         item = Item(kind, t.text, self.crate, self.module, self.path, t.line, owner=owner, public=public)
-        item.start = t.start
-        item.clauses = []
         self.items.append(item)
         return item
 
-    def scan(self, i, end, owner, kind):
-        """The items between two tokens; `owner` is the type or trait whose block it is."""
+    def scan(self, i, end, owner, trait):
+        """The items between two tokens; `owner` is the type or trait whose block it is, `trait` the trait that the block is of."""
         ts = self.tokens
         public = False
         while i < end:
@@ -391,7 +371,7 @@ class RtFile:
                 i += 1
                 continue
             if text == "#clause":
-                self.clauses.append((ts[i].clause, None, owner, kind))
+                self.clauses.append((ts[i].clause, None, owner))
                 i += 1
                 continue
             if text == "use":
@@ -405,19 +385,19 @@ class RtFile:
                 self.item("mod", ts[i + 1], owner, public)
                 if ts[i + 2].text == "{":
                     stop = self.match[i + 2]
-                    self.scan(i + 3, stop, owner, kind)
+                    self.scan(i + 3, stop, owner, trait)
                     i = stop
                 i, public = i + 2 if ts[i + 2].text == ";" else i + 1, False
                 continue
             if text == "fn":
-                i = self.function(i, end, owner, kind, public)
+                i = self.function(i, end, owner, trait, public)
                 public = False
                 continue
             if text in ("struct", "enum", "trait", "union"):
-                i = self.type_item(i, end, text, public)
+                i = self.type_item(i, text, public)
                 public = False
                 continue
-            if text in ("const", "static") and ts[i + 1].text not in ("fn",):
+            if text in ("const", "static") and ts[i + 1].text != "fn":
                 if WORD.fullmatch(ts[i + 1].text) and ts[i + 1].text != "_":
                     self.item("const", ts[i + 1], owner, public)
                 j = i
@@ -434,11 +414,10 @@ class RtFile:
                 continue
             if text == "impl":
                 j = i + 1
-                while ts[j].text not in ("{",):
+                while ts[j].text != "{":
                     j += 1
                 self.blocks.append((i, self.match[j]))
-                name, of_trait = self.impl_of(i + 1, j)
-                self.scan(j + 1, self.match[j], name, ("impl", of_trait))
+                self.scan(j + 1, self.match[j], *self.impl_of(i + 1, j))
                 i, public = self.match[j] + 1, False
                 continue
             i += 1
@@ -446,6 +425,7 @@ class RtFile:
                 public = False
 
     def impl_of(self, i, j):
+        """The type that a block is of, and the trait or None, by the tokens between `impl` and the brace."""
         ts = self.tokens
         if ts[i].text == "<":
             level = 0
@@ -473,14 +453,10 @@ class RtFile:
         name = [w for w in words if WORD.fullmatch(w)]
         return (name[-1] if name else "_"), None
 
-    def function(self, i, end, owner, kind, public):
+    def function(self, i, end, owner, trait, public):
+        """The function that begins at `fn`, its clauses, and the `use` lines of its body; returns the place behind it."""
         ts = self.tokens
-        inherent = owner and kind and kind[0] == "impl" and kind[1] is None
-        what = "function" if owner is None else "method"
-        item = self.item(what, ts[i + 1], owner, public or bool(kind and kind[0] == "trait"))
-        item.of_trait = None if not kind else kind[1] if kind[0] == "impl" else "trait"
-        item.params = set()
-        item.first = i
+        item = self.item("function" if owner is None else "method", ts[i + 1], owner, public or trait is not None)
         j = i + 2
         level = 0
         while ts[j].text != "(" or level:
@@ -497,25 +473,23 @@ class RtFile:
         while j < end and ts[j].text not in ("{", ";"):
             if ts[j].text == "#clause":
                 item.clauses.append(ts[j].clause)
-                self.clauses.append((ts[j].clause, item, owner, kind))
+                self.clauses.append((ts[j].clause, item, owner))
             j = self.match.get(j, j) + 1
-        item.body = None
         if j < end and ts[j].text == "{":
-            item.body = (j, self.match[j])
             for k in range(j, self.match[j]):
                 if ts[k].text == "#clause":
-                    self.clauses.append((ts[k].clause, item, owner, ("body", None)))
+                    self.clauses.append((ts[k].clause, item, owner))
                 if ts[k].text == "use" and ts[k - 1].text in (";", "{", "}"):
                     m = k
                     while ts[m].text != ";":
                         m += 1
                     self.rust_use(k + 1, m, False)
             j = self.match[j]
-        item.last = j
         self.functions.append(item)
         return j + 1
 
-    def type_item(self, i, end, text, public):
+    def type_item(self, i, text, public):
+        """A type or trait with its fields or variants; returns the place behind it."""
         ts = self.tokens
         item = self.item(text, ts[i + 1], None, public)
         j = i + 2
@@ -526,7 +500,7 @@ class RtFile:
         stop = self.match[j]
         self.blocks.append((i, stop))
         if text == "trait":
-            self.scan(j + 1, stop, item.name, ("trait", None))
+            self.scan(j + 1, stop, item.name, item.name)
             return stop + 1
         k = j + 1
         expect = True
@@ -536,9 +510,8 @@ class RtFile:
                 k = self.match[k + 1] + 1
                 continue
             if t == "#clause":
-                self.clauses.append((ts[k].clause, None, item.name, (text, None)))
-                field = RtToken(ts[k].clause.label, ts[k].line, ts[k].clause.label_at, ts[k].clause.label_at + len(ts[k].clause.label))
-                self.item("field", field, item.name, False)
+                self.clauses.append((ts[k].clause, None, item.name))
+                self.item("field", Token(ts[k].clause.label, ts[k].line, ts[k].start, ts[k].end), item.name, False)
                 k += 1
                 continue
             if text == "enum" and expect and WORD.fullmatch(t):
@@ -580,22 +553,22 @@ class RtFile:
                         k = n + 1
                     return
                 elif t == "as":
-                    self.uses.append(Import(tuple(path[:-1]), path[-1], ts[i + 1].text, last.start, last.end, last.line, public))
+                    self.uses.append(Import(tuple(path[:-1]), path[-1], ts[i + 1].text, last.line, public))
                     return
                 else:
                     path.append(t)
                     last = ts[i]
                     i += 1
             if path:
-                self.uses.append(Import(tuple(path[:-1]), path[-1], path[-1], last.start, last.end, last.line, public))
+                self.uses.append(Import(tuple(path[:-1]), path[-1], path[-1], last.line, public))
 
         tree(i, j, ())
 
 
 # ---- all crates
 
-class House:
-    """The crates of a checkout."""
+class Checkout:
+    """The crates that crates.txt lists, by their files. What cannot be read raises OSError or ValueError, with the file."""
 
     def __init__(self, top):
         self.top = top
@@ -611,13 +584,14 @@ class House:
         self.modules = {(f.crate, f.module): f for f in self.rt.values()}
 
     def layers(self):
+        """By crate, itself and each crate below it."""
         deps = {}
-        with open(os.path.join(self.top, "crates.txt"), encoding="utf-8") as file:
-            for row in file:
-                row = row.split("#")[0].strip()
-                if row:
-                    name, rest = row.split(":", 1)
-                    deps[name.split()[0]] = rest.split()
+        for number, row in enumerate(self.text_of("crates.txt").split("\n"), 1):
+            name, colon, rest = row.split("#")[0].partition(":")
+            if name.strip():
+                if not colon:
+                    raise ValueError(f"crates.txt:{number}: wants NAME: CRATE ..")
+                deps[name.split()[0]] = rest.split()
         below = {}
 
         def seen(name):
@@ -632,6 +606,13 @@ class House:
             seen(name)
         return below
 
+    def text_of(self, path):
+        try:
+            with open(os.path.join(self.top, path), encoding="utf-8") as file:
+                return file.read()
+        except UnicodeDecodeError as error:
+            raise ValueError(f"{path}: no UTF-8") from error
+
     def read_crate(self, crate):
         base = os.path.join(self.top, "crates", crate)
         for folder, ending in (("src", ".rt"), ("specs", ".antt"), ("proofs", ".antt")):
@@ -643,22 +624,32 @@ class House:
                     full = os.path.join(at, name)
                     path = os.path.relpath(full, self.top)
                     inner = os.path.relpath(full, os.path.join(base, folder))[:-len(ending)].split(os.sep)
-                    with open(full, encoding="utf-8") as file:
-                        text = file.read()
+                    text = self.text_of(path)
                     if ending == ".rt":
-                        inner = [p for p in inner if p not in ("mod",)]
-                        module = "::".join(inner)
-                        self.rt[path] = RtFile(crate, module, path, text)
+                        module = "::".join(part for part in inner if part != "mod")
+                        try:
+                            self.rt[path] = RtFile(crate, module, path, text)
+                        except IndexError as error:
+                            raise ValueError(f"{path}: ends within an item") from error
                     else:
                         module = ".".join([folder] + inner)
                         file = AnttFile(crate, module, path, text)
                         self.antt[path] = file
                         (self.specs if folder == "specs" else self.proofs)[(crate, module)] = file
 
+    def sees(self, one, other):
+        """Whether one of the two crates is the other, or stands below it."""
+        return one in self.below[other] or other in self.below[one]
+
+    def has_module(self, path):
+        """Whether a path of a `use` line leads into these crates."""
+        parts = path.split(".")
+        return parts[0] == "Rattle" and parts[1] in self.below
+
     # -- where an imported name comes from
 
     def declared(self, crate, parts):
-        """The type of a path behind `declared`, its file, and what is left of the path."""
+        """The file of code that a path behind `declared` or `contracts` begins with, and what is left of the path."""
         for cut in range(len(parts), 0, -1):
             file = self.modules.get((crate, "::".join(parts[:cut])))
             if file:
@@ -672,7 +663,7 @@ class House:
         if len(parts) < 3 or parts[0] != "Rattle" or parts[1] not in self.below:
             return None
         crate, kind = parts[1], parts[2]
-        if parts[-1] in ("Goals", "Given") or GENERATED & set(parts[3:]):
+        if parts[-1] in ("Goals", "Given") or MADE_MODULES & set(parts[3:]):
             return MADE
         if kind == "specs" and len(parts) > 3 and parts[3] in ("declared", "contracts"):
             file, rest = self.declared(crate, parts[4:])
@@ -717,7 +708,7 @@ class House:
             crate, inner = file.crate, []
             if name in self.below or name in ("std", "crate"):
                 return None
-        elif path[0] in ("crate",):
+        elif path[0] == "crate":
             crate, inner = file.crate, list(path[1:])
         elif path[0] == "super":
             crate, inner = file.crate, file.module.split("::")[:-1] + list(path[1:])
@@ -731,7 +722,8 @@ class House:
             return None
         return self.in_module(crate, inner, name, seen)
 
-    def in_module(self, crate, inner, name, seen=()):
+    def in_module(self, crate, inner, name, seen):
+        """The item that a module of code has or gives on; `seen` are the questions that led here."""
         if (crate, tuple(inner), name) in seen:
             return None
         seen = seen + ((crate, tuple(inner), name),)
@@ -758,7 +750,7 @@ class House:
         return None
 
     def given_out(self, crate):
-        """What the crate's root gives out: the set of the items' places."""
+        """The items that the crate's root gives out."""
         root = self.modules.get((crate, "lib")) or self.modules.get((crate, "main"))
         found = []
         if root is None:
@@ -802,6 +794,7 @@ class House:
         return None
 
     def named(self, file, imports, tokens, at):
+        """The item of these crates that the token names, or None."""
         text = tokens[at].text
         if at + 1 < len(tokens) and tokens[at + 1].text == "=" and at and tokens[at - 1].text in ("{", ";"):
             return None  # a field of a record
@@ -810,10 +803,10 @@ class House:
             return local
         use = imports.get(text)
         if use is None:
-            parts = ("◌" + text + "◌")
-            use = imports.get(parts)
+            operator = f"◌{text}◌"
+            use = imports.get(operator)
             if use is None:
-                return file.local.get(parts) if hasattr(file, "local") else None
+                return getattr(file, "local", {}).get(operator)
         if use.name is None:
             if at + 2 < len(tokens) and tokens[at + 1].text == "." and tokens[at + 2].after:
                 return self.thing(self.antt_target(use.path, tokens[at + 2].text))
@@ -822,18 +815,18 @@ class House:
 
     @staticmethod
     def thing(item):
+        """The item, where it is one and nothing that rt makes."""
         return item if isinstance(item, Item) else None
 
-    def citations(self):
-        """Gives each definition and lemma `cites`: the items that it names, with the tokens."""
+    def find_citations(self):
+        """Gives each definition and lemma its `cites`."""
         for file in self.antt.values():
             for item in file.items:
-                item.cites = []
                 for chunk in item.chunks:
                     item.cites += self.cited(file, chunk, file.names, bound_names(chunk, self.constructors))
 
     def clause_imports(self, file, at):
-        """The ghost scope at a place of a file of code."""
+        """The imports for contracts at a place of a file of code, by their names there."""
         found = {}
         for use in file.imports:
             if use.scope is None or use.scope[0] <= at < use.scope[1]:
@@ -842,8 +835,9 @@ class House:
                 found[use.local] = use
         return found
 
-    def clause_cites(self, file, clause, item):
+    def clause_cites(self, file, clause, function):
+        """The items that a clause names, with the tokens; the function is None where it stands at none."""
         if not clause.tokens:
             return []
-        bound = bound_names(clause.tokens, self.constructors, True) | (getattr(item, "params", None) or set()) | {"result", "self"}
+        bound = bound_names(clause.tokens, self.constructors, True) | (function.params if function else set()) | {"result", "self"}
         return self.cited(file, clause.tokens, self.clause_imports(file, clause.tokens[0].start), bound)

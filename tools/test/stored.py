@@ -35,6 +35,27 @@ def run(command, top, environment):
     return text + ("" if text.endswith("\n") or not text else "\n") + f"status {ran.returncode}\n"
 
 
+def compare(name, commands, top, environment, is_writing):
+    """Runs the commands in a folder, prints what differs from what is stored, or stores it; returns the status of the test."""
+    path, outputs, differ = f"{ROOT}/tools/test/{name}.stored", [], 0
+    stored = blocks_of(path)
+    for command in commands:
+        said = run(command, top, environment).replace(top, "TOP")
+        outputs.append(f"$ {command}\n{said}")
+        if said != stored.get(command):
+            differ += 1
+            if not is_writing:
+                changes = difflib.unified_diff(stored.get(command, "").splitlines(), said.splitlines(), "stored", "said", lineterm="")
+                print(f"$ {command}", *changes, sep="\n    ")
+    if is_writing:
+        with open(path, "w", encoding="utf-8", errors="surrogateescape", newline="\n") as file:
+            file.write("".join(outputs))
+        print(f"{name}: {len(outputs)} outputs stored, {differ} of them new")
+        return 0
+    print(f"{name}: {len(commands) - differ} of {len(commands)} commands agree")
+    return 1 if differ else 0
+
+
 def main(name, describe, commands, needs=(), files=()):
     """Runs the commands; ends with 0 where all agree, 1 where one differs, 3 where the program or a tool is missing."""
     parser = Parser(describe)
@@ -47,8 +68,6 @@ def main(name, describe, commands, needs=(), files=()):
     if not os.access(given.rv, os.X_OK):
         print(f"{name}: {given.rv} is not the built program; ./rv builds it")
         return 3
-    path, outputs, differ = f"{ROOT}/tools/test/{name}.stored", [], 0
-    stored = blocks_of(path)
     with tempfile.TemporaryDirectory() as room:
         top = os.path.join(os.path.realpath(room), "top")
         os.makedirs(f"{top}/crates/rv/out")
@@ -60,21 +79,7 @@ def main(name, describe, commands, needs=(), files=()):
             with open(f"{top}/{file}", "w", encoding="utf-8", newline="\n") as to:
                 to.write(text)
         environment = dict(os.environ, LC_ALL="C.UTF-8", PATH=f"{top}/tools:{top}/crates/rv/out:{os.environ['PATH']}")
-        for command in commands:
-            said = run(command, top, environment).replace(top, "TOP")
-            outputs.append(f"$ {command}\n{said}")
-            if said != stored.get(command):
-                differ += 1
-                if not given.write:
-                    changes = difflib.unified_diff(stored.get(command, "").splitlines(), said.splitlines(), "stored", "said", lineterm="")
-                    print(f"$ {command}", *changes, sep="\n    ")
-    if given.write:
-        with open(path, "w", encoding="utf-8", errors="surrogateescape", newline="\n") as file:
-            file.write("".join(outputs))
-        print(f"{name}: {len(outputs)} outputs stored, {differ} of them new")
-        return 0
-    print(f"{name}: {len(commands) - differ} of {len(commands)} commands agree")
-    return 1 if differ else 0
+        return compare(name, commands, top, environment, given.write)
 
 
 def finish(*words, **more):
