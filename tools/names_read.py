@@ -68,7 +68,7 @@ class Import:
 
 def code_of(row):
     """A line of definitions without its comment, and with what its strings hold blotted out."""
-    code = STRING.sub(lambda m: '"' * len(m[0]), row)
+    code = STRING.sub(lambda m: '"' + "'" * (len(m[0]) - 2) + '"', row)  # which stays what it is where it is blotted again
     comment = COMMENT.search(code)
     return code[:comment.start()] if comment else code
 
