@@ -15,20 +15,20 @@ use Rattle.rv_tool.specs.Runs.{PrintsFault, EndsRead, AnswersBy, Answers}
 
 module _ (old new : Option (List ℕ)) (before now status : ℕ) (h : List Entry) where
   -- want of memory ends a run
-  pub no_telling : (Goes : List Entry → List ℕ → ℕ → Type 0) → GivesUp old new status h → PrintsSome Goes old new before now status h
+  pub no_telling : (Goes : List Entry → List ℕ → ℕ → Type 0) → GivesUp old new before now status h → PrintsSome Goes old new before now status h
   no_telling Goes up = inr up
 
   -- want of memory ends a run that is reported
-  pub no_report : (Is : Histories) (i : InputValue) → GivesUp old new status h → Reports Is i old new before now status h
+  pub no_report : (Is : Histories) (i : InputValue) → GivesUp old new before now status h → Reports Is i old new before now status h
   no_report Is i = no_telling (IsReported Is i)
 
   -- and a text
-  pub no_text : (text : List ℕ) (said : ℕ) → GivesUp old new status h → PrintsText text said old new before now status h
+  pub no_text : (text : List ℕ) (said : ℕ) → GivesUp old new before now status h → PrintsText text said old new before now status h
   no_text text said up = inr up
 
-  module _ {X Y : Type 0} (view : X → Y) (Accepted : Y → Ending) (outcome : Files → Outcome Y) (no : (y : Y) → GivesUp old new status h → Accepted y old new before now status h) where
+  module _ {X Y : Type 0} (view : X → Y) (Accepted : Y → Ending) (outcome : Files → Outcome Y) (no : (y : Y) → GivesUp old new before now status h → Accepted y old new before now status h) where
     -- want of memory ends every command
-    gives_up : (o : Outcome Y) → GivesUp old new status h → Ends Accepted o old new before now status h
+    gives_up : (o : Outcome Y) → GivesUp old new before now status h → Ends Accepted o old new before now status h
     gives_up (accepted y) up = no y up
     gives_up (refused file refusal) up = inr up
     gives_up (missing file) up = inr up

@@ -98,7 +98,7 @@ module _ (old new : Option (List ℕ)) (before now status : ℕ) (h : List Entry
   runs_verdicts (Err fault) is unchanged fails = fails
 
   -- want of memory ends a run at once
-  pub no_verdicts : (i : InputValue) → GivesUp old new status h → ReportsVerdicts i old new before now status h
+  pub no_verdicts : (i : InputValue) → GivesUp old new before now status h → ReportsVerdicts i old new before now status h
   no_verdicts i up = inr up
 
   -- the words ask for the command that was read

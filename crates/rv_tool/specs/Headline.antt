@@ -26,17 +26,17 @@ pub record IsReported (Is : Histories) (i : InputValue) (h : List Entry) (text :
 abbrev pub Ending : Type 1
 Ending = Option (List ℕ) → Option (List ℕ) → ℕ → ℕ → ℕ → List Entry → Type 0
 
--- want of memory: nothing was put, and there is no history
-abbrev pub GivesUp : Option (List ℕ) → Option (List ℕ) → ℕ → List Entry → Type 0
-GivesUp old new status h = (status ≡ 5) × (new ≡ old) × (h ≡ [])
+-- want of memory: the sink was not touched, and there is no history
+abbrev pub GivesUp : Ending
+GivesUp old new before now status h = (status ≡ 5) × (new ≡ old) × (now ≡ before) × (h ≡ [])
 
 -- without a run a text goes with the status, and there is no history
 abbrev pub PrintsText : List ℕ → ℕ → Ending
-PrintsText text said old new before now status h = (IsWritten old new before now text said status × (h ≡ [])) ⊎ GivesUp old new status h
+PrintsText text said old new before now status h = (IsWritten old new before now text said status × (h ≡ [])) ⊎ GivesUp old new before now status h
 
 -- there is a text that goes with a status and the history, and it was told
 abbrev pub PrintsSome : (List Entry → List ℕ → ℕ → Type 0) → Ending
-PrintsSome Goes old new before now status h = ((text : List ℕ) × (said : ℕ) × Goes h text said × IsWritten old new before now text said status) ⊎ GivesUp old new status h
+PrintsSome Goes old new before now status h = ((text : List ℕ) × (said : ℕ) × Goes h text said × IsWritten old new before now text said status) ⊎ GivesUp old new before now status h
 
 -- an accepted input is run
 abbrev pub Reports : Histories → InputValue → Ending

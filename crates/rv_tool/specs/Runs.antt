@@ -33,11 +33,11 @@ use Rattle.rv_tool.specs.Headline.{Histories, Ending, GivesUp, PrintsText, Repor
 -- the report of a run that is done was put, and its history is kept
 abbrev pub EndsReported : Result FinishedRun AllocError → Option (List ℕ) → Option (List ℕ) → ℕ → ℕ → ℕ → List Entry → Type 0
 EndsReported (Ok done) old new before now status h = IsWritten old new before now done.text.items done.status status × (h ≡ done.closed)
-EndsReported (Err fault) old new before now status h = GivesUp old new status h
+EndsReported (Err fault) old new before now status h = GivesUp old new before now status h
 
 -- a text that says why there is nothing else to put
 abbrev pub PrintsFault : BindFault → Ending
-PrintsFault faults.Memory old new before now status h = GivesUp old new status h
+PrintsFault faults.Memory old new before now status h = GivesUp old new before now status h
 PrintsFault (faults.Refused file refusal) old new before now status h = PrintsText (refusal_text (Some file) refusal) 2 old new before now status h
 PrintsFault (faults.Unread file) old new before now status h = PrintsText (missing_text file) 3 old new before now status h
 

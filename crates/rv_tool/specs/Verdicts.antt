@@ -67,7 +67,7 @@ pub record HasVerdicts (i : InputValue) (h : List Entry) (text : List ℕ) (stat
 
 -- a run at once is reported, and has these verdicts
 abbrev pub ReportsVerdicts : InputValue → Ending
-ReportsVerdicts i old new before now status h = ((text : List ℕ) × (said : ℕ) × IsReported IsLegal i h text said × HasVerdicts i h text said × IsWritten old new before now text said status) ⊎ GivesUp old new status h
+ReportsVerdicts i old new before now status h = ((text : List ℕ) × (said : ℕ) × IsReported IsLegal i h text said × HasVerdicts i h text said × IsWritten old new before now text said status) ⊎ GivesUp old new before now status h
 
 -- what the commands that report a run answer
 abbrev pub Verdicts : Option CommandValue → Files → ℕ → ℕ → Ending
