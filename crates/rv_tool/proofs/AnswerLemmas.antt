@@ -10,7 +10,7 @@ use Rattle.rv_bind.specs.Outcomes.{Outcome, accepted, refused, missing, Refines,
 use Rattle.rv_tool.specs.Inputs.{InputValue}
 use Rattle.rv_tool.specs.Output.{refusal_text, missing_text}
 use Rattle.rv_tool.specs.Words.{CommandValue}
-use Rattle.rv_tool.specs.Headline.{Histories, IsReported, Ending, GivesUp, PrintsText, PrintsSome, Reports, Ends}
+use Rattle.rv_tool.specs.Headline.{Histories, IsReported, Ending, GivesUp, PrintsText, PrintsRefusal, PrintsSome, Reports, Ends}
 use Rattle.rv_tool.specs.Runs.{PrintsFault, EndsRead, AnswersBy, Answers}
 
 module _ (old new : Option (List ℕ)) (before now status : ℕ) (h : List Entry) where
@@ -38,7 +38,11 @@ module _ (old new : Option (List ℕ)) (before now status : ℕ) (h : List Entry
         → (files : Files) → told ≡ Some files → AnswersBy Accepted outcome files first last old new before now status h
     read_answers told first last (Ok x) comes named ends files known = inl (subst (λ (o : Outcome Y). Ends Accepted o old new before now status h) (sym (comes files known)) ends)
     read_answers told first last (Err faults.Memory) comes named ends files known = inl (gives_up (outcome files) ends)
-    read_answers told first last (Err (faults.Refused file refusal)) comes named ends files known = inl (subst (λ (o : Outcome Y). Ends Accepted o old new before now status h) (sym (comes.1 files known)) ends)
+    read_answers told first last (Err (faults.Refused file refusal)) comes named ends files known = inl (subst (λ (o : Outcome Y). Ends Accepted o old new before now status h) (sym (comes.1 files known)) (said ends))
+      where
+        said : PrintsText (refusal_text (Some file) refusal) 2 old new before now status h → PrintsRefusal file refusal old new before now status h
+        said (inl told) = inl (comes.0, told.0, told.1)
+        said (inr up) = inr up
     read_answers told first last (Err (faults.Unread file)) (inl lacks) named ends files known =
         let both : Some lacks.0 ≡ Some files = sym lacks.1 ∙ known in
         let same : lacks.0 ≡ files = cc in

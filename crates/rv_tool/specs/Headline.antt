@@ -1,12 +1,13 @@
 -- What the top call promises: the bytes and the status are the report of one history of what the words and files come to.
 use Rattle.std.specs.Prelude.{◌≡◌, ◌⊎◌, ℕ, List, [], map, Option, Some}
+use Rattle.rv_text.specs.declared.refusals.Refusal.{Refusal}
 use Rattle.rv_model.specs.declared.entry.Entry.{Entry}
 use Rattle.rv_model.specs.Judging.{Judge}
 use Rattle.rv_model.specs.Histories.{Input, AreJudges}
 use Rattle.rv_model.specs.Records.{records_of, status_of}
 use Rattle.rv_model.specs.Reports.{report_text}
 use Rattle.rv_report.specs.Reported.{reported}
-use Rattle.rv_bind.specs.Outcomes.{Outcome, accepted, refused, missing}
+use Rattle.rv_bind.specs.Outcomes.{Outcome, accepted, refused, missing, IsRefusal}
 use Rattle.rv_tool.specs.Inputs.{InputValue, run_of}
 use Rattle.rv_tool.specs.Output.{IsWritten, refusal_text, missing_text}
 
@@ -42,8 +43,13 @@ PrintsSome Goes old new before now status h = ((text : List ℕ) × (said : ℕ)
 abbrev pub Reports : Histories → InputValue → Ending
 Reports Is i = PrintsSome (IsReported Is i)
 
+-- a refusal of a file is said, by one of the refusals' numbers
+abbrev pub PrintsRefusal : List ℕ → Refusal → Ending
+PrintsRefusal file refusal old new before now status h =
+    (IsRefusal refusal × IsWritten old new before now (refusal_text (Some file) refusal) 2 status × (h ≡ [])) ⊎ GivesUp old new before now status h
+
 -- by what the words and files come to: what is accepted ends in its own way, and else the refusal or the missing file is said
 abbrev pub Ends : {Y : Type 0} → (Y → Ending) → Outcome Y → Ending
 Ends Accepted (accepted y) = Accepted y
-Ends Accepted (refused file refusal) = PrintsText (refusal_text (Some file) refusal) 2
+Ends Accepted (refused file refusal) = PrintsRefusal file refusal
 Ends Accepted (missing file) = PrintsText (missing_text file) 3
