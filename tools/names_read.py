@@ -102,7 +102,6 @@ class AnttFile:
     def __init__(self, crate, module, path, text):
         self.crate, self.module, self.path = crate, module, path
         self.imports, self.items = [], []
-        self.head = text.split("\n", 1)[0]
         self.read(text)
         self.local = {}
         for item in self.items:
