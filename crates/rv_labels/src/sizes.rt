@@ -12,14 +12,14 @@ pub const MOST_CUBES: u32 = 64;
 /// No size is counted past this one.
 const CAP: u32 = MOST_CUBES + 1;
 
-// The sizes of the lists of a label and of its negation, at most 65 each.
+/// The sizes of the lists of a label and of its negation, at most 65 each.
 #[derive(Clone, Copy)]
 struct Sizes {
     positive: u32,
     negative: u32,
 }
 
-// The size of two lists, one after the other.
+/// The size of two lists, one after the other.
 fn plus(left: u32, right: u32) -> u32
     requires left { left ≤ 65 }
     requires right { right ≤ 65 }
@@ -29,7 +29,7 @@ fn plus(left: u32, right: u32) -> u32
     CAP.min(left + right)
 }
 
-// The size of two joined lists.
+/// The size of two joined lists.
 fn times(left: u32, right: u32) -> u32
     requires left { left ≤ 65 }
     requires right { right ≤ 65 }
@@ -39,7 +39,7 @@ fn times(left: u32, right: u32) -> u32
     CAP.min(left * right)
 }
 
-// The sizes of a label's lists.
+/// The sizes of a label's lists.
 fn count(label: &Formula) -> Sizes
     ensures positive { result.positive ≡ min 65 (size_of (ltl label.now) true) }
     ensures negative { result.negative ≡ min 65 (size_of (ltl label.now) false) }

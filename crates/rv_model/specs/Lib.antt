@@ -3,6 +3,7 @@ pub mod Formulas
 pub mod GoodLetters
 pub mod Histories
 pub mod Judging
+pub mod Labels
 pub mod Language
 pub mod Letters
 pub mod Ltl

@@ -86,7 +86,7 @@ Reaches t letters row = (path : List ℕ) × IsPath (Follows t) (first_row t) pa
 -- ---- what a model of a struct stores
 
 -- a node by the code of its parts
-abbrev coded_node : Coded Node
+abbrev pub coded_node : Coded Node
 coded_node = code_by (List Ltl × ℕ) (coded× (coded_list coded_ltl) coded_ℕ) (λ n. (n.labels, n.next)) (λ p. record { labels = p.0; next = p.1 }) (λ _. refl)
 
 -- a table as a choice of its parts
