@@ -1,4 +1,5 @@
 pub mod Cuts
+pub mod EventTables
 pub mod Formulas
 pub mod GoodLetters
 pub mod Histories
