@@ -7,13 +7,13 @@ use Rattle.std.specs.Int.{bit_at, bit_not}
 use Rattle.std.proofs.lemmas.Nat.Bits.{bit_at-lt, bit_at_or, bit_at_and, bit_at_not}
 use Rattle.rv_model.specs.declared.hit.Letter.TheVariants.{Atoms}
 use Rattle.rv_model.specs.declared.hit.What.TheVariants.{Ltl}
-use Rattle.rv_model.specs.Numbers.{has_bit, number_of}
+use Rattle.rv_model.specs.Numbers.{has_bit, number_of, one_if}
 use Rattle.rv_model.specs.Phases.{level_by, letter_at}
-use Rattle.rv_model.proofs.NumberLemmas.{bit_of, is_number_of, bit_at-number_of, number_of-lt}
+use Rattle.rv_model.proofs.NumberLemmas.{is_number_of, bit_at-number_of, number_of-lt}
 use Rattle.rv_core.specs.Levels.{new_levels, LevelsAreBits}
 
 -- one level: `on` wins over `off`
-level-bit : (was : Bool) (on off : ℕ) → on < 2 → off < 2 → max (min (bit_of was) (1 - off)) on ≡ bit_of (if on == 1 then true else if off == 1 then false else was)
+level-bit : (was : Bool) (on off : ℕ) → on < 2 → off < 2 → max (min (one_if was) (1 - off)) on ≡ one_if (if on == 1 then true else if off == 1 then false else was)
 level-bit true zero zero a b = refl
 level-bit true zero (suc off) a b = let z : off ≡ 0 = omega arith in rw z refl
 level-bit true (suc on) zero a b = let z : on ≡ 0 = omega arith in rw z refl
@@ -24,7 +24,7 @@ level-bit false (suc on) zero a b = let z : on ≡ 0 = omega arith in rw z refl
 level-bit false (suc on) (suc off) a b = let z : on ≡ 0 = omega arith in let y : off ≡ 0 = omega arith in rw (z, y) refl
 
 -- one atom of a letter
-or-bit : (was : Bool) (pulse : ℕ) → pulse < 2 → max (bit_of was) pulse ≡ bit_of (was || (pulse == 1))
+or-bit : (was : Bool) (pulse : ℕ) → pulse < 2 → max (one_if was) pulse ≡ one_if (was || (pulse == 1))
 or-bit true zero a = refl
 or-bit true (suc pulse) a = let z : pulse ≡ 0 = omega arith in rw z refl
 or-bit false zero a = refl

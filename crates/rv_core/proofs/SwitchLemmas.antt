@@ -5,29 +5,29 @@ use Rattle.std.specs.Int.{bit_at, bit_not}
 use Rattle.std.proofs.lemmas.Nat.Bits.{bit_at-lt, bit_at_or, bit_at_and, bit_at_not}
 use Rattle.rv_model.specs.declared.entry.Act.{Act}
 use Rattle.rv_model.specs.declared.entry.Act.TheVariants.{Deliver, Stop, Look, Raise, Lower, Clear, End}
-use Rattle.rv_model.specs.Numbers.{has_bit, number_of}
+use Rattle.rv_model.specs.Numbers.{has_bit, number_of, one_if}
 use Rattle.rv_model.specs.Table.{Table}
 use Rattle.rv_model.specs.Setups.{Setup}
 use Rattle.rv_model.specs.SharedWords.{switch_after}
-use Rattle.rv_model.proofs.NumberLemmas.{bit_of, is_number_of, bit_at-number_of}
+use Rattle.rv_model.proofs.NumberLemmas.{is_number_of, bit_at-number_of}
 use Rattle.rv_core.specs.Advance.{acted}
 use Rattle.rv_core.specs.Setup.{ActFits, word_index}
 
 -- one bit of a union
-raised : (bits b : ℕ) (was : Bool) → max (bit_of was) (bit_at bits b) ≡ bit_of (if has_bit bits b then true else was)
+raised : (bits b : ℕ) (was : Bool) → max (one_if was) (bit_at bits b) ≡ one_if (if has_bit bits b then true else was)
 raised bits b was = go (bit_at bits b) (bit_at-lt bits b) was
   where
-    go : (v : ℕ) → v < 2 → (was : Bool) → max (bit_of was) v ≡ bit_of (if v == 1 then true else was)
+    go : (v : ℕ) → v < 2 → (was : Bool) → max (one_if was) v ≡ one_if (if v == 1 then true else was)
     go zero lt true = refl
     go zero lt false = refl
     go (suc v) lt true = let z : v ≡ 0 = omega arith in rw z refl
     go (suc v) lt false = let z : v ≡ 0 = omega arith in rw z refl
 
 -- one bit of a difference
-lowered : (bits b : ℕ) (was : Bool) → min (bit_of was) (1 - bit_at bits b) ≡ bit_of (if has_bit bits b then false else was)
+lowered : (bits b : ℕ) (was : Bool) → min (one_if was) (1 - bit_at bits b) ≡ one_if (if has_bit bits b then false else was)
 lowered bits b was = go (bit_at bits b) (bit_at-lt bits b) was
   where
-    go : (v : ℕ) → v < 2 → (was : Bool) → min (bit_of was) (1 - v) ≡ bit_of (if v == 1 then false else was)
+    go : (v : ℕ) → v < 2 → (was : Bool) → min (one_if was) (1 - v) ≡ one_if (if v == 1 then false else was)
     go zero lt true = refl
     go zero lt false = refl
     go (suc v) lt true = let z : v ≡ 0 = omega arith in rw z refl

@@ -1,39 +1,9 @@
 -- Sets of atoms as numbers.
-use Rattle.std.proofs.Common.{◌≡◌, ℕ, zero, suc, ◌^◌, ◌<◌, ◌==◌, ◌||◌, max, min, bit_and, bit_or, true, false, ◌⊎◌, inl, inr, arith, refl, sym, ap, ◌∙◌}
+use Rattle.std.proofs.Common.{◌≡◌, ℕ, zero, suc, ◌<◌, min, bit_and, true, arith, refl, sym, ap, ◌∙◌}
 use Rattle.std.specs.Int.{bit_at}
-use Rattle.std.proofs.lemmas.Bool.{eqb-true, eq-eqb, cases_eq, false≢true}
-use Rattle.std.proofs.lemmas.Nat.Bits.{bit_at-lt, bit_at-zero, bit_at_and, bit_at_or, bit_at-pow_same, bit_at-pow_other, same_from_bits}
+use Rattle.std.proofs.lemmas.Bool.{eqb-true, eq-eqb}
+use Rattle.std.proofs.lemmas.Nat.Bits.{bit_at-lt, bit_at-zero, bit_at_and, same_from_bits}
 use Rattle.rv_model.specs.Numbers.{has_bit}
-
--- one bit of a union
-has_max : (m n : ℕ) → m < 2 → n < 2 → (max m n == 1) ≡ (m == 1 || n == 1)
-has_max zero zero h k = refl
-has_max zero (suc zero) h k = refl
-has_max (suc zero) zero h k = refl
-has_max (suc zero) (suc zero) h k = refl
-has_max (suc (suc m)) n h k = absurd (omega arith)
-has_max zero (suc (suc n)) h k = absurd (omega arith)
-has_max (suc zero) (suc (suc n)) h k = absurd (omega arith)
-
--- the members of a union
-pub has_or : (s t k : ℕ) → has_bit (bit_or s t) k ≡ (has_bit s k || has_bit t k)
-has_or s t k = ap (λ n. n == 1) (bit_at_or s t k) ∙ has_max (bit_at s k) (bit_at t k) (bit_at-lt s k) (bit_at-lt t k)
-
--- the empty set has no member
-pub has_none : (k : ℕ) → has_bit 0 k ≡ false
-has_none k = ap (λ n. n == 1) (bit_at-zero k)
-
--- a set of one has that one
-pub has_same : (k : ℕ) → has_bit (2 ^ k) k ≡ true
-has_same k = ap (λ n. n == 1) (bit_at-pow_same k)
-
--- and no other
-pub only_same : (k i : ℕ) → has_bit (2 ^ k) i ≡ true → i ≡ k
-only_same k i h = go (cases_eq i k)
-  where
-    go : (i ≡ k) ⊎ (i ≡ k → ⊥) → i ≡ k
-    go (inl e) = e
-    go (inr n) = absurd (false≢true (sym (ap (λ b. b == 1) (bit_at-pow_other k i n)) ∙ h))
 
 -- of two bits, the second asks for the first
 asked : (m n : ℕ) → m < 2 → min m n ≡ n → n ≡ 1 → m ≡ 1

@@ -11,7 +11,8 @@ use Rattle.rv_model.specs.Numbers.{has_bit}
 use Rattle.rv_labels.specs.declared.cube.Cube.{Cube}
 use Rattle.rv_labels.specs.Cubes.{cube_of, union_of, is_possible, unions_with, cube_unions, whole_if}
 use Rattle.rv_labels.specs.Holding.{Meets, meets}
-use Rattle.rv_labels.proofs.AtomLemmas.{has_or, has_none, has_same, only_same, within_from, within_to, apart_from, apart_to}
+use Rattle.rv_model.proofs.SetLemmas.{has_or, has_none, has_same, only_same}
+use Rattle.rv_labels.proofs.AtomLemmas.{within_from, within_to, apart_from, apart_to}
 
 -- the test of a cube tells whether the letter meets it
 pub meets_tells : (x : ℕ) (c : Cube) → Decides (meets x c) (Meets x c)

@@ -6,7 +6,8 @@ use Rattle.std.proofs.lemmas.Nat.{mul-le}
 use Rattle.rv_model.specs.Ltl.{Ltl, True, Atom, Not, And, Or, Imply, Equivalent}
 use Rattle.rv_labels.specs.declared.cube.Cube.{Cube}
 use Rattle.rv_labels.specs.Cubes.{cubes_of, cube_unions, unions_with, union_of, is_possible, whole_if}
-use Rattle.rv_labels.specs.Sizes.{size_of, one_if}
+use Rattle.rv_model.specs.Numbers.{one_if}
+use Rattle.rv_labels.specs.Sizes.{size_of}
 
 -- to leave some out makes no list longer
 length_filter : (p : Cube → Bool) (cs : List Cube) → length (filter p cs) ≤ length cs

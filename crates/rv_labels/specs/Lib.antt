@@ -1,4 +1,3 @@
 pub mod Cubes
 pub mod Holding
-pub mod Labels
 pub mod Sizes

@@ -1,14 +1,10 @@
 -- How many cubes a label has by the way they are made, with those that no letter meets.
 use Rattle.std.specs.Prelude.{ℕ, ◌+◌, ◌*◌, Bool, true, false, not, nat_lt, List, Option, Some, None, if◌then◌else◌}
+use Rattle.rv_model.specs.Numbers.{one_if}
 use Rattle.rv_model.specs.Ltl.{Ltl, True, Atom, Not, And, Or, Imply, Equivalent}
 use Rattle.rv_labels.specs.declared.cube.Cube.{Cube}
 use Rattle.rv_labels.specs.declared.sizes.TheConstants.{MOST_CUBES}
 use Rattle.rv_labels.specs.Cubes.{cubes_of}
-
--- one cube, or none
-abbrev pub one_if : Bool → ℕ
-one_if true = 1
-one_if false = 0
 
 -- the size of a label's list at true, and of its negation's at false: joined lists multiply, others add
 abbrev pub size_of : Ltl → Bool → ℕ

@@ -3,7 +3,7 @@
 ghost use Rattle.std.specs.Prelude.{◌≡◌, [], ◌∷◌, IfOk, false, if◌then◌else◌};
 ghost use Rattle.rv_model.specs.Formulas.{ltl};
 ghost use Rattle.rv_labels.specs.Cubes.{whole_if, cubes_of, cube_unions};
-ghost use Rattle.rv_labels.specs.Labels.{IsLabel};
+ghost use Rattle.rv_model.specs.Labels.{IsLabel};
 
 use crate::cube::{Cube, of_atom};
 use crate::joining::combine;
@@ -11,7 +11,7 @@ use crate::sizes::size;
 use rv_model::Formula;
 use std::alloc::{AllocError, Global};
 
-// A list of one.
+/// A list of one.
 fn one(alloc: Global, cube: Cube) -> Result<Vec<Cube>, AllocError>
     ensures { IfOk result (λ cubes. cubes.items ≡ cube ∷ []) }
 {
@@ -20,7 +20,7 @@ fn one(alloc: Global, cube: Cube) -> Result<Vec<Cube>, AllocError>
     Ok(cubes)
 }
 
-// The cube that every letter meets, or none.
+/// The cube that every letter meets, or none.
 fn whole(alloc: Global, some: bool) -> Result<Vec<Cube>, AllocError>
     ensures { IfOk result (λ cubes. cubes.items ≡ whole_if some) }
 {
@@ -30,7 +30,7 @@ fn whole(alloc: Global, some: bool) -> Result<Vec<Cube>, AllocError>
     one(alloc, Cube { need: 0, forbid: 0 })
 }
 
-// Whether neither list is counted as empty; where one is, so are the joined lists.
+/// Whether neither list is counted as empty; where one is, so are the joined lists.
 #[tactic(auto, using(crate::proofs::SizeLemmas::none_cube_unions))]
 fn are_some(left: &Formula, left_sign: bool, right: &Formula, right_sign: bool) -> bool
     ensures { result ≡ false → cube_unions (cubes_of (ltl left.now) left_sign) (cubes_of (ltl right.now) right_sign) ≡ [] }

@@ -5,7 +5,7 @@ ghost use Rattle.rv_labels.specs.Cubes.{unions_with, cube_unions};
 use crate::cube::{Cube, is_free, union};
 use std::alloc::{AllocError, Global};
 
-// Appends the unions of a cube with those of a list, without the ones that no letter meets.
+/// Appends the unions of a cube with those of a list, without the ones that no letter meets.
 fn add_unions(out: &mut Vec<Cube>, left: Cube, right: &[Cube]) -> Result<(), AllocError>
     ensures { OnOk result (out.new.items ≡ out.old.items ++ unions_with right.now left) }
 {

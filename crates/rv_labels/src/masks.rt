@@ -5,7 +5,7 @@ ghost use Rattle.std.specs.Option.{option_copied};
 ghost use Rattle.rv_model.specs.Formulas.{ltl};
 ghost use Rattle.rv_model.specs.Meaning.{true_on};
 ghost use Rattle.rv_labels.specs.Holding.{meets};
-ghost use Rattle.rv_labels.specs.Labels.{IsLabel};
+ghost use Rattle.rv_model.specs.Labels.{IsLabel};
 ghost use Rattle.rv_labels.specs.Sizes.{cubes_if_few};
 
 use crate::cube::Cube;
@@ -28,7 +28,7 @@ impl Model for Masks {
     ghost use Rattle.rv_model.specs.Ltl.{Ltl};
     ghost use Rattle.rv_model.specs.LtlCode.{coded_ltl};
     ghost use Rattle.rv_model.specs.Formulas.{ltl};
-    ghost use Rattle.rv_labels.specs.Labels.{IsLabel};
+    ghost use Rattle.rv_model.specs.Labels.{IsLabel};
     ghost use Rattle.rv_labels.specs.Sizes.{cubes_if_few};
 
     ghost Value = { Ltl };
@@ -83,7 +83,7 @@ impl Masks {
     }
 }
 
-// Whether the letter meets one of the cubes.
+/// Whether the letter meets one of the cubes.
 fn some_holds(cubes: &[Cube], atoms: u32) -> bool
     ensures { result ≡ list_any (meets atoms) cubes.now }
 {

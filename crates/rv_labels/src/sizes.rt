@@ -12,14 +12,14 @@ pub const MOST_CUBES: u32 = 64;
 /// No size is counted past this one.
 const CAP: u32 = MOST_CUBES + 1;
 
-// The sizes of the lists of a label and of its negation, at most 65 each.
+/// The sizes of the lists of a label and of its negation, at most 65 each.
 #[derive(Clone, Copy)]
 struct Sizes {
     positive: u32,
     negative: u32,
 }
 
-// The size of two lists, one after the other.
+/// The size of two lists, one after the other.
 fn plus(left: u32, right: u32) -> u32
     requires left { left ≤ 65 }
     requires right { right ≤ 65 }
@@ -29,7 +29,7 @@ fn plus(left: u32, right: u32) -> u32
     CAP.min(left + right)
 }
 
-// The size of two joined lists.
+/// The size of two joined lists.
 fn times(left: u32, right: u32) -> u32
     requires left { left ≤ 65 }
     requires right { right ≤ 65 }
@@ -39,7 +39,34 @@ fn times(left: u32, right: u32) -> u32
     CAP.min(left * right)
 }
 
-// The sizes of a label's lists.
+impl Sizes {
+    /// Those of the negation.
+    fn negated(self) -> Sizes
+        ensures positive { result.positive ≡ self.negative }
+        ensures negative { result.negative ≡ self.positive }
+    {
+        Sizes {
+            positive: self.negative,
+            negative: self.positive,
+        }
+    }
+
+    /// Those of a disjunction.
+    fn or(self, other: Sizes) -> Sizes
+        requires few { (self.positive ≤ 65) × (self.negative ≤ 65) }
+        requires other { (other.positive ≤ 65) × (other.negative ≤ 65) }
+        ensures positive { (m n : ℕ) → self.positive ≡ min 65 m → other.positive ≡ min 65 n → result.positive ≡ min 65 (m + n) }
+        ensures negative { (m n : ℕ) → self.negative ≡ min 65 m → other.negative ≡ min 65 n → result.negative ≡ min 65 (m * n) }
+        ensures few { (result.positive ≤ 65) × (result.negative ≤ 65) }
+    {
+        Sizes {
+            positive: plus(self.positive, other.positive),
+            negative: times(self.negative, other.negative),
+        }
+    }
+}
+
+/// The sizes of a label's lists.
 fn count(label: &Formula) -> Sizes
     ensures positive { result.positive ≡ min 65 (size_of (ltl label.now) true) }
     ensures negative { result.negative ≡ min 65 (size_of (ltl label.now) false) }
@@ -53,37 +80,10 @@ fn count(label: &Formula) -> Sizes
             positive: 1,
             negative: 1,
         },
-        Formula::Not(f) => {
-            let inner = count(f);
-            Sizes {
-                positive: inner.negative,
-                negative: inner.positive,
-            }
-        }
-        Formula::And(f, g) => {
-            let left = count(f);
-            let right = count(g);
-            Sizes {
-                positive: times(left.positive, right.positive),
-                negative: plus(left.negative, right.negative),
-            }
-        }
-        Formula::Or(f, g) => {
-            let left = count(f);
-            let right = count(g);
-            Sizes {
-                positive: plus(left.positive, right.positive),
-                negative: times(left.negative, right.negative),
-            }
-        }
-        Formula::Imply(f, g) => {
-            let left = count(f);
-            let right = count(g);
-            Sizes {
-                positive: plus(left.negative, right.positive),
-                negative: times(left.positive, right.negative),
-            }
-        }
+        Formula::Not(f) => count(f).negated(),
+        Formula::And(f, g) => count(f).negated().or(count(g).negated()).negated(),
+        Formula::Or(f, g) => count(f).or(count(g)),
+        Formula::Imply(f, g) => count(f).negated().or(count(g)),
         Formula::Equivalent(f, g) => {
             let left = count(f);
             let right = count(g);

@@ -2,7 +2,7 @@
 ghost use Rattle.std.specs.Prelude.{◌≡◌};
 ghost use Rattle.rv_model.specs.Formulas.{ltl};
 ghost use Rattle.rv_model.specs.Meaning.{true_on};
-ghost use Rattle.rv_labels.specs.Labels.{IsLabel};
+ghost use Rattle.rv_model.specs.Labels.{IsLabel};
 
 use crate::cube::of_atom;
 use rv_model::Formula;

@@ -7,8 +7,8 @@ use Rattle.rv_model.specs.declared.formula.Spec.{Spec}
 use Rattle.rv_model.specs.declared.formula.Spec.TheVariants.{Da, Ltl as Rule}
 use Rattle.rv_model.specs.Letters.{atoms_in}
 use Rattle.rv_model.specs.Ltl.{Ltl, True, False, Atom, Not, Next, Always, Eventually, And, Or, Imply, Equivalent, Until, Release, WeakUntil}
-use Rattle.rv_model.specs.Truth.{Weak, Strong, Satisfies}
-use Rattle.rv_model.specs.Meaning.{Meaning, true_m, not_m, and_m, or_m, next_m, until_m, release_m, meaning}
+use Rattle.rv_model.specs.Truth.{View, Weak, Strong, Satisfies}
+use Rattle.rv_model.specs.Meaning.{Meaning, on_letter, true_m, not_m, and_m, or_m, next_m, until_m, release_m, meaning}
 use Rattle.rv_model.specs.Language.{IsPath, HasEdge}
 use Rattle.rv_model.specs.Machine.{Machine}
 use Rattle.rv_model.specs.Judging.{IsGood}
@@ -37,89 +37,56 @@ not_anti true true f e = cc
 not_anti false true f e = absurd (false≢true (f refl))
 not_anti a false f e = refl
 
--- the constant true passes weakly on each front, and strongly on each extension
-true_cuts : Cuts true_m
-true_cuts = record { weak = weak; strong = strong }
+-- so does a test of the first letter and the rest, where the test is kept with the rest
+letter_cuts : (p : View → ℕ → List ℕ → Bool)
+    → ((x : ℕ) (t more : List ℕ) → p Weak x (t ++ more) ≡ true → p Weak x t ≡ true)
+    → ((x : ℕ) (t more : List ℕ) → p Strong x t ≡ true → p Strong x (t ++ more) ≡ true) → Cuts (on_letter p)
+letter_cuts p h k = record { weak = weak; strong = strong }
   where
-    weak : (w more : List ℕ) → true_m Weak (w ++ more) ≡ true → true_m Weak w ≡ true
+    weak : (w more : List ℕ) → on_letter p Weak (w ++ more) ≡ true → on_letter p Weak w ≡ true
     weak [] more e = refl
-    weak (x ∷ t) more e = refl
+    weak (x ∷ t) more e = h x t more e
 
-    strong : (w more : List ℕ) → true_m Strong w ≡ true → true_m Strong (w ++ more) ≡ true
+    strong : (w more : List ℕ) → on_letter p Strong w ≡ true → on_letter p Strong (w ++ more) ≡ true
     strong [] more e = cc
-    strong (x ∷ t) more e = refl
+    strong (x ∷ t) more e = k x t more e
+
+-- so does the constant true
+true_cuts : Cuts true_m
+true_cuts = letter_cuts _ (λ x t more e. e) (λ x t more e. e)
 
 -- so does the constant false
 false_cuts : Cuts (meaning False)
-false_cuts = record { weak = weak; strong = strong }
-  where
-    weak : (w more : List ℕ) → meaning False Weak (w ++ more) ≡ true → meaning False Weak w ≡ true
-    weak [] more e = refl
-    weak (x ∷ t) more e = cc
-
-    strong : (w more : List ℕ) → meaning False Strong w ≡ true → meaning False Strong (w ++ more) ≡ true
-    strong [] more e = cc
-    strong (x ∷ t) more e = cc
+false_cuts = letter_cuts _ (λ x t more e. e) (λ x t more e. e)
 
 -- so does an atom
 atom_cuts : (a : ℕ) → Cuts (meaning (Atom a))
-atom_cuts a = record { weak = weak; strong = strong }
-  where
-    weak : (w more : List ℕ) → meaning (Atom a) Weak (w ++ more) ≡ true → meaning (Atom a) Weak w ≡ true
-    weak [] more e = refl
-    weak (x ∷ t) more e = e
-
-    strong : (w more : List ℕ) → meaning (Atom a) Strong w ≡ true → meaning (Atom a) Strong (w ++ more) ≡ true
-    strong [] more e = cc
-    strong (x ∷ t) more e = e
+atom_cuts a = letter_cuts _ (λ x t more e. e) (λ x t more e. e)
 
 -- so does a negation, where its operand does
 not_cuts : (p : Meaning) → Cuts p → Cuts (not_m p)
-not_cuts p h = record { weak = weak; strong = strong }
-  where
-    weak : (w more : List ℕ) → not_m p Weak (w ++ more) ≡ true → not_m p Weak w ≡ true
-    weak [] more e = refl
-    weak (x ∷ t) more e = not_anti (p Strong (x ∷ t ++ more)) (p Strong (x ∷ t)) (h.strong (x ∷ t) more) e
-
-    strong : (w more : List ℕ) → not_m p Strong w ≡ true → not_m p Strong (w ++ more) ≡ true
-    strong [] more e = cc
-    strong (x ∷ t) more e = not_anti (p Weak (x ∷ t)) (p Weak (x ∷ t ++ more)) (h.weak (x ∷ t) more) e
+not_cuts p h =
+    letter_cuts _
+    (λ x t more e. not_anti (p Strong (x ∷ t ++ more)) (p Strong (x ∷ t)) (h.strong (x ∷ t) more) e)
+    (λ x t more e. not_anti (p Weak (x ∷ t)) (p Weak (x ∷ t ++ more)) (h.weak (x ∷ t) more) e)
 
 -- so does a conjunction, where its operands do
 and_cuts : (p q : Meaning) → Cuts p → Cuts q → Cuts (and_m p q)
-and_cuts p q h k = record { weak = weak; strong = strong }
-  where
-    weak : (w more : List ℕ) → and_m p q Weak (w ++ more) ≡ true → and_m p q Weak w ≡ true
-    weak [] more e = refl
-    weak (x ∷ t) more e = and_mono _ _ (p Weak (x ∷ t)) (q Weak (x ∷ t)) (h.weak (x ∷ t) more) (k.weak (x ∷ t) more) e
-
-    strong : (w more : List ℕ) → and_m p q Strong w ≡ true → and_m p q Strong (w ++ more) ≡ true
-    strong [] more e = cc
-    strong (x ∷ t) more e = and_mono _ _ (p Strong (x ∷ t ++ more)) (q Strong (x ∷ t ++ more)) (h.strong (x ∷ t) more) (k.strong (x ∷ t) more) e
+and_cuts p q h k =
+    letter_cuts _
+    (λ x t more e. and_mono _ _ (p Weak (x ∷ t)) (q Weak (x ∷ t)) (h.weak (x ∷ t) more) (k.weak (x ∷ t) more) e)
+    (λ x t more e. and_mono _ _ (p Strong (x ∷ t ++ more)) (q Strong (x ∷ t ++ more)) (h.strong (x ∷ t) more) (k.strong (x ∷ t) more) e)
 
 -- so does a disjunction, where its operands do
 or_cuts : (p q : Meaning) → Cuts p → Cuts q → Cuts (or_m p q)
-or_cuts p q h k = record { weak = weak; strong = strong }
-  where
-    weak : (w more : List ℕ) → or_m p q Weak (w ++ more) ≡ true → or_m p q Weak w ≡ true
-    weak [] more e = refl
-    weak (x ∷ t) more e = or_mono _ _ (p Weak (x ∷ t)) (q Weak (x ∷ t)) (h.weak (x ∷ t) more) (k.weak (x ∷ t) more) e
-
-    strong : (w more : List ℕ) → or_m p q Strong w ≡ true → or_m p q Strong (w ++ more) ≡ true
-    strong [] more e = cc
-    strong (x ∷ t) more e = or_mono _ _ (p Strong (x ∷ t ++ more)) (q Strong (x ∷ t ++ more)) (h.strong (x ∷ t) more) (k.strong (x ∷ t) more) e
+or_cuts p q h k =
+    letter_cuts _
+    (λ x t more e. or_mono _ _ (p Weak (x ∷ t)) (q Weak (x ∷ t)) (h.weak (x ∷ t) more) (k.weak (x ∷ t) more) e)
+    (λ x t more e. or_mono _ _ (p Strong (x ∷ t ++ more)) (q Strong (x ∷ t ++ more)) (h.strong (x ∷ t) more) (k.strong (x ∷ t) more) e)
 
 -- so does a next, where its operand does
 next_cuts : (p : Meaning) → Cuts p → Cuts (next_m p)
-next_cuts p h = record { weak = weak; strong = strong }
-  where
-    weak : (w more : List ℕ) → next_m p Weak (w ++ more) ≡ true → next_m p Weak w ≡ true
-    weak [] more e = refl
-    weak (x ∷ t) more e = h.weak t more e
-
-    strong : (w more : List ℕ) → next_m p Strong w ≡ true → next_m p Strong (w ++ more) ≡ true
-    strong [] more e = cc
-    strong (x ∷ t) more e = h.strong t more e
+next_cuts p h = letter_cuts _ (λ x t more e. h.weak t more e) (λ x t more e. h.strong t more e)
 
 -- an until passes weakly on each front, where its operands do
 until_weak : (p q : Meaning) → Cuts p → Cuts q → (w more : List ℕ) → until_m p q Weak (w ++ more) ≡ true → until_m p q Weak w ≡ true

@@ -12,6 +12,7 @@ pub mod ReachLemmas
 pub mod ScriptLemmas
 pub mod ScriptPartLemmas
 pub mod SeatLemmas
+pub mod SetLemmas
 pub mod SlotLemmas
 pub mod SortLemmas
 pub mod TableJudgeLemmas

@@ -1,6 +1,6 @@
 -- The history of one thread: it has no Stop, and the input determines it.
 use Rattle.std.proofs.Common.{◌≡◌, ◌≢◌, ℕ, ◌+◌, ◌-◌, ◌<◌, ◌≤◌, true, false, ◌==◌, List, [], ◌∷◌, ◌++◌, inl, inr, length, get_or, reverse, arith, refl, sym, ap, ◌∙◌, subst, append_assoc, append-nil}
-use Rattle.std.specs.Prelude.{Contains, filter, slice_range}
+use Rattle.std.specs.Prelude.{Contains, slice_range}
 use Rattle.std.proofs.lemmas.List.Elements.{All-contains, Contains-get_or}
 use Rattle.std.proofs.lemmas.List.{length-map}
 use Rattle.rv_model.specs.declared.entry.Act.{Act}
@@ -14,7 +14,7 @@ use Rattle.rv_model.specs.Setups.{Setup}
 use Rattle.rv_model.specs.SharedWords.{answer_at, word_on}
 use Rattle.rv_model.specs.Scripts.{Played, played, Plays, PlaysTurns, turns_of}
 use Rattle.rv_model.specs.Works.{Work}
-use Rattle.rv_model.specs.Histories.{Input, IsOneHistory, FitsWords, LostThrice, IsJustifiedBy, changed, look_count, looks_of, NoneOf, work_of, line_in, line_at, acts_of, LinesApart, IsNoStop, OneHasNoStop, OneIsUnique}
+use Rattle.rv_model.specs.Histories.{Input, IsOneHistory, FitsWords, LostThrice, IsJustifiedBy, look_count, looks_of, NoneOf, work_of, line_in, line_at, acts_of, LinesApart, IsNoStop, OneHasNoStop, OneIsUnique}
 use Rattle.rv_model.proofs.AgreeLemmas.{Agree, plays-agree, plays-looks, plays-begun, looks_in, looks_in-append}
 use Rattle.rv_model.proofs.SeatLemmas.{looks_of-reverse, looks_on-none, played-looks, played-cut, played-none, next-in, last-look, IsWorkOf, find-work, line-index}
 use Rattle.rv_model.proofs.ActLemmas.{acts_of-own, first-of, same_or_not, stop-or, word-same}

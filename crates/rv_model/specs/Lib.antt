@@ -1,8 +1,10 @@
 pub mod Cuts
+pub mod EventTables
 pub mod Formulas
 pub mod GoodLetters
 pub mod Histories
 pub mod Judging
+pub mod Labels
 pub mod Language
 pub mod Letters
 pub mod Ltl

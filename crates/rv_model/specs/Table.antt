@@ -28,29 +28,27 @@ pub data Table : Type 0 where
 abbrev pub next_row : Machine → ℕ → ℕ → Option ℕ
 next_row a state event = option_map (λ edge. edge.to + 1) (find (λ edge. edge.from == state && edge.event == event) a.edges)
 
--- state k is row k + 1
-abbrev pub table_of : Machine → Table
-table_of a = of_events (length a.events) ([] ∷ list_of (λ state. list_of (next_row a state) (length a.events)) (length a.states))
+-- the rows of an automaton's table: row 0 has no entry, and state k is row k + 1
+abbrev pub event_rows : Machine → List (List (Option ℕ))
+event_rows a = [] ∷ list_of (λ state. list_of (next_row a state) (length a.events)) (length a.states)
 
--- how many events an automaton's table has
-abbrev pub event_count : Table → ℕ
-event_count (of_events n rows) = n
-event_count (of_labels nodes) = 0
+-- the table of an automaton
+abbrev pub table_of : Machine → Table
+table_of a = of_events (length a.events) (event_rows a)
 
 -- the start row
 abbrev pub first_row : Table → ℕ
 first_row (of_events n rows) = 1
 first_row (of_labels nodes) = 0
 
--- the entry of a row by a letter
-abbrev pub entry_by : List (List (Option ℕ)) → ℕ → Letter → Option ℕ
-entry_by rows row (Event e) = option_and_then (λ next. next) (slice_get (slice_index_or rows row []) e)
-entry_by rows row (Atoms set) = None
+-- a row's next row by the event, where there is one
+abbrev pub next_by_event : List (Option ℕ) → ℕ → Option ℕ
+next_by_event row event = option_and_then (λ next. next) (slice_get row event)
 
 -- the entry of a row by a letter
-abbrev pub entry : Table → ℕ → Letter → Option ℕ
-entry (of_events n rows) row x = entry_by rows row x
-entry (of_labels nodes) row x = None
+abbrev pub entry_by : List (List (Option ℕ)) → ℕ → Letter → Option ℕ
+entry_by rows row (Event e) = next_by_event (slice_index_or rows row []) e
+entry_by rows row (Atoms set) = None
 
 -- the entry is this row
 abbrev pub is_next : Option ℕ → ℕ → Bool
@@ -86,7 +84,7 @@ Reaches t letters row = (path : List ℕ) × IsPath (Follows t) (first_row t) pa
 -- ---- what a model of a struct stores
 
 -- a node by the code of its parts
-abbrev coded_node : Coded Node
+abbrev pub coded_node : Coded Node
 coded_node = code_by (List Ltl × ℕ) (coded× (coded_list coded_ltl) coded_ℕ) (λ n. (n.labels, n.next)) (λ p. record { labels = p.0; next = p.1 }) (λ _. refl)
 
 -- a table as a choice of its parts

@@ -2,6 +2,7 @@
 #![tactic(auto)]
 
 mod automaton;
+mod bits;
 mod closed;
 mod entry;
 mod formula;
@@ -14,6 +15,7 @@ mod switches;
 mod work;
 
 pub use automaton::{Automaton, Edge};
+pub use bits::has_bit;
 pub use closed::{Closed, Keeps};
 pub use entry::{Act, Answer, Entry};
 pub use formula::{Formula, Rule, Spec};
@@ -25,5 +27,5 @@ pub use laws::{
 pub use name::{Name, Names};
 pub use reactor::Reactor;
 pub use record::{Delivered, Record, Task};
-pub use switches::{HALTED, MONITORING, REACTING, fails, has_switch, is_enabled_by};
+pub use switches::{HALTED, MONITORING, REACTING, fails, is_enabled_by};
 pub use work::{Change, CpuWork, Delivery, Scope, Turn};

@@ -8,7 +8,8 @@ use Rattle.rv_model.specs.declared.hit.Letter.TheVariants.{Event, Atoms}
 use Rattle.rv_model.specs.declared.automaton.Edge.{Edge}
 use Rattle.rv_model.specs.Machine.{Machine}
 use Rattle.rv_model.specs.Numbers.{list_of}
-use Rattle.rv_model.specs.Table.{next_row, table_of, entry}
+use Rattle.rv_model.specs.EventTables.{entry}
+use Rattle.rv_model.specs.Table.{next_row, table_of}
 use Rattle.rv_model.specs.WellFormed.{IsAutomaton}
 use Rattle.rv_model.proofs.MeansLemmas.{is_next-true}
 use Rattle.rv_model.proofs.FoundLemmas.{length-list_of, get_or-list_of, find-found}

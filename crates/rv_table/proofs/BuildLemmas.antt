@@ -7,9 +7,9 @@ use Rattle.rv_model.specs.declared.automaton.Edge.{Edge}
 use Rattle.rv_model.specs.Machine.{Machine}
 use Rattle.rv_model.specs.WellFormed.{IsAutomaton}
 use Rattle.rv_model.specs.Numbers.{list_of}
-use Rattle.rv_model.specs.Table.{next_row}
+use Rattle.rv_model.specs.Table.{next_row, event_rows}
 use Rattle.rv_model.proofs.FoundLemmas.{length-list_of, get_or-list_of, find-found}
-use Rattle.rv_table.specs.Rows.{IsEntryBelow, IsEventRows, event_rows}
+use Rattle.rv_table.specs.Rows.{IsEntryBelow, IsEventRows}
 
 -- no row
 pub list_of_none : {X : Type 0} (f : ℕ → X) → list_of f 0 ≡ []

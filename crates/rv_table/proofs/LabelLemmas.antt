@@ -1,9 +1,8 @@
 -- A formula's rows by the bits of their sets.
-use Rattle.std.proofs.Common.{◌≡◌, ℕ, zero, suc, ◌+◌, ◌-◌, ◌^◌, ◌<◌, ◌≤◌, ◌==◌, ◌&&◌, ◌||◌, nat_lt, max, bit_or, Bool, true, false, ◌⊎◌, inl, inr, List, [], length, map, arith, refl, sym, ap, ◌∙◌, add-one, subst}
+use Rattle.std.proofs.Common.{◌≡◌, ℕ, zero, suc, ◌+◌, ◌-◌, ◌^◌, ◌<◌, ◌≤◌, ◌==◌, ◌&&◌, ◌||◌, nat_lt, Bool, true, false, ◌⊎◌, inl, inr, List, [], length, map, arith, refl, sym, ap, ◌∙◌, add-one, subst}
 use Rattle.std.specs.List.{All, list_all}
-use Rattle.std.specs.Int.{bit_at}
 use Rattle.std.proofs.lemmas.List.{get_or_past, get_or-map, length-map}
-use Rattle.std.proofs.lemmas.Nat.Bits.{bit_at-lt, bit_at-zero, bit_at_or, bit_at_above}
+use Rattle.std.proofs.lemmas.Nat.Bits.{bit_at_above}
 use Rattle.std.proofs.lemmas.List.Elements.{All-get_or}
 use Rattle.rv_model.specs.declared.hit.Letter.{Letter}
 use Rattle.rv_model.specs.declared.formula.Formula.{Formula}
@@ -13,30 +12,15 @@ use Rattle.rv_model.specs.Meaning.{true_on}
 use Rattle.rv_model.specs.Numbers.{has_bit}
 use Rattle.rv_model.specs.Table.{of_labels, Node, node_at}
 use Rattle.rv_model.specs.Stepping.{some_follows, step_set}
-use Rattle.rv_table.specs.Rows.{some_next, IsLabel, IsNodeBelow, IsLabelRows}
+use Rattle.rv_model.specs.Labels.{IsLabel}
+use Rattle.rv_model.proofs.SetLemmas.{has_none}
+use Rattle.rv_table.specs.Numbered.{some_next}
+use Rattle.rv_table.specs.Rows.{IsNodeBelow, IsLabelRows}
 use Rattle.rv_table.proofs.SetLemmas.{some_follows-none, some_follows-more, is_step_set}
 
 -- what holds of each formula of a list holds of each in the list without boxes, and the other way round
 pub All-ltl : (fs : List Formula) → All IsLabel (map ltl fs) → All (λ f. IsLabel (ltl f)) fs
 All-ltl fs all = λ i d lt. let l : i < length (map ltl fs) = subst (λ n. i < n) (sym (length-map fs ltl)) lt in subst IsLabel (get_or-map ltl fs i d (ltl d) lt) (all i (ltl d) l)
-
--- one bit of a union
-has_max : (m n : ℕ) → m < 2 → n < 2 → (max m n == 1) ≡ (m == 1 || n == 1)
-has_max zero zero h k = refl
-has_max zero (suc zero) h k = refl
--- one bit of a union
-has_max (suc zero) zero h k = refl
--- one bit of a union
-has_max (suc zero) (suc zero) h k = refl
--- one bit of a union
-has_max (suc (suc m)) n h k = absurd (omega arith)
-has_max zero (suc (suc n)) h k = absurd (omega arith)
--- one bit of a union
-has_max (suc zero) (suc (suc n)) h k = absurd (omega arith)
-
--- the members of a union
-pub has_or : (s t k : ℕ) → has_bit (bit_or s t) k ≡ (has_bit s k || has_bit t k)
-has_or s t k = ap (λ n. n == 1) (bit_at_or s t k) ∙ has_max (bit_at s k) (bit_at t k) (bit_at-lt s k) (bit_at-lt t k)
 
 -- one more row
 pub some_next_more : (nodes : List Node) (set n q : ℕ) → some_next nodes set (n + 1) q ≡ (some_next nodes set n q || (has_bit set n && has_bit (node_at nodes n).next q))
@@ -48,10 +32,6 @@ or_none true b = refl
 or_none false true = refl
 or_none false false = refl
 
--- the empty set has no member
-no_bit : (q : ℕ) → has_bit 0 q ≡ false
-no_bit q = ap (λ n. n == 1) (bit_at-zero q)
-
 -- past the rows there are no next rows
 next-past : (nodes : List Node) (set q more : ℕ) → some_next nodes set (more + length nodes) q ≡ some_next nodes set (length nodes) q
 next-past nodes set q zero = ap (λ n. some_next nodes set n q) (none (length nodes))
@@ -59,7 +39,7 @@ next-past nodes set q zero = ap (λ n. some_next nodes set n q) (none (length no
     none : (n : ℕ) → 0 + n ≡ n
     none n = omega arith
 next-past nodes set q (suc more) =
-    let nothing : has_bit (node_at nodes (more + length nodes)).next q ≡ false = ap (λ (node : Node). has_bit node.next q) (get_or_past nodes (more + length nodes) (record { labels = []; next = 0 }) (omega arith)) ∙ no_bit q in
+    let nothing : has_bit (node_at nodes (more + length nodes)).next q ≡ false = ap (λ (node : Node). has_bit node.next q) (get_or_past nodes (more + length nodes) (record { labels = []; next = 0 }) (omega arith)) ∙ has_none q in
     ap (λ n. some_next nodes set n q) (one (length nodes))
     ∙ some_next_more nodes set (more + length nodes) q
     ∙ ap (λ b. some_next nodes set (more + length nodes) q || (has_bit set (more + length nodes) && b)) nothing
@@ -130,7 +110,7 @@ some_next-past nodes all set (suc n) q past =
 
     none : (n < length nodes) ⊎ (length nodes ≤ n) → has_bit (node_at nodes n).next q ≡ false
     none (inl lt) = ap (λ b. b == 1) (bit_at_above (node_at nodes n).next (length nodes) q (All-get_or (IsNodeBelow (length nodes)) nodes n nothing lt all).1.0 past)
-    none (inr beyond) = ap (λ (node : Node). has_bit node.next q) (get_or_past nodes n nothing beyond) ∙ no_bit q
+    none (inr beyond) = ap (λ (node : Node). has_bit node.next q) (get_or_past nodes n nothing beyond) ∙ has_none q
 
 -- the next rows whose labels are true are those that follow
 pub is_label_step : (nodes : List Node) (set : ℕ) (x : Letter) (next out : ℕ) → IsLabelRows nodes → out < 2 ^ 32

@@ -81,7 +81,5 @@ labels-table nodes it = record { in_range = λ row x next f. range row _ next f;
 
 -- so do the rows of every table
 pub rows-table : (t : Table) → IsRows t → IsTable t
--- so do the rows of every table
 rows-table (of_events n rows) it = events-table n rows it
--- so do the rows of every table
 rows-table (of_labels nodes) it = labels-table nodes it

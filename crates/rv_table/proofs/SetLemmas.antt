@@ -1,22 +1,14 @@
 -- Sets of rows by their bits.
-use Rattle.std.proofs.Common.{◌≡◌, ◌≢◌, ℕ, zero, suc, ◌+◌, ◌*◌, ◌/◌, ◌%◌, ◌^◌, ◌<◌, ◌≤◌, ◌==◌, ◌&&◌, ◌||◌, add-one, not, nat_eq, bit_and, bit_or, Bool, true, false, ◌⊎◌, inl, inr, arith, refl, sym, ap, ◌∙◌, max, List, Option}
+use Rattle.std.proofs.Common.{◌≡◌, ◌≢◌, ℕ, zero, suc, ◌+◌, ◌*◌, ◌/◌, ◌%◌, ◌^◌, ◌<◌, ◌≤◌, ◌==◌, ◌&&◌, ◌||◌, add-one, bit_or, Bool, true, false, ◌⊎◌, inl, inr, arith, refl, sym, ap, ◌∙◌, max, List, Option}
 use Rattle.std.specs.Int.{bit_at}
-use Rattle.std.proofs.lemmas.Nat.Bits.{and_pow, bit_at-zero, bit_at-lt, bit_at_or, bit_at_above, bit_at-pow_same, bit_at-pow_other}
+use Rattle.std.proofs.lemmas.Nat.Bits.{bit_at-zero, bit_at-lt, bit_at_or, bit_at_above, bit_at-pow_same, bit_at-pow_other}
 use Rattle.std.proofs.lemmas.Nat.{one_shl, pow_pos, shr_split, mod_below}
 use Rattle.rv_model.specs.declared.hit.Letter.{Letter}
 use Rattle.rv_model.specs.declared.hit.Letter.TheVariants.{Atoms}
-use Rattle.rv_model.specs.Numbers.{has_bit}
+use Rattle.rv_model.specs.Numbers.{has_bit, one_if}
 use Rattle.rv_model.specs.Table.{Table, of_events, follows}
 use Rattle.rv_model.specs.Stepping.{some_follows, step_set}
-use Rattle.rv_model.proofs.NumberLemmas.{bit_of, nat_lt_or, bit_or_not, is_number_of}
-
--- the test for a member reads its bit
-pub test_bit : (set member : ℕ) → member < 32 → not (nat_eq (bit_and set (1 * 2 ^ member % 4294967296)) 0) ≡ has_bit set member
-test_bit set member h = rw (one_shl member 32 h, and_pow set member) (go (bit_at set member) (bit_at-lt set member) (pow_pos member))
-  where
-    go : (b : ℕ) → b < 2 → zero < 2 ^ member → not (nat_eq (b * 2 ^ member) 0) ≡ (b == 1)
-    go zero lt p = grind arith
-    go (suc b) lt p = let z : b ≡ 0 = omega arith in grind arith
+use Rattle.rv_model.proofs.NumberLemmas.{nat_lt_or, bit_or_not, is_number_of}
 
 -- two numbers are the same or not
 same_or_not : (a b : ℕ) → (a ≡ b) ⊎ (b ≢ a)
@@ -71,7 +63,7 @@ some_follows-rest t set x row (suc n) q none le = elim (nat_lt_or row (suc n) le
 
 -- a set with the bits of the step is the step
 pub is_step_set : (t : Table) (set : ℕ) (x : Letter) (out : ℕ) → out < 2 ^ 32 → ((q : ℕ) → q < 32 → has_bit out q ≡ some_follows t set x 32 q) → out ≡ step_set t set x
-is_step_set t set x out fits bits = is_number_of (some_follows t set x 32) 32 out fits (λ q h. bit_or_not out q ∙ ap bit_of (bits q h))
+is_step_set t set x out fits bits = is_number_of (some_follows t set x 32) 32 out fits (λ q h. bit_or_not out q ∙ ap one_if (bits q h))
 
 -- no row of an automaton follows by a set of atoms
 none-follow : (count : ℕ) (rows : List (List (Option ℕ))) (set atoms n q : ℕ) → some_follows (of_events count rows) set (Atoms atoms) n q ≡ false

@@ -1,26 +1,9 @@
 -- What two sets of rows share.
-use Rattle.std.proofs.Common.{◌≡◌, ℕ, zero, suc, ◌-◌, ◌^◌, ◌<◌, ◌==◌, ◌&&◌, ◌||◌, not, min, bit_and, w32, Bool, true, false, arith, refl, sym, ap, ◌∙◌}
+use Rattle.std.proofs.Common.{◌≡◌, ℕ, zero, suc, ◌-◌, ◌^◌, ◌<◌, ◌==◌, ◌&&◌, ◌||◌, not, bit_and, w32, Bool, true, false, arith, refl, sym, ap, ◌∙◌}
 use Rattle.std.specs.Int.{bit_at, bit_not}
-use Rattle.std.proofs.lemmas.Nat.Bits.{bit_at-lt, bit_at-zero, bit_at_and, bit_at_not}
+use Rattle.std.proofs.lemmas.Nat.Bits.{bit_at-lt, bit_at-zero, bit_at_not}
 use Rattle.rv_model.specs.Numbers.{has_bit}
-
--- one bit of what is shared
-has_min : (m n : ℕ) → m < 2 → n < 2 → (min m n == 1) ≡ (m == 1 && n == 1)
-has_min zero zero h k = refl
-has_min zero (suc zero) h k = refl
--- one bit of what is shared
-has_min (suc zero) zero h k = refl
--- one bit of what is shared
-has_min (suc zero) (suc zero) h k = refl
--- one bit of what is shared
-has_min (suc (suc m)) n h k = absurd (omega arith)
-has_min zero (suc (suc n)) h k = absurd (omega arith)
--- one bit of what is shared
-has_min (suc zero) (suc (suc n)) h k = absurd (omega arith)
-
--- the members that are shared
-has_and : (a b q : ℕ) → has_bit (bit_and a b) q ≡ (has_bit a q && has_bit b q)
-has_and a b q = ap (λ n. n == 1) (bit_at_and a b q) ∙ has_min (bit_at a q) (bit_at b q) (bit_at-lt a q) (bit_at-lt b q)
+use Rattle.rv_model.proofs.SetLemmas.{has_and}
 
 -- where no member is shared, none is left out
 pub apart : (a b q : ℕ) (t : Bool) → bit_and a b ≡ 0 → has_bit a q ≡ (has_bit a q && (not (has_bit b q) || t))

@@ -5,6 +5,5 @@ use Rattle.rv_table.specs.declared.table.TableRows.TheVariants.{Events, Labels}
 
 -- what a table is, by its kind
 abbrev pub table_value : TableRows → Table
--- what a table is, by its kind
 table_value (Events count rows) = of_events count rows.items
 table_value (Labels nodes) = of_labels nodes

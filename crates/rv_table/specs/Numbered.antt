@@ -1,5 +1,5 @@
--- Private: a formula's rows by the numbers of their labels.
-use Rattle.std.specs.Prelude.{◌≡◌, ◌≢◌, ℕ, ◌<◌, ◌≤◌, ◌==◌, ◌&&◌, ◌||◌, not, Bool, List, All, length, map, slice_index_or}
+-- Private: a formula's rows by the numbers of their labels, and the rows next to a set.
+use Rattle.std.specs.Prelude.{◌≡◌, ◌≢◌, ℕ, zero, suc, ◌<◌, ◌≤◌, ◌==◌, ◌&&◌, ◌||◌, not, Bool, false, List, All, length, map, slice_index_or}
 use Rattle.std.specs.List.{list_all}
 use Rattle.rv_model.specs.Ltl.{Ltl, True}
 use Rattle.rv_model.specs.Meaning.{true_on}
@@ -54,3 +54,8 @@ pub record AreNumberedRows (labels : List Label) (rows : List NumberedRow) : Typ
   pub once : AreDistinct labels
   pub within : All (λ row. AreNumbers labels row.labels.items) rows
   pub told : (row letter : ℕ) → row < 32 → row_passes labels row letter ≡ allows (nodes_by labels rows) row letter
+
+-- whether the row is a next row of some row of the set below n
+abbrev pub some_next : List Node → ℕ → ℕ → ℕ → Bool
+some_next nodes set zero next = false
+some_next nodes set (suc row) next = some_next nodes set row next || (has_bit set row && has_bit (node_at nodes row).next next)

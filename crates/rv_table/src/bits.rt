@@ -10,14 +10,6 @@ pub fn with(set: u32, member: u8) -> u32
     set | 1 << member
 }
 
-/// Whether the set has this member.
-pub fn contains(set: u32, member: u8) -> bool
-    requires { member < 32 }
-    ensures { result ≡ has_bit set member }
-{
-    set & 1 << member != 0
-}
-
 /// The set without the members of the other one.
 pub fn without(set: u32, others: u32) -> u32
     ensures { (member : ℕ) → member < 32 → has_bit result member ≡ (has_bit set member && not (has_bit others member)) }

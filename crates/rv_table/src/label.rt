@@ -4,7 +4,7 @@ ghost use Rattle.rv_model.specs.Numbers.{has_bit};
 ghost use Rattle.rv_model.specs.Formulas.{ltl};
 ghost use Rattle.rv_model.specs.Meaning.{true_on};
 ghost use Rattle.rv_table.specs.Numbered.{AreEntered, KeepsNumbers, label_at, row_passes};
-ghost use Rattle.rv_table.specs.Rows.{IsLabel};
+ghost use Rattle.rv_model.specs.Labels.{IsLabel};
 
 use crate::bits::with;
 use rv_labels::Masks;

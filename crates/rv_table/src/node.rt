@@ -13,8 +13,7 @@ pub struct Node {
 impl Model for Node {
     ghost use Rattle.std.specs.Prelude.{map};
     ghost use Rattle.rv_model.specs.Formulas.{ltl};
-    ghost use Rattle.rv_model.specs.Table.{Node as NodeValue};
-    ghost use Rattle.rv_table.specs.Rows.{coded_node};
+    ghost use Rattle.rv_model.specs.Table.{Node as NodeValue, coded_node};
 
     ghost Value = { NodeValue };
 

@@ -2,11 +2,12 @@
 ghost use Rattle.std.specs.Prelude.{◌≡◌, ℕ, ◌<◌, ◌≤◌, ◌&&◌, IfOk, All, length, slice_index_or};
 ghost use Rattle.std.specs.List.{list_all};
 ghost use Rattle.rv_model.specs.Formulas.{ltl};
+ghost use Rattle.rv_model.specs.Labels.{IsLabel};
 ghost use Rattle.rv_model.specs.Ltl.{True};
 ghost use Rattle.rv_model.specs.Meaning.{true_on};
 ghost use Rattle.rv_model.specs.Numbers.{has_bit};
 ghost use Rattle.rv_model.specs.Table.{node_at};
-ghost use Rattle.rv_table.specs.Rows.{IsLabel, node_rows};
+ghost use Rattle.rv_table.specs.Rows.{node_rows};
 
 use crate::filtering::filter_all;
 use crate::label::{Label, enter_all};
@@ -32,8 +33,7 @@ pub struct Nodes {
 impl Model for Nodes {
     ghost use Rattle.std.specs.Prelude.{List};
     ghost use Rattle.std.specs.Coded.{coded_list};
-    ghost use Rattle.rv_model.specs.Table.{Node as NodeValue};
-    ghost use Rattle.rv_table.specs.Rows.{coded_node};
+    ghost use Rattle.rv_model.specs.Table.{Node as NodeValue, coded_node};
     ghost use Rattle.rv_table.specs.Numbered.{nodes_by, AreNumberedRows};
 
     ghost Value = { List NodeValue };

@@ -1,8 +1,7 @@
 //! The rows of an automaton's table.
 ghost use Rattle.std.specs.Prelude.{◌≡◌, length, IfOk};
 ghost use Rattle.rv_model.specs.Numbers.{list_of};
-ghost use Rattle.rv_model.specs.Table.{next_row};
-ghost use Rattle.rv_table.specs.Rows.{next_by_event, event_rows};
+ghost use Rattle.rv_model.specs.Table.{next_row, next_by_event, event_rows};
 
 use rv_model::Automaton;
 use std::alloc::{AllocError, Global};

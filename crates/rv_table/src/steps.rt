@@ -6,11 +6,13 @@ ghost use Rattle.rv_model.specs.Table.{of_events, of_labels, entry_by, is_next, 
 ghost use Rattle.rv_model.specs.Stepping.{step_set};
 ghost use Rattle.rv_model.specs.declared.hit.Letter.{Letter};
 ghost use Rattle.rv_model.specs.declared.hit.Letter.TheVariants.{Event};
-ghost use Rattle.rv_table.specs.Rows.{IsEventRows, IsLabelRows, some_next};
+ghost use Rattle.rv_table.specs.Numbered.{some_next};
+ghost use Rattle.rv_table.specs.Rows.{IsEventRows, IsLabelRows};
 
-use crate::bits::{contains, with};
+use crate::bits::with;
 use crate::nodes::Nodes;
 use crate::row::Row;
+use rv_model::has_bit;
 
 /// The entry of a row by the event.
 fn entry(rows: &[Row], row: u8, event: u8) -> Option<u8>
@@ -28,7 +30,7 @@ fn follow(rows: &[Row], out: u32, set: u32, row: u8, event: u8) -> u32
     requires rows { IsEventRows rows.now }
     ensures { (q : ℕ) → q < 32 → has_bit result q ≡ (has_bit out q || (has_bit set row && is_next (entry_by rows.now row (Event event)) q)) }
 {
-    if contains(set, row) {
+    if has_bit(set as u64, row as usize) {
         match entry(rows, row, event) {
             Some(next) => with(out, next),
             None => out,
@@ -55,13 +57,13 @@ pub fn follow_events(rows: &[Row], set: u32, event: u8) -> u32
 }
 
 /// The set with the next rows of this row, if the other set has this row.
-#[tactic(auto, using(crate::proofs::LabelLemmas::has_or))]
+#[tactic(auto, using(rv_model::proofs::SetLemmas::has_or))]
 fn join(next: u32, set: u32, row: u8, nodes: &Nodes) -> u32
     requires few { row < 32 }
     requires row { row < length nodes.now }
     ensures { (q : ℕ) → has_bit result q ≡ (has_bit next q || (has_bit set row && has_bit (node_at nodes.now row).next q)) }
 {
-    if contains(set, row) {
+    if has_bit(set as u64, row as usize) {
         next | nodes.next(row as usize)
     } else {
         next

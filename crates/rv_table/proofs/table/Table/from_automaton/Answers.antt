@@ -5,7 +5,8 @@ use Rattle.rv_model.specs.Judging.{Means}
 use Rattle.rv_model.specs.Table.{Table, of_events, table_of}
 use Rattle.rv_model.specs.WellFormed.{IsAutomaton}
 use Rattle.rv_model.proofs.MeansLemmas.{table_means}
-use Rattle.rv_table.specs.Rows.{IsEventRows, event_rows}
+use Rattle.rv_model.specs.Table.{event_rows}
+use Rattle.rv_table.specs.Rows.{IsEventRows}
 use Rattle.rv_table.proofs.BuildLemmas.{event_rows-in_range}
 use Rattle.rv_table.proofs.table.Table.from_automaton.Goals as goal
 

@@ -2,9 +2,9 @@
 use Rattle.std.proofs.Common.{◌≡◌, false, refl, arith}
 use Rattle.std.proofs.lemmas.Nat.Bits.{bit_at_above}
 use Rattle.rv_model.specs.Numbers.{has_bit}
-use Rattle.rv_model.proofs.switches.has_switch.Goals as goal
+use Rattle.rv_model.proofs.bits.has_bit.Goals as goal
 
 pub returns-else-bit-lt64 : goal.returns-else-bit-lt64
 returns-else-bit-lt64 c =
-    let none : has_bit c.args.word c.args.bit ≡ false = rw (bit_at_above c.args.word 64 c.args.bit c.ranges.word.fits c.if-bit-lt64.false) refl in
+    let none : has_bit c.args.number c.args.bit ≡ false = rw (bit_at_above c.args.number 64 c.args.bit c.ranges.number.fits c.if-bit-lt64.false) refl in
     rw none (grind arith)
