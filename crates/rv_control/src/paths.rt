@@ -4,10 +4,10 @@ ghost use Rattle.rv_control.specs.Trees.{display_name};
 ghost use Rattle.rv_control.specs.Paths.{container_named, is_same_container, is_called_in, monitor_item, outer_named, inner_named, has_display_name, item_named, item_or, top_file, reactors_file, item_file, file_below, path_of, is_reactors};
 
 use crate::control::Control;
-use crate::pieces::Pieces;
 use crate::watched::MonitorInfo;
 use rv_bind::Item;
 use rv_model::Name;
+use rv_text::Pieces;
 
 /// A control file.
 #[derive(Clone, Copy, Debug, Drop, PartialEq, Eq)]
@@ -257,7 +257,7 @@ impl Control {
     pub(crate) fn file_at(&self, path: &[u8]) -> Option<Path>
         ensures { result ≡ path_of self.now path.now }
     {
-        let mut pieces = Pieces::new(path);
+        let mut pieces = Pieces::new(b'/', path);
         let top = pieces.next_piece()?;
         let Some(item) = pieces.next_piece() else {
             return top_file(top);

@@ -5,11 +5,12 @@ mod cursor;
 mod decimals;
 mod line;
 mod numbers;
+mod pieces;
 mod refusals;
 mod runs;
 mod words;
 
-pub use cursor::{Cursor, TextLine};
+pub use cursor::{Cursor, TextLine, line_end, next_number, past_line_end};
 pub use decimals::decimal;
 pub use line::Line;
 pub use numbers::{
@@ -20,6 +21,7 @@ pub use numbers::{
     TOO_MANY_PARTS, TOO_MANY_RULES, TOO_MANY_STATES, TOO_MANY_TASKS, TOO_WIDE, TRACE_SYNTAX,
     TWO_INITIALS, UNDECLARED_STATE, UNKNOWN_ATOM, UNKNOWN_EVENT, USAGE,
 };
+pub use pieces::Pieces;
 pub use refusals::{Refusal, Refused};
 pub use runs::{ByteClass, run_end};
 pub use words::Words;

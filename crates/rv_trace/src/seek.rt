@@ -9,8 +9,7 @@ ghost use Rattle.rv_trace.specs.Traces.{reading_of};
 
 use crate::line::TraceLine;
 use crate::trace::{MAX_BYTES, reading_of};
-use memchr::memchr;
-use rv_text::{Refusal, TextLine};
+use rv_text::{Refusal, TextLine, line_end, next_number, past_line_end};
 
 /// Where the next line is looked for.
 #[derive(Clone, Copy, Debug, Drop, PartialEq, Eq)]
@@ -31,19 +30,6 @@ pub struct Sought {
     pub from: usize,
     pub to: usize,
     pub read: Result<Option<TraceLine>, Refusal>,
-}
-
-/// The first line end from a place on, or the end.
-fn line_end(held: &[u8], from: usize) -> usize
-    requires { from ≤ length held.now }
-    ensures value { result ≡ line_end held.now from }
-    ensures low { from ≤ result }
-    ensures high { result ≤ length held.now }
-{
-    match memchr(b'\n', &held[from..]) {
-        Some(offset) => from + offset,
-        None => held.len(),
-    }
 }
 
 /// Where the line ends that begins here: at its line end, or at the end where nothing can follow.
@@ -67,25 +53,6 @@ fn is_whole(ended: bool, length: usize) -> bool
     ensures { result ≡ (ended || nat_lt MAX_BYTES length) }
 {
     ended || length > MAX_BYTES
-}
-
-/// The place behind the line end that stands here, if one does.
-fn behind(held: &[u8], to: usize) -> usize
-    requires { to ≤ length held.now }
-    ensures value { result ≡ min (to + 1) (length held.now) }
-{
-    if to < held.len() { to + 1 } else { to }
-}
-
-/// The next line's number.
-fn next_number(number: u32) -> u32
-    ensures { result ≡ next_number number }
-{
-    if number < u32::MAX {
-        number + 1
-    } else {
-        number
-    }
 }
 
 /// Reads a line, whose spans are counted from its own first byte, and which ends here in the stream.
@@ -128,7 +95,7 @@ pub fn seek(held: &[u8], passed: usize, start: At, ended: bool) -> Sought
     let whole = is_whole(ended, passed + held.len());
     let mut at = start;
     while let Some(to) = line_to(held, at, whole) {
-        let end = behind(held, to);
+        let end = past_line_end(held, to);
         let read = read_at(held, at.from, to, at.number, passed + end);
         let next = At {
             from: end,

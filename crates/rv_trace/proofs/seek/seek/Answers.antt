@@ -26,30 +26,30 @@ loop-to-preserved c =
     let ends : EndsAt c.args.held.now c.loop-to.at.from (c.args.ended || ltb MAX_BYTES (c.args.passed + length c.args.held.now)) c.in-Some.to =
     subst (λ w. EndsAt c.args.held.now c.loop-to.at.from w c.in-Some.to) c.loop-to.invariant.2 c.in-Some.ensures.some in
     let is : ◌≡◌ {A = Result (Option TraceLine) Refusal} c.read_at-read.result (Ok None) = c.in-Ok.is ∙ ap Ok c.in-None.is in (
-      looks-first c.args.held.now c.behind-end.result (omega (arith, c.behind-end.ensures.value)),
-      reading-fits (record { number = c.loop-to.at.number; from = 0; bytes = between c.args.held.now c.loop-to.at.from c.in-Some.to; end = c.args.passed + c.behind-end.result }) None (sym c.read_at-read.ensures ∙ is),
+      looks-first c.args.held.now c.past_line_end-end.result (omega (arith, c.past_line_end-end.ensures)),
+      reading-fits (record { number = c.loop-to.at.number; from = 0; bytes = between c.args.held.now c.loop-to.at.from c.in-Some.to; end = c.args.passed + c.past_line_end-end.result }) None (sym c.read_at-read.ensures ∙ is),
       c.loop-to.invariant.2,
       λ fed piece stands. let before = c.loop-to.invariant.3 fed piece stands in (
         behind-skipped fed c.args.held.now c.args.passed c.loop-to.at.from c.loop-to.at.number c.args.ended piece inside c.in-Some.to ends _ before.1 before.0
-            c.behind-end.result c.next_number.result c.behind-end.ensures.value c.next_number.ensures c.read_at-read.result c.read_at-read.ensures is,
+            c.past_line_end-end.result c.next_number.result c.past_line_end-end.ensures c.next_number.ensures c.read_at-read.result c.read_at-read.ensures is,
         behind-passed fed c.args.held.now c.args.passed c.loop-to.at.from c.loop-to.at.number c.args.ended piece inside c.in-Some.to ends _ before.1 before.0
-            c.behind-end.result c.next_number.result c.behind-end.ensures.value c.next_number.ensures c.read_at-read.result c.read_at-read.ensures None is,
+            c.past_line_end-end.result c.next_number.result c.past_line_end-end.ensures c.next_number.ensures c.read_at-read.result c.read_at-read.ensures None is,
       ),
     )
 
 pub returns-in-Some-found-clause-fits : goal.returns-in-Some-found-clause-fits
 returns-in-Some-found-clause-fits c =
-    reading-fits (record { number = c.loop-to.at.number; from = 0; bytes = between c.args.held.now c.loop-to.at.from c.in-Some.to; end = c.args.passed + c.behind-end.result }) c.in-Ok.found (sym c.read_at-read.ensures ∙ c.in-Ok.is)
+    reading-fits (record { number = c.loop-to.at.number; from = 0; bytes = between c.args.held.now c.loop-to.at.from c.in-Some.to; end = c.args.passed + c.past_line_end-end.result }) c.in-Ok.found (sym c.read_at-read.ensures ∙ c.in-Ok.is)
 
 pub returns-in-Some-found-clause-small : goal.returns-in-Some-found-clause-small
 returns-in-Some-found-clause-small c =
-    let fits = reading-fits (record { number = c.loop-to.at.number; from = 0; bytes = between c.args.held.now c.loop-to.at.from c.in-Some.to; end = c.args.passed + c.behind-end.result }) c.in-Ok.found (sym c.read_at-read.ensures ∙ c.in-Ok.is) in
-    omega (arith, fits, c.behind-end.ensures.value, c.in-Some.ensures.some.within)
+    let fits = reading-fits (record { number = c.loop-to.at.number; from = 0; bytes = between c.args.held.now c.loop-to.at.from c.in-Some.to; end = c.args.passed + c.past_line_end-end.result }) c.in-Ok.found (sym c.read_at-read.ensures ∙ c.in-Ok.is) in
+    omega (arith, fits, c.past_line_end-end.ensures, c.in-Some.ensures.some.within)
 
 pub returns-in-Some-found-clause-lies : goal.returns-in-Some-found-clause-lies
 returns-in-Some-found-clause-lies c =
     let text = between c.args.held.now c.loop-to.at.from c.in-Some.to in
-    let line : LineText = record { number = c.loop-to.at.number; from = 0; bytes = between c.args.held.now c.loop-to.at.from c.in-Some.to; end = c.args.passed + c.behind-end.result } in
+    let line : LineText = record { number = c.loop-to.at.number; from = 0; bytes = between c.args.held.now c.loop-to.at.from c.in-Some.to; end = c.args.passed + c.past_line_end-end.result } in
     let is : ◌≡◌ {A = Result (Option TraceLine) Refusal} c.read_at-read.result (Ok (Some c.in-Some-found.field-0)) = c.in-Ok.is ∙ ap Ok c.in-Some-found.is in
     subst (λ (o : Option TraceLine). IfSome o (LiesIn text)) (sym c.in-Some-found.is)
     (reading-lies text line c.in-Some-found.field-0 (omega arith) (sym c.read_at-read.ensures ∙ is))
@@ -63,9 +63,9 @@ returns-in-Some-found-clause-found c fed piece stands =
     let before = c.loop-to.invariant.3 fed piece stands in
     let is : ◌≡◌ {A = Result (Option TraceLine) Refusal} c.read_at-read.result (Ok (Some c.in-Some-found.field-0)) = c.in-Ok.is ∙ ap Ok c.in-Some-found.is in
     subst (λ (r : Result (Option TraceLine) Refusal).
-    AnswersLine (take (c.args.passed + c.args.start.from) fed) (take (c.args.passed + c.behind-end.result) fed) (part_read c.args.ended fed) (between c.args.held.now c.loop-to.at.from c.in-Some.to) r) c.in-Ok.is
+    AnswersLine (take (c.args.passed + c.args.start.from) fed) (take (c.args.passed + c.past_line_end-end.result) fed) (part_read c.args.ended fed) (between c.args.held.now c.loop-to.at.from c.in-Some.to) r) c.in-Ok.is
     (behind-taken fed c.args.held.now c.args.passed c.loop-to.at.from c.loop-to.at.number c.args.ended piece inside c.in-Some.to ends _ before.1 before.0
-    c.behind-end.result c.next_number.result c.behind-end.ensures.value c.next_number.ensures c.read_at-read.result c.read_at-read.ensures
+    c.past_line_end-end.result c.next_number.result c.past_line_end-end.ensures c.next_number.ensures c.read_at-read.result c.read_at-read.ensures
     c.in-Some-found.field-0 is)
 
 pub returns-in-Some-found-clause-passes : goal.returns-in-Some-found-clause-passes
@@ -76,7 +76,7 @@ returns-in-Some-found-clause-passes c fed piece stands =
     subst (λ w. EndsAt c.args.held.now c.loop-to.at.from w c.in-Some.to) c.loop-to.invariant.2 c.in-Some.ensures.some in
     let before = c.loop-to.invariant.3 fed piece stands in
     behind-passed fed c.args.held.now c.args.passed c.loop-to.at.from c.loop-to.at.number c.args.ended piece inside c.in-Some.to ends _ before.1 before.0
-    c.behind-end.result c.next_number.result c.behind-end.ensures.value c.next_number.ensures c.read_at-read.result c.read_at-read.ensures
+    c.past_line_end-end.result c.next_number.result c.past_line_end-end.ensures c.next_number.ensures c.read_at-read.result c.read_at-read.ensures
     c.in-Ok.found c.in-Ok.is
 
 pub returns-in-Err-clause-found : goal.returns-in-Err-clause-found
@@ -87,7 +87,7 @@ returns-in-Err-clause-found c fed piece stands =
     subst (λ w. EndsAt c.args.held.now c.loop-to.at.from w c.in-Some.to) c.loop-to.invariant.2 c.in-Some.ensures.some in
     let before = c.loop-to.invariant.3 fed piece stands in
     behind-refused fed c.args.held.now c.args.passed c.loop-to.at.from c.loop-to.at.number c.args.ended piece inside c.in-Some.to ends _ before.1 before.0
-    c.behind-end.result c.next_number.result c.behind-end.ensures.value c.next_number.ensures c.read_at-read.result c.read_at-read.ensures
+    c.past_line_end-end.result c.next_number.result c.past_line_end-end.ensures c.next_number.ensures c.read_at-read.result c.read_at-read.ensures
     c.in-Err.field-0 (between c.args.held.now 0 0) c.in-Err.is
 
 pub returns-in-Err-clause-passes : goal.returns-in-Err-clause-passes

@@ -1,7 +1,7 @@
 use Rattle.std.proofs.Common.{◌≡◌, None, rules}
 use Rattle.rv_journal.specs.PieceReadings.{number_in}
 use Rattle.rv_journal.proofs.ThenLemmas.{first-none, first-reads}
-use Rattle.rv_journal.proofs.pieces.Pieces.next_number.Goals as goal
+use Rattle.rv_journal.proofs.pieces.next_number.Goals as goal
 
 pub returns-in_err-word-clause-number : goal.returns-in_err-word-clause-number
 returns-in_err-word-clause-number c = let none : c.from_residual.result ≡ None = search rules in first-none (number_in c.args.most) _ _ _ none c.in_err-word.ensures.none.0
