@@ -6,13 +6,13 @@ use Rattle.std.proofs.lemmas.List.Elements.{All-nil, All-cons, All-weaker}
 use Rattle.std.proofs.lemmas.List.Kept.{AllPairs-cons}
 use Rattle.rv_text.specs.declared.refusals.Refusal.{Refusal}
 use Rattle.rv_text.specs.declared.numbers.TheConstants.{TOO_LONG, TRACE_SYNTAX, LOST_EVENTS, TOO_MANY_CPUS}
-use Rattle.rv_text.specs.Readings.{and_then, refused_at}
+use Rattle.rv_text.specs.Readings.{and_then, refused_at, onto}
 use Rattle.rv_text.specs.TextLines.{line_here, next_number, lines_at, lines_from, lines_of, select, is_line_start}
 use Rattle.rv_trace.specs.declared.parts.Parts.{Parts}
 use Rattle.rv_trace.specs.declared.line.TraceLine.{TraceLine}
 use Rattle.rv_trace.specs.declared.trace.TheConstants.{MAX_LINES, MAX_BYTES}
 use Rattle.rv_trace.specs.Lines.{is_skipped, is_lost, parts_of, head_pid, cpu_of, line_with, said, line_of}
-use Rattle.rv_trace.specs.Traces.{reading_of, line_added, onto, all_read, trace_of}
+use Rattle.rv_trace.specs.Traces.{reading_of, line_added, all_read, trace_of}
 
 -- a line that is read has its number
 said_number : (text : List ℕ) (from number : ℕ) (parts : Parts) (line : TraceLine) → said text from number parts ≡ Ok line → line.number ≡ number

@@ -3,7 +3,7 @@ use Rattle.std.proofs.Common.{◌≡◌, ◌≢◌, ℕ, ◌+◌, ◌-◌, ◌<�
 use Rattle.std.proofs.lemmas.Bool.{cases_lt, eqb-true, eqb-false, or_right, lt-ltb, ltb-true}
 use Rattle.std.proofs.lemmas.List.{get_or_append_left, get_or-append-add}
 use Rattle.rv_text.specs.TextLines.{LineText, line_end, line_here, lines_from, lines_of, next_number}
-use Rattle.rv_text.specs.Readings.{and_then, refused_at}
+use Rattle.rv_text.specs.Readings.{and_then, refused_at, onto}
 use Rattle.rv_text.specs.declared.numbers.TheConstants.{TOO_LONG}
 use Rattle.rv_text.specs.declared.refusals.Refusal.{Refusal}
 use Rattle.rv_text.proofs.TextLineLemmas.{line_end-low, line_end-byte, lines_from-next}
@@ -11,7 +11,7 @@ use Rattle.rv_text.proofs.ReadingLaws.{chosen-true}
 use Rattle.rv_trace.specs.declared.line.TraceLine.{TraceLine}
 use Rattle.rv_trace.specs.declared.trace.TheConstants.{MAX_LINES, MAX_BYTES}
 use Rattle.rv_trace.specs.Lines.{line_of}
-use Rattle.rv_trace.specs.Traces.{is_too_long, reading_of, line_added, onto, all_read, trace_of}
+use Rattle.rv_trace.specs.Traces.{is_too_long, reading_of, line_added, all_read, trace_of}
 use Rattle.rv_trace.specs.Streams.{ended_front, is_whole, part_read, StandsAt}
 use Rattle.rv_trace.proofs.StreamLemmas.{NoEnd, ended_front-none, ended_front-on, behind_line, choice, stands-first, stands-next}
 use Rattle.rv_trace.proofs.TakenLemmas.{all_read-append}

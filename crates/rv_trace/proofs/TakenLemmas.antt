@@ -4,12 +4,13 @@ use Rattle.std.specs.List.{All}
 use Rattle.std.proofs.lemmas.List.Elements.{All-head, All-tail}
 use Rattle.rv_text.specs.TextLines.{LineText, lines_of}
 use Rattle.rv_text.specs.declared.refusals.Refusal.{Refusal}
-use Rattle.rv_text.specs.Readings.{and_then}
+use Rattle.rv_text.specs.Readings.{and_then, onto}
 use Rattle.rv_trace.specs.declared.line.TraceLine.{TraceLine}
 use Rattle.rv_trace.specs.Lines.{moved_line}
-use Rattle.rv_trace.specs.Traces.{reading_of, line_added, onto, all_read, trace_of}
+use Rattle.rv_trace.specs.Traces.{reading_of, line_added, all_read, trace_of}
 use Rattle.rv_trace.specs.Streams.{IsSkipped, Adds, TakesLine, IsRefused}
-use Rattle.rv_trace.proofs.TraceLemmas.{onto-onto, onto-none, all_read-none, all_read-ok, all_read-err}
+use Rattle.rv_trace.proofs.TraceLemmas.{all_read-none, all_read-ok, all_read-err}
+use Rattle.rv_text.proofs.ReadingLaws.{onto-none, onto-onto}
 
 -- a reading before two others
 joined : (read : Result (Option TraceLine) Refusal) (first second : Result (List TraceLine) Refusal) →

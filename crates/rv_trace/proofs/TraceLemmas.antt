@@ -2,25 +2,16 @@
 use Rattle.std.proofs.Common.{◌≡◌, ℕ, ◌+◌, ◌≤◌, inl, inr, List, [], ◌∷◌, ◌++◌, length, Option, Some, None, Result, Ok, Err, refl, sym, ap, subst, arith, append_assoc, append-nil}
 use Rattle.std.specs.List.{All}
 use Rattle.std.proofs.lemmas.List.Elements.{All-nil, All-cons, All-append, All-head, All-tail}
-use Rattle.rv_text.specs.Readings.{and_then}
-use Rattle.rv_text.specs.TextLines.{LineText, StandsIn, lines_of}
+use Rattle.rv_text.specs.Readings.{and_then, onto}
+use Rattle.rv_text.specs.TextLines.{LineText, lines_of}
+use Rattle.rv_text.specs.LinePlaces.{StandsIn}
 use Rattle.rv_text.specs.declared.refusals.Refusal.{Refusal}
 use Rattle.rv_text.proofs.LinesStand.{lines_of-stand}
 use Rattle.rv_text.proofs.ReadingLaws.{and_then_ok, chosen}
 use Rattle.rv_trace.specs.declared.line.TraceLine.{TraceLine}
 use Rattle.rv_trace.specs.Lines.{LiesIn}
-use Rattle.rv_trace.specs.Traces.{is_too_long, reading_of, line_added, onto, all_read, trace_of}
+use Rattle.rv_trace.specs.Traces.{is_too_long, reading_of, line_added, all_read, trace_of}
 use Rattle.rv_trace.proofs.LiesLemmas.{refused_none, line_of-lies}
-
--- what a line adds comes to the lines so far
-pub onto-onto : (lines more : List TraceLine) (later : Result (List TraceLine) Refusal) → onto lines (onto more later) ≡ onto (lines ++ more) later
-onto-onto lines more (Err fault) = refl
-onto-onto lines more (Ok later) = ap Ok (sym (append_assoc lines more later))
-
--- nothing in front changes nothing
-pub onto-none : (later : Result (List TraceLine) Refusal) → later ≡ onto [] later
-onto-none (Err fault) = refl
-onto-none (Ok later) = refl
 
 -- nothing behind changes nothing
 pub all_read-none : (lines : List TraceLine) → onto lines (all_read []) ≡ Ok lines

@@ -1,6 +1,6 @@
 -- A whole trace: its lines in order, or the first fault.
-use Rattle.std.specs.Prelude.{ℕ, Bool, ◌||◌, nat_lt, List, [], ◌∷◌, ◌++◌, Option, Some, None, Result, Ok, if◌then◌else◌}
-use Rattle.rv_text.specs.Readings.{and_then, refused_at}
+use Rattle.std.specs.Prelude.{ℕ, Bool, ◌||◌, nat_lt, List, [], ◌∷◌, Option, Some, None, Result, Ok, if◌then◌else◌}
+use Rattle.rv_text.specs.Readings.{and_then, onto, refused_at}
 use Rattle.rv_text.specs.TextLines.{LineText, lines_of}
 use Rattle.rv_text.specs.declared.numbers.TheConstants.{TOO_LONG}
 use Rattle.rv_text.specs.declared.refusals.Refusal.{Refusal}
@@ -20,10 +20,6 @@ reading_of line = if is_too_long line then refused_at TOO_LONG line.number else 
 abbrev pub line_added : Option TraceLine → List TraceLine
 line_added None = []
 line_added (Some line) = line ∷ []
-
--- lines in front of those that are read later
-abbrev pub onto : List TraceLine → Result (List TraceLine) Refusal → Result (List TraceLine) Refusal
-onto lines later = and_then later (λ more. Ok (lines ++ more))
 
 -- what lines say, one after the other: the first fault decides
 unfoldable pub all_read : List LineText → Result (List TraceLine) Refusal

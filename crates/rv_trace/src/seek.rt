@@ -1,10 +1,8 @@
 //! Looks for the next line in the bytes that are held of a stream.
-ghost use Rattle.std.specs.Prelude.{◌≡◌, ◌≤◌, ◌+◌, ◌||◌, ℕ, List, length, take, min, nat_lt, IfOk, IfSome, IfNone};
+ghost use Rattle.std.specs.Prelude.{◌≡◌, ◌≤◌, ◌+◌, ◌||◌, length, nat_lt, IfSome, IfNone};
 ghost use Rattle.rv_text.specs.Places.{between};
-ghost use Rattle.rv_text.specs.TextLines.{line_end, next_number};
-ghost use Rattle.rv_trace.specs.Held.{EndsAt, HasNoLineEnd, IsPieceOf, LooksAt};
-ghost use Rattle.rv_trace.specs.Lines.{LiesIn};
-ghost use Rattle.rv_trace.specs.Streams.{AnswersLine, IsPassed, part_read};
+ghost use Rattle.rv_trace.specs.Held.{LooksAt};
+ghost use Rattle.rv_trace.specs.Seeking.{EndsAt, HasNoLineEnd, Seeks};
 ghost use Rattle.rv_trace.specs.Traces.{reading_of};
 
 use crate::line::TraceLine;
@@ -81,16 +79,7 @@ fn read_at(
 pub fn seek(held: &[u8], passed: usize, start: At, ended: bool) -> Sought
     requires looks { LooksAt held.now start.from start.searched }
     requires fits { passed + start.from ≤ MAX_BYTES }
-    ensures looks { LooksAt held.now result.at.from result.at.searched }
-    ensures fits { passed + result.at.from ≤ MAX_BYTES }
-    ensures order { result.from ≤ result.to }
-    ensures within { result.to ≤ length held.now }
-    ensures small { result.to ≤ MAX_BYTES }
-    ensures lies { IfOk result.read (λ found. IfSome found (LiesIn (between held.now result.from result.to))) }
-    ensures found { (fed : List ℕ) → IsPieceOf fed held.now passed → IsPassed fed ended (passed + start.from) start.number →
-        AnswersLine (take (passed + start.from) fed) (take (passed + result.at.from) fed) (part_read ended fed) (between held.now result.from result.to) result.read }
-    ensures passes { (fed : List ℕ) → IsPieceOf fed held.now passed → IsPassed fed ended (passed + start.from) start.number →
-        IsPassed fed ended (passed + result.at.from) result.at.number }
+    ensures { Seeks held.now passed start ended result }
 {
     let whole = is_whole(ended, passed + held.len());
     let mut at = start;

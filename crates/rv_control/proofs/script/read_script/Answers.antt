@@ -2,9 +2,10 @@ use Rattle.std.proofs.Common.{◌≡◌, sym, ◌∙◌, ap}
 use Rattle.std.proofs.lemmas.Result.{err_from_is_err_and}
 use Rattle.std.specs.Option.{option_to_list}
 use Rattle.rv_text.specs.TextLines.{line_text}
-use Rattle.rv_text.proofs.ReadingLaws.{Refuses-same}
-use Rattle.rv_control.specs.Scripts.{onto, commands_of_lines, script_of}
-use Rattle.rv_control.proofs.ScriptLemmas.{onto-none, commands_of_lines-none, commands_of_lines-ok, commands_of_lines-refused}
+use Rattle.rv_text.proofs.ReadingLaws.{Refuses-same, onto-none}
+use Rattle.rv_control.specs.Scripts.{commands_of_lines, script_of}
+use Rattle.rv_text.specs.Readings.{onto}
+use Rattle.rv_control.proofs.ScriptLemmas.{commands_of_lines-none, commands_of_lines-ok, commands_of_lines-refused}
 use Rattle.rv_control.proofs.script.read_script.Goals as goal
 
 pub loop-line-init : goal.loop-line-init

@@ -1,10 +1,13 @@
 use Rattle.std.proofs.Common.{◌≡◌, Err, sym, ◌∙◌, ap}
 use Rattle.std.proofs.lemmas.Result.{err_from_is_err_and}
 use Rattle.std.proofs.lemmas.List.Elements.{All-rest}
-use Rattle.rv_text.specs.TextLines.{line_text, StandsIn}
+use Rattle.rv_text.specs.TextLines.{line_text}
+use Rattle.rv_text.specs.LinePlaces.{StandsIn}
 use Rattle.rv_text.proofs.LinesStand.{lines_of-stand}
-use Rattle.rv_trace.specs.Traces.{line_added, onto, all_read, trace_of}
-use Rattle.rv_trace.proofs.TraceLemmas.{onto-onto, onto-none, all_read-none, all_read-ok, all_read-err, trace_of-lies}
+use Rattle.rv_trace.specs.Traces.{line_added, all_read, trace_of}
+use Rattle.rv_text.specs.Readings.{onto}
+use Rattle.rv_trace.proofs.TraceLemmas.{all_read-none, all_read-ok, all_read-err, trace_of-lies}
+use Rattle.rv_text.proofs.ReadingLaws.{onto-none, onto-onto}
 use Rattle.rv_trace.proofs.trace.read_trace.Goals as goal
 
 pub loop-line-init : goal.loop-line-init
