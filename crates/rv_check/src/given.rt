@@ -9,18 +9,19 @@ pub(crate) type Given = GhostList<Line>;
 
 /// Lines, and one more.
 #[derive(Drop)]
-struct Longer<'a> {
+struct OneMore<'a> {
     given: &'a Given,
     line: &'a [u8],
 }
 
-impl<'a> Keeps<Line> for Longer<'a> {
+impl<'a> Keeps<Line> for OneMore<'a> {
     ghost list = { λ l. l.given.now ++ l.line.now ∷ [] };
 }
 
-/// The lines with this one behind them.
-pub(crate) fn one_more(given: &Given, line: &[u8]) -> Given
-    ensures { result ≡ given.now ++ line.now ∷ [] }
+/// The list grows by this line.
+pub(crate) fn push(given: &mut Given, line: &[u8])
+    ensures { given.new ≡ given.old ++ line.now ∷ [] }
 {
-    Given::of(&Longer { given, line })
+    let longer = Given::of(&OneMore { given, line });
+    *given = longer;
 }
