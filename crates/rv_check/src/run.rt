@@ -43,7 +43,6 @@ impl Model for Run {
     ghost invariant = { λ r. IsRun r.setup r.panics r.works.items r.words.items r.nexts.items r.history };
 }
 
-/// The opening words.
 fn opening_words(alloc: Global, setup: &Setup) -> Result<Vec<u64>, AllocError>
     ensures { IfOk result (λ words. IsCore setup.now words.items []) }
 {

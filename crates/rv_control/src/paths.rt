@@ -36,7 +36,6 @@ fn is_same_container(place: Option<u8>, other: Option<u8>) -> bool
     }
 }
 
-/// Whether the name is this one.
 fn is_named(other: &Name, name: &[u8]) -> bool
     ensures { result ≡ bytes_eq other.now name.now }
 {
@@ -111,7 +110,6 @@ fn top_file(name: &[u8]) -> Option<Path>
     }
 }
 
-/// The file of a monitor's reactors.
 fn reactors_file(item: Item) -> Option<Path>
     ensures { result ≡ reactors_file item }
 {
@@ -147,7 +145,6 @@ fn file_below(top: &[u8], item: Option<Item>, name: &[u8]) -> Option<Path>
 }
 
 impl Control {
-    /// The place of the container of this name.
     fn container_place(&self, name: &[u8]) -> Option<usize>
         ensures value { result ≡ container_named self.now name.now }
         ensures within { IfSome result (λ place. place < 32) }
@@ -157,7 +154,7 @@ impl Control {
             .position(|container| is_named(container, name))
     }
 
-    /// The same, as items have it.
+    /// The place of the container of this name, as items have it.
     fn container_named(&self, name: &[u8]) -> Option<u8>
         ensures { result ≡ container_named self.now name.now }
     {
@@ -253,7 +250,6 @@ impl Control {
         }
     }
 
-    /// The file at this path.
     pub(crate) fn file_at(&self, path: &[u8]) -> Option<Path>
         ensures { result ≡ path_of self.now path.now }
     {

@@ -4,6 +4,7 @@
 mod cursor;
 mod decimals;
 mod line;
+mod lists;
 mod numbers;
 mod pieces;
 mod refusals;
@@ -13,6 +14,7 @@ mod words;
 pub use cursor::{Cursor, TextLine, line_end, next_number, past_line_end};
 pub use decimals::decimal;
 pub use line::Line;
+pub use lists::push_some;
 pub use numbers::{
     BIND_SYNTAX, CONTROL_SYNTAX, CYCLE, DEFINED_TWICE, DOT_SYNTAX, HEADER_SYNTAX, INVALID,
     LOST_EVENTS, LTL_SYNTAX, NAME_TWICE, NO_HEADER, NO_INITIAL, NO_INSTANCE, NO_PID, NO_RULE,

@@ -18,7 +18,7 @@ loop-line-preserved c =
     c.loop-line.invariant
     ∙ ap (λ lines. onto c.loop-line.commands.items (commands_of_lines lines)) c.in-Some.ensures.some
     ∙ commands_of_lines-ok (line_text c.in-Some.line) later c.loop-line.commands.items (option_to_list c.in_ok-read.read) c.in_ok-read.ensures
-    ∙ ap (λ items. onto items (commands_of_lines later)) (sym c.in_ok-keep.ensures)
+    ∙ ap (λ items. onto items (commands_of_lines later)) (sym c.in_ok-push_some.ensures)
 
 pub returns-in_err-read : goal.returns-in_err-read
 returns-in_err-read c =
