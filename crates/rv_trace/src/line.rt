@@ -35,7 +35,6 @@ pub struct TraceLine {
     pub fields: Span,
 }
 
-/// Whether the line is skipped.
 #[tactic(auto, unfolding(crate::specs::Lines::is_skipped))]
 fn is_skipped(text: &[u8]) -> bool
     ensures { result ≡ is_skipped text.now }

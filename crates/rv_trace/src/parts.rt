@@ -97,7 +97,6 @@ fn stamp_from(text: &[u8], from: usize) -> Option<usize>
     }
 }
 
-/// Where the timestamp ends.
 #[inline(always)]
 #[tactic(auto, unfolding(crate::specs::Lines::stamp_end))]
 fn stamp_end(text: &[u8], place: usize) -> Option<usize>
@@ -123,7 +122,6 @@ fn second_stamp(text: &[u8], first: usize) -> Option<usize>
     stamp_from(text, second)
 }
 
-/// The name of the event.
 #[inline(always)]
 #[tactic(auto, unfolding(crate::specs::Lines::event_part))]
 fn event_part(text: &[u8], place: usize) -> Option<LinePart>
@@ -143,7 +141,6 @@ fn event_part(text: &[u8], place: usize) -> Option<LinePart>
     }
 }
 
-/// The parts of the line.
 #[inline(always)]
 #[tactic(auto, unfolding(crate::specs::Lines::parts_of))]
 pub fn parts_of(text: &[u8]) -> Option<ReadParts>

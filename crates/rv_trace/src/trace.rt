@@ -15,7 +15,6 @@ pub const MAX_LINES: u32 = 1_000_000;
 /// How many bytes a trace may have.
 pub const MAX_BYTES: usize = 134_217_728;
 
-/// Reads one line of a trace.
 #[tactic(auto, unfolding(crate::specs::Traces::reading_of))]
 pub(crate) fn reading_of(line: TextLine) -> Result<Option<TraceLine>, Refusal>
     requires { line.from + length line.bytes.now ≤ line.end }
