@@ -18,4 +18,3 @@ pub mod SortLemmas
 pub mod TableJudgeLemmas
 pub mod TruthLemmas
 pub mod UniqueLemmas
-pub mod Walks
