@@ -13,7 +13,7 @@ use crate::next::{Due, Next};
 use crate::work::{delivery_at, turn_at, turn_count};
 use rv_core::{Setup, Step};
 use rv_model::{
-    Act, Answer, CpuWork, Delivery, Entry, HALTED, REACTING, Turn, fails, has_switch, is_enabled_by,
+    Act, Answer, CpuWork, Delivery, Entry, HALTED, REACTING, Turn, fails, has_bit, is_enabled_by,
 };
 
 /// Three lost tries stop an instance.
@@ -89,7 +89,7 @@ fn after_look(setup: &Setup, work: &CpuWork, turn: usize, word: u64) -> Next
     requires turn { turn < length work.now.turns }
     ensures { (panics : ℕ → Bool) (a : Answer) → Moves setup.now panics work.now (Look turn) word a result }
 {
-    if has_switch(word, HALTED) {
+    if has_bit(word, HALTED) {
         return Next::Over;
     }
     let Turn { from, to, .. } = turn_at(work, turn);
@@ -103,7 +103,7 @@ fn after_delivery(setup: &Setup, panics: u32, work: &CpuWork, due: &Due, answer:
     ensures { (word : ℕ) → Moves setup.now (has_bit panics) work.now (Deliver due.now) word answer result }
 {
     let monitor = delivery_at(work, due.place).monitor;
-    if fails(answer) && (has_switch(panics as u64, monitor) && has_switch(due.look, REACTING)) {
+    if fails(answer) && (has_bit(panics as u64, monitor as usize) && has_bit(due.look, REACTING)) {
         return Next::Raise;
     }
     settle(setup, work, due.look, due.place + 1, due.to, due.turn)

@@ -5,7 +5,7 @@ ghost use Rattle.rv_control.specs.Trees.{IsControl, is_holder, is_in_container, 
 
 use crate::watched::MonitorInfo;
 use rv_bind::Item;
-use rv_model::{Name, Reactor};
+use rv_model::{Name, Reactor, has_bit};
 use std::marker::Model;
 
 /// The switches, reactors and monitors that the control files show and change.
@@ -53,10 +53,9 @@ impl Control {
 
     /// Whether the switch of this bit is on.
     pub(crate) fn has_switch(&self, bit: usize) -> bool
-        requires { bit < 64 }
         ensures { result ≡ has_bit self.now.switches bit }
     {
-        (self.switches >> bit) & 1 == 1
+        has_bit(self.switches, bit)
     }
 
     /// Whether the monitor of this place is in the container, or is the monitor itself.

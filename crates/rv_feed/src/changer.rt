@@ -7,7 +7,7 @@ ghost use Rattle.rv_feed.specs.Feeders.{FitsChanger, RunsChanger};
 
 use rv_board::{Board, Seat};
 use rv_io::Gate;
-use rv_model::{Change, has_switch};
+use rv_model::{Change, has_bit};
 
 /// The number of the control actor at its gate.
 pub(crate) const CONTROL: u32 = 64;
@@ -52,7 +52,7 @@ fn clear(board: &Board, seat: &mut Seat, set: u32)
     seat.number();
     for slot in 0..board.shape().slots() {
         let monitor = board.shape().place(slot).monitor;
-        if has_switch(set as u64, monitor) {
+        if has_bit(set as u64, monitor as usize) {
             board.clear(seat, slot);
         }
     }

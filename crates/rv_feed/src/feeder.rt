@@ -12,7 +12,7 @@ use crate::turn::halts;
 use rv_board::{Board, Seat};
 use rv_io::Gate;
 use rv_model::{
-    Answer, Delivered, Delivery, HALTED, REACTING, Reactor, Turn, has_switch, is_enabled_by,
+    Answer, Delivered, Delivery, HALTED, REACTING, Reactor, Turn, has_bit, is_enabled_by,
 };
 
 /// A CPU's seat, its lane, and the gate that it passes.
@@ -72,7 +72,7 @@ fn deliver<G: Gate>(
 {
     let delivery = delivery_at(lane, place);
     let outcome = serve(board, seat, cpu_of(lane), &delivery, gate);
-    keep(lane, place, line, outcome, has_switch(word, REACTING));
+    keep(lane, place, line, outcome, has_bit(word, REACTING));
     let ends = ends(reactors, word, delivery.monitor, outcome);
     if ends {
         board.halt(seat);
@@ -98,7 +98,7 @@ fn play_turn<G: Gate>(
     ensures { FeedsTurn seat.old seat.new (panics_of reactors.now) turn.now lane.old lane.new result }
 {
     let word = board.look(seat);
-    if has_switch(word, HALTED) {
+    if has_bit(word, HALTED) {
         return true;
     }
     for place in turn.from..turn.to {

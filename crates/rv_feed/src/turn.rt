@@ -9,14 +9,14 @@ ghost use Rattle.rv_feed.specs.Turns.{LooksAt, DeliversRecorded, PlaysTurn};
 use crate::lane::{Lane, delivery_at, is_panic, keep, seat_of};
 use rv_core::Core;
 use rv_model::{
-    Act, Answer, Delivered, HALTED, Hit, REACTING, Reactor, Turn, fails, has_switch, is_enabled_by,
+    Act, Answer, Delivered, HALTED, Hit, REACTING, Reactor, Turn, fails, has_bit, is_enabled_by,
 };
 
 /// Whether a delivery with this answer ends its script.
 pub(crate) fn halts(reactors: &[Reactor], word: u64, monitor: u8, answer: Answer) -> bool
     ensures { result ≡ (fails answer && (panics_of reactors.now monitor && has_bit word 33)) }
 {
-    fails(answer) && (is_panic(reactors, monitor) && has_switch(word, REACTING))
+    fails(answer) && (is_panic(reactors, monitor) && has_bit(word, REACTING))
 }
 
 /// What the hit is to do to its slot.
@@ -63,7 +63,7 @@ fn deliver(
         place,
         line,
         Delivered::Done(answer),
-        has_switch(word, REACTING),
+        has_bit(word, REACTING),
     );
     let ends = halts(reactors, word, delivery.monitor, answer);
     if ends {
@@ -83,7 +83,7 @@ pub(crate) fn play_turn(core: &mut Core, reactors: &[Reactor], lane: &mut Lane, 
 {
     let seat = seat_of(lane);
     let word = look(core, seat);
-    if has_switch(word, HALTED) {
+    if has_bit(word, HALTED) {
         return true;
     }
     for place in turn.from..turn.to {

@@ -1,6 +1,7 @@
 -- No lane holds the gap that the first item that is not placed would close.
 use Rattle.std.proofs.Common.{◌≡◌, ◌≢◌, ℕ, ◌<◌, ◌==◌, Bool, true, false, ◌&&◌, List, [], ◌∷◌, ◌++◌, refl, sym, ap, ◌∙◌, subst, arith, append_assoc}
 use Rattle.std.proofs.lemmas.Bool.Decides.{nat_tests}
+use Rattle.rv_model.specs.Numbers.{one_if}
 use Rattle.rv_model.specs.declared.entry.Act.{Act}
 use Rattle.rv_model.specs.declared.entry.Act.TheVariants.{Deliver, Stop, Look, Raise, Lower, Clear, End}
 use Rattle.rv_model.specs.declared.entry.Entry.{Entry}
@@ -12,7 +13,7 @@ use Rattle.rv_journal.specs.declared.steps.MergeStep.TheVariants.{TurnLook, Item
 use Rattle.rv_journal.specs.MergeSteps.{items_of, behind, slot_in, version, leaves, changes_on, leaves_in, lost_in, leaving, losing, CannotGo}
 use Rattle.rv_journal.specs.MergeStates.{Mark, mark, items_in, entries_in, IsKnownItem, AreKnownItems, Lanes, IsUnderWay}
 use Rattle.rv_journal.proofs.MarkLemmas.{same, earlier, later, compare, first-left, FirstOpen}
-use Rattle.rv_journal.proofs.LeftLemmas.{one_if, none-left, no-open, in-front, more-changes}
+use Rattle.rv_journal.proofs.LeftLemmas.{none-left, no-open, in-front, more-changes}
 use Rattle.rv_journal.proofs.FirstOpenLemmas.{told-at, told_is, entries-cut, changes}
 
 module _ (s : Setup) (whole : List Counted) (lanes : Lanes) (observed : AreKnownItems s whole)

@@ -10,10 +10,6 @@ use Rattle.rv_journal.specs.MergeSteps.{changes_on}
 use Rattle.rv_journal.specs.MergeStates.{Mark, mark, items_in, is_left}
 use Rattle.rv_journal.proofs.MarkLemmas.{filter_yes, filter_no, AllPlaced}
 
--- 1 for what is true
-abbrev pub one_if : Bool → ℕ
-one_if b = cond b 1 0
-
 -- ---- sums that are none
 
 -- a mark that is left is not placed, and the seat's

@@ -2,16 +2,12 @@
 use Rattle.std.proofs.Common.{◌≡◌, ◌≢◌, ℕ, zero, suc, ◌+◌, ◌<◌, Bool, true, false, ◌==◌, ◌&&◌, ◌||◌, not, inl, inr, arith, refl, sym, ap, ◌∙◌}
 use Rattle.std.specs.Prelude.{count_by, if◌then◌else◌}
 use Rattle.std.proofs.lemmas.List.Sums.{sum_by_push}
-use Rattle.rv_model.specs.Numbers.{list_of}
+use Rattle.rv_model.specs.Numbers.{list_of, one_if}
 use Rattle.rv_model.proofs.NumberLemmas.{nat_lt_or}
 
 -- how many of the first n numbers pass
 abbrev pub many : (ℕ → Bool) → ℕ → ℕ
 many test n = count_by test (list_of (λ i. i) n)
-
--- 1 where the test holds
-abbrev pub one_if : Bool → ℕ
-one_if b = if b then 1 else 0
 
 -- of none
 many-zero : (test : ℕ → Bool) → many test 0 ≡ 0

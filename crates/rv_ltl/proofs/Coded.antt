@@ -7,7 +7,8 @@ use Rattle.rv_ltl.specs.declared.token.Binary.{Binary}
 use Rattle.rv_ltl.specs.declared.token.CodeStep.{CodeStep}
 use Rattle.rv_ltl.specs.declared.token.CodeStep.TheVariants as steps
 use Rattle.rv_ltl.specs.Grammar.{Expr, Paren, One, Two}
-use Rattle.rv_ltl.specs.Parse.{front, operator, is_close, chain_at, term_at, expr_by}
+use Rattle.rv_ltl.specs.Parse.{operator, is_close, chain_at, term_at, expr_by}
+use Rattle.rv_ltl.specs.Fronts.{front}
 use Rattle.rv_ltl.specs.Operators.{is_same_operator}
 use Rattle.std.specs.Prelude.{map}
 use Rattle.std.proofs.lemmas.List.{map_push}

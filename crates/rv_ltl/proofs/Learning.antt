@@ -4,10 +4,11 @@ use Rattle.std.proofs.Math.ListN.{set, length-set}
 use Rattle.std.proofs.lemmas.Bool.{cases_lt}
 use Rattle.rv_ltl.specs.declared.weight.Weight.{Weight}
 use Rattle.rv_ltl.specs.declared.weight.Weight.TheVariants.{Open, Large, Is}
+use Rattle.rv_model.specs.Numbers.{one_if}
 use Rattle.rv_ltl.specs.File.{Def}
 use Rattle.rv_ltl.specs.Replace.{value_of, any_endless}
 use Rattle.rv_ltl.specs.Machine.{value}
-use Rattle.rv_ltl.specs.Weights.{def_at, known_at, weight_at, weights_by, weighed, IsDistinct, IsSure, IsStuck, IsSettled, open_count, known_count, flag, Learns, Passes}
+use Rattle.rv_ltl.specs.Weights.{def_at, known_at, weight_at, weights_by, weighed, IsDistinct, IsSure, IsStuck, IsSettled, open_count, known_count, Learns, Passes}
 use Rattle.rv_ltl.proofs.Settling.{set_sure, sure_after, never, endless_at, none_endless}
 use Rattle.rv_ltl.proofs.WeightLaws.{weighed_none}
 
@@ -30,10 +31,10 @@ counts (Open ∷ ws) = let r = counts ws in omega arith
 counts (Large ∷ ws) = let r = counts ws in omega arith
 counts (Is x ∷ ws) = let r = counts ws in omega arith
 
--- a flag counts for at most one
-flag_le : (b : Bool) → flag b ≤ 1
-flag_le true = omega arith
-flag_le false = omega arith
+-- it is at most one
+one_if_le : (b : Bool) → one_if b ≤ 1
+one_if_le true = omega arith
+one_if_le false = omega arith
 
 -- one more was learnt
 pub learnt : (ds : List Def) (start ws new : List Weight) (more : Bool) (i : ℕ) → IsDistinct ds → i < length ds → Passes ds start ws more i → Learns ds ws new i true → Passes ds start new true (i + 1)
@@ -48,7 +49,7 @@ learnt ds start ws new more i distinct lt p l =
     let made : Passes ds start (set ws i v) true (i + 1) = record {
       each = length-set ws i v ∙ p.each;
       sure = subst Q (sym k) (set_sure ds ws (known_count ws) i p.each distinct p.sure lt l.1);
-      fewer = omega (arith, c, f, flag_le more);
+      fewer = omega (arith, c, f, one_if_le more);
       stuck = λ e. absurd cc;
     } in
     subst P (sym l.0) made

@@ -32,18 +32,15 @@ replaced_has val (One op e) f x h y r m v k =
     let same : One op b.0 ≡ f = cc in
     let P : Expr → Type 0 = λ g. Mentions g y in
     subst P same (replaced_has val e b.0 x h y b.1 m v k)
-replaced_has val (Two op a b) f x h y r (inl m) v k =
+replaced_has val (Two op a b) f x h y r m v k =
     let p = bind_some (replaced val a) (λ (g : Expr). replaced val b >>= λ k. Some (Two op g k)) f r in
     let q = bind_some (replaced val b) (λ (k : Expr). Some (Two op p.0 k)) f p.2 in
     let same : Two op p.0 q.0 ≡ f = cc in
     let P : Expr → Type 0 = λ g. Mentions g y in
-    subst P same (inl (replaced_has val a p.0 x h y p.1 m v k))
-replaced_has val (Two op a b) f x h y r (inr m) v k =
-    let p = bind_some (replaced val a) (λ (g : Expr). replaced val b >>= λ k. Some (Two op g k)) f r in
-    let q = bind_some (replaced val b) (λ (k : Expr). Some (Two op p.0 k)) f p.2 in
-    let same : Two op p.0 q.0 ≡ f = cc in
-    let P : Expr → Type 0 = λ g. Mentions g y in
-    subst P same (inr (replaced_has val b q.0 x h y q.1 m v k))
+    subst P same (elim m [
+      | inl m ↦ inl (replaced_has val a p.0 x h y p.1 m v k)
+      | inr m ↦ inr (replaced_has val b q.0 x h y q.1 m v k)
+    ])
 
 -- a name of the formula, and what it stands for, in which another name stands
 abbrev pub From : (ℕ → Option Expr) → Expr → ℕ → Type 0

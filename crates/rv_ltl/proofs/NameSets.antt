@@ -18,7 +18,8 @@ use Rattle.std.proofs.lemmas.Map.Lookups.{exact_bytes}
 use Rattle.std.proofs.lemmas.Slice.Eq.{bytes_eq-Decides}
 use Rattle.rv_ltl.specs.Texts.{texts}
 use Rattle.rv_ltl.specs.Parse.{◌>>=◌}
-use Rattle.rv_ltl.specs.Names.{Ascends, is_atom_name, with_piece, names_of, place_in}
+use Rattle.rv_ltl.specs.Names.{is_atom_name, with_piece, names_of, place_in}
+use Rattle.rv_ltl.specs.Fronts.{Ascends}
 
 -- the order of two names by their bytes
 abbrev pub name_cmp : Bor (List ℕ) → Bor (List ℕ) → Ordering

@@ -68,13 +68,7 @@ same_is a b e = sym (row_back b) ∙ ap in_row (sym (eqb-true (row_of a) (row_of
 
 -- an operator is the same as itself
 pub same_self : (a : Binary) → is_same_operator a a ≡ true
-same_self And = refl
-same_self Or = refl
-same_self Until = refl
-same_self Release = refl
-same_self WeakUntil = refl
-same_self Imply = refl
-same_self Equivalent = refl
+same_self a = grind arith
 
 -- each operator may stand in a chain at least once
 pub some_joins : (op : Binary) → 0 < joins op

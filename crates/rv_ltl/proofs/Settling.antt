@@ -40,21 +40,18 @@ body_at ds x i h = by_case (found ds x)
         let P : ℕ → Type 0 = λ m. (m < length ds) × ((def_at ds m).name ≡ x) × (body_of ds x ≡ Some (def_at ds m).body) in
         subst P e (lt, n, b)
 
+-- a name has a first definition where it has a formula
+none_of_both : (ds : List Def) (x : ℕ) → Found ds x → (index_of ds x ≡ None → body_of ds x ≡ None) × (body_of ds x ≡ None → index_of ds x ≡ None)
+none_of_both ds x (Free k b) = (λ h. b, λ h. k)
+none_of_both ds x (Held j lt n k b) = (λ h. absurd cc, λ h. absurd cc)
+
 -- a name without a first definition has no formula
 pub body_none : (ds : List Def) (x : ℕ) → index_of ds x ≡ None → body_of ds x ≡ None
-body_none ds x h = by_case (found ds x)
-  where
-    by_case : Found ds x → body_of ds x ≡ None
-    by_case (Free k b) = b
-    by_case (Held j lt n k b) = absurd cc
+body_none ds x = (none_of_both ds x (found ds x)).0
 
 -- a name without a formula has no first definition
 pub index_none : (ds : List Def) (x : ℕ) → body_of ds x ≡ None → index_of ds x ≡ None
-index_none ds x h = by_case (found ds x)
-  where
-    by_case : Found ds x → index_of ds x ≡ None
-    by_case (Free k b) = k
-    by_case (Held j lt n k b) = absurd cc
+index_none ds x = (none_of_both ds x (found ds x)).1
 
 -- ---- what names stand for
 

@@ -13,25 +13,23 @@ use Rattle.rv_ltl.specs.Replace.{weight_of, replaced}
 use Rattle.rv_ltl.specs.Machine.{value}
 use Rattle.rv_ltl.specs.Weights.{limited, weighed, one_weight, two_weights, weights_by}
 
--- two operands with an operator weigh no less than the left one
-left_weight : (op : Binary) (a b : ℕ) → a ≤ weight_two op a b
-left_weight And a b = omega arith
-left_weight Or a b = omega arith
-left_weight Until a b = omega arith
-left_weight Release a b = omega arith
-left_weight WeakUntil a b = omega arith
-left_weight Imply a b = omega arith
-left_weight Equivalent a b = omega arith
+-- two operands with an operator weigh no less than both operands
+both_weigh : (op : Binary) (a b : ℕ) → a + b ≤ weight_two op a b
+both_weigh And a b = omega arith
+both_weigh Or a b = omega arith
+both_weigh Until a b = omega arith
+both_weigh Release a b = omega arith
+both_weigh WeakUntil a b = omega arith
+both_weigh Imply a b = omega arith
+both_weigh Equivalent a b = omega arith
 
--- two operands with an operator weigh no less than the right one
+-- so no less than the left one
+left_weight : (op : Binary) (a b : ℕ) → a ≤ weight_two op a b
+left_weight op a b = omega (arith, both_weigh op a b)
+
+-- nor than the right one
 right_weight : (op : Binary) (a b : ℕ) → b ≤ weight_two op a b
-right_weight And a b = omega arith
-right_weight Or a b = omega arith
-right_weight Until a b = omega arith
-right_weight Release a b = omega arith
-right_weight WeakUntil a b = omega arith
-right_weight Imply a b = omega arith
-right_weight Equivalent a b = omega arith
+right_weight op a b = omega (arith, both_weigh op a b)
 
 -- a weight over the limit
 large : (w : ℕ) → 1024 < w → limited w ≡ Large

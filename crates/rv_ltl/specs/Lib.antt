@@ -18,3 +18,5 @@ pub mod Reached
 pub mod Collected
 pub mod Uses
 pub mod Rules
+pub mod Fronts
+pub mod Lengths

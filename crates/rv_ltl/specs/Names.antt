@@ -9,11 +9,6 @@ use Rattle.std.specs.declared.cmp.Ordering.{Ordering}
 use Rattle.std.specs.declared.cmp.Ordering.TheVariants.{Less}
 use Rattle.rv_ltl.specs.Parse.{◌>>=◌}
 
--- each key is below those after it
-abbrev pub Ascends : {K : Type 0} → (K → K → Ordering) → List K → Type 0
-Ascends cmp [] = Unit {0}
-Ascends cmp (x ∷ xs) = AllByRecursion (λ y. cmp x y ≡ Less) xs × Ascends cmp xs
-
 -- an upper-case letter
 abbrev pub is_upper : ℕ → Bool
 is_upper byte = nat_lt 64 byte && nat_lt byte 91

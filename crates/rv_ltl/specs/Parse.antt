@@ -16,11 +16,6 @@ None >>= f = None
 abbrev pub Reader : Type 0
 Reader = List Token → Option (Expr × List Token)
 
--- the token at the front
-abbrev pub front : List Token → Option Token
-front [] = None
-front (mark ∷ rest) = Some mark
-
 -- the operator at the front
 abbrev pub operator : List Token → Option Binary
 operator [] = None

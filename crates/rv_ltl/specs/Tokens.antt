@@ -10,36 +10,25 @@ use Rattle.rv_ltl.specs.declared.token.Binary.TheVariants as binary
 use Rattle.rv_ltl.specs.Parse.{◌>>=◌}
 use Rattle.rv_ltl.specs.Names.{place_in}
 
+-- what the first row with this text names
+abbrev pub named : {A : Type 0} → List (List ℕ × A) → List ℕ → Option A
+named [] piece = None
+named (row ∷ rows) piece = if bytes_eq piece row.0 then Some row.1 else named rows piece
+
 -- the marks and the constants
 abbrev pub plain_of : List ℕ → Option Token
-plain_of piece =
-    if bytes_eq piece (codes "(") then Some token.Open
-    else if bytes_eq piece (codes ")") then Some token.Close
-    else if bytes_eq piece (codes "=") then Some token.Equals
-    else if bytes_eq piece (codes "true") then Some token.True
-    else if bytes_eq piece (codes "false") then Some token.False
-    else None
+plain_of = named ((codes "(", token.Open) ∷ (codes ")", token.Close) ∷ (codes "=", token.Equals) ∷ (codes "true", token.True) ∷ (codes "false", token.False) ∷ [])
 
 -- the operators before their operand
 abbrev pub unary_of : List ℕ → Option Unary
-unary_of piece =
-    if bytes_eq piece (codes "always") then Some unary.Always
-    else if bytes_eq piece (codes "eventually") then Some unary.Eventually
-    else if bytes_eq piece (codes "next") then Some unary.Next
-    else if bytes_eq piece (codes "not") then Some unary.Not
-    else None
+unary_of = named ((codes "always", unary.Always) ∷ (codes "eventually", unary.Eventually) ∷ (codes "next", unary.Next) ∷ (codes "not", unary.Not) ∷ [])
 
 -- the operators between their operands
 abbrev pub binary_of : List ℕ → Option Binary
-binary_of piece =
-    if bytes_eq piece (codes "and") then Some binary.And
-    else if bytes_eq piece (codes "or") then Some binary.Or
-    else if bytes_eq piece (codes "until") then Some binary.Until
-    else if bytes_eq piece (codes "release") then Some binary.Release
-    else if bytes_eq piece (codes "weak_until") then Some binary.WeakUntil
-    else if bytes_eq piece (codes "imply") then Some binary.Imply
-    else if bytes_eq piece (codes "equivalent") then Some binary.Equivalent
-    else None
+binary_of =
+    named
+    ((codes "and", binary.And) ∷ (codes "or", binary.Or) ∷ (codes "until", binary.Until) ∷ (codes "release", binary.Release)
+    ∷ (codes "weak_until", binary.WeakUntil) ∷ (codes "imply", binary.Imply) ∷ (codes "equivalent", binary.Equivalent) ∷ [])
 
 -- a piece's token; a word that is neither a keyword nor a name has none
 abbrev pub token_of : List (List ℕ) → List ℕ → Option Token

@@ -1,5 +1,6 @@
 -- Private: weights as far as they are known, for each definition in its place.
 use Rattle.std.specs.Prelude.{◌≡◌, ◌≢◌, ℕ, suc, ◌+◌, ◌<◌, ◌≤◌, Bool, true, false, nat_eq, nat_lt, if◌then◌else◌, List, [], ◌∷◌, length, slice_index_or, slice_set, Option, Some, None}
+use Rattle.rv_model.specs.Numbers.{one_if}
 use Rattle.rv_ltl.specs.declared.token.Binary.{Binary}
 use Rattle.rv_ltl.specs.declared.weight.Weight.{Weight}
 use Rattle.rv_ltl.specs.declared.weight.Weight.TheVariants.{Open, Large, Is}
@@ -86,11 +87,6 @@ known_count (Open ∷ ws) = known_count ws
 known_count (Large ∷ ws) = 1 + known_count ws
 known_count (Is w ∷ ws) = 1 + known_count ws
 
--- one more where something was learnt
-abbrev pub flag : Bool → ℕ
-flag true = 1
-flag false = 0
-
 -- one definition was looked at: what follows from what is known was put down, or nothing follows
 abbrev pub Learns : List Def → List Weight → List Weight → ℕ → Bool → Type 0
 Learns ds old new i true =
@@ -101,7 +97,7 @@ Learns ds old new i false = (new ≡ old) × (known_at old i ≡ Open → value 
 pub record Passes (ds : List Def) (start ws : List Weight) (more : Bool) (i : ℕ) : Type 0 where
   pub each : length ws ≡ length ds
   pub sure : IsSure ds ws (known_count ws)
-  pub fewer : open_count ws + flag more ≤ open_count start
+  pub fewer : open_count ws + one_if more ≤ open_count start
   pub stuck : more ≡ false → IsStuck ds ws i
 
 -- the weight of what each definition stands for; it is open where that is nothing

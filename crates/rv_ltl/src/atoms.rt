@@ -10,7 +10,7 @@ use crate::token::CodeStep;
 use crate::uses::index;
 use std::alloc::{AllocError, Global};
 
-// How many numbers in front are below another.
+/// How many numbers in front are below another.
 fn count_below(numbers: &[usize], x: usize) -> usize
     ensures within { result ≤ length numbers.now }
     ensures is { result ≡ count_below x numbers.now }
@@ -51,7 +51,7 @@ fn is_free(definitions: &[Definition], name: usize) -> bool
     }
 }
 
-// Puts the number at its place, and says whether there was room.
+/// Puts the number at its place, and says whether there was room.
 fn put(out: &mut Vec<usize>, x: usize) -> Result<bool, AllocError>
     requires { length out.old.items ≤ 32 }
     ensures { IfOk result (λ fits. Puts (inserted x out.old.items) out.new.items fits) }
@@ -100,7 +100,7 @@ fn put_code(
     Ok(true)
 }
 
-// Puts the names of the definition that are not defined, where it is flagged, and says whether there was room.
+/// Puts the names of the definition that are not defined, where it is flagged, and says whether there was room.
 fn put_definition(
     definitions: &[Definition],
     flags: &[bool],

@@ -91,7 +91,7 @@ fn put(stack: &mut Vec<Formula>, formula: Formula) -> Result<(), AllocError>
     Ok(())
 }
 
-// Runs one step of a formula's code, in which definitions stand in one another at most so deep.
+/// Runs one step of a formula's code, in which definitions stand in one another at most so deep.
 #[cycle(build)]
 fn step(
     alloc: Global,

@@ -17,7 +17,7 @@ pub struct Definition {
     pub code: Vec<CodeStep>,
 }
 
-// The name of the definition in front.
+/// The name of the definition in front.
 fn head_name(tokens: &[Token]) -> Option<usize>
     ensures { result ≡ head_name tokens.now }
 {

@@ -1,7 +1,8 @@
 //! The token in front of a list of tokens.
 
 ghost use Rattle.std.specs.Prelude.{◌≡◌, drop};
-ghost use Rattle.rv_ltl.specs.Parse.{is_close, front, operator};
+ghost use Rattle.rv_ltl.specs.Parse.{is_close, operator};
+ghost use Rattle.rv_ltl.specs.Fronts.{front};
 
 use crate::token::{Binary, Token};
 

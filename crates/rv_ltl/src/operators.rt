@@ -5,7 +5,7 @@ ghost use Rattle.rv_ltl.specs.Operators.{row_of, is_same_operator, joins};
 
 use crate::token::Binary;
 
-// The operator's row in the table.
+/// The operator's row in the table.
 fn row_of(op: Binary) -> u8
     ensures { result ≡ row_of op }
 {

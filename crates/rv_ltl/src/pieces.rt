@@ -2,7 +2,8 @@
 
 ghost use Rattle.std.specs.Prelude.{◌≡◌, ◌≤◌, ◌<◌, ℕ, length, map, false};
 ghost use Rattle.rv_ltl.specs.Unreads.{IsReadAs};
-ghost use Rattle.rv_ltl.specs.Pieces.{is_whitespace, is_mark, is_word, pieces_of, word_len, comment_len, piece_len, skipped};
+ghost use Rattle.rv_ltl.specs.Pieces.{is_whitespace, is_mark, is_word, pieces_of};
+ghost use Rattle.rv_ltl.specs.Lengths.{word_len, comment_len, piece_len, skipped};
 ghost use Rattle.rv_ltl.specs.Texts.{texts};
 
 use crate::unread::Unread;
@@ -55,7 +56,7 @@ fn comment_len(text: &[u8]) -> usize
     n
 }
 
-// How many bytes the word or mark in front has, or 0 where none stands there.
+/// How many bytes the word or mark in front has, or 0 where none stands there.
 fn piece_len(text: &[u8]) -> usize
     ensures within { result ≤ length text.now }
     ensures is { result ≡ piece_len text.now }
@@ -92,7 +93,7 @@ pub fn pieces<'a>(alloc: Global, text: &'a [u8]) -> Result<Vec<&'a [u8]>, Unread
     Ok(out)
 }
 
-// How many bytes the blank or the comment in front has, or 0 where none stands there.
+/// How many bytes the blank or the comment in front has, or 0 where none stands there.
 fn skipped(text: &[u8]) -> usize
     ensures within { result ≤ length text.now }
     ensures is { result ≡ skipped text.now }

@@ -6,7 +6,7 @@ ghost use Rattle.rv_ltl.specs.Reached.{Joins, NextIs, AreReachFlags};
 use crate::uses::all_false;
 use std::alloc::{AllocError, Global};
 
-// A place that is flagged and not done, if there is one.
+/// A place that is flagged and not done, if there is one.
 fn next(flags: &[bool], done: &[bool]) -> Option<usize>
     requires { length flags.now ≡ length done.now }
     ensures { NextIs flags.now done.now result }
@@ -19,7 +19,7 @@ fn next(flags: &[bool], done: &[bool]) -> Option<usize>
     None
 }
 
-// Flags what the row flags.
+/// Flags what the row flags.
 fn join(flags: &mut Vec<bool>, row: &[bool])
     ensures { Joins flags.old.items row.now flags.new.items (length flags.old.items) }
 {

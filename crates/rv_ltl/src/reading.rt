@@ -6,7 +6,8 @@ ghost use Rattle.std.specs.Ordering.{nat_cmp};
 ghost use Rattle.rv_text.specs.Readings.{Gives};
 ghost use Rattle.rv_model.specs.Formulas.{IsRule, ltl};
 ghost use Rattle.rv_ltl.specs.Texts.{texts};
-ghost use Rattle.rv_ltl.specs.Names.{Ascends, names_of};
+ghost use Rattle.rv_ltl.specs.Names.{names_of};
+ghost use Rattle.rv_ltl.specs.Fronts.{Ascends};
 ghost use Rattle.rv_ltl.specs.Machine.{defs, AllCoded};
 ghost use Rattle.rv_ltl.specs.Atoms.{name_at};
 ghost use Rattle.rv_ltl.specs.RuleFile.{rule_in, ltl_of};
@@ -37,7 +38,7 @@ impl From<Unread> for Refused {
     }
 }
 
-// The name of this number.
+/// The name of this number.
 fn name_of<'a>(names: &[&'a [u8]], number: usize) -> &'a [u8]
     ensures { result.now ≡ name_at (texts names.now) number }
 {
@@ -48,7 +49,7 @@ fn name_of<'a>(names: &[&'a [u8]], number: usize) -> &'a [u8]
     }
 }
 
-// The names of these numbers.
+/// The names of these numbers.
 fn names_at(alloc: Global, names: &[&[u8]], numbers: &[usize]) -> Result<Names, AllocError>
     ensures { IfOk result (λ list. list ≡ map (name_at (texts names.now)) numbers.now) }
 {
@@ -67,7 +68,7 @@ fn assembled(atoms: Names, formula: Formula) -> Rule
     Rule { atoms, formula }
 }
 
-// The rule of the definitions.
+/// The rule of the definitions.
 fn rule_in(alloc: Global, names: &[&[u8]], definitions: &[Definition]) -> Result<Rule, Refused>
     requires ascending { Ascends (slice_cmp nat_cmp) (texts names.now) }
     requires coded { AllCoded definitions.now }
@@ -83,7 +84,7 @@ fn rule_in(alloc: Global, names: &[&[u8]], definitions: &[Definition]) -> Result
     Ok(assembled(list, formula))
 }
 
-// The definitions that the pieces spell.
+/// The definitions that the pieces spell.
 fn definitions_in(
     alloc: Global,
     names: &[&[u8]],

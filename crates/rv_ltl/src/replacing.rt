@@ -15,7 +15,7 @@ use crate::weight::Weight;
 use rv_text::{CYCLE, DEFINED_TWICE, NO_RULE, Refusal, Refused, TOO_BIG, TOO_MANY_ATOMS};
 use std::alloc::Global;
 
-// Whether no name is defined twice.
+/// Whether no name is defined twice.
 fn once(definitions: &[Definition]) -> bool
     ensures { result ≡ once (defs definitions.now) }
 {

@@ -12,7 +12,7 @@ use crate::weighing::{weigh, weight_of_name};
 use crate::weight::Weight;
 use std::alloc::{AllocError, Global};
 
-// Whether the weights of all that the row flags are known.
+/// Whether the weights of all that the row flags are known.
 fn is_ready(row: &[bool], weights: &[Weight]) -> bool
     ensures { result ≡ false → (j : ℕ) × (j < length row.now) × (flag_at row.now j ≡ true) × (known_at weights.now j ≡ Open) }
 {
@@ -24,7 +24,7 @@ fn is_ready(row: &[bool], weights: &[Weight]) -> bool
     true
 }
 
-// Puts down the weight of the definition, and says whether it could.
+/// Puts down the weight of the definition, and says whether it could.
 fn learn(
     alloc: Global,
     definitions: &[Definition],
@@ -53,7 +53,7 @@ fn learn(
     Ok(true)
 }
 
-// Puts down each weight that follows from those that are known, and says whether there was one.
+/// Puts down each weight that follows from those that are known, and says whether there was one.
 fn pass(
     alloc: Global,
     definitions: &[Definition],

@@ -34,7 +34,7 @@ pub fn all_false(alloc: Global, n: usize) -> Result<Vec<bool>, AllocError>
     Ok(flags)
 }
 
-// Flags the definition that the step names.
+/// Flags the definition that the step names.
 fn flag(definitions: &[Definition], flags: &mut Vec<bool>, step: CodeStep)
     requires { length flags.old.items ≡ length definitions.now }
     ensures { flags.new.items ≡ flagged (defs definitions.now) step flags.old.items }
@@ -48,7 +48,7 @@ fn flag(definitions: &[Definition], flags: &mut Vec<bool>, step: CodeStep)
     }
 }
 
-// The definitions whose names stand in the code.
+/// The definitions whose names stand in the code.
 fn row(
     alloc: Global,
     definitions: &[Definition],

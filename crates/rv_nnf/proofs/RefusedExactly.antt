@@ -15,8 +15,8 @@ use Rattle.rv_model.proofs.TruthLemmas.{tells}
 use Rattle.rv_nnf.specs.Tree.{Tree, Label, Next, And, Or, Until, Release, tree_of}
 use Rattle.rv_nnf.specs.Parts.{PartValue, part_meaning, IsNormal}
 use Rattle.rv_nnf.specs.Lists.{among, place}
-use Rattle.rv_nnf.specs.NormalForm.{same_tree, same_part, parts_of, part_value_of, numbered_parts, normal_of}
-use Rattle.rv_nnf.specs.Entering.{Entered, enter, try_enter, numbers}
+use Rattle.rv_nnf.specs.NormalForm.{same_tree, parts_of, part_value_of, numbered_parts, normal_of}
+use Rattle.rv_nnf.specs.Entering.{same_part, Entered, enter, try_enter, numbers}
 use Rattle.rv_nnf.proofs.OneByOne.{numbering, numbering_is}
 use Rattle.rv_nnf.proofs.TreeLabels.{tree_plain}
 use Rattle.rv_nnf.proofs.LastPart.{normal_is, last_says}

@@ -6,7 +6,7 @@ use Rattle.std.proofs.lemmas.List.{get_or_append_left}
 use Rattle.std.proofs.lemmas.Bool.{false≢true, cases_lt}
 use Rattle.rv_model.specs.Ltl.{False}
 use Rattle.rv_nnf.specs.Tree.{Tree, Label, Next, And, Or, Until, Release}
-use Rattle.rv_nnf.specs.Parts.{IsLabel}
+use Rattle.rv_model.specs.Labels.{IsLabel}
 use Rattle.rv_nnf.specs.Lists.{among, place, with_new}
 use Rattle.rv_nnf.specs.NormalForm.{same_tree}
 use Rattle.rv_nnf.proofs.Places.{decided_decides, place_lt, place_append, place_end, among_append, among_kept, among_get}

@@ -2,8 +2,8 @@
 use Rattle.std.proofs.Common.{◌≡◌, Bool, true, false, cond, refl}
 use Rattle.rv_model.specs.Formulas.{HasAtomsBelow}
 use Rattle.rv_model.specs.Ltl.{Ltl, True, False, Atom, Not, Next, Always, Eventually, And, Or, Imply, Equivalent, Until, Release, WeakUntil}
-use Rattle.rv_nnf.specs.Tree.{Tree, Label, is_propositional, negated, with_polarity, or_label, tree_of}
-use Rattle.rv_nnf.specs.Parts.{IsLabel}
+use Rattle.rv_nnf.specs.Tree.{Tree, Label, negated, with_polarity, or_label, tree_of}
+use Rattle.rv_model.specs.Labels.{is_propositional, IsLabel}
 use Rattle.rv_nnf.proofs.Walked.{IsPlainTree}
 
 -- the negation of a label is one

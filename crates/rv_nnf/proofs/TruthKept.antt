@@ -1,11 +1,12 @@
 -- The normal form keeps truth.
 use Rattle.std.proofs.Common.{◌≡◌, ℕ, Bool, true, false, cond, List, refl, sym, ap, ◌∙◌}
 use mathlib.Core.Path.{ap₂}
+use Rattle.rv_model.specs.Labels.{is_propositional}
 use Rattle.rv_model.specs.Ltl.{Ltl, True, False, Atom, Not, Next, Always, Eventually, And, Or, Imply, Equivalent, Until, Release, WeakUntil}
 use Rattle.rv_model.specs.Truth.{View}
 use Rattle.rv_model.specs.Meaning.{Meaning, true_m, not_m, and_m, or_m, next_m, until_m, release_m, meaning}
 use Rattle.rv_model.proofs.TruthLemmas.{proper}
-use Rattle.rv_nnf.specs.Tree.{Tree, Label, is_propositional, negated, with_polarity, or_label, tree_of, tree_meaning}
+use Rattle.rv_nnf.specs.Tree.{Tree, Label, negated, with_polarity, or_label, tree_of, tree_meaning}
 use Rattle.rv_nnf.proofs.Denials.{not_not_m, not_and_m, not_or_m, not_next_m, not_true_m, not_false_m, not_until_m, not_same_m}
 use Rattle.rv_nnf.proofs.NarrowViews.{narrow}
 

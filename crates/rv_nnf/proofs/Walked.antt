@@ -1,7 +1,7 @@
 -- A walk over a tree, whose subtrees join the list where they are not there yet.
 use Rattle.std.proofs.Common.{◌≡◌, List, [], ◌∷◌, ◌++◌, sym, ◌∙◌, subst}
 use Rattle.rv_nnf.specs.Tree.{Tree, Label, Next, And, Or, Until, Release}
-use Rattle.rv_nnf.specs.Parts.{IsLabel}
+use Rattle.rv_model.specs.Labels.{IsLabel}
 use Rattle.rv_nnf.specs.Lists.{with_new, firsts}
 use Rattle.rv_nnf.specs.NormalForm.{same_tree, walk}
 use Rattle.rv_nnf.proofs.Places.{new_there, firsts_append, firsts_kept}

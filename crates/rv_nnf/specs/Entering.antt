@@ -1,13 +1,17 @@
 -- Private: the same numbering as the code makes it: parts are entered one by one, and the 65th is refused.
 use Rattle.std.specs.Prelude.{ℕ, Bool, true, false, cond, List, length, nat_lt, Result, Ok}
+use native.Mathlib.Decide.{ℕ_discrete}
 use Rattle.rv_text.specs.declared.refusals.Refusal.{Refusal}
 use Rattle.rv_text.specs.declared.numbers.TheConstants.{TOO_MANY_PARTS}
 use Rattle.rv_text.specs.Readings.{refused_with, and_then}
-use Rattle.rv_model.specs.Ltl.{Ltl}
-use Rattle.rv_nnf.specs.Lists.{place, with_new}
-use Rattle.rv_nnf.specs.NormalForm.{same_part}
-use Rattle.rv_nnf.specs.Parts.{PartValue}
+use Rattle.rv_model.specs.Ltl.{Ltl, Ltl-discrete}
+use Rattle.rv_nnf.specs.Lists.{decided, place, with_new}
+use Rattle.rv_nnf.specs.Parts.{PartValue, PartValue-discrete}
 use Rattle.rv_nnf.specs.Tree.{Tree, Label, Next, And, Or, Until, Release}
+
+-- whether the two parts are the same
+abbrev pub same_part : PartValue → PartValue → Bool
+same_part a b = decided (PartValue-discrete (Ltl-discrete ℕ_discrete) ℕ_discrete a b)
 
 -- the parts so far, and the number of the last one entered
 abbrev pub Entered : Type 0

@@ -7,7 +7,7 @@ abbrev pub decided : {P : Type 0} → Dec P → Bool
 decided (yes p) = true
 decided (no n) = false
 
--- is it among them?
+-- whether it is among them
 abbrev pub among : {A : Type 0} → (A → A → Bool) → List A → A → Bool
 among same xs x = list_any (λ y. same y x) xs
 

@@ -6,16 +6,12 @@ use Rattle.rv_text.specs.declared.numbers.TheConstants.{TOO_MANY_PARTS}
 use Rattle.rv_text.specs.Readings.{refused_with}
 use Rattle.rv_model.specs.Ltl.{Ltl, Ltl-discrete}
 use Rattle.rv_nnf.specs.Lists.{decided, place, firsts}
-use Rattle.rv_nnf.specs.Parts.{PartValue, PartValue-discrete}
+use Rattle.rv_nnf.specs.Parts.{PartValue}
 use Rattle.rv_nnf.specs.Tree.{Tree, Label, Next, And, Or, Until, Release, Tree-discrete, tree_of}
 
--- are the two trees the same?
+-- whether the two trees are the same
 abbrev pub same_tree : Tree → Tree → Bool
 same_tree a b = decided (Tree-discrete (Ltl-discrete ℕ_discrete) a b)
-
--- are the two parts the same?
-abbrev pub same_part : PartValue → PartValue → Bool
-same_part a b = decided (PartValue-discrete (Ltl-discrete ℕ_discrete) ℕ_discrete a b)
 
 -- all subtrees: those of the left operand, those of the right operand, then the tree itself
 abbrev pub walk : Tree → List Tree

@@ -1,9 +1,8 @@
 -- A normal form as a numbered list of parts, each of which names its operands by their numbers.
-use Rattle.std.specs.Prelude.{◌≡◌, ℕ, zero, suc, ◌<◌, ◌≤◌, List, length, slice_index_or, IsTrue}
+use Rattle.std.specs.Prelude.{◌≡◌, ℕ, zero, suc, ◌<◌, ◌≤◌, List, length, slice_index_or}
 use Rattle.rv_model.specs.Ltl.{Ltl, False}
-use Rattle.rv_model.specs.Formulas.{HasAtomsBelow}
+use Rattle.rv_model.specs.Labels.{IsLabel}
 use Rattle.rv_model.specs.Meaning.{Meaning, meaning, and_m, or_m, next_m, until_m, release_m}
-use Rattle.rv_nnf.specs.Tree.{is_propositional}
 
 -- a part, named as in a tree
 pub data PartValue : Type 0 where
@@ -42,10 +41,6 @@ OperandsBelow k (And i j) = (i < k) × (j < k)
 OperandsBelow k (Or i j) = (i < k) × (j < k)
 OperandsBelow k (Until i j) = (i < k) × (j < k)
 OperandsBelow k (Release i j) = (i < k) × (j < k)
-
--- a label has no temporal operator, and its atoms are below 32
-abbrev pub IsLabel : Ltl → Type 0
-IsLabel f = IsTrue (is_propositional f) × HasAtomsBelow 32 f
 
 -- a part that is a label is a proper one
 abbrev pub HasLabel : PartValue → Type 0

@@ -1,6 +1,7 @@
 -- The normal form of a formula as a tree, in which a negation stands inside a label alone (Gerth, Peled, Vardi and Wolper, 1995).
 -- A label is a formula without temporal operators, and counts as one.
-use Rattle.std.specs.Prelude.{Bool, true, false, not, ◌&&◌, cond}
+use Rattle.std.specs.Prelude.{Bool, true, false, not, cond}
+use Rattle.rv_model.specs.Labels.{is_propositional}
 use Rattle.rv_model.specs.Ltl.{Ltl, True, False, Atom, Not, Always, Eventually, Imply, Equivalent, WeakUntil}
 use Rattle.rv_model.specs.Meaning.{Meaning, meaning, and_m, or_m, next_m, until_m, release_m}
 
@@ -10,23 +11,6 @@ pub data Tree : Type 0 where
   Next : Tree → Tree
   And Or Until Release : Tree → Tree → Tree
   deriving Discrete as Tree-discrete
-
--- has the formula no temporal operator?
-abbrev pub is_propositional : Ltl → Bool
-is_propositional True = true
-is_propositional False = true
-is_propositional (Atom a) = true
-is_propositional (Not f) = is_propositional f
-is_propositional (Ltl.And f g) = is_propositional f && is_propositional g
-is_propositional (Ltl.Or f g) = is_propositional f && is_propositional g
-is_propositional (Imply f g) = is_propositional f && is_propositional g
-is_propositional (Equivalent f g) = is_propositional f && is_propositional g
-is_propositional (Ltl.Next f) = false
-is_propositional (Always f) = false
-is_propositional (Eventually f) = false
-is_propositional (Ltl.Until f g) = false
-is_propositional (Ltl.Release f g) = false
-is_propositional (WeakUntil f g) = false
 
 -- the label of a negation
 abbrev pub negated : Ltl → Ltl

@@ -1,9 +1,8 @@
 //! Entering parts into a list, in which each stands once.
 ghost use Rattle.std.specs.Prelude.{◌≡◌, ◌↔◌, ◌≤◌, vec_len, IsTrue, OnOk};
 ghost use Rattle.rv_text.specs.Readings.{Gives};
-ghost use Rattle.rv_nnf.specs.Entering.{try_enter};
+ghost use Rattle.rv_nnf.specs.Entering.{same_part, try_enter};
 ghost use Rattle.rv_nnf.specs.Lists.{place as place_in};
-ghost use Rattle.rv_nnf.specs.NormalForm.{same_part};
 ghost use Rattle.rv_nnf.specs.Views.{part_value, part_values};
 
 use crate::parts::Part;
@@ -12,7 +11,7 @@ use rv_text::{Refusal, Refused, TOO_MANY_PARTS};
 /// The most parts that a normal form may have.
 pub const MOST_PARTS: usize = 64;
 
-// Are the two the same part?
+/// Whether the two are the same part.
 fn equal(a: &Part, b: &Part) -> bool
     ensures { IsTrue result ↔ part_value a.now ≡ part_value b.now }
 {
@@ -29,7 +28,7 @@ fn equal(a: &Part, b: &Part) -> bool
     }
 }
 
-// Where the part first stands, or the number of parts where it does not.
+/// Where the part first stands, or the number of parts where it does not.
 fn place(parts: &[Part], part: &Part) -> usize
     ensures { result ≡ place_in same_part (part_values parts.now) (part_value part.now) }
 {
@@ -41,7 +40,7 @@ fn place(parts: &[Part], part: &Part) -> usize
     parts.len()
 }
 
-// A value that is dropped on one path and moved on another is dropped here, so that the paths stay apart.
+/// A value that is dropped on one path and moved on another is dropped here, so that the paths stay apart.
 fn discard(_part: Part) {}
 
 /// The number of a part, which is entered at the end where it is not there yet.

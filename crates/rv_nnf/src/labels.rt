@@ -1,15 +1,16 @@
 //! Labels: formulas without temporal operators.
 ghost use Rattle.std.specs.Prelude.{◌≡◌, IfOk};
 ghost use Rattle.rv_model.specs.Formulas.{ltl};
+ghost use Rattle.rv_model.specs.Labels.{is_propositional};
 ghost use Rattle.rv_model.specs.Ltl.{Or};
-ghost use Rattle.rv_nnf.specs.Tree.{is_propositional as plain, with_polarity};
+ghost use Rattle.rv_nnf.specs.Tree.{with_polarity};
 
 use rv_model::Formula;
 use std::alloc::{AllocError, Global};
 
-/// Has the formula no temporal operator?
+/// Whether the formula has no temporal operator.
 pub fn is_propositional(formula: &Formula) -> bool
-    ensures { result ≡ plain (ltl formula.now) }
+    ensures { result ≡ is_propositional (ltl formula.now) }
 {
     match formula {
         Formula::True | Formula::False | Formula::Atom(_) => true,

@@ -17,14 +17,14 @@ use rv_model::Formula;
 use rv_text::Refused;
 use std::alloc::Global;
 
-// An `and` or an `or`.
+/// An `and` or an `or`.
 fn and_or(and: bool, i: u8, j: u8) -> Part
     ensures { part_value result ≡ and_or_of and i j }
 {
     if and { Part::And(i, j) } else { Part::Or(i, j) }
 }
 
-// An until or a release.
+/// An until or a release.
 fn until_release(until: bool, i: u8, j: u8) -> Part
     ensures { part_value result ≡ until_release_of until i j }
 {
@@ -35,14 +35,14 @@ fn until_release(until: bool, i: u8, j: u8) -> Part
     }
 }
 
-// The label `true` or `false`.
+/// The label `true` or `false`.
 fn constant(value: bool) -> Part
     ensures { part_value result ≡ constant_of value }
 {
     Part::Label(if value { Formula::True } else { Formula::False })
 }
 
-// The number of the normal form of `f or g`, or of its negation.
+/// The number of the normal form of `f or g`, or of its negation.
 #[cycle(number)]
 fn either(
     alloc: Global,
@@ -63,7 +63,7 @@ fn either(
     enter(parts, and_or(!positive, i, j))
 }
 
-// The number of the normal form of a formula or of its negation, whose parts are entered by first use.
+/// The number of the normal form of a formula or of its negation, whose parts are entered by first use.
 #[cycle(number)]
 #[tactic(auto, using(crate::proofs::Signs::always_numbers, crate::proofs::Signs::eventually_numbers))]
 fn number(

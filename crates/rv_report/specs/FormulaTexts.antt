@@ -15,13 +15,9 @@ is_single False = true
 is_single (Atom a) = true
 is_single _ = false
 
--- an operand that is no constant or name stands in parentheses
-abbrev pub open_text : Ltl → List ℕ
-open_text f = if is_single f then [] else codes "("
-
--- and the parenthesis is closed behind it
-abbrev pub close_text : Ltl → List ℕ
-close_text f = if is_single f then [] else codes ")"
+-- a parenthesis beside an operand, where it is no constant or name
+abbrev pub parenthesis : List ℕ → Ltl → List ℕ
+parenthesis mark f = if is_single f then [] else mark
 
 -- the operator of a formula
 abbrev pub operator_text : Ltl → List ℕ
@@ -40,9 +36,9 @@ operator_text (Until f g) = codes " until "
 operator_text (Release f g) = codes " release "
 operator_text (WeakUntil f g) = codes " weak_until "
 
--- an operand with its text
+-- an operand with its text, in parentheses unless it is a constant or a name
 abbrev pub operand_text : Ltl → List ℕ → List ℕ
-operand_text f text = open_text f ++ text ++ close_text f
+operand_text f text = parenthesis (codes "(") f ++ text ++ parenthesis (codes ")") f
 
 -- an operator before its operand
 abbrev pub unary_text : List ℕ → Ltl → List ℕ → List ℕ

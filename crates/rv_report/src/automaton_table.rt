@@ -3,8 +3,7 @@ ghost use Rattle.std.specs.Prelude.{◌≡◌, ◌++◌, ◌<◌, length, IfOk, 
 ghost use Rattle.rv_report.specs.AutomatonTexts.{counts_text, state_mark, state_heading, edge_line, leaving_line, state_block, automaton_text};
 
 use crate::names::put_name;
-use crate::rows::has_row;
-use rv_model::{Automaton, Edge, Names};
+use rv_model::{Automaton, Edge, Names, has_bit};
 use rv_text::Line;
 use std::alloc::{AllocError, Global};
 
@@ -38,7 +37,7 @@ fn put_state_line(out: &mut Line, automaton: &Automaton, state: usize) -> Result
     out.number((state + 1) as u64)?;
     out.text(b" ")?;
     put_name(out, &automaton.states, state)?;
-    put_mark(out, has_row(automaton.marked, state))?;
+    put_mark(out, has_bit(automaton.marked as u64, state))?;
     out.text(b"\n")
 }
 

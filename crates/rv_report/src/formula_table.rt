@@ -2,11 +2,10 @@
 ghost use Rattle.std.specs.Prelude.{◌≡◌, ◌++◌, ◌<◌, ◌-◌, length, IfOk, OnOk, codes, flat_map};
 ghost use Rattle.rv_model.specs.Formulas.{ltl};
 ghost use Rattle.rv_table.specs.Rows.{HasNode, node_in};
-ghost use Rattle.rv_report.specs.FormulaTexts.{is_single, open_text, close_text, operator_text, formula_text, labels_text, further_text, member_text, rows_text, row_labels, formula_row_text, sizes_text, nodes_text, IsFormulaTable};
+ghost use Rattle.rv_report.specs.FormulaTexts.{is_single, parenthesis, operator_text, formula_text, labels_text, further_text, member_text, rows_text, row_labels, formula_row_text, sizes_text, nodes_text, IsFormulaTable};
 
 use crate::names::put_name;
-use crate::rows::has_row;
-use rv_model::{Formula, Names};
+use rv_model::{Formula, Names, has_bit};
 use rv_table::Table;
 use rv_text::Line;
 use std::alloc::{AllocError, Global};
@@ -18,25 +17,14 @@ fn is_single(formula: &Formula) -> bool
     matches!(formula, Formula::True | Formula::False | Formula::Atom(_))
 }
 
-/// What stands before an operand.
-fn put_open(out: &mut Line, formula: &Formula) -> Result<(), AllocError>
-    ensures { OnOk result (out.new ≡ out.old ++ open_text (ltl formula.now)) }
+/// Appends a parenthesis beside an operand, unless that is a constant or a name.
+fn put_parenthesis(out: &mut Line, mark: &[u8], formula: &Formula) -> Result<(), AllocError>
+    ensures { OnOk result (out.new ≡ out.old ++ parenthesis mark.now (ltl formula.now)) }
 {
     if is_single(formula) {
         Ok(())
     } else {
-        out.text(b"(")
-    }
-}
-
-/// What stands behind an operand.
-fn put_close(out: &mut Line, formula: &Formula) -> Result<(), AllocError>
-    ensures { OnOk result (out.new ≡ out.old ++ close_text (ltl formula.now)) }
-{
-    if is_single(formula) {
-        Ok(())
-    } else {
-        out.text(b")")
+        out.text(mark)
     }
 }
 
@@ -70,9 +58,9 @@ fn put_formula(out: &mut Line, atoms: &Names, formula: &Formula) -> Result<(), A
         Formula::Atom(atom) => put_name(out, atoms, *atom as usize),
         Formula::Not(f) | Formula::Next(f) | Formula::Always(f) | Formula::Eventually(f) => {
             out.text(operator(formula))?;
-            put_open(out, f)?;
+            put_parenthesis(out, b"(", f)?;
             put_formula(out, atoms, f)?;
-            put_close(out, f)
+            put_parenthesis(out, b")", f)
         }
         Formula::And(f, g)
         | Formula::Or(f, g)
@@ -81,13 +69,13 @@ fn put_formula(out: &mut Line, atoms: &Names, formula: &Formula) -> Result<(), A
         | Formula::Until(f, g)
         | Formula::Release(f, g)
         | Formula::WeakUntil(f, g) => {
-            put_open(out, f)?;
+            put_parenthesis(out, b"(", f)?;
             put_formula(out, atoms, f)?;
-            put_close(out, f)?;
+            put_parenthesis(out, b")", f)?;
             out.text(operator(formula))?;
-            put_open(out, g)?;
+            put_parenthesis(out, b"(", g)?;
             put_formula(out, atoms, g)?;
-            put_close(out, g)
+            put_parenthesis(out, b")", g)
         }
     }
 }
@@ -121,7 +109,7 @@ fn put_member(out: &mut Line, set: u32, row: u32) -> Result<(), AllocError>
     requires { row < 32 }
     ensures { OnOk result (out.new ≡ out.old ++ member_text set row) }
 {
-    if has_row(set, row as usize) {
+    if has_bit(set as u64, row as usize) {
         out.text(b" ")?;
         out.number(row as u64)
     } else {

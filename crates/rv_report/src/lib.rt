@@ -9,7 +9,6 @@ mod instances;
 mod lines;
 mod names;
 mod reactions;
-mod rows;
 mod summary;
 mod tally;
 

@@ -5,9 +5,8 @@ ghost use Rattle.rv_react.specs.Reactions.{shown_fault};
 ghost use Rattle.rv_report.specs.Reported.{failed_set, is_loud, is_printed, reported, reported_of};
 
 use crate::instances::{display_name, place};
-use crate::rows::has_row;
 use rv_bind::{Bindings, Monitor};
-use rv_model::{Answer, Delivered, Name, Names, Reactor, Record, Spec, What};
+use rv_model::{Answer, Delivered, Name, Names, Reactor, Record, Spec, What, has_bit};
 use rv_react::{Fault, reaction};
 use rv_slots::Tasks;
 use rv_text::Line;
@@ -18,7 +17,7 @@ fn state(alloc: Global, states: &Names, set: u32) -> Result<Name, AllocError>
     ensures { IfOk result (λ name. name ≡ state_text 1 states.now set) }
 {
     for place in 0..states.len() {
-        if has_row(set, place + 1) {
+        if has_bit(set as u64, place + 1) {
             return Name::new(alloc, states.get(place).bytes());
         }
     }

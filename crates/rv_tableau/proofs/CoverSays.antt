@@ -7,7 +7,7 @@ use Rattle.std.proofs.lemmas.Bool.{and_parts, false≢true}
 use Rattle.rv_model.specs.Ltl.{Ltl, True, False, Atom, Not, Next, Always, Eventually, And, Or, Imply, Equivalent, Until, Release, WeakUntil}
 use Rattle.rv_model.specs.Truth.{View, Weak, Strong, other}
 use Rattle.rv_model.specs.Numbers.{has_bit}
-use Rattle.rv_nnf.specs.Tree.{is_propositional}
+use Rattle.rv_model.specs.Labels.{is_propositional}
 use Rattle.rv_tableau.specs.declared.pairs.Pair.{Pair}
 use Rattle.rv_tableau.specs.Pairs.{empty_pair, unions, and_later, later_alone, label_alone}
 use Rattle.rv_tableau.specs.Cover.{label_cover, piece_cover, part_cover, cover_below, cover_of}

@@ -6,7 +6,8 @@ use Rattle.rv_nnf.specs.Views.{part_value, part_values}
 use Rattle.rv_nnf.specs.declared.parts.Part.{Part}
 use Rattle.rv_tableau.specs.declared.pairs.Pair.{Pair}
 use Rattle.rv_tableau.specs.Cover.{part_cover, cover_of}
-use Rattle.rv_tableau.specs.Branches.{part_branches, branch_number, AreBranchNumbers}
+use Rattle.rv_tableau.specs.Branches.{part_branches, branch_number}
+use Rattle.rv_tableau.specs.Covering.{AreBranchNumbers}
 use Rattle.rv_tableau.proofs.PartAt.{AllBelow}
 use Rattle.rv_tableau.proofs.CoverLen.{part_cover_len, cover_len}
 

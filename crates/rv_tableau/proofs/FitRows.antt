@@ -7,18 +7,18 @@ use Rattle.std.proofs.lemmas.List.{length-map}
 use Rattle.std.proofs.lemmas.List.Elements.{All-append, All-nil, All-cons}
 use Rattle.rv_model.specs.Numbers.{has_bit}
 use Rattle.rv_nnf.specs.Parts.{PartValue, Label, Next, And, Or, Until, Release, part_value_at, HasLabel, IsNormal}
-use Rattle.rv_table.specs.Rows.{IsLabel, IsRowSet, IsNodeBelow, FitNodes}
+use Rattle.rv_model.specs.Labels.{IsLabel}
+use Rattle.rv_table.specs.Rows.{IsRowSet, IsNodeBelow, FitNodes}
 use Rattle.rv_tableau.specs.declared.pairs.Pair.{Pair}
 use Rattle.rv_tableau.specs.Cover.{cover_of}
 use Rattle.rv_tableau.specs.Pairs.{empty_pair, is_one_of}
 use Rattle.rv_tableau.specs.Nodes.{whole_set}
 use Rattle.rv_tableau.specs.Rows.{piece_labels, labels_below, rows_in, next_rows, node_row}
-use Rattle.rv_tableau.proofs.AtomsBelow.{label_is}
 use Rattle.rv_tableau.proofs.RowSets.{rows_only}
 
 -- the label of a part is one
 piece_fits : (p : PartValue) → HasLabel p → All IsLabel (piece_labels p)
-piece_fits (Label f) h = All-cons IsLabel f [] (label_is f h.0 h.1) (All-nil IsLabel)
+piece_fits (Label f) h = All-cons IsLabel f [] h (All-nil IsLabel)
 piece_fits (Next i) h = All-nil IsLabel
 piece_fits (And i j) h = All-nil IsLabel
 piece_fits (Or i j) h = All-nil IsLabel

@@ -5,7 +5,7 @@ use Rattle.rv_model.specs.Numbers.{has_bit}
 use Rattle.rv_tableau.specs.declared.pairs.Pair.{Pair}
 use Rattle.rv_tableau.specs.Pairs.{empty_pair, is_one_of}
 use Rattle.rv_tableau.specs.Rows.{rows_in}
-use Rattle.rv_tableau.proofs.SetLemmas.{has_or, has_none, has_same, has_other}
+use Rattle.rv_model.proofs.SetLemmas.{has_or, has_none, has_same, has_other}
 
 -- the row of a node that is in the cover is in the set
 pub rows_has : (cover : List Pair) (n : ℕ) (nodes : List Pair) (k : ℕ) → k < length nodes → is_one_of (get_or nodes k empty_pair) cover ≡ true → has_bit (rows_in cover n nodes) (n + k) ≡ true

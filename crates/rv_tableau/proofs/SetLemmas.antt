@@ -7,6 +7,7 @@ use Rattle.std.proofs.lemmas.Nat.Bits.{bit_at_or, bit_at-lt, bit_at-zero, bit_at
 use Rattle.std.proofs.lemmas.Bool.{cases_eq}
 use Rattle.std.proofs.lemmas.List.Folds.{list_any-append}
 use Rattle.rv_model.specs.Numbers.{has_bit}
+use Rattle.rv_model.proofs.SetLemmas.{has_or, has_none, has_same, has_other}
 use Rattle.rv_tableau.specs.declared.pairs.Pair.{Pair}
 use Rattle.rv_tableau.specs.Pairs.{empty_pair, join, unions, and_later, later_alone}
 use Rattle.rv_tableau.specs.Holding.{all_below}
@@ -53,32 +54,6 @@ or_and true false false = refl
 or_and false b c = refl
 
 -- ---- members
-
--- a bit of two numbers
-has_max : (m n : ℕ) → m < 2 → n < 2 → nat_eq (max m n) 1 ≡ (nat_eq m 1 || nat_eq n 1)
-has_max zero zero h k = refl
-has_max zero (suc zero) h k = refl
-has_max (suc zero) zero h k = refl
-has_max (suc zero) (suc zero) h k = refl
-has_max (suc (suc m)) n h k = absurd (omega arith)
-has_max zero (suc (suc n)) h k = absurd (omega arith)
-has_max (suc zero) (suc (suc n)) h k = absurd (omega arith)
-
--- members of a union
-pub has_or : (s t k : ℕ) → has_bit (bit_or s t) k ≡ (has_bit s k || has_bit t k)
-has_or s t k = ap (λ n. nat_eq n 1) (bit_at_or s t k) ∙ has_max (bit_at s k) (bit_at t k) (bit_at-lt s k) (bit_at-lt t k)
-
--- the empty set has no member
-pub has_none : (k : ℕ) → has_bit 0 k ≡ false
-has_none k = ap (λ n. nat_eq n 1) (bit_at-zero k)
-
--- a set of one has that one
-pub has_same : (k : ℕ) → has_bit (2 ^ k) k ≡ true
-has_same k = ap (λ n. nat_eq n 1) (bit_at-pow_same k)
-
--- and no other
-pub has_other : (k i : ℕ) → i ≢ k → has_bit (2 ^ k) i ≡ false
-has_other k i h = ap (λ n. nat_eq n 1) (bit_at-pow_other k i h)
 
 -- each member of a union passes exactly where each of both does
 pub all_or : (n s t : ℕ) (p : ℕ → Bool) → all_below n (bit_or s t) p ≡ (all_below n s p && all_below n t p)

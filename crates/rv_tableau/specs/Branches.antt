@@ -1,5 +1,5 @@
 -- Branch numbers: how many pairs a cover has, repeats counted.
-use Rattle.std.specs.Prelude.{◌≡◌, ℕ, zero, suc, ◌+◌, ◌*◌, ◌<◌, min, cond, List, length, slice_index}
+use Rattle.std.specs.Prelude.{ℕ, zero, suc, ◌+◌, ◌*◌, cond, List, length}
 use Rattle.rv_model.specs.Ltl.{Ltl, False}
 use Rattle.rv_model.specs.Numbers.{has_bit}
 use Rattle.rv_nnf.specs.Parts.{PartValue, Label, Next, And, Or, Until, Release, by_number, part_value_at}
@@ -30,8 +30,3 @@ branches_below ps set (suc n) = cond (has_bit set n) (branches_below ps set n * 
 -- of a set
 abbrev pub branch_number : List PartValue → ℕ → ℕ
 branch_number ps set = branches_below ps set (length ps)
-
--- the branch number of each part, kept up to 4,097
-pub record AreBranchNumbers (ps : List PartValue) (numbers : List ℕ) : Type 0 where
-  pub count : length numbers ≡ length ps
-  pub each : (k : ℕ) → k < length ps → slice_index numbers k ≡ min (part_branches ps k) 4097

@@ -15,7 +15,7 @@ all_below (suc n) set p = all_below n set p && (not (has_bit set n) || p n)
 abbrev pub set_holds : List PartValue → ℕ → List ℕ → Bool
 set_holds ps set w = all_below (length ps) set (λ k. part_meaning ps k Weak w)
 
--- is the part, where it is a label, true on the letter?
+-- whether the part, where it is a label, is true on the letter
 abbrev pub piece_true : ℕ → PartValue → Bool
 piece_true x (Label f) = true_on x f
 piece_true x p = true

@@ -27,10 +27,10 @@ unions ps qs = flat_map (λ p. map (join p) qs) ps
 abbrev pub and_later : ℕ → List Pair → List Pair
 and_later k ps = map (join (later_alone k)) ps
 
--- are the two the same?
+-- whether the two are the same
 abbrev pub same_pair : Pair → Pair → Bool
 same_pair p q = (p.labels == q.labels) && (p.next == q.next)
 
--- is it one of them?
+-- whether it is one of them
 abbrev pub is_one_of : Pair → List Pair → Bool
 is_one_of p ps = list_any (same_pair p) ps

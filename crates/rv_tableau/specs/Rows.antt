@@ -1,11 +1,15 @@
 -- The table of a list of nodes: row 0, and a row for each node.
-use Rattle.std.specs.Prelude.{◌≡◌, ℕ, zero, suc, ◌^◌, ◌≤◌, true, cond, List, [], ◌∷◌, ◌++◌, length, map, slice_index_or, bit_or, Result, Ok}
+use Rattle.std.specs.Prelude.{◌≡◌, ◌↔◌, ℕ, zero, suc, ◌-◌, ◌^◌, ◌≤◌, true, IsTrue, cond, List, [], ◌∷◌, ◌++◌, length, map, slice_index_or, bit_or, Result, Ok}
 use Rattle.rv_text.specs.declared.refusals.Refusal.{Refusal}
 use Rattle.rv_text.specs.Readings.{and_then}
+use Rattle.rv_model.specs.declared.hit.Letter.{Letter}
+use Rattle.rv_model.specs.Judging.{ReachesSome}
+use Rattle.rv_model.specs.Letters.{atoms_in}
 use Rattle.rv_model.specs.Ltl.{Ltl}
 use Rattle.rv_model.specs.Numbers.{has_bit}
 use Rattle.rv_model.specs.Table.{Table, of_labels, Node}
-use Rattle.rv_nnf.specs.Parts.{PartValue, Label, part_value_at}
+use Rattle.rv_model.specs.Truth.{Weak}
+use Rattle.rv_nnf.specs.Parts.{PartValue, Label, part_value_at, part_meaning}
 use Rattle.rv_tableau.specs.declared.pairs.Pair.{Pair}
 use Rattle.rv_tableau.specs.Pairs.{empty_pair, is_one_of}
 use Rattle.rv_tableau.specs.Cover.{cover_of}
@@ -50,3 +54,7 @@ set_at ps nodes (suc k) = (slice_index_or nodes k empty_pair).next
 -- the nodes have every pair of the cover of the whole formula's set, and of that of each node's next set, in whatever order
 pub record IsComplete (ps : List PartValue) (nodes : List Pair) : Type 0 where
   pub closed : (r : ℕ) → r ≤ length nodes → (p : Pair) → is_one_of p (cover_of ps (set_at ps nodes r)) ≡ true → is_one_of p nodes ≡ true
+
+-- the table reaches some row by letters exactly where the last part, which is the whole formula's, holds weakly on them
+abbrev pub MeansParts : Table → List PartValue → Type 0
+MeansParts table ps = (letters : List Letter) → ReachesSome table letters ↔ IsTrue (part_meaning ps (length ps - 1) Weak (map atoms_in letters))

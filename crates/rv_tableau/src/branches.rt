@@ -3,10 +3,10 @@ ghost use Rattle.std.specs.Prelude.{◌≡◌, ◌<◌, ◌≤◌, ◌+◌, ◌*
 ghost use Rattle.rv_model.specs.Formulas.{ltl};
 ghost use Rattle.rv_nnf.specs.Parts.{OperandsBelow, part_value_at};
 ghost use Rattle.rv_nnf.specs.Views.{part_value, part_values};
-ghost use Rattle.rv_tableau.specs.Branches.{piece_branches, label_branches as branches_of_label, part_branches, branch_number as branch_number_of, AreBranchNumbers};
+ghost use Rattle.rv_tableau.specs.Branches.{piece_branches, label_branches as branches_of_label, part_branches, branch_number as branch_number_of};
+ghost use Rattle.rv_tableau.specs.Covering.{AreBranchNumbers};
 
-use crate::pairs::has;
-use rv_model::Formula;
+use rv_model::{Formula, has_bit};
 use rv_nnf::Part;
 use std::alloc::{AllocError, Global};
 
@@ -40,7 +40,7 @@ fn label_branches(label: &Formula) -> u32
     }
 }
 
-// The branch number of a part, from those of the parts before it.
+/// The branch number of a part, from those of the parts before it.
 #[tactic(auto, using(crate::proofs::Capped::capped_product, crate::proofs::Capped::capped_sum))]
 fn of_part(below: &[u32], part: &Part) -> u32
     requires small { EachIndex below.now (λ k. slice_index below.now k ≤ 4097) }
@@ -82,7 +82,7 @@ pub fn branch_number(parts: &[Part], numbers: &[u32], set: u64) -> u32
 {
     let mut out = 1;
     for k in 0..parts.len() {
-        if has(set, k) {
+        if has_bit(set, k) {
             out = product(out, numbers[k]);
         }
     }

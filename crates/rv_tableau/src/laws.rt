@@ -13,7 +13,7 @@ ghost use Rattle.rv_nnf.specs.Parts.{PartValue, IsNormal, part_meaning};
 ghost use Rattle.rv_tableau.specs.declared.pairs.Pair.{Pair};
 ghost use Rattle.rv_tableau.specs.Cover.{cover_of};
 ghost use Rattle.rv_tableau.specs.Holding.{set_holds, pair_holds};
-ghost use Rattle.rv_tableau.specs.Rows.{IsComplete, table_rows, tableau_of};
+ghost use Rattle.rv_tableau.specs.Rows.{IsComplete, MeansParts, table_rows, tableau_of};
 
 /// A set of parts holds weakly on letters exactly where some pair of its cover has true labels on the first letter
 /// and its parts hold weakly on the rest. On no letters every set holds.
@@ -26,8 +26,7 @@ pub fn cover_is_right()
 /// The table of a complete list of nodes, in whatever order, reaches some row by letters exactly where the whole
 /// formula's part holds weakly on them.
 pub fn complete_is_right()
-    ensures { (parts : List PartValue) → IsNormal parts → (nodes : List Pair) → IsComplete parts nodes → (letters : List Letter) →
-        ReachesSome (of_labels (table_rows parts nodes)) letters ↔ IsTrue (part_meaning parts (length parts - 1) Weak (map atoms_in letters)) }
+    ensures { (parts : List PartValue) → IsNormal parts → (nodes : List Pair) → IsComplete parts nodes → MeansParts (of_labels (table_rows parts nodes)) parts }
 {}
 
 /// The table of a rule means it: it reaches some row by letters exactly where the rule's formula holds weakly on them.

@@ -3,7 +3,7 @@ ghost use Rattle.std.specs.Prelude.{◌≡◌, ◌+◌, nat_lt};
 ghost use Rattle.rv_text.specs.Readings.{Gives};
 ghost use Rattle.rv_nnf.specs.Parts.{IsNormal};
 ghost use Rattle.rv_nnf.specs.Views.{part_values};
-ghost use Rattle.rv_tableau.specs.Branches.{AreBranchNumbers};
+ghost use Rattle.rv_tableau.specs.Covering.{AreBranchNumbers};
 ghost use Rattle.rv_tableau.specs.Nodes.{nodes_of};
 
 use crate::branches::{MOST_BRANCHES, branch_number};
@@ -17,7 +17,7 @@ use std::alloc::Global;
 /// The most nodes that a table may have.
 pub const MOST_NODES: usize = 31;
 
-// Are there more nodes than a table has rows?
+/// Whether there are more nodes than a table has rows.
 fn are_too_many(old: usize, new: usize) -> bool
     ensures { result ≡ nat_lt 31 (old + new) }
 {

@@ -1,6 +1,5 @@
 //! Sets of parts as masks, and pairs of a set of labels and a set of parts.
 ghost use Rattle.std.specs.Prelude.{◌≡◌, ◌<◌, ◌≤◌, ◌^◌, ◌++◌, map, IfOk, OnOk};
-ghost use Rattle.rv_model.specs.Numbers.{has_bit};
 ghost use Rattle.rv_tableau.specs.Pairs.{join, label_alone, later_alone, unions as all_unions, same_pair, is_one_of as is_one_of};
 
 use std::alloc::{AllocError, Global};
@@ -20,14 +19,6 @@ pub fn bit(k: u8) -> u64
     ensures { result ≡ 2 ^ k }
 {
     1 << k
-}
-
-/// Is the part in the set?
-pub fn has(set: u64, k: usize) -> bool
-    requires { k < 64 }
-    ensures { result ≡ has_bit set k }
-{
-    (set >> k) & 1 == 1
 }
 
 /// The pair of one label.
@@ -52,14 +43,14 @@ pub fn later_pair(k: u8) -> Pair
     }
 }
 
-/// Are the two the same?
+/// Whether the two are the same.
 pub fn same(p: Pair, q: Pair) -> bool
     ensures { result ≡ same_pair p q }
 {
     p.labels == q.labels && p.next == q.next
 }
 
-/// Is the pair one of them?
+/// Whether the pair is one of them.
 pub fn is_one_of(p: Pair, pairs: &[Pair]) -> bool
     ensures { result ≡ is_one_of p pairs.now }
 {

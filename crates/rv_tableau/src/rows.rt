@@ -8,20 +8,20 @@ ghost use Rattle.rv_model.specs.Letters.{atoms_in};
 ghost use Rattle.rv_model.specs.Truth.{Weak};
 ghost use Rattle.rv_nnf.specs.Parts.{OperandsBelow, part_value_at, part_meaning, IsNormal};
 ghost use Rattle.rv_nnf.specs.Views.{part_value, part_values};
-ghost use Rattle.rv_tableau.specs.Branches.{AreBranchNumbers};
-ghost use Rattle.rv_tableau.specs.Rows.{labels_below, piece_labels, rows_in, node_row, tableau_of};
+ghost use Rattle.rv_tableau.specs.Covering.{AreBranchNumbers};
+ghost use Rattle.rv_tableau.specs.Rows.{MeansParts, labels_below, piece_labels, rows_in, node_row, tableau_of};
 
 use crate::branches::branch_numbers;
 use crate::covers::set_cover;
 use crate::nodes::nodes;
-use crate::pairs::{Pair, bit, has, is_one_of};
-use rv_model::Formula;
+use crate::pairs::{Pair, bit, is_one_of};
+use rv_model::{Formula, has_bit};
 use rv_nnf::{Normal, Part};
 use rv_table::{Node, Table};
 use rv_text::Refused;
 use std::alloc::{AllocError, Global};
 
-// Adds the formula of a part that is a label.
+/// Adds the formula of a part that is a label.
 fn add_label(alloc: Global, out: &mut Vec<Formula>, part: &Part) -> Result<(), AllocError>
     ensures { OnOk result (map ltl out.new.items ≡ map ltl out.old.items ++ piece_labels (part_value part.now)) }
 {
@@ -31,7 +31,7 @@ fn add_label(alloc: Global, out: &mut Vec<Formula>, part: &Part) -> Result<(), A
     Ok(())
 }
 
-// The labels of a set of parts, in their order.
+/// The labels of a set of parts, in their order.
 #[tactic(auto, using(crate::proofs::RowsMade::labels_next, crate::proofs::RowsMade::part_value_read))]
 fn labels_of(alloc: Global, parts: &[Part], set: u64) -> Result<Vec<Formula>, AllocError>
     requires { length parts.now ≤ 64 }
@@ -39,14 +39,14 @@ fn labels_of(alloc: Global, parts: &[Part], set: u64) -> Result<Vec<Formula>, Al
 {
     let mut out = Vec::new(alloc);
     for k in 0..parts.len() {
-        if has(set, k) {
+        if has_bit(set, k) {
             add_label(alloc, &mut out, &parts[k])?;
         }
     }
     Ok(out)
 }
 
-// The set of one row.
+/// The set of one row.
 fn row_bit(row: usize) -> u32
     requires { row < 32 }
     ensures { result ≡ 2 ^ row }
@@ -54,7 +54,7 @@ fn row_bit(row: usize) -> u32
     1 << row
 }
 
-// The rows of the nodes that are in the cover.
+/// The rows of the nodes that are in the cover.
 fn next_rows(nodes: &[Pair], cover: &[Pair]) -> u32
     requires { length nodes.now ≤ 31 }
     ensures { result ≡ rows_in cover.now 1 nodes.now }
@@ -70,7 +70,7 @@ fn next_rows(nodes: &[Pair], cover: &[Pair]) -> u32
     out
 }
 
-// A row for each node.
+/// A row for each node.
 fn node_rows(
     alloc: Global,
     parts: &[Part],
@@ -93,7 +93,7 @@ fn node_rows(
     Ok(out)
 }
 
-// The table of the parts of a normal form.
+/// The table of the parts of a normal form.
 fn table_of(alloc: Global, parts: &[Part]) -> Result<Table, Refused>
     requires { IsNormal (part_values parts.now) }
     ensures { Gives (λ table. table) result (tableau_of (part_values parts.now)) }
@@ -110,8 +110,7 @@ fn table_of(alloc: Global, parts: &[Part]) -> Result<Table, Refused>
 /// exactly where the last part holds weakly on them.
 pub fn tableau(alloc: Global, parts: &Normal) -> Result<Table, Refused>
     ensures gives { Gives (λ table. table) result (tableau_of parts.now) }
-    ensures holds { IfOk result (λ table. (letters : List Letter) →
-        ReachesSome table letters ↔ IsTrue (part_meaning parts.now (length parts.now - 1) Weak (map atoms_in letters))) }
+    ensures holds { IfOk result (λ table. MeansParts table parts.now) }
 {
     table_of(alloc, &parts.parts)
 }

@@ -1,7 +1,7 @@
 //! Tables of labels over all letters of two atoms, and labels whose lists would be huge.
 ghost use Rattle.std.specs.Prelude.{◌<◌, IfOk, IsTrue};
 ghost use Rattle.rv_model.specs.Formulas.{ltl};
-ghost use Rattle.rv_labels.specs.Labels.{IsLabel};
+ghost use Rattle.rv_model.specs.Labels.{IsLabel};
 
 use rv_labels::{Cube, Masks};
 use rv_ltl::read_ltl;

@@ -8,7 +8,7 @@ use Rattle.rv_feed.specs.Changes.{DoesAll}
 use Rattle.rv_feed.proofs.ChangeLemmas.{does-one, does-then}
 use Rattle.rv_feed.proofs.ClearLemmas.{below, below-on, below-off, clears-are}
 use Rattle.rv_feed.proofs.changer.clear.Goals as goal
-use Rattle.rv_feed.proofs.changer.clear.Goals.{then-has_switch, else-has_switch}
+use Rattle.rv_feed.proofs.changer.clear.Goals.{then-has_bit, else-has_bit}
 
 pub loop-slot-preserved : goal.loop-slot-preserved
 loop-slot-preserved c =
@@ -17,13 +17,13 @@ loop-slot-preserved c =
     let slot : ℕ = c.loop-slot.slot in
     let old = c.args.seat.now in
     let monitor : c.place-monitor.result.monitor ≡ monitor_of shape slot = c.place-monitor.ensures.monitor ∙ ap (λ (s : List ℕ). monitor_of s slot) c.shape-in-loop-slot.ensures in
-    let test : c.has_switch.result ≡ has_bit set (monitor_of shape slot) = c.has_switch.ensures ∙ ap (has_bit set) monitor in
-    elim c.if-has_switch.branch [
-      | then-has_switch w ↦
+    let test : c.has_bit.result ≡ has_bit set (monitor_of shape slot) = c.has_bit.ensures ∙ ap (has_bit set) monitor in
+    elim c.if-has_bit.branch [
+      | then-has_bit w ↦
           let one = does-one c.loop-slot.seat w.clear.new.seat (Clear slot) w.clear.ensures in
           let all = does-then old c.loop-slot.seat w.clear.new.seat (below (has_bit set) Clear shape slot) _ c.loop-slot.invariant one in
-          rw w.seat-is (subst (DoesAll old w.clear.new.seat) (sym (below-on (has_bit set) Clear shape slot (sym test ∙ w.if-has_switch.true))) all)
-      | else-has_switch w ↦ rw w.seat-is (subst (DoesAll old c.loop-slot.seat) (sym (below-off (has_bit set) Clear shape slot (sym test ∙ w.if-has_switch.false))) c.loop-slot.invariant)
+          rw w.seat-is (subst (DoesAll old w.clear.new.seat) (sym (below-on (has_bit set) Clear shape slot (sym test ∙ w.if-has_bit.true))) all)
+      | else-has_bit w ↦ rw w.seat-is (subst (DoesAll old c.loop-slot.seat) (sym (below-off (has_bit set) Clear shape slot (sym test ∙ w.if-has_bit.false))) c.loop-slot.invariant)
     ]
 
 pub returns : goal.returns

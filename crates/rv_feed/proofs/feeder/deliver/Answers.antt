@@ -19,8 +19,8 @@ returns-then-ends g c = λ any.
     let d : Delivery = c.delivery_at-delivery.result in
     let panics = panics_of c.args.reactors.now in
     let outcome = c.serve-outcome.result in
-    let known = subst (λ (x : Delivery). AddsRecords c.args.lane.now c.keep.new.lane (record_on c.args.line outcome c.has_switch.result x ∷ [])) (sym (c.delivery_at-delivery.ensures d)) (c.keep.ensures d) in
-    let kept = subst (λ (b : Bool). AddsRecords c.args.lane.now c.keep.new.lane (record_on c.args.line outcome b d ∷ [])) c.has_switch.ensures known in
+    let known = subst (λ (x : Delivery). AddsRecords c.args.lane.now c.keep.new.lane (record_on c.args.line outcome c.has_bit.result x ∷ [])) (sym (c.delivery_at-delivery.ensures d)) (c.keep.ensures d) in
+    let kept = subst (λ (b : Bool). AddsRecords c.args.lane.now c.keep.new.lane (record_on c.args.line outcome b d ∷ [])) c.has_bit.ensures known in
     let off : (failed_outcome outcome && (panics d.monitor && has_bit c.args.word 33)) ≡ true = sym c.ends-ends.ensures ∙ c.if-ends.true in
     subst (λ (x : Delivery). FeedsDelivery c.args.seat.now c.halt.new.seat panics c.args.word c.args.line x c.args.lane.now c.keep.new.lane c.ends-ends.result) (c.delivery_at-delivery.ensures any)
     (rw c.if-ends.true (delivery-ends panics c.args.word c.args.line d outcome c.args.seat.now c.serve-outcome.new.seat c.args.lane.now c.keep.new.lane c.serve-outcome.ensures kept c.halt.new.seat off c.halt.ensures))
@@ -30,8 +30,8 @@ returns-else-ends g c = λ any.
     let d : Delivery = c.delivery_at-delivery.result in
     let panics = panics_of c.args.reactors.now in
     let outcome = c.serve-outcome.result in
-    let known = subst (λ (x : Delivery). AddsRecords c.args.lane.now c.keep.new.lane (record_on c.args.line outcome c.has_switch.result x ∷ [])) (sym (c.delivery_at-delivery.ensures d)) (c.keep.ensures d) in
-    let kept = subst (λ (b : Bool). AddsRecords c.args.lane.now c.keep.new.lane (record_on c.args.line outcome b d ∷ [])) c.has_switch.ensures known in
+    let known = subst (λ (x : Delivery). AddsRecords c.args.lane.now c.keep.new.lane (record_on c.args.line outcome c.has_bit.result x ∷ [])) (sym (c.delivery_at-delivery.ensures d)) (c.keep.ensures d) in
+    let kept = subst (λ (b : Bool). AddsRecords c.args.lane.now c.keep.new.lane (record_on c.args.line outcome b d ∷ [])) c.has_bit.ensures known in
     let on : (failed_outcome outcome && (panics d.monitor && has_bit c.args.word 33)) ≡ false = sym c.ends-ends.ensures ∙ c.if-ends.false in
     subst (λ (x : Delivery). FeedsDelivery c.args.seat.now c.serve-outcome.new.seat panics c.args.word c.args.line x c.args.lane.now c.keep.new.lane c.ends-ends.result) (c.delivery_at-delivery.ensures any)
     (rw c.if-ends.false (delivery-goes panics c.args.word c.args.line d outcome c.args.seat.now c.serve-outcome.new.seat c.args.lane.now c.keep.new.lane c.serve-outcome.ensures kept on))

@@ -12,9 +12,9 @@ use Rattle.rv_feed.proofs.FeedLemmas.{part-start, turn-off, part-hidden, part-sh
 use Rattle.rv_feed.proofs.feeder.play_turn.Goals as goal
 use Rattle.rv_feed.proofs.feeder.play_turn.Goals.{then-is_enabled_by+else-deliver, else-is_enabled_by}
 
-pub returns-then-has_switch : goal.returns-then-has_switch
-returns-then-has_switch g c =
-    let off : has_bit c.look-word.result 34 ≡ true = sym c.has_switch.ensures ∙ c.if-has_switch.true in
+pub returns-then-has_bit : goal.returns-then-has_bit
+returns-then-has_bit g c =
+    let off : has_bit c.look-word.result 34 ≡ true = sym c.has_bit.ensures ∙ c.if-has_bit.true in
     turn-off (panics_of c.args.reactors.now) c.look-word.result c.args.turn.now c.args.lane.now c.args.seat.now c.look-word.new.seat c.look-word.ensures off
 
 pub loop-place-init : goal.loop-place-init
@@ -67,7 +67,7 @@ returns-then-deliver g c =
     let d_is : d ≡ get_or lane.work.deliveries place d = c.delivery_at-delivery.ensures d ∙ ap (λ (w : Work). get_or w.deliveries place d) inv.kept.work_is in
     let lt : place < length lane.work.deliveries = let a = c.loop-place-test.true in let b = c.requires.in_list in omega arith in
     let panics = panics_of c.args.reactors.now in
-    let on : has_bit word 34 ≡ false = sym c.has_switch.ensures ∙ c.if-has_switch.false in
+    let on : has_bit word 34 ≡ false = sym c.has_bit.ensures ∙ c.if-has_bit.false in
     let shown : is_enabled_by word d ≡ true = sym c.is_enabled_by.ensures ∙ c.if-is_enabled_by.true in
     let one = subst (λ (x : Delivery). FeedsDelivery c.loop-place.seat c.deliver.new.seat panics word turn.line x c.loop-place.lane c.deliver.new.lane c.deliver.result) (sym (c.delivery_at-delivery.ensures d)) (c.deliver.ensures d) in
     let v = subst (λ (b : Bool). FeedsDelivery c.loop-place.seat c.deliver.new.seat panics word turn.line d c.loop-place.lane c.deliver.new.lane b) c.if-deliver.true one in
@@ -101,7 +101,7 @@ returns g c =
     let panics = panics_of c.args.reactors.now in
     let word = c.look-word.result in
     let turn = c.args.turn.now in
-    let on : has_bit word 34 ≡ false = sym c.has_switch.ensures ∙ c.if-has_switch.false in
+    let on : has_bit word 34 ≡ false = sym c.has_bit.ensures ∙ c.if-has_bit.false in
     let end : c.loop-place.place ≡ turn.to = let a = c.loop-place.auto.place-end c.requires.order in let b = c.loop-place-test.false in omega arith in
     let done = subst (λ (n : ℕ). FeedsPart c.args.seat.now c.loop-place.seat panics word turn c.args.lane.now c.loop-place.lane n) end inv in
     part-all panics word turn c.args.lane.now c.args.seat.now c.loop-place.seat c.loop-place.lane on done

@@ -13,9 +13,9 @@ use Rattle.rv_feed.proofs.TurnLemmas.{done-start, done-hidden, done-shown, done-
 use Rattle.rv_feed.proofs.turn.play_turn.Goals as goal
 use Rattle.rv_feed.proofs.turn.play_turn.Goals.{then-is_enabled_by+else-deliver, else-is_enabled_by}
 
-pub returns-then-has_switch : goal.returns-then-has_switch
-returns-then-has_switch c =
-    let off : has_bit c.look-word.result 34 ≡ true = sym c.has_switch.ensures ∙ c.if-has_switch.true in
+pub returns-then-has_bit : goal.returns-then-has_bit
+returns-then-has_bit c =
+    let off : has_bit c.look-word.result 34 ≡ true = sym c.has_bit.ensures ∙ c.if-has_bit.true in
     done-halted (panics_of c.args.reactors.now) c.seat_of-seat.result c.look-word.result c.args.turn.now c.args.lane.now c.args.core.now c.look-word.new.core c.look-word.ensures off c.seat_of-seat.ensures
 
 pub loop-place-init : goal.loop-place-init
@@ -68,7 +68,7 @@ returns-then-deliver c =
     let d_is : d ≡ get_or lane.work.deliveries place d = c.delivery_at-delivery.ensures d ∙ ap (λ (w : Work). get_or w.deliveries place d) inv.kept.work_is in
     let lt : place < length lane.work.deliveries = let a = c.loop-place-test.true in let b = c.requires.in_list in omega arith in
     let panics = panics_of c.args.reactors.now in
-    let on : has_bit c.look-word.result 34 ≡ false = sym c.has_switch.ensures ∙ c.if-has_switch.false in
+    let on : has_bit c.look-word.result 34 ≡ false = sym c.has_bit.ensures ∙ c.if-has_bit.false in
     let from : c.args.turn.now.from ≤ place = c.loop-place.auto.place in
     let shown : is_enabled_by c.look-word.result d ≡ true = sym c.is_enabled_by.ensures ∙ c.if-is_enabled_by.true in
     let one = subst (λ (x : Delivery). DeliversRecorded c.loop-place.core c.deliver.new.core panics c.seat_of-seat.result c.look-word.result c.args.turn.now.line x c.loop-place.lane c.deliver.new.lane c.deliver.result) (sym (c.delivery_at-delivery.ensures d)) (c.deliver.ensures d) in
@@ -100,7 +100,7 @@ pub returns : goal.returns
 returns c =
     let inv = c.loop-place.invariant in
     let panics = panics_of c.args.reactors.now in
-    let on : has_bit c.look-word.result 34 ≡ false = sym c.has_switch.ensures ∙ c.if-has_switch.false in
+    let on : has_bit c.look-word.result 34 ≡ false = sym c.has_bit.ensures ∙ c.if-has_bit.false in
     let end : c.loop-place.place ≡ c.args.turn.now.to = let a = c.loop-place.auto.place-end c.requires.order in let b = c.loop-place-test.false in omega arith in
     let done = subst (λ (n : ℕ). PartDone c.look-word.new.core c.loop-place.core panics c.seat_of-seat.result c.look-word.result c.args.turn.now c.args.lane.now c.loop-place.lane n) end inv in
     done-all panics c.seat_of-seat.result c.look-word.result c.args.turn.now c.args.lane.now c.args.core.now c.look-word.new.core c.loop-place.core c.loop-place.lane c.look-word.ensures on c.seat_of-seat.ensures done

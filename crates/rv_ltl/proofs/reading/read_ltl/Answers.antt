@@ -3,7 +3,8 @@ use Rattle.std.proofs.lemmas.Result.{err_from_is_err_and}
 use Rattle.std.specs.Cmp.Lexicographic.{slice_cmp}
 use Rattle.std.specs.Ordering.{nat_cmp}
 use Rattle.rv_ltl.specs.Texts.{texts}
-use Rattle.rv_ltl.specs.Names.{Ascends, names_of}
+use Rattle.rv_ltl.specs.Names.{names_of}
+use Rattle.rv_ltl.specs.Fronts.{Ascends}
 use Rattle.rv_ltl.specs.declared.definitions.Definition.{Definition}
 use Rattle.rv_ltl.specs.Machine.{defs}
 use Rattle.rv_ltl.proofs.NameSets.{names_ascend}

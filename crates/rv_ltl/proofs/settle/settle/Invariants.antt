@@ -1,7 +1,8 @@
 use Rattle.std.proofs.Common.{◌≡◌, ◌+◌, ℕ, false, length}
+use Rattle.rv_model.specs.Numbers.{one_if}
 use Rattle.rv_ltl.specs.declared.weight.Weight.TheVariants.{Open}
 use Rattle.rv_ltl.specs.Machine.{defs}
-use Rattle.rv_ltl.specs.Weights.{IsSure, IsStuck, open_count, known_count, flag, known_at}
+use Rattle.rv_ltl.specs.Weights.{IsSure, IsStuck, open_count, known_count, known_at}
 use Rattle.rv_ltl.proofs.settle.settle.Given as goal
 
 abbrev pub invariant-loop : goal.invariant-loop
@@ -15,4 +16,4 @@ invariant-loop-goes_on l = record {
 }
 
 abbrev pub decreases-loop-goes_on : goal.decreases-loop-goes_on
-decreases-loop-goes_on l = open_count l.weights.items + flag l.goes_on
+decreases-loop-goes_on l = open_count l.weights.items + one_if l.goes_on

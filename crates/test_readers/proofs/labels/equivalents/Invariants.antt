@@ -1,5 +1,5 @@
 use Rattle.rv_model.specs.Formulas.{ltl}
-use Rattle.rv_labels.specs.Labels.{IsLabel}
+use Rattle.rv_model.specs.Labels.{IsLabel}
 use Rattle.test_readers.proofs.labels.equivalents.Given as goal
 
 abbrev pub invariant-loop : goal.invariant-loop
