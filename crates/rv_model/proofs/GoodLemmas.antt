@@ -70,19 +70,21 @@ not_cuts p h =
     (λ x t more e. not_anti (p Strong (x ∷ t ++ more)) (p Strong (x ∷ t)) (h.strong (x ∷ t) more) e)
     (λ x t more e. not_anti (p Weak (x ∷ t)) (p Weak (x ∷ t ++ more)) (h.weak (x ∷ t) more) e)
 
--- so does a conjunction, where its operands do
-and_cuts : (p q : Meaning) → Cuts p → Cuts q → Cuts (and_m p q)
-and_cuts p q h k =
+-- so does a test that joins two, where it keeps what follows from each of them
+join_cuts : (join : Bool → Bool → Bool) → ((a b c d : Bool) → (a ≡ true → c ≡ true) → (b ≡ true → d ≡ true) → join a b ≡ true → join c d ≡ true)
+    → (p q : Meaning) → Cuts p → Cuts q → Cuts (on_letter (λ v x t. join (p v (x ∷ t)) (q v (x ∷ t))))
+join_cuts join mono p q h k =
     letter_cuts _
-    (λ x t more e. and_mono _ _ (p Weak (x ∷ t)) (q Weak (x ∷ t)) (h.weak (x ∷ t) more) (k.weak (x ∷ t) more) e)
-    (λ x t more e. and_mono _ _ (p Strong (x ∷ t ++ more)) (q Strong (x ∷ t ++ more)) (h.strong (x ∷ t) more) (k.strong (x ∷ t) more) e)
+    (λ x t more e. mono _ _ (p Weak (x ∷ t)) (q Weak (x ∷ t)) (h.weak (x ∷ t) more) (k.weak (x ∷ t) more) e)
+    (λ x t more e. mono _ _ (p Strong (x ∷ t ++ more)) (q Strong (x ∷ t ++ more)) (h.strong (x ∷ t) more) (k.strong (x ∷ t) more) e)
 
--- so does a disjunction, where its operands do
+-- so does a conjunction
+and_cuts : (p q : Meaning) → Cuts p → Cuts q → Cuts (and_m p q)
+and_cuts = join_cuts (λ a b. a && b) and_mono
+
+-- so does a disjunction
 or_cuts : (p q : Meaning) → Cuts p → Cuts q → Cuts (or_m p q)
-or_cuts p q h k =
-    letter_cuts _
-    (λ x t more e. or_mono _ _ (p Weak (x ∷ t)) (q Weak (x ∷ t)) (h.weak (x ∷ t) more) (k.weak (x ∷ t) more) e)
-    (λ x t more e. or_mono _ _ (p Strong (x ∷ t ++ more)) (q Strong (x ∷ t ++ more)) (h.strong (x ∷ t) more) (k.strong (x ∷ t) more) e)
+or_cuts = join_cuts (λ a b. a || b) or_mono
 
 -- so does a next, where its operand does
 next_cuts : (p : Meaning) → Cuts p → Cuts (next_m p)

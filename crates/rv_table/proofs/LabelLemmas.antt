@@ -28,9 +28,7 @@ some_next_more nodes set n q = rw (add-one n) refl
 
 -- nothing is added
 or_none : (a b : Bool) → (a || (b && false)) ≡ a
-or_none true b = refl
-or_none false true = refl
-or_none false false = refl
+or_none a b = grind arith
 
 -- past the rows there are no next rows
 next-past : (nodes : List Node) (set q more : ℕ) → some_next nodes set (more + length nodes) q ≡ some_next nodes set (length nodes) q
@@ -50,23 +48,11 @@ next-past nodes set q (suc more) =
 
 -- a row that follows by the earlier rows or by this one
 both-ways : (row some all here next : Bool) → ((row && (some && all)) || (here && (row && (next && all)))) ≡ (row && ((some || (here && next)) && all))
-both-ways true true true here next = refl
-both-ways true true false true true = refl
-both-ways true true false true false = refl
-both-ways true true false false next = refl
-both-ways true false true true true = refl
-both-ways true false true true false = refl
-both-ways true false true false next = refl
-both-ways true false false true true = refl
-both-ways true false false true false = refl
-both-ways true false false false next = refl
-both-ways false some all true next = refl
-both-ways false some all false next = refl
+both-ways row some all here next = grind arith
 
 -- no row is before row 0
 and_none : (row all : Bool) → false ≡ (row && (false && all))
-and_none true all = refl
-and_none false all = refl
+and_none row all = grind arith
 
 module _ (nodes : List Node) (set : ℕ) (x : Letter) (q : ℕ) where
   -- there is such a row

@@ -97,21 +97,11 @@ release_is p q (x ∷ t) = refl
 
 -- a release on the first letter: both now, or the second now and the release later
 release_step : (a b u : Bool) → ((a && b) || (not u && b)) ≡ not (not b || (not a && u))
-release_step true true u = refl
-release_step true false true = refl
-release_step true false false = refl
-release_step false true true = refl
-release_step false true false = refl
-release_step false false true = refl
-release_step false false false = refl
+release_step a b u = grind arith
 
 -- an until on the first letter: the second now, or the first now and the until later
 until_step : (a b u : Bool) → (b || (u && a)) ≡ (b || (a && u))
-until_step a true u = refl
-until_step true false true = refl
-until_step true false false = refl
-until_step false false true = refl
-until_step false false false = refl
+until_step a b u = grind arith
 
 module _ (ps : List PartValue) (normal : IsNormal ps) (x : ℕ) (t : List ℕ) where
   -- what each part says weakly

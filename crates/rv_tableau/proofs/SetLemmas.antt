@@ -16,42 +16,27 @@ use Rattle.rv_tableau.specs.Holding.{all_below}
 
 -- four tests in another order
 pub and_assoc4 : (a b c d : Bool) → ((a && b) && (c && d)) ≡ ((a && c) && (b && d))
-and_assoc4 true true c d = refl
-and_assoc4 true false true d = refl
-and_assoc4 true false false d = refl
-and_assoc4 false b c d = refl
+and_assoc4 a b c d = grind arith
 
 -- a test that one of two asks for
 guard_or : (s t p : Bool) → (not (s || t) || p) ≡ ((not s || p) && (not t || p))
-guard_or true true true = refl
-guard_or true true false = refl
-guard_or true false true = refl
-guard_or true false false = refl
-guard_or false true p = refl
-guard_or false false p = refl
+guard_or s t p = grind arith
 
 -- a test and true
 pub and_true : (a : Bool) → (a && true) ≡ a
-and_true true = refl
-and_true false = refl
+and_true a = grind arith
 
 -- a test or false
 pub or_false : (a : Bool) → (a || false) ≡ a
-or_false true = refl
-or_false false = refl
+or_false a = grind arith
 
 -- both spread over one of two
 and_or : (a b c : Bool) → (a && (b || c)) ≡ ((a && b) || (a && c))
-and_or true b c = refl
-and_or false b c = refl
+and_or a b c = grind arith
 
 -- from the right
 or_and : (a b c : Bool) → ((a || b) && c) ≡ ((a && c) || (b && c))
-or_and true true true = refl
-or_and true true false = refl
-or_and true false true = refl
-or_and true false false = refl
-or_and false b c = refl
+or_and a b c = grind arith
 
 -- ---- members
 
