@@ -56,10 +56,6 @@ at-least lost n c three = on (nat_lt lost 3) refl
 
 module _ {s : Setup} {panics : ℕ} {works : List Work} {words : List ℕ} {nexts : List Next} {h : List Entry} (run : IsRun s panics works words nexts h)
     (e : Entry) {k : ℕ} {w : Work} {n : Next} (at : IsAt works nexts k w n) (mine : 2 + w.cpu ≡ e.seat) where
-  -- the answer of the entry's act behind the history
-  abbrev a : Answer
-  a = answer_at s (judges_of s) (reverse h) e e.act
-
   -- the tries that a stop needs
   begun-lost : IsBeginning s (judges_of s) (has_bit panics) works (h ++ e ∷ []) → (due : Due) → n ≡ next.Deliver due → e.act ≡ Stop due.slot → 3 ≤ due.lost
   begun-lost b due is act =
@@ -72,6 +68,7 @@ module _ {s : Setup} {panics : ℕ} {works : List Work} {words : List ℕ} {next
   -- the act of a longer beginning is allowed
   pub begun-allowed : IsBeginning s (judges_of s) (has_bit panics) works (h ++ e ∷ []) → Allows w n e.act
   begun-allowed b =
+      let a : Answer = answer_at s (judges_of s) (reverse h) e e.act in
       let P : Work → Type 0 = λ w. HasBegun s (has_bit panics) w (played s (judges_of s) (2 + w.cpu) (reverse (h ++ e ∷ []))) in
       let begun : P w = subst P (sym at.work) (All-get_or P works k w at.inside b.cpus) in
       let may = (stand-at run at).may ((e, a) ∷ begun.0) (subst (Plays s (has_bit panics) w) (played-more s (judges_of s) (2 + w.cpu) h e mine begun.0) begun.1) in
