@@ -14,6 +14,7 @@ pub mod Meaning
 pub mod Meant
 pub mod Numbers
 pub mod Phases
+pub mod Reactors
 pub mod Records
 pub mod Reports
 pub mod ScriptParts
@@ -22,8 +23,10 @@ pub mod Seats
 pub mod Setups
 pub mod SharedWords
 pub mod Slots
+pub mod Sorting
 pub mod Stepping
 pub mod Table
 pub mod Truth
 pub mod WellFormed
+pub mod Words
 pub mod Works

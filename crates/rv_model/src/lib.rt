@@ -7,6 +7,7 @@ mod entry;
 mod formula;
 mod ghost_list;
 mod hit;
+mod kind;
 mod laws;
 mod name;
 mod reactor;
@@ -20,9 +21,10 @@ pub use entry::{Act, Answer, Closed, Entry};
 pub use formula::{Formula, Rule, Spec};
 pub use ghost_list::{GhostList, Keeps};
 pub use hit::{Hit, Letter, Mode, What};
+pub use kind::SpecKind;
 pub use laws::{
-    letters_may_be_cut, one_history, satisfaction_is_tested, slots_apart, tables_are_judged,
-    tables_mean,
+    letters_may_be_cut, one_history, records_ascend, satisfaction_is_tested, slots_apart,
+    tables_are_judged, tables_mean,
 };
 pub use name::{Name, Names};
 pub use reactor::Reactor;
