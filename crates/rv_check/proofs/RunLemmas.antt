@@ -1,11 +1,10 @@
 -- What a run keeps: its history has begun, and each script stands where it says.
-use Rattle.std.proofs.Common.{◌≡◌, ℕ, ◌+◌, ◌<◌, Bool, List, [], length, reverse, get_or, arith, sym, ap, ◌∙◌, subst, append-nil, All}
+use Rattle.std.proofs.Common.{◌≡◌, ℕ, ◌+◌, ◌<◌, List, [], length, reverse, get_or, arith, sym, ap, ◌∙◌, subst, append-nil, All}
 use Rattle.std.specs.Prelude.{Any, replicate}
 use Rattle.std.proofs.lemmas.List.{get_or_default, length-replicate, get_or-replicate}
 use Rattle.std.proofs.lemmas.List.Elements.{All-get_or, All-from_get_or}
 use Rattle.rv_model.specs.declared.entry.Entry.{Entry}
 use Rattle.rv_model.specs.Histories.{IsJustifiedBy, IsPermittedTo}
-use Rattle.rv_model.specs.Judging.{Judge}
 use Rattle.rv_model.specs.Numbers.{has_bit}
 use Rattle.rv_model.specs.Scripts.{played, Plays}
 use Rattle.rv_model.specs.Setups.{Setup}

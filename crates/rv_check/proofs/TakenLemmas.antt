@@ -1,5 +1,5 @@
 -- An entry that is allowed, with the machine's words, is taken.
-use Rattle.std.proofs.Common.{◌≡◌, ◌≢◌, ℕ, ◌+◌, ◌^◌, ◌<◌, ◌⊎◌, inl, inr, Bool, true, ◌==◌, List, [], ◌∷◌, ◌++◌, length, reverse, get_or, set, arith, refl, sym, ap, ◌∙◌, subst}
+use Rattle.std.proofs.Common.{◌≡◌, ◌≢◌, ℕ, ◌+◌, ◌^◌, ◌<◌, ◌⊎◌, inl, inr, true, ◌==◌, List, [], ◌∷◌, ◌++◌, length, reverse, get_or, set, arith, refl, sym, ap, ◌∙◌, subst}
 use Rattle.std.specs.Prelude.{Any}
 use Rattle.std.proofs.lemmas.List.{reverse-append, get_or_default}
 use Rattle.rv_model.specs.declared.entry.Act.{Act}
@@ -9,7 +9,6 @@ use Rattle.rv_model.specs.declared.entry.Answer.TheVariants.{Looked}
 use Rattle.rv_model.specs.declared.entry.Entry.{Entry}
 use Rattle.rv_model.specs.Cuts.{AtEach}
 use Rattle.rv_model.specs.Histories.{IsJustifiedBy, IsPermittedTo, IsSound}
-use Rattle.rv_model.specs.Judging.{Judge}
 use Rattle.rv_model.specs.Numbers.{has_bit}
 use Rattle.rv_model.specs.Scripts.{Played, played, Plays}
 use Rattle.rv_model.specs.Setups.{Setup}

@@ -1,8 +1,7 @@
 -- From one line of a script to the next.
-use Rattle.std.proofs.Common.{◌≡◌, List, [], ◌∷◌, ◌++◌, Result, Ok, Err, refl, ap, ◌∙◌, append_assoc, append-nil, sym}
+use Rattle.std.proofs.Common.{◌≡◌, List, [], ◌∷◌, ◌++◌, Ok, ap, ◌∙◌, append-nil}
 use Rattle.rv_text.specs.Readings.{Refuses, and_then, onto}
 use Rattle.rv_text.specs.TextLines.{LineText}
-use Rattle.rv_text.specs.declared.refusals.Refusal.{Refusal}
 use Rattle.rv_text.specs.declared.refusals.Refused.{Refused}
 use Rattle.rv_text.specs.declared.refusals.Refused.TheVariants as refuseds
 use Rattle.rv_text.proofs.ReadingLaws.{onto-onto}

@@ -1,5 +1,5 @@
 -- What a control script says (this project's choice: docs/FORMATS.md, "Control files").
-use Rattle.std.specs.Prelude.{ℕ, Bool, true, false, nat_lt, nat_eq, bytes_eq, List, [], ◌∷◌, ◌++◌, Option, Some, None, option_map, Result, Ok, Err, if◌then◌else◌, codes}
+use Rattle.std.specs.Prelude.{ℕ, true, false, nat_lt, nat_eq, bytes_eq, List, [], ◌∷◌, Option, Some, None, Result, Ok, if◌then◌else◌, codes}
 use Rattle.std.specs.List.{starts_with}
 use Rattle.std.specs.Option.{ok_or}
 use Rattle.rv_text.specs.Readings.{and_then, onto, refused_at}

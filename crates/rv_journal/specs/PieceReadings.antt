@@ -1,5 +1,5 @@
 -- Private: what one of the pieces of a line is, which stand between its blanks: a number or a name.
-use Rattle.std.specs.Prelude.{◌≡◌, ℕ, ◌&&◌, ◌==◌, nat_le, bytes_eq, List, [], ◌∷◌, Option, Some, None, if◌then◌else◌, codes, decimal}
+use Rattle.std.specs.Prelude.{◌≡◌, ℕ, ◌&&◌, nat_le, bytes_eq, List, [], ◌∷◌, Option, Some, None, if◌then◌else◌, codes, decimal}
 use Rattle.std.specs.Option.{option_and_then, option_map}
 use Rattle.rv_text.specs.Decimal.{decimal_of}
 use Rattle.rv_model.specs.declared.hit.Mode.{Mode}

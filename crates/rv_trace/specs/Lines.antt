@@ -1,6 +1,6 @@
 -- What a trace line says: a head, a timestamp as the first or second word after it, an event, and the fields
 -- (the text of Linux, Documentation/trace/ftrace.rst; which lines are accepted is this project's choice: docs/FORMATS.md, "Trace text").
-use Rattle.std.specs.Prelude.{◌≤◌, ℕ, ◌+◌, ◌-◌, Bool, false, ◌&&◌, ◌||◌, ◌==◌, nat_lt, nat_le, nat_eq, List, length, Option, Some, None, option_map, option_and_then, Result, Ok, Err, slice_index, if◌then◌else◌, codes}
+use Rattle.std.specs.Prelude.{◌≤◌, ℕ, ◌+◌, ◌-◌, Bool, ◌&&◌, ◌||◌, ◌==◌, nat_lt, nat_le, nat_eq, List, length, Option, Some, None, option_map, option_and_then, Result, Ok, Err, slice_index, if◌then◌else◌, codes}
 use Rattle.std.specs.List.{starts_with, ends_with}
 use Rattle.std.specs.Option.{ok_or}
 use Rattle.rv_text.specs.Places.{run_end, between}
@@ -16,7 +16,6 @@ use Rattle.rv_trace.specs.declared.line.TheConstants.{LAST_PID, LAST_CPU}
 use Rattle.rv_trace.specs.declared.line.Span.{Span}
 use Rattle.rv_trace.specs.declared.line.TraceLine.{TraceLine}
 use Rattle.rv_trace.specs.Heads.{head_of}
-use Rattle.rv_trace.specs.Runs.{CountsAs}
 
 -- the first word from a place on
 unfoldable pub word_at : List ℕ → ℕ → LinePart

@@ -1,5 +1,5 @@
-use Rattle.std.proofs.Common.{◌≡◌, ◌≤◌, ◌+◌, ◌||◌, ltb, List, ℕ, length, take, Option, Result, Ok, Some, None, sym, ◌∙◌, ap, subst, arith}
-use Rattle.std.specs.Prelude.{IfOk, IfSome}
+use Rattle.std.proofs.Common.{◌≡◌, ◌≤◌, ◌+◌, List, ℕ, take, Option, Result, Ok, Some, None, sym, ◌∙◌, ap, subst, arith}
+use Rattle.std.specs.Prelude.{IfSome}
 use Rattle.rv_text.specs.Places.{between}
 use Rattle.rv_text.specs.TextLines.{LineText}
 use Rattle.rv_text.specs.declared.refusals.Refusal.{Refusal}

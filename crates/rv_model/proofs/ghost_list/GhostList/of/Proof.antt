@@ -34,7 +34,6 @@ use denote.Triple.Walked.{says, Stays, stay_dropped, walk_of, ends_at, walk_Meet
 use Rattle.std.specs.contracts.marker.PhantomData as Mark
 use Rattle.rv_model.specs.declared.ghost_list.GhostList.TheInside.{Inside}
 use Rattle.rv_model.specs.declared.ghost_list.Keeps as Keeps
-use Rattle.rv_model.specs.contracts.ghost_list.GhostList as GhostList
 use Rattle.rv_model.specs.contracts.ghost_list.GhostList.TheInside as Within
 use Rattle.rv_model.specs.contracts.ghost_list.GhostList.of as F
 use Rattle.rv_model.specs.contracts.ghost_list.GhostList.of.Key.{name as #self}
