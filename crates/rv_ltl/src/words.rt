@@ -16,40 +16,56 @@ use std::alloc::Global;
 fn plain(piece: &[u8]) -> Option<Token>
     ensures { result ≡ plain_of piece.now }
 {
-    match piece {
-        b"(" => Some(Token::Open),
-        b")" => Some(Token::Close),
-        b"=" => Some(Token::Equals),
-        b"true" => Some(Token::True),
-        b"false" => Some(Token::False),
-        _ => None,
+    if piece == b"(".as_slice() {
+        Some(Token::Open)
+    } else if piece == b")".as_slice() {
+        Some(Token::Close)
+    } else if piece == b"=".as_slice() {
+        Some(Token::Equals)
+    } else if piece == b"true".as_slice() {
+        Some(Token::True)
+    } else if piece == b"false".as_slice() {
+        Some(Token::False)
+    } else {
+        None
     }
 }
 
 fn unary(piece: &[u8]) -> Option<Unary>
     ensures { result ≡ unary_of piece.now }
 {
-    match piece {
-        b"always" => Some(Unary::Always),
-        b"eventually" => Some(Unary::Eventually),
-        b"next" => Some(Unary::Next),
-        b"not" => Some(Unary::Not),
-        _ => None,
+    if piece == b"always".as_slice() {
+        Some(Unary::Always)
+    } else if piece == b"eventually".as_slice() {
+        Some(Unary::Eventually)
+    } else if piece == b"next".as_slice() {
+        Some(Unary::Next)
+    } else if piece == b"not".as_slice() {
+        Some(Unary::Not)
+    } else {
+        None
     }
 }
 
 fn binary(piece: &[u8]) -> Option<Binary>
     ensures { result ≡ binary_of piece.now }
 {
-    match piece {
-        b"and" => Some(Binary::And),
-        b"or" => Some(Binary::Or),
-        b"until" => Some(Binary::Until),
-        b"release" => Some(Binary::Release),
-        b"weak_until" => Some(Binary::WeakUntil),
-        b"imply" => Some(Binary::Imply),
-        b"equivalent" => Some(Binary::Equivalent),
-        _ => None,
+    if piece == b"and".as_slice() {
+        Some(Binary::And)
+    } else if piece == b"or".as_slice() {
+        Some(Binary::Or)
+    } else if piece == b"until".as_slice() {
+        Some(Binary::Until)
+    } else if piece == b"release".as_slice() {
+        Some(Binary::Release)
+    } else if piece == b"weak_until".as_slice() {
+        Some(Binary::WeakUntil)
+    } else if piece == b"imply".as_slice() {
+        Some(Binary::Imply)
+    } else if piece == b"equivalent".as_slice() {
+        Some(Binary::Equivalent)
+    } else {
+        None
     }
 }
 
