@@ -1,6 +1,5 @@
 -- What the denial of each operator says, in both views.
 use Rattle.std.proofs.Common.{◌≡◌, ℕ, Bool, true, false, not, ◌&&◌, ◌||◌, List, [], ◌∷◌, refl, arith, sym, ap, ◌∙◌}
-use Rattle.std.proofs.lemmas.Bool.{false≢true}
 use mathlib.Core.Path.{fun_ext}
 use Rattle.rv_model.specs.Ltl.{False}
 use Rattle.rv_model.specs.Truth.{View, Weak, Strong, other}

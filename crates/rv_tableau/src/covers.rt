@@ -44,8 +44,9 @@ fn operands(part: &Part) -> Option<(u8, u8)>
 {
     match part {
         Part::Label(_) | Part::Next(_) => None,
-        Part::And(i, j) | Part::Or(i, j) | Part::Until(i, j) | Part::Release(i, j) =>
-            Some((*i, *j)),
+        Part::And(i, j) | Part::Or(i, j) | Part::Until(i, j) | Part::Release(i, j) => Some((
+            *i, *j,
+        )),
     }
 }
 

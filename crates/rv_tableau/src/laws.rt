@@ -1,15 +1,12 @@
 //! Laws of the tableau.
-ghost use Rattle.std.specs.Prelude.{◌≡◌, ◌↔◌, ◌≤◌, ℕ, ◌-◌, List, [], ◌∷◌, map, length, true, IsTrue};
+ghost use Rattle.std.specs.Prelude.{◌≡◌, ◌≤◌, ℕ, List, [], ◌∷◌, true};
 ghost use Rattle.std.specs.List.{list_any};
-ghost use Rattle.rv_model.specs.declared.hit.Letter.{Letter};
-ghost use Rattle.rv_model.specs.Letters.{atoms_in};
 ghost use Rattle.rv_model.specs.declared.formula.Spec.TheVariants.{Ltl};
 ghost use Rattle.rv_model.specs.Formulas.{RuleValue, IsRule};
-ghost use Rattle.rv_model.specs.Judging.{ReachesSome, Means};
+ghost use Rattle.rv_model.specs.Judging.{Means};
 ghost use Rattle.rv_model.specs.Table.{Table, of_labels};
-ghost use Rattle.rv_model.specs.Truth.{Weak};
 ghost use Rattle.rv_nnf.specs.NormalForm.{normal_of};
-ghost use Rattle.rv_nnf.specs.Parts.{PartValue, IsNormal, part_meaning};
+ghost use Rattle.rv_nnf.specs.Parts.{PartValue, IsNormal};
 ghost use Rattle.rv_tableau.specs.declared.pairs.Pair.{Pair};
 ghost use Rattle.rv_tableau.specs.Cover.{cover_of};
 ghost use Rattle.rv_tableau.specs.Holding.{set_holds, pair_holds};

@@ -1,12 +1,8 @@
 //! The rows of the table of a list of nodes, and the tableau whole.
-ghost use Rattle.std.specs.Prelude.{◌≡◌, ◌↔◌, ◌≤◌, ◌<◌, ◌^◌, ◌-◌, ◌++◌, ℕ, List, map, length, IfOk, OnOk, IsTrue};
+ghost use Rattle.std.specs.Prelude.{◌≡◌, ◌≤◌, ◌<◌, ◌^◌, ◌-◌, ◌++◌, ℕ, List, map, length, IfOk, OnOk};
 ghost use Rattle.rv_text.specs.Readings.{Gives};
-ghost use Rattle.rv_model.specs.declared.hit.Letter.{Letter};
 ghost use Rattle.rv_model.specs.Formulas.{ltl};
-ghost use Rattle.rv_model.specs.Judging.{ReachesSome};
-ghost use Rattle.rv_model.specs.Letters.{atoms_in};
-ghost use Rattle.rv_model.specs.Truth.{Weak};
-ghost use Rattle.rv_nnf.specs.Parts.{OperandsBelow, part_value_at, part_meaning, IsNormal};
+ghost use Rattle.rv_nnf.specs.Parts.{OperandsBelow, part_value_at, IsNormal};
 ghost use Rattle.rv_nnf.specs.Views.{part_value, part_values};
 ghost use Rattle.rv_tableau.specs.Covering.{AreBranchNumbers};
 ghost use Rattle.rv_tableau.specs.Rows.{MeansParts, labels_below, piece_labels, rows_in, node_row, tableau_of};
