@@ -7,6 +7,7 @@ mod line;
 mod numbers;
 mod refusals;
 mod runs;
+mod unread;
 mod words;
 
 pub use cursor::{Cursor, TextLine};
@@ -22,4 +23,5 @@ pub use numbers::{
 };
 pub use refusals::{Refusal, Refused};
 pub use runs::{ByteClass, run_end};
+pub use unread::Unread;
 pub use words::Words;
