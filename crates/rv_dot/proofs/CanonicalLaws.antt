@@ -4,7 +4,7 @@ use Rattle.std.specs.Prelude.{map, codes, slice_get, ◌==◌}
 use Rattle.std.specs.List.{flat_map}
 use Rattle.std.proofs.lemmas.Option.{get_or_from_slice_get}
 use Rattle.rv_model.specs.Machine.{Machine}
-use Rattle.rv_dot.specs.Canonical.{State, quoted, head_lines, marker_line, state_line, initial_line, node_line, arc_line, last_line, states_marked, arc_named, dot_text}
+use Rattle.rv_dot.specs.Canonical.{State, quoted, marker, head_lines, marker_line, state_line, initial_line, node_line, arc_line, last_line, states_marked, arc_named, dot_text}
 
 -- the name at a place, and those behind it
 cut_at : (names : List (List ℕ)) (place : ℕ) (name : List ℕ) → place < length names → slice_get names place ≡ Some name → drop place names ≡ name ∷ drop (place + 1) names
@@ -37,6 +37,12 @@ names_marked bits (name ∷ names) = ap (λ (ns : List (List ℕ)). name ∷ ns)
 -- five parts behind a front
 five : (o a b c d e : List ℕ) → o ++ a ++ b ++ c ++ d ++ e ≡ o ++ (a ++ b ++ c ++ d ++ e)
 five o a b c d e = simp append_assoc
+
+-- the declaration of the marker in its parts
+pub marker_line_written : (initial o p q r : List ℕ) → p ≡ o ++ codes "\t{node [shape = plaintext, style=invis, label=\"\"] " → q ≡ p ++ quoted (marker initial) → r ≡ q ++ codes "};\n" → r ≡ o ++ marker_line initial
+marker_line_written initial o p q r a b c =
+    let front : List ℕ = codes "\t{node [shape = plaintext, style=invis, label=\"\"] " in
+    c ∙ ap (λ (t : List ℕ). t ++ codes "};\n") (b ∙ ap (λ (t : List ℕ). t ++ quoted (marker initial)) a ∙ append_assoc o front (quoted (marker initial))) ∙ append_assoc o (front ++ quoted (marker initial)) (codes "};\n")
 
 -- a declaration in its parts
 pub state_line_written : (name : List ℕ) (shape o p q r s t : List ℕ) → p ≡ o ++ codes "\t{node [shape = " → q ≡ p ++ shape → r ≡ q ++ codes "] " → s ≡ r ++ quoted name → t ≡ s ++ codes "};\n"

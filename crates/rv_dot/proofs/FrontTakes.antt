@@ -1,49 +1,31 @@
 -- What is read is made of pieces.
-use Rattle.std.proofs.Common.{◌≡◌, ℕ, zero, suc, ◌+◌, Bool, true, false, eqb, List, [], ◌∷◌, ◌++◌, Option, Some, None, refl, sym, ap, ◌∙◌, subst, drop, inl, inr}
+use Rattle.std.proofs.Common.{◌≡◌, ℕ, zero, suc, Bool, true, false, eqb, List, [], ◌∷◌, ◌++◌, Option, Some, None, cond, refl, sym, ap, ◌∙◌, subst, drop, inl, inr}
 use Rattle.std.specs.Prelude.{◌&&◌}
-use Rattle.std.specs.Option.{option_to_list}
+use Rattle.std.specs.List.{find, AllByRecursion}
+use Rattle.std.specs.Option.{option_map, option_to_list}
 use Rattle.std.proofs.lemmas.Option.{same_Some}
 use Rattle.rv_dot.specs.declared.token.Mark.{Mark}
-use Rattle.rv_dot.specs.declared.token.Mark.TheVariants.{OpenBrace, CloseBrace, OpenBracket, CloseBracket, Equals, Semicolon, Comma, Arrow}
+use Rattle.rv_dot.specs.declared.token.Mark.TheVariants.{Arrow}
 use Rattle.rv_dot.specs.Runs.{is_word_byte, begins_with}
-use Rattle.rv_dot.specs.Tokens.{Lexeme, sign, Front, gap, mark_of, front_of, tokens_within}
+use Rattle.rv_dot.specs.Tokens.{Lexeme, sign, Front, gap, byte_marks, mark_of, front_of, tokens_within}
 use Rattle.rv_dot.specs.Pieces.{Piece, blank, hash_line, unit, mark_bytes, is_gap_byte, ends_line, SplitsInto, tokens_in}
 use Rattle.rv_dot.proofs.MarkLaws.{bind_some, chosen}
 use Rattle.rv_dot.proofs.RunLaws.{same_byte, begins_with_takes, map_some}
 use Rattle.rv_dot.proofs.FrontLaws.{first_byte}
 use Rattle.rv_dot.proofs.PieceTakes.{Took, comment_takes, line_takes, string_token_takes, took_gap, word_token_takes}
 
+-- the mark that is found by a byte is spelled by it
+found_spelled : (b : ℕ) (m : Mark) (ps : List (ℕ × Mark)) → AllByRecursion (λ p. mark_bytes p.1 ≡ p.0 ∷ []) ps → option_map (λ p. p.1) (find (λ p. eqb b p.0) ps) ≡ Some m → mark_bytes m ≡ b ∷ []
+found_spelled b m [] all h = absurd (cc)
+found_spelled b m (p ∷ ps) all h = go (eqb b p.0) refl h (found_spelled b m ps all.1)
+  where
+    go : (t : Bool) → eqb b p.0 ≡ t → option_map (λ (q : ℕ × Mark). q.1) (cond t (Some p) (find (λ (q : ℕ × Mark). eqb b q.0) ps)) ≡ Some m → (option_map (λ (q : ℕ × Mark). q.1) (find (λ (q : ℕ × Mark). eqb b q.0) ps) ≡ Some m → mark_bytes m ≡ b ∷ []) → mark_bytes m ≡ b ∷ []
+    go true same k more = ap mark_bytes (sym (same_Some p.1 m k)) ∙ all.0 ∙ ap (λ (d : ℕ). d ∷ []) (sym (same_byte b p.0 same))
+    go false same k more = more k
+
 -- a mark of one byte
 mark_takes : (b : ℕ) (m : Mark) → mark_of b ≡ Some m → mark_bytes m ≡ b ∷ []
-mark_takes b m h =
-    elim (chosen (eqb b 123) (Some OpenBrace) _ (Some m) h) [
-      | inl p ↦ is OpenBrace 123 refl p.0 p.1
-      | inr p ↦
-          elim (chosen (eqb b 125) (Some CloseBrace) _ (Some m) p.1) [
-            | inl q ↦ is CloseBrace 125 refl q.0 q.1
-            | inr q ↦
-                elim (chosen (eqb b 91) (Some OpenBracket) _ (Some m) q.1) [
-                  | inl r ↦ is OpenBracket 91 refl r.0 r.1
-                  | inr r ↦
-                      elim (chosen (eqb b 93) (Some CloseBracket) _ (Some m) r.1) [
-                        | inl s ↦ is CloseBracket 93 refl s.0 s.1
-                        | inr s ↦
-                            elim (chosen (eqb b 61) (Some Equals) _ (Some m) s.1) [
-                              | inl t ↦ is Equals 61 refl t.0 t.1
-                              | inr t ↦
-                                  elim (chosen (eqb b 59) (Some Semicolon) _ (Some m) t.1) [
-                                    | inl u ↦ is Semicolon 59 refl u.0 u.1
-                                    | inr u ↦
-                                        elim (chosen (eqb b 44) (Some Comma) None (Some m) u.1) [ inl v ↦ is Comma 44 refl v.0 v.1 | inr v ↦ absurd (cc) ]
-                                  ]
-                            ]
-                      ]
-                ]
-          ]
-    ]
-  where
-    is : (n : Mark) (k : ℕ) → mark_bytes n ≡ k ∷ [] → eqb b k ≡ true → Some n ≡ Some m → mark_bytes m ≡ b ∷ []
-    is n k spelled same found = ap mark_bytes (sym (same_Some n m found)) ∙ spelled ∙ ap (λ (d : ℕ). d ∷ []) (sym (same_byte b k same))
+mark_takes b m h = found_spelled b m byte_marks (refl, (refl, (refl, (refl, (refl, (refl, (refl, tt))))))) h
 
 -- both tests pass
 both : (a b : Bool) → (a && b) ≡ true → (a ≡ true) × (b ≡ true)

@@ -3,7 +3,8 @@ use Rattle.std.proofs.Common.{◌≡◌, ℕ, zero, suc, ◌+◌, ◌<◌, ◌�
 use Rattle.std.specs.Prelude.{◌&&◌, ◌==◌}
 use Rattle.std.proofs.lemmas.Bool.Decides.{nat_tests}
 use Rattle.std.proofs.lemmas.List.{take_more, length-take-le}
-use Rattle.rv_dot.specs.Labels.{is_blank, kept_len, trimmed, piece_of, pieces_within}
+use Rattle.rv_text.specs.Places.{is_blank}
+use Rattle.rv_dot.specs.Labels.{kept_len, trimmed, piece_of, pieces_within}
 
 -- no more is kept than there is
 kept_few : (bytes : List ℕ) → kept_len bytes ≤ length bytes

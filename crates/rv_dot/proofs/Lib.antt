@@ -10,6 +10,7 @@ pub mod FrontLaws
 pub mod FrontTakes
 pub mod Gathering
 pub mod InitialLaws
+pub mod Items
 pub mod LabelLaws
 pub mod LastOf
 pub mod Layouts
@@ -36,7 +37,6 @@ pub mod Scans
 pub mod SetLaws
 pub mod SetOrder
 pub mod StandsLaws
-pub mod StatementLoop
 pub mod StatementsAgain
 pub mod StatementsTake
 pub mod TextLaws

@@ -1,15 +1,16 @@
 -- What is spelled so is read: attributes and names.
-use Rattle.std.proofs.Common.{◌≡◌, ℕ, zero, suc, ◌<◌, ◌≤◌, false, List, [], ◌∷◌, ◌++◌, length, length-append, Option, Some, None, refl, ap, ◌∙◌, append_assoc, arith}
+use Rattle.std.proofs.Common.{◌≡◌, ℕ, Bool, false, List, [], ◌∷◌, ◌++◌, Option, Some, None, refl, ap, ◌∙◌, append_assoc, arith}
 use Rattle.std.specs.Prelude.{map}
 use Rattle.std.specs.List.{flat_map}
 use Rattle.rv_dot.specs.declared.token.Mark.{Mark}
 use Rattle.rv_dot.specs.declared.token.Mark.TheVariants.{CloseBrace, OpenBracket, CloseBracket, Semicolon, Comma}
 use Rattle.rv_dot.specs.Tokens.{Lexeme, sign, word, text}
 use Rattle.rv_dot.specs.Marks.{begins, expects, past_mark}
-use Rattle.rv_dot.specs.Lists.{front_word, value_at, name_at, separated, attribute_at, attributes_within, attributes_at, bracket_at, names_within, names_at}
+use Rattle.rv_dot.specs.Lists.{Attribute, front_word, value_at, name_at, separated, attribute_at, attribute_item, bracket_at, name_item, names_at}
 use Rattle.rv_dot.specs.Statements.{optional_bracket_at}
-use Rattle.rv_dot.specs.Grammar.{semicolon, Separator, nothing, comma, semi, separator, Bracket, inside, optional_bracket, Group, named, group, IsValue, IsName, IsBracket, IsOptionalBracket, IsGroup, value_in, value_in_optional}
+use Rattle.rv_dot.specs.Grammar.{semicolon, Separator, nothing, comma, semi, separator, attribute, Bracket, inside, optional_bracket, Group, named, group, IsValue, IsName, IsBracket, IsOptionalBracket, IsGroup, value_in, value_in_optional}
 use Rattle.rv_dot.proofs.MarkLaws.{past_mark_none, past_mark_again, semicolon_again}
+use Rattle.rv_dot.proofs.Items.{Again, items_again, flat_map-one}
 
 -- what is spelled so is read so: value
 pub value_again : (v : Lexeme) (rest : List Lexeme) → IsValue v → value_at (v ∷ rest) ≡ Some (v, rest)
@@ -45,27 +46,18 @@ unfolding begins
 inside_begins m [] rest h = h
 inside_begins m (a ∷ b) rest h = refl
 
--- what is spelled so is read so: attributes
-pub attributes_again : (b : Bracket) (n : ℕ) (rest : List Lexeme) → IsBracket b → length b < n → attributes_within n (inside b ++ sign CloseBracket ∷ rest) ≡ Some (map (λ a. a.0) b, rest)
-unfolding attributes_within begins past_mark attribute_at front_word expects
-attributes_again b zero rest h few = absurd (omega arith)
-attributes_again [] (suc n) rest h few = refl
-attributes_again (a ∷ b) (suc n) rest h few =
+-- an attribute before others
+attribute_again : Again CloseBracket attribute_item separated attribute (λ a. a.0 ∷ []) (λ a. IsValue a.0.value)
+unfolding begins attribute_at front_word expects
+attribute_again a b rest h more =
     let tail = inside b ++ sign CloseBracket ∷ rest in
-    let cut : separated ((separator a.1 ++ inside b) ++ sign CloseBracket ∷ rest) ≡ tail =
-    ap separated (append_assoc (separator a.1) (inside b) (sign CloseBracket ∷ rest)) ∙ separated_again a.1 tail (inside_begins Comma b rest refl) (inside_begins Semicolon b rest refl) in
-    rw (value_again a.0.value ((separator a.1 ++ inside b) ++ sign CloseBracket ∷ rest) h.0, cut, attributes_again b n rest h.1 (omega arith)) refl
-
--- an attribute has tokens
-length_inside : (b : Bracket) → length b ≤ length (inside b)
-length_inside [] = omega arith
-length_inside (a ∷ b) = omega (arith, length_inside b, length-append (separator a.1) (inside b))
+    (refl, separator a.1 ++ tail, rw (value_again a.0.value (separator a.1 ++ tail) h) refl, separated_again a.1 tail (inside_begins Comma b rest refl) (inside_begins Semicolon b rest refl))
 
 -- what is spelled so is read so: bracket
 pub bracket_again : (key : List ℕ) (b : Bracket) (rest : List Lexeme) → IsBracket b → bracket_at key (inside b ++ sign CloseBracket ∷ rest) ≡ Some (value_in key b, rest)
-unfolding bracket_at attributes_at
+unfolding bracket_at
 bracket_again key b rest h =
-    rw (attributes_again b (length (inside b ++ sign CloseBracket ∷ rest)) rest h (omega (arith, length_inside b, length-append (inside b) (sign CloseBracket ∷ rest)))) refl
+    rw (items_again CloseBracket attribute_item separated attribute (λ a. a.0 ∷ []) (λ a. IsValue a.0.value) attribute_again (λ a. omega arith) b rest h, flat_map-one (λ (a : Attribute × Separator). a.0) b) refl
 
 -- what is spelled so is read so: optional bracket
 pub optional_bracket_again : (key : List ℕ) (b : Option Bracket) (rest : List Lexeme) → IsOptionalBracket b → begins OpenBracket rest ≡ false → optional_bracket_at key (optional_bracket b ++ rest) ≡ Some (value_in_optional key b, rest)
@@ -78,25 +70,16 @@ pub names_begin : (m : Mark) (g : Group) (rest : List Lexeme) → IsGroup g → 
 names_begin m [] rest h apart = apart
 names_begin m (n ∷ g) rest h apart = name_begins m n.0 _ h.0
 
--- what is spelled so is read so: names
-pub names_again : (g : Group) (n : ℕ) (rest : List Lexeme) → IsGroup g → length g < n → names_within n (flat_map named g ++ sign CloseBrace ∷ rest) ≡ Some (map (λ n. n.0) g, rest)
-unfolding names_within begins past_mark
-names_again g zero rest h few = absurd (omega arith)
-names_again [] (suc n) rest h few = refl
-names_again (first ∷ g) (suc n) rest h few =
+-- a name before others
+name_item_again : Again CloseBrace name_item (past_mark Semicolon) named (λ n. n.0 ∷ []) (λ n. IsName n.0)
+unfolding begins
+name_item_again n g rest h more =
     let tail = flat_map named g ++ sign CloseBrace ∷ rest in
-    let cut : past_mark Semicolon ((semicolon first.1 ++ flat_map named g) ++ sign CloseBrace ∷ rest) ≡ tail =
-    ap (past_mark Semicolon) (append_assoc (semicolon first.1) (flat_map named g) (sign CloseBrace ∷ rest)) ∙ semicolon_again first.1 tail (names_begin Semicolon g rest h.1 refl) in
-    rw (name_begins CloseBrace first.0 ((semicolon first.1 ++ flat_map named g) ++ sign CloseBrace ∷ rest) h.0, name_again first.0 ((semicolon first.1 ++ flat_map named g) ++ sign CloseBrace ∷ rest) h.0, cut, names_again g n rest h.1 (omega arith)) refl
-
--- a name has tokens
-length_named : (g : Group) → length g ≤ length (flat_map named g)
-length_named [] = omega arith
-length_named (n ∷ g) = omega (arith, length_named g, length-append (semicolon n.1) (flat_map named g))
+    (name_begins CloseBrace n.0 (semicolon n.1 ++ tail) h, semicolon n.1 ++ tail, rw (name_again n.0 (semicolon n.1 ++ tail) h) refl, semicolon_again n.1 tail (names_begin Semicolon g rest more refl))
 
 -- what is spelled so is read so: group
 pub group_again : (g : Group) (rest : List Lexeme) → IsGroup g → names_at (group g ++ rest) ≡ Some (map (λ n. n.0) g, rest)
-unfolding names_at
 group_again g rest h =
     let regrouped : group g ++ rest ≡ flat_map named g ++ sign CloseBrace ∷ rest = append_assoc (flat_map named g) (sign CloseBrace ∷ []) rest in
-    ap names_at regrouped ∙ names_again g (length (flat_map named g ++ sign CloseBrace ∷ rest)) rest h (omega (arith, length_named g, length-append (flat_map named g) (sign CloseBrace ∷ rest)))
+    ap names_at regrouped ∙ items_again CloseBrace name_item (past_mark Semicolon) named (λ n. n.0 ∷ []) (λ n. IsName n.0) name_item_again (λ n. omega arith) g rest h
+    ∙ ap (λ (ns : List Lexeme). Some (ns, rest)) (flat_map-one (λ (n : Lexeme × Bool). n.0) g)

@@ -7,7 +7,9 @@ use Rattle.std.proofs.lemmas.Bool.Decides.{nat_tests}
 use Rattle.rv_model.specs.WellFormed.{IsNameOf, IsStateName, is_event_byte, is_state_byte}
 use Rattle.rv_dot.specs.Runs.{is_word_byte}
 use Rattle.rv_dot.specs.Names.{is_marker, is_name_by, is_state_name, is_event_name}
-use Rattle.rv_dot.specs.Labels.{is_blank, piece_len, without_blanks, kept_len, trimmed, piece_of, pieces_within, label_events}
+use Rattle.rv_text.specs.Places.{is_blank}
+use Rattle.rv_dot.specs.Runs.{pair_len}
+use Rattle.rv_dot.specs.Labels.{piece_len, without_blanks, kept_len, trimmed, piece_of, pieces_within, label_events}
 use Rattle.rv_dot.proofs.MemberLaws.{list_all_from, all_member}
 use Rattle.rv_dot.proofs.PlainBytes.{IsPlain, other_byte}
 use Rattle.rv_dot.proofs.SetOrder.{all_from_members}
@@ -68,7 +70,7 @@ no_blank b h = rw (other_byte b 32 h refl, other_byte b 9 h refl) refl
 
 -- such a name has no cut
 uncut : (name : List ℕ) → IsPlain name → piece_len name ≡ None
-unfolding piece_len
+unfolding pair_len
 uncut [] h = refl
 uncut (b ∷ name) h = rw (other_byte b 92 h.0 refl, uncut name h.1) refl
 

@@ -5,7 +5,7 @@ use Rattle.std.specs.List.{position, position_or_len, AllByRecursion}
 use Rattle.std.specs.Option.{option_map, unwrap_or}
 use Rattle.std.proofs.lemmas.Bool.Decides.{nat_tests}
 use Rattle.std.proofs.lemmas.Option.{same_Some}
-use Rattle.rv_dot.specs.Runs.{block_len, string_len, begins_with}
+use Rattle.rv_dot.specs.Runs.{pair_len, block_len, string_len, begins_with}
 use Rattle.rv_dot.specs.Pieces.{HasNoEnd, IsString}
 
 -- the bytes before the first that passes, all where none does
@@ -89,7 +89,7 @@ no_slash_front (d ∷ c) tail k = k
 
 -- what is spelled so is read so: block
 pub block_again : (c rest : List ℕ) → HasNoEnd c → block_len (c ++ 42 ∷ 47 ∷ rest) ≡ Some (length c)
-unfolding block_len
+unfolding pair_len
 block_again [] rest h = refl
 block_again (b ∷ c) rest h = go (eqb b 42) refl (block_again c rest h.1)
   where
@@ -105,7 +105,7 @@ pub record Closes (bytes c rest : List ℕ) (n : ℕ) : Type 0 where
 
 -- what is read so is spelled so: block
 pub block_takes : (bytes : List ℕ) (n : ℕ) → block_len bytes ≡ Some n → (c : List ℕ) × (rest : List ℕ) × Closes bytes c rest n
-unfolding block_len
+unfolding pair_len
 block_takes [] n h = absurd (cc)
 block_takes (b ∷ bytes) n h = go (eqb b 42) (begins_with 47 bytes) refl refl h (block_takes bytes)
   where

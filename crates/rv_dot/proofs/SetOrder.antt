@@ -3,10 +3,12 @@ use Rattle.std.proofs.Common.{◌≡◌, List, [], ◌∷◌, refl, sym, ap, ◌
 use Rattle.std.specs.List.{AllByRecursion, fold}
 use Rattle.std.specs.BTreeSet.{insert_key}
 use Rattle.std.specs.Cmp.{IsTotalOrder}
-use Rattle.std.specs.Ordering.{match_ordering, ordering_reverse}
+use Rattle.std.specs.Ordering.{match_ordering}
 use Rattle.std.specs.declared.cmp.Ordering.{Ordering}
 use Rattle.std.specs.declared.cmp.Ordering.TheVariants.{Less, Equal, Greater}
-use Rattle.rv_dot.specs.Members.{IsMember, Ascends}
+use Rattle.rv_text.specs.Ascending.{Ascends}
+use Rattle.rv_text.proofs.AscendingLemmas.{insert_ascends, irreflexive}
+use Rattle.rv_dot.specs.Members.{IsMember}
 
 -- what holds of members holds of all
 pub all_from_members : {K : Type 0} (P : K → Type 0) (xs : List K) → ((x : K) → IsMember x xs → P x) → AllByRecursion P xs
@@ -39,22 +41,10 @@ module _ {K : Type 0} (cmp : K → K → Ordering) (o : IsTotalOrder cmp) (same 
       go Equal e m later = elim m [ inl f ↦ inl (sym (same k y e) ∙ f) | inr n ↦ n ]
       go Greater e m later = elim m [ inl f ↦ inr (later (inl f)) | inr n ↦ elim n [ inl f ↦ inl f | inr q ↦ inr (later (inr q)) ] ]
 
-  -- the set with one key more ascends
-  pub insert_ascends : (k : K) (ks : List K) → Ascends cmp ks → Ascends cmp (insert_key cmp ks k)
-  insert_ascends k [] h = (tt, tt)
-  insert_ascends k (y ∷ ys) h = go (cmp k y) refl (insert_ascends k ys h.1)
-    where
-      go : (t : Ordering) → cmp k y ≡ t → Ascends cmp (insert_key cmp ys k) → Ascends cmp (match_ordering t (k ∷ y ∷ ys) (y ∷ ys) (y ∷ insert_key cmp ys k))
-      go Less e later = ((e, all_from_members (λ z. cmp k z ≡ Less) ys (λ z m. o.trans k y z e (member_of_all (λ z. cmp y z ≡ Less) z ys h.0 m))), h)
-      go Equal e later = h
-      go Greater e later =
-          let below : cmp y k ≡ Less = o.antisymm y k ∙ ap ordering_reverse e in
-          (all_from_members (λ z. cmp y z ≡ Less) (insert_key cmp ys k) (λ z m. elim (insert_members k z ys m) [ inl f ↦ subst (λ w. cmp y w ≡ Less) f below | inr n ↦ member_of_all (λ z. cmp y z ≡ Less) z ys h.0 n ]), later)
-
   -- a set ascends
   pub fold_ascends : (names ks : List K) → Ascends cmp ks → Ascends cmp (fold (insert_key cmp) ks names)
   fold_ascends [] ks h = h
-  fold_ascends (n ∷ names) ks h = fold_ascends names (insert_key cmp ks n) (insert_ascends n ks h)
+  fold_ascends (n ∷ names) ks h = fold_ascends names (insert_key cmp ks n) (insert_ascends cmp o n ks h)
 
   -- its members were given
   pub fold_members : (names ks : List K) (x : K) → IsMember x (fold (insert_key cmp) ks names) → IsMember x names ⊎ IsMember x ks
@@ -72,15 +62,11 @@ module _ {K : Type 0} (cmp : K → K → Ordering) (o : IsTotalOrder cmp) (same 
       members_fold names (insert_key cmp ks n) x
       (elim m [ inl p ↦ elim p [ inl e ↦ inr (members_insert n x ks (inl e)) | inr q ↦ inl q ] | inr q ↦ inr (members_insert n x ks (inr q)) ])
 
-  -- nothing is below itself
-  irreflexive : (x : K) → cmp x x ≡ Less → ⊥
-  irreflexive x h = let back : cmp x x ≡ Greater = o.antisymm x x ∙ ap ordering_reverse h in cc
-
   -- members behind the heads
   rest : (a b : K) (as' bs : List K) → b ≡ a → AllByRecursion (λ y. cmp a y ≡ Less) as' → ((z : K) → IsMember z (a ∷ as') → IsMember z (b ∷ bs)) → (z : K) → IsMember z as' → IsMember z bs
   rest a b as' bs e above f z m =
       elim (f z (inr m)) [
-        | inl k ↦ absurd (irreflexive a (subst (λ w. cmp a w ≡ Less) (sym k ∙ e) (member_of_all (λ y. cmp a y ≡ Less) z as' above m)))
+        | inl k ↦ absurd (irreflexive cmp o a (subst (λ w. cmp a w ≡ Less) (sym k ∙ e) (member_of_all (λ y. cmp a y ≡ Less) z as' above m)))
         | inr n ↦ n
       ]
 
@@ -95,7 +81,7 @@ module _ {K : Type 0} (cmp : K → K → Ordering) (o : IsTotalOrder cmp) (same 
               | inr n ↦
                   let below : cmp y x ≡ Less = member_of_all (λ z. cmp y z ≡ Less) x ys q.0 m in
                   let above : cmp x y ≡ Less = member_of_all (λ z. cmp x z ≡ Less) y xs p.0 n in
-                  absurd (irreflexive x (o.trans x y x above below))
+                  absurd (irreflexive cmp o x (o.trans x y x above below))
             ]
       ]
 

@@ -1,5 +1,5 @@
 -- What is spelled so is read: statements and files.
-use Rattle.std.proofs.Common.{◌≡◌, ℕ, zero, suc, ◌<◌, ◌≤◌, Bool, true, false, eqb, List, [], ◌∷◌, ◌++◌, length, length-append, Option, Some, None, cond, refl, ap, ◌∙◌, append_assoc, arith}
+use Rattle.std.proofs.Common.{◌≡◌, ℕ, suc, ◌<◌, Bool, true, false, eqb, List, [], ◌∷◌, ◌++◌, length, length-append, Option, Some, None, cond, refl, ap, ◌∙◌, append_assoc, arith}
 use Rattle.std.specs.Prelude.{map, codes}
 use Rattle.std.specs.List.{flat_map, AllByRecursion}
 use Rattle.std.proofs.lemmas.Bool.Decides.{nat_tests}
@@ -8,11 +8,12 @@ use Rattle.rv_dot.specs.declared.token.Mark.TheVariants.{OpenBrace, CloseBrace, 
 use Rattle.rv_dot.specs.Tokens.{Lexeme, sign, word, text}
 use Rattle.rv_dot.specs.Marks.{begins, expects, past_mark, is_assignment}
 use Rattle.rv_dot.specs.Names.{name_of}
-use Rattle.rv_dot.specs.Lists.{front_word}
-use Rattle.rv_dot.specs.Statements.{Claim, declares, value_held, declared_at, ranked_at, group_at, assignment_at, edge_at, named_at, statement_at, statements_within, statements_at, claims_of}
+use Rattle.rv_dot.specs.Lists.{front_word, attribute_at}
+use Rattle.rv_dot.specs.Statements.{Claim, declares, value_held, declared_at, ranked_at, group_at, assignment_at, edge_at, named_at, statement_at, claims_of}
 use Rattle.rv_dot.specs.Grammar.{semicolon, Bracket, inside, optional_bracket, Group, group, Statement, assigns, declaration, rank, node, edge, statement, with_semicolon, File, file, IsValue, IsName, IsGroup, IsStatement, IsFile, value_in, statement_claims, file_says}
 use Rattle.rv_dot.proofs.MarkLaws.{semicolon_again}
 use Rattle.rv_dot.proofs.ListsAgain.{value_again, name_again, name_begins, bracket_again, optional_bracket_again, names_begin, group_again}
+use Rattle.rv_dot.proofs.Items.{Again, items_again}
 
 -- what goes on with none of the marks that would belong to the statement before
 pub record Follows (rest : List Lexeme) : Type 0 where
@@ -77,7 +78,7 @@ ranked_again value s g rest h k =
 
 -- what is spelled so is read so: statement
 pub statement_again : (s : Statement) (rest : List Lexeme) → IsStatement s → Follows rest → statement_at (statement s ++ rest) ≡ Some (statement_claims s, rest)
-unfolding statement_at begins past_mark is_assignment assignment_at group_at named_at edge_at front_word expects
+unfolding statement_at begins past_mark is_assignment assignment_at attribute_at group_at named_at edge_at front_word expects
 statement_again (assigns key value) rest h next = rw (value_again value rest h) refl
 statement_again (declaration b g) rest h next =
     let regrouped : (inside b ++ sign CloseBracket ∷ []) ++ group g ++ rest ≡ inside b ++ sign CloseBracket ∷ (group g ++ rest) = append_assoc _ (group g) rest ∙ append_assoc (inside b) (sign CloseBracket ∷ []) (group g ++ rest) in
@@ -103,18 +104,17 @@ unfolding begins
 follows true ss rest h = record { no_bracket = refl; no_arrow = refl; no_equals = refl }
 follows false ss rest h = record { no_bracket = with_semicolon_begin OpenBracket ss rest h refl refl; no_arrow = with_semicolon_begin Arrow ss rest h refl refl; no_equals = with_semicolon_begin Equals ss rest h refl refl }
 
--- what is spelled so is read so: statements
-pub statements_again : (ss : List (Statement × Bool)) (n : ℕ) (rest : List Lexeme) → AllByRecursion (λ s. IsStatement s.0) ss → length ss < n
-    → statements_within n (flat_map with_semicolon ss ++ sign CloseBrace ∷ rest) ≡ Some (flat_map (λ s. statement_claims s.0) ss, rest)
-unfolding statements_within begins past_mark
-statements_again ss zero rest h few = absurd (omega arith)
-statements_again [] (suc n) rest h few = refl
-statements_again (s ∷ ss) (suc n) rest h few =
+-- a statement before others
+statement_item_again : Again CloseBrace statement_at (past_mark Semicolon) with_semicolon (λ s. statement_claims s.0) (λ s. IsStatement s.0)
+unfolding begins
+statement_item_again s ss rest h more =
     let tail = flat_map with_semicolon ss ++ sign CloseBrace ∷ rest in
-    let regrouped : flat_map with_semicolon (s ∷ ss) ++ sign CloseBrace ∷ rest ≡ statement s.0 ++ (semicolon s.1 ++ tail) = append_assoc (with_semicolon s) (flat_map with_semicolon ss) _ ∙ append_assoc (statement s.0) (semicolon s.1) tail in
-    let cut : past_mark Semicolon (semicolon s.1 ++ tail) ≡ tail = semicolon_again s.1 tail (with_semicolon_begin Semicolon ss rest h.1 refl refl) in
-    ap (statements_within (suc n)) regrouped ∙
-    rw (statement_begins CloseBrace s.0 (semicolon s.1 ++ tail) h.0 refl, statement_again s.0 (semicolon s.1 ++ tail) h.0 (follows s.1 ss rest h.1), cut, statements_again ss n rest h.1 (omega arith)) refl
+    let regrouped : with_semicolon s ++ tail ≡ statement s.0 ++ (semicolon s.1 ++ tail) = append_assoc (statement s.0) (semicolon s.1) tail in (
+      ap (begins CloseBrace) regrouped ∙ statement_begins CloseBrace s.0 (semicolon s.1 ++ tail) h refl,
+      semicolon s.1 ++ tail,
+      ap statement_at regrouped ∙ statement_again s.0 (semicolon s.1 ++ tail) h (follows s.1 ss rest more),
+      semicolon_again s.1 tail (with_semicolon_begin Semicolon ss rest more refl refl),
+    )
 
 -- a statement has tokens
 length_statement : (s : Statement) → 0 < length (statement s)
@@ -125,12 +125,11 @@ length_statement (node name b) = omega arith
 length_statement (edge from to b) = omega arith
 
 -- with its semicolon too
-length_with_semicolon : (ss : List (Statement × Bool)) → length ss ≤ length (flat_map with_semicolon ss)
-length_with_semicolon [] = omega arith
-length_with_semicolon (s ∷ ss) = omega (arith, length_with_semicolon ss, length_statement s.0, length-append (statement s.0) (semicolon s.1), length-append (with_semicolon s) (flat_map with_semicolon ss))
+length_with_semicolon : (s : Statement × Bool) → 0 < length (with_semicolon s)
+length_with_semicolon s = omega (arith, length_statement s.0, length-append (statement s.0) (semicolon s.1))
 
 -- a file that is spelled so says this
 pub file_again : (f : File) → IsFile f → claims_of (file f) ≡ Some (file_says f)
-unfolding claims_of statements_at front_word expects
+unfolding claims_of front_word expects
 file_again f h =
-    rw (statements_again f.statements (length (flat_map with_semicolon f.statements ++ sign CloseBrace ∷ [])) [] h (omega (arith, length_with_semicolon f.statements, length-append (flat_map with_semicolon f.statements) (sign CloseBrace ∷ [])))) refl
+    rw (items_again CloseBrace statement_at (past_mark Semicolon) with_semicolon (λ s. statement_claims s.0) (λ s. IsStatement s.0) statement_item_again length_with_semicolon f.statements [] h) refl

@@ -1,5 +1,5 @@
 -- What is read is spelled so: statements and files.
-use Rattle.std.proofs.Common.{◌≡◌, ℕ, zero, suc, ◌<◌, Bool, eqb, List, [], ◌∷◌, ◌++◌, length, Option, Some, None, cond, sym, ap, ◌∙◌, append_assoc, arith, inl, inr}
+use Rattle.std.proofs.Common.{◌≡◌, ℕ, ◌<◌, Bool, eqb, List, [], ◌∷◌, ◌++◌, length, Option, Some, None, cond, sym, ap, ◌∙◌, append_assoc, arith, inl, inr}
 use Rattle.std.specs.Prelude.{map, codes}
 use Rattle.std.specs.List.{flat_map, AllByRecursion}
 use Rattle.std.specs.Str.{bytes_eq}
@@ -9,12 +9,13 @@ use Rattle.rv_dot.specs.declared.token.Mark.TheVariants.{OpenBrace, CloseBrace, 
 use Rattle.rv_dot.specs.Tokens.{Lexeme, sign, word}
 use Rattle.rv_dot.specs.Marks.{begins, expects, past_mark, is_assignment}
 use Rattle.rv_dot.specs.Names.{name_of}
-use Rattle.rv_dot.specs.Lists.{front_word, value_at, name_at, bracket_at, names_at}
-use Rattle.rv_dot.specs.Statements.{Claim, declares, leads, value_held, optional_bracket_at, declared_at, ranked_at, group_at, assignment_at, edge_at, named_at, statement_at, statements_within}
+use Rattle.rv_dot.specs.Lists.{front_word, value_at, name_at, attribute_at, items_at, bracket_at, names_at}
+use Rattle.rv_dot.specs.Statements.{Claim, declares, leads, value_held, optional_bracket_at, declared_at, ranked_at, group_at, assignment_at, edge_at, named_at, statement_at, statements_at}
 use Rattle.rv_dot.specs.Grammar.{semicolon, inside, optional_bracket, Group, group, Statement, assigns, declaration, rank, node, edge, statement, with_semicolon, IsName, IsStatement, statement_claims}
 use Rattle.rv_dot.proofs.MarkLaws.{bind_some, chosen, expects_takes, begins_takes, semicolon_takes}
-use Rattle.rv_dot.proofs.ListsTake.{word_takes, value_takes, name_takes, bracket_takes, optional_bracket_takes, group_takes}
+use Rattle.rv_dot.proofs.ListsTake.{word_takes, value_takes, name_takes, attribute_takes, bracket_takes, optional_bracket_takes, group_takes}
 use Rattle.rv_dot.proofs.StatementsAgain.{declared_each}
+use Rattle.rv_dot.proofs.Items.{Takes, items_take}
 
 -- a statement was read off the front
 abbrev pub Took : List Lexeme → List Claim × List Lexeme → Type 0
@@ -28,20 +29,18 @@ behind_of y = y.1
 abbrev claims_in : List Claim × List Lexeme → List Claim
 claims_in y = y.0
 
+-- what is read of tokens is read of them however they are written
+respelled : (tokens tokens' : List Lexeme) (x : List Claim × List Lexeme) → tokens ≡ tokens' → Took tokens' x → Took tokens x
+respelled tokens tokens' x same took = (took.0, took.1, same ∙ took.2, took.3)
+
 -- what is read so is spelled so: assignment
 assignment_takes : (tokens : List Lexeme) (x : List Claim × List Lexeme) → assignment_at tokens ≡ Some x → Took tokens x
 unfolding assignment_at
 assignment_takes tokens x h =
-    let key = bind_some (front_word tokens) _ x h in
-    let behind = bind_some (expects Equals key.0.1) _ x key.2 in
-    let value = bind_some (value_at behind.0) _ x behind.2 in
-    let e = same_Some _ x value.2 in
-    let v = value_takes behind.0 value.0 value.1 in (
-      assigns key.0.0 value.0.0,
-      v.1,
-      word_takes tokens key.0 key.1 ∙ ap (λ (ts : List Lexeme). word key.0.0 ∷ ts) (expects_takes Equals key.0.1 behind.0 behind.1 ∙ ap (λ (ts : List Lexeme). sign Equals ∷ ts) (v.0 ∙ ap (λ (y : List Claim × List Lexeme). value.0.0 ∷ y.1) e)),
-      ap claims_in e,
-    )
+    let read = bind_some (attribute_at tokens) _ x h in
+    let e = same_Some _ x read.2 in
+    let spelled = attribute_takes tokens read.0 read.1 in
+    (assigns read.0.0.key read.0.0.value, spelled.1, spelled.0 ∙ ap (λ (y : List Claim × List Lexeme). word read.0.0.key ∷ sign Equals ∷ read.0.0.value ∷ y.1) e, ap claims_in e)
 
 -- what is read so is spelled so: edge
 edge_takes : (from : Lexeme) (tokens : List Lexeme) (x : List Claim × List Lexeme) → IsName from → edge_at from tokens ≡ Some x → Took (from ∷ sign Arrow ∷ tokens) x
@@ -65,9 +64,7 @@ named_takes tokens x h =
     let from = bind_some (name_at tokens) _ x h in
     let f = name_takes tokens from.0 from.1 in
     elim (chosen (begins Arrow from.0.1) _ _ (Some x) from.2) [
-      | inl p ↦
-          let took = edge_takes from.0.0 (past_mark Arrow from.0.1) x f.1 p.1 in
-          (took.0, took.1, f.0 ∙ ap (λ (ts : List Lexeme). from.0.0 ∷ ts) (begins_takes Arrow from.0.1 p.0) ∙ took.2, took.3)
+      | inl p ↦ respelled tokens _ x (f.0 ∙ ap (λ (ts : List Lexeme). from.0.0 ∷ ts) (begins_takes Arrow from.0.1 p.0)) (edge_takes from.0.0 (past_mark Arrow from.0.1) x f.1 p.1)
       | inr p ↦
           let ignored = bind_some (optional_bracket_at [] from.0.1) _ x p.1 in
           let e = same_Some _ x ignored.2 in
@@ -131,27 +128,22 @@ group_statement_takes tokens x h =
     let head = bind_some (front_word tokens) _ x h in
     let w = word_takes tokens head.0 head.1 in
     elim (chosen (begins Equals head.0.1) _ _ (Some x) head.2) [
-      | inl p ↦
-          let took = ranked_takes head.0.0 (past_mark Equals head.0.1) x p.1 in
-          (took.0, took.1, ap (λ (ts : List Lexeme). sign OpenBrace ∷ ts) (w ∙ ap (λ (ts : List Lexeme). word head.0.0 ∷ ts) (begins_takes Equals head.0.1 p.0)) ∙ took.2, took.3)
+      | inl p ↦ respelled (sign OpenBrace ∷ tokens) _ x (ap (λ (ts : List Lexeme). sign OpenBrace ∷ ts) (w ∙ ap (λ (ts : List Lexeme). word head.0.0 ∷ ts) (begins_takes Equals head.0.1 p.0))) (ranked_takes head.0.0 (past_mark Equals head.0.1) x p.1)
       | inr p ↦
           elim (chosen (bytes_eq head.0.0 (codes "node")) _ _ (Some x) p.1) [
             | inl q ↦
-                let took = declared_takes head.0.1 x q.1 in
                 let is_node = (bytes_decides head.0.0 (codes "node")).0 q.0 in
-                (took.0, took.1, ap (λ (ts : List Lexeme). sign OpenBrace ∷ ts) (w ∙ ap (λ (k : List ℕ). word k ∷ head.0.1) is_node) ∙ took.2, took.3)
+                respelled (sign OpenBrace ∷ tokens) _ x (ap (λ (ts : List Lexeme). sign OpenBrace ∷ ts) (w ∙ ap (λ (k : List ℕ). word k ∷ head.0.1) is_node)) (declared_takes head.0.1 x q.1)
             | inr q ↦ absurd (cc)
           ]
     ]
 
 -- what is read so is spelled so: statement
-pub statement_takes : (tokens : List Lexeme) (x : List Claim × List Lexeme) → statement_at tokens ≡ Some x → Took tokens x
+statement_takes : (tokens : List Lexeme) (x : List Claim × List Lexeme) → statement_at tokens ≡ Some x → Took tokens x
 unfolding statement_at
 statement_takes tokens x h =
     elim (chosen (begins OpenBrace tokens) _ _ (Some x) h) [
-      | inl p ↦
-          let took = group_statement_takes (past_mark OpenBrace tokens) x p.1 in
-          (took.0, took.1, begins_takes OpenBrace tokens p.0 ∙ took.2, took.3)
+      | inl p ↦ respelled tokens _ x (begins_takes OpenBrace tokens p.0) (group_statement_takes (past_mark OpenBrace tokens) x p.1)
       | inr p ↦
           elim (chosen (is_assignment tokens) _ _ (Some x) p.1) [
             | inl q ↦ assignment_takes tokens x q.1
@@ -159,29 +151,15 @@ statement_takes tokens x h =
           ]
     ]
 
+-- a statement among others
+statement_item_takes : Takes CloseBrace statement_at (past_mark Semicolon) with_semicolon (λ s. statement_claims s.0) (λ s. IsStatement s.0)
+statement_item_takes tokens x h =
+    let took = statement_takes tokens x h in
+    let s = semicolon_takes x.1 in
+    ((took.0, s.0), took.1, took.2 ∙ ap (λ (ts : List Lexeme). statement took.0 ++ ts) s.1 ∙ sym (append_assoc (statement took.0) (semicolon s.0) (past_mark Semicolon x.1)), took.3)
+
 -- what is read so is spelled so: statements
-pub statements_take : (n : ℕ) (tokens : List Lexeme) (x : List Claim × List Lexeme) → statements_within n tokens ≡ Some x
+pub statements_take : (tokens : List Lexeme) (x : List Claim × List Lexeme) → statements_at tokens ≡ Some x
     → (ss : List (Statement × Bool)) × AllByRecursion (λ s. IsStatement s.0) ss × (tokens ≡ flat_map with_semicolon ss ++ sign CloseBrace ∷ x.1) × (flat_map (λ s. statement_claims s.0) ss ≡ x.0)
-unfolding statements_within
-statements_take zero tokens x h = absurd (cc)
-statements_take (suc n) tokens x h =
-    elim (chosen (begins CloseBrace tokens) _ _ (Some x) h) [
-      | inl p ↦
-          let e = same_Some _ x p.1 in
-          ([], tt, begins_takes CloseBrace tokens p.0 ∙ ap (λ (y : List Claim × List Lexeme). sign CloseBrace ∷ y.1) e, ap claims_in e)
-      | inr p ↦
-          let first = bind_some (statement_at tokens) _ x p.1 in
-          let others = bind_some (statements_within n (past_mark Semicolon first.0.1)) _ x first.2 in
-          let e = same_Some _ x others.2 in
-          let took = statement_takes tokens first.0 first.1 in
-          let s = semicolon_takes first.0.1 in
-          let more = statements_take n (past_mark Semicolon first.0.1) others.0 others.1 in
-          let tail = flat_map with_semicolon more.0 ++ sign CloseBrace ∷ others.0.1 in (
-            (took.0, s.0) ∷ more.0,
-            (took.1, more.1),
-            took.2 ∙ ap (λ (ts : List Lexeme). statement took.0 ++ ts) (s.1 ∙ ap (λ (ts : List Lexeme). semicolon s.0 ++ ts) more.2)
-                ∙ sym (append_assoc (statement took.0 ++ semicolon s.0) (flat_map with_semicolon more.0) (sign CloseBrace ∷ others.0.1) ∙ append_assoc (statement took.0) (semicolon s.0) tail)
-                ∙ ap (λ (y : List Claim × List Lexeme). flat_map with_semicolon ((took.0, s.0) ∷ more.0) ++ sign CloseBrace ∷ y.1) e,
-            ap (λ (cs : List Claim). cs ++ flat_map (λ (s : Statement × Bool). statement_claims s.0) more.0) took.3 ∙ ap (λ (cs : List Claim). first.0.0 ++ cs) more.3 ∙ ap claims_in e,
-          )
-    ]
+unfolding items_at
+statements_take tokens x h = items_take CloseBrace statement_at (past_mark Semicolon) with_semicolon (λ s. statement_claims s.0) (λ s. IsStatement s.0) statement_item_takes (length tokens) tokens x h

@@ -2,8 +2,10 @@
 use Rattle.std.proofs.Common.{◌≡◌, ℕ, List, length, arith, ap, ◌∙◌, Some, true, Vec, Global}
 use Rattle.std.specs.Prelude.{Result, Ok, Err, IfOk}
 use Rattle.rv_dot.specs.declared.token.DotToken.{DotToken}
-use Rattle.rv_dot.specs.declared.fault.DotFault.{DotFault}
-use Rattle.rv_dot.specs.Tokens.{GivesSome, lexemes, tokens_of}
+use Rattle.rv_text.specs.declared.unread.Unread.{Unread}
+use Rattle.rv_text.specs.Unreads.{IsReadAs}
+use Rattle.rv_dot.specs.Tokens.{tokens_of}
+use Rattle.rv_dot.specs.Held.{lexemes}
 use Rattle.rv_dot.specs.Pieces.{Piece, SplitsInto, tokens_in}
 use Rattle.rv_dot.specs.Statements.{Claim, claims_of}
 use Rattle.rv_dot.specs.Grammar.{File, file_says}
@@ -15,7 +17,7 @@ use Rattle.rv_dot.proofs.StatementsAgain.{file_again}
 use Rattle.rv_dot.proofs.FilesTake.{file_takes}
 
 -- tokens that are read are those of pieces
-pub tokens_are_found : (bytes : List ℕ) (r : Result (Vec DotToken Global) DotFault) → GivesSome (λ v. lexemes v.items) r (tokens_of bytes) → IfOk r (λ v. (ps : List Piece) × SplitsInto true bytes ps × (tokens_in ps ≡ lexemes v.items))
+pub tokens_are_found : (bytes : List ℕ) (r : Result (Vec DotToken Global) Unread) → IsReadAs (λ v. lexemes v.items) r (tokens_of bytes) → IfOk r (λ v. (ps : List Piece) × SplitsInto true bytes ps × (tokens_in ps ≡ lexemes v.items))
 tokens_are_found bytes (Ok v) h = tokens_take (length bytes) true bytes (lexemes v.items) h
 tokens_are_found bytes (Err e) h = tt
 

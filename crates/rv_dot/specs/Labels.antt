@@ -1,16 +1,12 @@
 -- The events of a label (this project's choice of a DOT subset).
-use Rattle.std.specs.Prelude.{ℕ, zero, suc, ◌+◌, Bool, ◌||◌, ◌&&◌, ◌==◌, List, [], ◌∷◌, length, take, drop, Option, Some, None, if◌then◌else◌}
+use Rattle.std.specs.Prelude.{ℕ, zero, suc, ◌+◌, ◌&&◌, ◌==◌, List, [], ◌∷◌, length, take, drop, Option, if◌then◌else◌}
 use Rattle.std.specs.Option.{option_map, unwrap_or}
-use Rattle.rv_dot.specs.Runs.{begins_with}
-
--- a space or a tab
-abbrev pub is_blank : ℕ → Bool
-is_blank b = b == 32 || b == 9
+use Rattle.rv_text.specs.Places.{is_blank}
+use Rattle.rv_dot.specs.Runs.{pair_len}
 
 -- the bytes before the first backslash with an `n` behind it
-unfoldable pub piece_len : List ℕ → Option ℕ
-piece_len [] = None
-piece_len (b ∷ bytes) = if b == 92 && begins_with 110 bytes then Some 0 else option_map (λ n. n + 1) (piece_len bytes)
+abbrev pub piece_len : List ℕ → Option ℕ
+piece_len label = pair_len 92 110 label
 
 -- the bytes from the first on that is no blank
 unfoldable pub without_blanks : List ℕ → List ℕ

@@ -7,10 +7,11 @@ pub mod Sets
 pub mod Marks
 pub mod Lists
 pub mod Statements
-pub mod Settings
-pub mod Sayings
 pub mod Gathered
+pub mod Held
+pub mod Gathering
 pub mod Moves
+pub mod Clashes
 pub mod Grammar
 pub mod Pieces
 pub mod Text

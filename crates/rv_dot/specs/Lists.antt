@@ -1,7 +1,8 @@
 -- Words, values, names, and lists of them (this project's subset of DOT), read from tokens.
-use Rattle.std.specs.Prelude.{ℕ, zero, suc, Bool, ◌||◌, codes, List, [], ◌∷◌, length, Option, Some, None, if◌then◌else◌}
+use Rattle.std.specs.Prelude.{ℕ, zero, suc, Bool, ◌||◌, codes, List, [], ◌∷◌, ◌++◌, length, Option, Some, None, if◌then◌else◌}
 use Rattle.std.specs.Str.{bytes_eq}
-use Rattle.std.specs.Option.{option_or}
+use Rattle.std.specs.Option.{option_map, option_or}
+use Rattle.rv_dot.specs.declared.token.Mark.{Mark}
 use Rattle.rv_dot.specs.declared.token.Mark.TheVariants.{CloseBrace, CloseBracket, Equals, Semicolon, Comma}
 use Rattle.rv_dot.specs.Tokens.{Lexeme, sign, word, text, ◌>>=◌}
 use Rattle.rv_dot.specs.Marks.{begins, expects, past_mark}
@@ -47,21 +48,33 @@ attribute_at tokens = do
   value ← value_at behind
   Some (record { key = key.0; value = value.0 }, value.1)
 
--- behind an opening bracket, up to and with the closing one, in at most so many tokens
-unfoldable pub attributes_within : ℕ → List Lexeme → Option (List Attribute × List Lexeme)
-attributes_within zero tokens = None
-attributes_within (suc n) tokens =
-    if begins CloseBracket tokens then Some ([], past_mark CloseBracket tokens)
-    else (attribute_at tokens >>= (λ first. attributes_within n (separated first.1) >>= (λ others. Some (first.0 ∷ others.0, others.1))))
+-- items, each with what may stand behind it, up to and with the closing mark, in at most so many tokens
+unfoldable pub items_within : {A : Type 0} → Mark → (List Lexeme → Option (List A × List Lexeme)) → (List Lexeme → List Lexeme) → ℕ → List Lexeme → Option (List A × List Lexeme)
+items_within close item_at past zero tokens = None
+items_within close item_at past (suc n) tokens =
+    if begins close tokens then Some ([], past_mark close tokens)
+    else (item_at tokens >>= (λ first. items_within close item_at past n (past first.1) >>= (λ others. Some (first.0 ++ others.0, others.1))))
+
+-- the same, in as many tokens as there are
+unfoldable pub items_at : {A : Type 0} → Mark → (List Lexeme → Option (List A × List Lexeme)) → (List Lexeme → List Lexeme) → List Lexeme → Option (List A × List Lexeme)
+items_at close item_at past tokens = items_within close item_at past (length tokens) tokens
+
+-- an item of one thing
+abbrev pub one_item : {A : Type 0} → Option (A × List Lexeme) → Option (List A × List Lexeme)
+one_item read = option_map (λ x. (x.0 ∷ [], x.1)) read
+
+-- an attribute among others
+abbrev pub attribute_item : List Lexeme → Option (List Attribute × List Lexeme)
+attribute_item tokens = one_item (attribute_at tokens)
+
+-- behind an opening bracket: attributes, each with at most one comma or semicolon, up to and with the closing one
+abbrev pub attributes_at : List Lexeme → Option (List Attribute × List Lexeme)
+attributes_at tokens = items_at CloseBracket attribute_item separated tokens
 
 -- the value that counts for this key: the last one
 unfoldable pub last_value : List ℕ → List Attribute → Option Lexeme
 last_value key [] = None
 last_value key (a ∷ as') = option_or (last_value key as') (if bytes_eq a.key key then Some a.value else None)
-
--- the same, in as many tokens as there are
-unfoldable pub attributes_at : List Lexeme → Option (List Attribute × List Lexeme)
-attributes_at tokens = attributes_within (length tokens) tokens
 
 -- behind an opening bracket: the value that counts for the key
 unfoldable pub bracket_at : List ℕ → List Lexeme → Option (Option Lexeme × List Lexeme)
@@ -69,13 +82,10 @@ bracket_at key tokens = do
   attributes ← attributes_at tokens
   Some (last_value key attributes.0, attributes.1)
 
--- names, each with at most one semicolon, up to and with the closing brace, in at most so many tokens
-unfoldable pub names_within : ℕ → List Lexeme → Option (List Lexeme × List Lexeme)
-names_within zero tokens = None
-names_within (suc n) tokens =
-    if begins CloseBrace tokens then Some ([], past_mark CloseBrace tokens)
-    else (name_at tokens >>= (λ first. names_within n (past_mark Semicolon first.1) >>= (λ others. Some (first.0 ∷ others.0, others.1))))
+-- a name among others
+abbrev pub name_item : List Lexeme → Option (List Lexeme × List Lexeme)
+name_item tokens = one_item (name_at tokens)
 
--- the same, in as many tokens as there are
-unfoldable pub names_at : List Lexeme → Option (List Lexeme × List Lexeme)
-names_at tokens = names_within (length tokens) tokens
+-- names, each with at most one semicolon, up to and with the closing brace
+abbrev pub names_at : List Lexeme → Option (List Lexeme × List Lexeme)
+names_at tokens = items_at CloseBrace name_item (past_mark Semicolon) tokens

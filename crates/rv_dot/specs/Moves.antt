@@ -1,5 +1,5 @@
--- Moves by number: their order, sets of them, and when two of them clash.
-use Rattle.std.specs.Prelude.{ℕ, ◌&&◌, ◌||◌, ◌==◌, Bool, false, List, [], ◌∷◌}
+-- Moves by number: their order, and sets of them.
+use Rattle.std.specs.Prelude.{ℕ, List, []}
 use Rattle.std.specs.List.{fold}
 use Rattle.std.specs.BTreeSet.{insert_key}
 use Rattle.std.specs.Ordering.{nat_cmp, ordering_then}
@@ -24,13 +24,3 @@ arc_move states events a = record { from = number_in states a.from; event = numb
 -- a move as an edge
 abbrev pub edge_of : Move → Edge
 edge_of m = record { from = m.from; event = m.event; to = m.to }
-
--- from one state by one event
-abbrev pub same_key : Move → Move → Bool
-same_key a b = a.from == b.from && a.event == b.event
-
--- two neighbours have one state and one event
-abbrev pub has_clash : List Move → Bool
-has_clash [] = false
-has_clash (a ∷ []) = false
-has_clash (a ∷ b ∷ moves) = same_key a b || has_clash (b ∷ moves)

@@ -9,8 +9,8 @@ use Rattle.rv_dot.specs.Statements.{Claim}
 use Rattle.rv_dot.specs.Gathered.{is_marked}
 use Rattle.rv_dot.specs.Moves.{edge_of}
 use Rattle.rv_dot.specs.Dot.{bits_of, marked_or_initial}
-use Rattle.rv_dot.specs.Members.{Ascends}
-use Rattle.rv_dot.specs.Sets.{bytes_of}
+use Rattle.rv_text.specs.Ascending.{Ascends}
+use Rattle.rv_dot.specs.Held.{bytes_of}
 
 -- the first state and then the others
 abbrev pub states_by : Numbering → List (List ℕ)

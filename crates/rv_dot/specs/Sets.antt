@@ -1,6 +1,5 @@
 -- Sets of names, as ascending lists with no name twice, and the places of names in a list.
 use Rattle.std.specs.Prelude.{ℕ, ◌+◌, Bool, List, [], ◌∷◌, Option, Some, None, if◌then◌else◌}
-use Rattle.std.specs.Borrow.{Bor}
 use Rattle.std.specs.List.{fold}
 use Rattle.std.specs.Option.{option_map, is_some, unwrap_or}
 use Rattle.std.specs.Str.{bytes_eq}
@@ -11,10 +10,6 @@ use Rattle.std.specs.Ordering.{nat_cmp}
 -- the names, ascending by bytes, each once
 unfoldable pub ascending : List (List ℕ) → List (List ℕ)
 ascending names = fold (insert_key (slice_cmp nat_cmp)) [] names
-
--- a name's bytes
-abbrev pub bytes_of : Bor (List ℕ) → List ℕ
-bytes_of name = name.now
 
 -- the place of the first name that is this one
 unfoldable pub place_of : List ℕ → List (List ℕ) → Option ℕ

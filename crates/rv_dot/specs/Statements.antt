@@ -1,12 +1,10 @@
 -- The statements of a DOT text (this project's subset), read from its tokens.
-use Rattle.std.specs.Prelude.{ℕ, zero, suc, ◌&&◌, ◌==◌, codes, List, [], ◌∷◌, ◌++◌, length, map, Option, Some, None, if◌then◌else◌}
+use Rattle.std.specs.Prelude.{ℕ, ◌&&◌, ◌==◌, codes, List, [], ◌∷◌, length, map, Option, Some, None, if◌then◌else◌}
 use Rattle.std.specs.Str.{bytes_eq}
 use Rattle.std.specs.Option.{option_map}
 use Rattle.rv_dot.specs.declared.token.Mark.TheVariants.{OpenBrace, CloseBrace, OpenBracket, Equals, Semicolon, Arrow}
-use Rattle.rv_dot.specs.declared.fact.Fact.{Fact}
-use Rattle.rv_dot.specs.declared.fact.Fact.TheVariants.{Declares, Leads}
-use Rattle.rv_dot.specs.Tokens.{Lexeme, lexeme, ◌>>=◌}
-use Rattle.rv_dot.specs.Lists.{front_word, value_at, name_at, bracket_at, names_at}
+use Rattle.rv_dot.specs.Tokens.{Lexeme, ◌>>=◌}
+use Rattle.rv_dot.specs.Lists.{front_word, value_at, name_at, attribute_at, items_at, bracket_at, names_at}
 use Rattle.rv_dot.specs.Marks.{begins, expects, past_mark, is_assignment}
 use Rattle.rv_dot.specs.Names.{content_of, name_of}
 
@@ -18,15 +16,6 @@ pub data Claim : Type 0 where
 -- what a value holds
 abbrev pub value_held : Option Lexeme → Option (List ℕ)
 value_held value = option_map content_of value
-
--- what a fact says
-abbrev pub claim : Fact → Claim
-claim (Declares name shape) = declares (name_of (lexeme name)) (value_held (option_map lexeme shape))
-claim (Leads from to label) = leads (name_of (lexeme from)) (name_of (lexeme to)) (value_held (option_map lexeme label))
-
--- what facts say
-abbrev pub claims : List Fact → List Claim
-claims facts = map claim facts
 
 -- a bracket, where one stands
 unfoldable pub optional_bracket_at : List ℕ → List Lexeme → Option (Option Lexeme × List Lexeme)
@@ -56,13 +45,11 @@ group_at tokens = do
   if begins Equals head.1 then ranked_at (past_mark Equals head.1)
       else (if bytes_eq head.0 (codes "node") then declared_at head.1 else None)
 
--- word = value, which says nothing
+-- word = value, as an attribute, which says nothing
 unfoldable pub assignment_at : List Lexeme → Option (List Claim × List Lexeme)
 assignment_at tokens = do
-  key ← front_word tokens
-  behind ← expects Equals key.1
-  value ← value_at behind
-  Some ([], value.1)
+  attribute ← attribute_at tokens
+  Some ([], attribute.1)
 
 -- behind `name ->`
 unfoldable pub edge_at : Lexeme → List Lexeme → Option (List Claim × List Lexeme)
@@ -84,16 +71,9 @@ statement_at tokens =
     if begins OpenBrace tokens then group_at (past_mark OpenBrace tokens)
     else (if is_assignment tokens then assignment_at tokens else named_at tokens)
 
--- statements, each with at most one semicolon, up to and with the closing brace, in at most so many tokens
-unfoldable pub statements_within : ℕ → List Lexeme → Option (List Claim × List Lexeme)
-statements_within zero tokens = None
-statements_within (suc n) tokens =
-    if begins CloseBrace tokens then Some ([], past_mark CloseBrace tokens)
-    else (statement_at tokens >>= (λ first. statements_within n (past_mark Semicolon first.1) >>= (λ others. Some (first.0 ++ others.0, others.1))))
-
--- the same, in as many tokens as there are
-unfoldable pub statements_at : List Lexeme → Option (List Claim × List Lexeme)
-statements_at tokens = statements_within (length tokens) tokens
+-- statements, each with at most one semicolon, up to and with the closing brace
+abbrev pub statements_at : List Lexeme → Option (List Claim × List Lexeme)
+statements_at tokens = items_at CloseBrace statement_at (past_mark Semicolon) tokens
 
 -- what all the tokens say: `digraph`, a word, and statements between braces
 unfoldable pub claims_of : List Lexeme → Option (List Claim)

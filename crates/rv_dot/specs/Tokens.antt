@@ -1,12 +1,9 @@
 -- The tokens of a DOT text (this project's subset), from left to right.
-use Rattle.std.specs.Prelude.{ℕ, zero, suc, ◌+◌, Bool, true, ◌||◌, ◌&&◌, ◌==◌, List, [], ◌∷◌, ◌++◌, length, take, drop, map, Option, Some, None, if◌then◌else◌, option_and_then, Result, Ok, Err, ◌≡◌}
+use Rattle.std.specs.Prelude.{ℕ, zero, suc, ◌+◌, Bool, true, ◌||◌, ◌&&◌, ◌==◌, List, [], ◌∷◌, ◌++◌, length, take, drop, Option, Some, None, if◌then◌else◌, option_and_then}
+use Rattle.std.specs.List.{find}
 use Rattle.std.specs.Option.{option_map, option_to_list}
 use Rattle.rv_dot.specs.declared.token.Mark.{Mark}
 use Rattle.rv_dot.specs.declared.token.Mark.TheVariants.{OpenBrace, CloseBrace, OpenBracket, CloseBracket, Equals, Semicolon, Comma, Arrow}
-use Rattle.rv_dot.specs.declared.token.DotToken.{DotToken}
-use Rattle.rv_dot.specs.declared.token.DotToken.TheVariants.{Sign, Word, Text}
-use Rattle.rv_dot.specs.declared.fault.DotFault.{DotFault}
-use Rattle.rv_dot.specs.declared.fault.DotFault.TheVariants.{Memory, Syntax}
 use Rattle.rv_dot.specs.Runs.{is_word_byte, line_len, word_len, block_len, string_len, begins_with}
 
 infixl 10 ◌>>=◌
@@ -14,31 +11,11 @@ infixl 10 ◌>>=◌
 abbrev pub ◌>>=◌ : {A B : Type 0} → Option A → (A → Option B) → Option B
 o >>= f = option_and_then f o
 
--- What a function returned, seen by view, is what reading gives, unless memory ran out.
-abbrev pub Fails : {Y : Type 0} → DotFault → Option Y → Type 0
-Fails Memory read = Unit {0}
-Fails Syntax read = read ≡ None
-
--- the same of a value
-abbrev pub GivesSome : {X Y : Type 0} → (X → Y) → Result X DotFault → Option Y → Type 0
-GivesSome view (Ok x) read = read ≡ Some (view x)
-GivesSome view (Err e) read = Fails e read
-
 -- a token without where it lies in memory; a text is what stands between its quotes
 pub data Lexeme : Type 0 where
   sign : Mark → Lexeme
   word : List ℕ → Lexeme
   text : List ℕ → Lexeme
-
--- what a token is
-abbrev pub lexeme : DotToken → Lexeme
-lexeme (Sign mark) = sign mark
-lexeme (Word bytes) = word bytes.now
-lexeme (Text bytes) = text bytes.now
-
--- what tokens are
-abbrev pub lexemes : List DotToken → List Lexeme
-lexemes tokens = map lexeme tokens
 
 -- what stands at the front, a token or what may stand between tokens, and the bytes after it
 abbrev pub Front : Type 0
@@ -52,13 +29,13 @@ gap rest = Some (None, rest)
 abbrev pub one : Lexeme → List ℕ → Option Front
 one found rest = Some (Some found, rest)
 
--- the mark of one byte
+-- the marks of one byte
+abbrev pub byte_marks : List (ℕ × Mark)
+byte_marks = (123, OpenBrace) ∷ (125, CloseBrace) ∷ (91, OpenBracket) ∷ (93, CloseBracket) ∷ (61, Equals) ∷ (59, Semicolon) ∷ (44, Comma) ∷ []
+
+-- the mark of the byte
 abbrev pub mark_of : ℕ → Option Mark
-mark_of b =
-    if b == 123 then Some OpenBrace else (if b == 125 then Some CloseBrace
-    else (if b == 91 then Some OpenBracket else (if b == 93 then Some CloseBracket
-    else (if b == 61 then Some Equals else (if b == 59 then Some Semicolon
-    else (if b == 44 then Some Comma else None))))))
+mark_of b = option_map (λ p. p.1) (find (λ p. b == p.0) byte_marks)
 
 -- behind a slash
 unfoldable pub comment_of : List ℕ → Option Front

@@ -5,107 +5,19 @@ ghost use Rattle.rv_model.specs.declared.automaton.Edge.{Edge as EdgeValue};
 ghost use Rattle.rv_model.specs.Machine.{Machine};
 ghost use Rattle.rv_model.specs.WellFormed.{IsAutomaton};
 ghost use Rattle.rv_dot.specs.Dot.{dot_of};
-ghost use Rattle.rv_dot.specs.Canonical.{quoted, marker, drawn_shape, marker_line, state_line, initial_line, node_line, arc_line, states_marked, arc_named, dot_text};
+ghost use Rattle.rv_dot.specs.Canonical.{state_line, node_line, arc_line, states_marked, arc_named, dot_text};
 
+use crate::lines::{
+    put_arc_line, put_head, put_initial_line, put_last, put_marker_line, put_node_line,
+    put_state_line,
+};
 use rv_model::{Automaton, Edge, Names};
+use rv_text::Line;
 use std::alloc::{AllocError, Global};
 
-fn put(out: &mut Vec<u8>, bytes: &[u8]) -> Result<(), AllocError>
-    ensures { OnOk result (out.new.items ≡ out.old.items ++ bytes.now) }
-{
-    out.extend_from_slice(bytes)
-}
-
-/// The name between quotes.
-fn put_quoted(out: &mut Vec<u8>, name: &[u8]) -> Result<(), AllocError>
-    ensures { OnOk result (out.new.items ≡ out.old.items ++ quoted name.now) }
-{
-    put(out, b"\"")?;
-    put(out, name)?;
-    put(out, b"\"")
-}
-
-/// The name of the initial state's marker between quotes.
-fn put_marker(out: &mut Vec<u8>, initial: &[u8]) -> Result<(), AllocError>
-    ensures { OnOk result (out.new.items ≡ out.old.items ++ quoted (marker initial.now)) }
-{
-    put(out, b"\"__init_")?;
-    put(out, initial)?;
-    put(out, b"\"")
-}
-
-/// The declaration of the marker.
-fn put_marker_line(out: &mut Vec<u8>, initial: &[u8]) -> Result<(), AllocError>
-    ensures { OnOk result (out.new.items ≡ out.old.items ++ marker_line initial.now) }
-{
-    put(
-        out,
-        b"\t{node [shape = plaintext, style=invis, label=\"\"] ",
-    )?;
-    put_marker(out, initial)?;
-    put(out, b"};\n")
-}
-
-fn put_shape(out: &mut Vec<u8>, is_marked: bool) -> Result<(), AllocError>
-    ensures { OnOk result (out.new.items ≡ out.old.items ++ drawn_shape is_marked) }
-{
-    if is_marked {
-        put(out, b"doublecircle")
-    } else {
-        put(out, b"circle")
-    }
-}
-
-/// The declaration of a state.
-fn put_state_line(out: &mut Vec<u8>, name: &[u8], is_marked: bool) -> Result<(), AllocError>
-    ensures { OnOk result (out.new.items ≡ out.old.items ++ state_line (record { name = name.now; is_marked = is_marked })) }
-{
-    put(out, b"\t{node [shape = ")?;
-    put_shape(out, is_marked)?;
-    put(out, b"] ")?;
-    put_quoted(out, name)?;
-    put(out, b"};\n")?;
-    Ok(())
-}
-
-/// The edge from the marker.
-fn put_initial_line(out: &mut Vec<u8>, initial: &[u8]) -> Result<(), AllocError>
-    ensures { OnOk result (out.new.items ≡ out.old.items ++ initial_line initial.now) }
-{
-    put(out, b"\t")?;
-    put_marker(out, initial)?;
-    put(out, b" -> ")?;
-    put_quoted(out, initial)?;
-    put(out, b";\n")
-}
-
-/// The label of a state.
-fn put_node_line(out: &mut Vec<u8>, name: &[u8]) -> Result<(), AllocError>
-    ensures { OnOk result (out.new.items ≡ out.old.items ++ node_line name.now) }
-{
-    put(out, b"\t")?;
-    put_quoted(out, name)?;
-    put(out, b" [label = ")?;
-    put_quoted(out, name)?;
-    put(out, b"];\n")
-}
-
-/// An edge.
-fn put_arc_line(out: &mut Vec<u8>, from: &[u8], event: &[u8], to: &[u8]) -> Result<(), AllocError>
-    ensures { OnOk result (out.new.items ≡ out.old.items ++ arc_line (record { from = from.now; event = event.now; to = to.now })) }
-{
-    put(out, b"\t")?;
-    put_quoted(out, from)?;
-    put(out, b" -> ")?;
-    put_quoted(out, to)?;
-    put(out, b" [ label = ")?;
-    put_quoted(out, event)?;
-    put(out, b" ];\n")
-}
-
-/// The declarations of all states.
-fn put_states(out: &mut Vec<u8>, states: &Names, marked: u32) -> Result<(), AllocError>
-    ensures { OnOk result (out.new.items ≡ out.old.items ++ flat_map state_line (states_marked marked states.now)) }
+/// Appends the declarations of all states.
+fn put_states(out: &mut Line, states: &Names, marked: u32) -> Result<(), AllocError>
+    ensures { OnOk result (out.new ≡ out.old ++ flat_map state_line (states_marked marked states.now)) }
 {
     let mut place = 0;
     let mut bits = marked;
@@ -117,9 +29,9 @@ fn put_states(out: &mut Vec<u8>, states: &Names, marked: u32) -> Result<(), Allo
     Ok(())
 }
 
-/// The labels of all states.
-fn put_nodes(out: &mut Vec<u8>, states: &Names) -> Result<(), AllocError>
-    ensures { OnOk result (out.new.items ≡ out.old.items ++ flat_map node_line states.now) }
+/// Appends the labels of all states.
+fn put_nodes(out: &mut Line, states: &Names) -> Result<(), AllocError>
+    ensures { OnOk result (out.new ≡ out.old ++ flat_map node_line states.now) }
 {
     let mut place = 0;
     'states: while place < states.len() {
@@ -129,12 +41,12 @@ fn put_nodes(out: &mut Vec<u8>, states: &Names) -> Result<(), AllocError>
     Ok(())
 }
 
-/// One edge by its names.
-fn put_edge(out: &mut Vec<u8>, states: &Names, events: &Names, edge: Edge) -> Result<(), AllocError>
+/// Appends an edge by its names.
+fn put_edge(out: &mut Line, states: &Names, events: &Names, edge: Edge) -> Result<(), AllocError>
     requires from { edge.from < length states.now }
     requires event { edge.event < length events.now }
     requires to { edge.to < length states.now }
-    ensures { OnOk result (out.new.items ≡ out.old.items ++ arc_line (arc_named states.now events.now edge)) }
+    ensures { OnOk result (out.new ≡ out.old ++ arc_line (arc_named states.now events.now edge)) }
 {
     let from = states.get(edge.from as usize).bytes();
     let event = events.get(edge.event as usize).bytes();
@@ -142,15 +54,15 @@ fn put_edge(out: &mut Vec<u8>, states: &Names, events: &Names, edge: Edge) -> Re
     put_arc_line(out, from, event, to)
 }
 
-/// All edges.
+/// Appends all edges.
 fn put_edges(
-    out: &mut Vec<u8>,
+    out: &mut Line,
     states: &Names,
     events: &Names,
     edges: &[Edge],
 ) -> Result<(), AllocError>
     requires { All (λ (e : EdgeValue). (e.from < length states.now) × (e.event < length events.now) × (e.to < length states.now)) edges.now }
-    ensures { OnOk result (out.new.items ≡ out.old.items ++ flat_map arc_line (map (arc_named states.now events.now) edges.now)) }
+    ensures { OnOk result (out.new ≡ out.old ++ flat_map arc_line (map (arc_named states.now events.now) edges.now)) }
 {
     'edges: for edge in edges {
         put_edge(out, states, events, *edge)?;
@@ -163,12 +75,9 @@ pub fn write_dot(alloc: Global, automaton: &Automaton) -> Result<Vec<u8>, AllocE
     ensures text { IfOk result (λ v. v.items ≡ dot_text automaton.now) }
     ensures again { IfOk result (λ v. dot_of v.items ≡ Ok automaton.now) }
 {
-    let mut out = Vec::new(alloc);
+    let mut out = Line::new(alloc);
     let initial = automaton.states.get(0).bytes();
-    put(
-        &mut out,
-        b"digraph state_automaton {\n\tcenter = true;\n\tsize = \"7,11\";\n",
-    )?;
+    put_head(&mut out)?;
     put_marker_line(&mut out, initial)?;
     put_states(&mut out, &automaton.states, automaton.marked)?;
     put_initial_line(&mut out, initial)?;
@@ -179,8 +88,8 @@ pub fn write_dot(alloc: Global, automaton: &Automaton) -> Result<Vec<u8>, AllocE
         &automaton.events,
         &automaton.edges,
     )?;
-    put(&mut out, b"}\n")?;
-    Ok(out)
+    put_last(&mut out)?;
+    Ok(out.into_bytes())
 }
 
 /// What is read of an automaton's canonical text is the automaton.

@@ -1,9 +1,8 @@
 //! The automaton of names and moves that fit together.
 ghost use Rattle.std.specs.Prelude.{◌≡◌, ◌<◌, ◌≤◌, ◌+◌, ◌*◌, IfOk, map, All, length, if◌then◌else◌};
 ghost use Rattle.rv_model.specs.WellFormed.{IsAutomaton};
-ghost use Rattle.rv_dot.specs.Sayings.{sayings_claims};
+ghost use Rattle.rv_dot.specs.Held.{sayings_claims, bytes_of};
 ghost use Rattle.rv_dot.specs.Gathered.{is_marked};
-ghost use Rattle.rv_dot.specs.Sets.{bytes_of};
 ghost use Rattle.rv_dot.specs.Moves.{edge_of};
 ghost use Rattle.rv_dot.specs.Dot.{bits_of, marked_or_initial};
 ghost use Rattle.rv_dot.specs.Numberings.{states_by, machine_by};
@@ -40,7 +39,7 @@ fn edges(alloc: Global, moves: &[Move]) -> Result<Vec<Edge>, AllocError>
     Ok(edges)
 }
 
-/// One bit in front of the others.
+/// The number whose lowest bit is this one, and whose other bits are those given.
 fn more(bits: u32, has: bool) -> u32
     requires { bits < 1073741824 }
     ensures { result ≡ (if has then 1 else 0) + 2 * bits }

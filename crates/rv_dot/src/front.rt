@@ -2,9 +2,10 @@
 ghost use Rattle.std.specs.Prelude.{◌≡◌, ◌<◌, ◌≤◌, ◌+◌, length, IfSome};
 ghost use Rattle.std.specs.Option.{option_map};
 ghost use Rattle.rv_dot.specs.Runs.{begins_with};
-ghost use Rattle.rv_dot.specs.Tokens.{lexeme, mark_of, comment_of, string_of, front_of};
+ghost use Rattle.rv_dot.specs.Tokens.{mark_of, comment_of, string_of, front_of};
+ghost use Rattle.rv_dot.specs.Held.{lexeme};
 
-use crate::runs::{begins_with, block_len, is_word_byte, line_len, string_len, word_len};
+use crate::runs::{begins_with, is_word_byte, line_len, pair_len, string_len, word_len};
 use crate::token::{DotToken, Mark};
 
 fn mark(byte: u8) -> Option<Mark>
@@ -34,7 +35,7 @@ fn comment(rest: &[u8]) -> Option<(Option<DotToken<'_>>, &[u8])>
     if !begins_with(rest, b'*') {
         return None;
     }
-    let len = block_len(&rest[1..])?;
+    let len = pair_len(&rest[1..], b'*', b'/')?;
     Some((None, &rest[len + 3..]))
 }
 

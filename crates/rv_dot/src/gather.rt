@@ -1,11 +1,11 @@
 //! What all statements say together: the declared states, the targets of markers, and the arcs.
 ghost use Rattle.std.specs.Prelude.{◌≡◌, map, IfOk};
-ghost use Rattle.std.specs.List.{list_all};
+ghost use Rattle.std.specs.List.{filter_map, list_all};
 ghost use Rattle.std.specs.Option.{option_map};
-ghost use Rattle.rv_dot.specs.Sayings.{claim_of, sayings_claims, arc};
+ghost use Rattle.rv_dot.specs.Held.{claim_of, sayings_claims, arc, bytes_of};
+ghost use Rattle.rv_dot.specs.Gathering.{gathered_by};
 ghost use Rattle.rv_dot.specs.Names.{is_event_name};
 ghost use Rattle.rv_dot.specs.Gathered.{state_in, target_in, states_in, targets_in, arcs_with, arcs_of, arcs_in, fits, events_fit, marks_state, is_marked};
-ghost use Rattle.rv_dot.specs.Sets.{bytes_of};
 
 use crate::label::label_events;
 use crate::names::{is_event_name, is_marker, is_marking_shape, is_state_name};
@@ -52,17 +52,47 @@ fn target_in<'s, 'a>(saying: &'s Saying<'a>) -> Option<&'s [u8]>
     }
 }
 
-/// The names of the declared states, in the order of the text.
-pub fn states_in<'s, 'a>(alloc: Global, said: &'s [Saying<'a>]) -> Result<Vec<&'s [u8]>, AllocError>
-    ensures { IfOk result (λ v. map bytes_of v.items ≡ states_in (sayings_claims said.now)) }
+/// Which names are gathered.
+#[derive(Clone, Copy, Debug)]
+pub enum Gathers {
+    /// Those of the declared states.
+    States,
+    /// The targets of the edges that leave markers.
+    Targets,
+}
+
+/// The name of this kind that the saying has.
+fn gathered_by<'s, 'a>(saying: &'s Saying<'a>, kind: Gathers) -> Option<&'s [u8]>
+    ensures { option_map bytes_of result ≡ gathered_by kind (claim_of saying.now) }
+{
+    match kind {
+        Gathers::States => state_in(saying),
+        Gathers::Targets => target_in(saying),
+    }
+}
+
+/// The names of this kind, in the order of the text.
+fn names_in<'s, 'a>(
+    alloc: Global,
+    said: &'s [Saying<'a>],
+    kind: Gathers,
+) -> Result<Vec<&'s [u8]>, AllocError>
+    ensures { IfOk result (λ v. map bytes_of v.items ≡ filter_map (gathered_by kind) (sayings_claims said.now)) }
 {
     let mut found = Vec::new(alloc);
     'sayings: for saying in said {
-        if let Some(name) = state_in(saying) {
+        if let Some(name) = gathered_by(saying, kind) {
             found.push(name)?;
         }
     }
     Ok(found)
+}
+
+/// The names of the declared states.
+pub fn states_in<'s, 'a>(alloc: Global, said: &'s [Saying<'a>]) -> Result<Vec<&'s [u8]>, AllocError>
+    ensures { IfOk result (λ v. map bytes_of v.items ≡ states_in (sayings_claims said.now)) }
+{
+    names_in(alloc, said, Gathers::States)
 }
 
 /// The targets of the edges that leave markers.
@@ -72,13 +102,7 @@ pub fn targets_in<'s, 'a>(
 ) -> Result<Vec<&'s [u8]>, AllocError>
     ensures { IfOk result (λ v. map bytes_of v.items ≡ targets_in (sayings_claims said.now)) }
 {
-    let mut found = Vec::new(alloc);
-    'sayings: for saying in said {
-        if let Some(name) = target_in(saying) {
-            found.push(name)?;
-        }
-    }
-    Ok(found)
+    names_in(alloc, said, Gathers::Targets)
 }
 
 /// One arc for each of the events.
@@ -135,7 +159,7 @@ pub fn arcs_in<'s, 'a: 's>(
     Ok(found)
 }
 
-/// A declared name is a marker's or a state's; an edge from a marker has no label or an empty one, and any other edge has a label.
+/// Whether a declared name is a marker's or a state's; an edge from a marker has no label or an empty one, and any other edge has a label.
 pub fn fits(saying: &Saying<'_>) -> bool
     ensures { result ≡ fits (claim_of saying.now) }
 {
@@ -148,7 +172,7 @@ pub fn fits(saying: &Saying<'_>) -> bool
     }
 }
 
-/// All names and labels of the statements fit.
+/// Whether all names and labels of the statements fit.
 pub fn all_fit(said: &[Saying<'_>]) -> bool
     ensures { result ≡ list_all fits (sayings_claims said.now) }
 {
@@ -162,7 +186,7 @@ pub fn all_fit(said: &[Saying<'_>]) -> bool
     true
 }
 
-/// Every event has the name of one.
+/// Whether every event has the name of one.
 pub fn events_fit(arcs: &[Arc<'_>]) -> bool
     ensures { result ≡ events_fit (map arc arcs.now) }
 {
@@ -176,7 +200,7 @@ pub fn events_fit(arcs: &[Arc<'_>]) -> bool
     true
 }
 
-/// The statement is a declaration of this state that marks it.
+/// Whether the statement is a declaration of this state that marks it.
 fn marks_state(saying: &Saying<'_>, state: &[u8]) -> bool
     ensures { result ≡ marks_state state.now (claim_of saying.now) }
 {
@@ -186,7 +210,7 @@ fn marks_state(saying: &Saying<'_>, state: &[u8]) -> bool
     }
 }
 
-/// Some declaration marks this state.
+/// Whether some declaration marks this state.
 pub fn is_marked(said: &[Saying<'_>], state: &[u8]) -> bool
     ensures { result ≡ is_marked (sayings_claims said.now) state.now }
 {

@@ -1,35 +1,13 @@
 //! The events of a label.
 ghost use Rattle.std.specs.Prelude.{◌≡◌, ◌≤◌, ◌<◌, ◌+◌, ◌^◌, if◌then◌else◌, length, map, IfOk, IfSome};
 ghost use Rattle.std.specs.Option.{option_map};
-ghost use Rattle.rv_dot.specs.Labels.{is_blank, piece_len, piece_of, without_blanks, kept_len, trimmed, label_events};
-ghost use Rattle.rv_dot.specs.Sets.{bytes_of};
+ghost use Rattle.rv_text.specs.Places.{is_blank};
+ghost use Rattle.rv_dot.specs.Labels.{piece_of, without_blanks, kept_len, trimmed, label_events};
+ghost use Rattle.rv_dot.specs.Held.{bytes_of};
 
-use crate::runs::begins_with;
+use crate::runs::pair_len;
+use rv_text::ByteClass;
 use std::alloc::{AllocError, Global};
-
-fn is_blank(byte: u8) -> bool
-    ensures { result ≡ is_blank byte }
-{
-    byte == b' ' || byte == b'\t'
-}
-
-/// How many bytes stand before the first backslash with an `n` behind it.
-#[tactic(auto, unfolding(crate::specs::Labels::piece_len), using(crate::proofs::Scans::counted_on_more, crate::proofs::Scans::counted_on_zero))]
-fn piece_len(label: &[u8]) -> Option<usize>
-    ensures value { result ≡ piece_len label.now }
-    ensures within { IfSome result (λ len. len + 1 < length label.now) }
-{
-    let mut rest = label;
-    let mut len = 0;
-    while let [first, after @ ..] = rest {
-        if *first == b'\\' && begins_with(after, b'n') {
-            return Some(len);
-        }
-        len += 1;
-        rest = after;
-    }
-    None
-}
 
 /// The bytes from the first on that is no blank.
 #[tactic(auto, unfolding(crate::specs::Labels::without_blanks))]
@@ -38,7 +16,7 @@ fn without_blanks(bytes: &[u8]) -> &[u8]
 {
     let mut rest = bytes;
     while let [first, after @ ..] = rest {
-        if !is_blank(*first) {
+        if !ByteClass::Blank.has(*first) {
             return rest;
         }
         rest = after;
@@ -51,7 +29,11 @@ fn kept_at(kept: usize, place: usize, byte: u8) -> usize
     requires { place + 1 < 2 ^ 64 }
     ensures { result ≡ (if is_blank byte then kept else place + 1) }
 {
-    if is_blank(byte) { kept } else { place + 1 }
+    if ByteClass::Blank.has(byte) {
+        kept
+    } else {
+        place + 1
+    }
 }
 
 /// How many bytes stand up to the last that is no blank.
@@ -80,7 +62,7 @@ fn piece_bytes(label: &[u8]) -> Option<(&[u8], &[u8])>
     ensures value { option_map (λ x. (x.0.now, x.1.now)) result ≡ piece_of label.now }
     ensures within { IfSome result (λ x. length x.1.now < length label.now) }
 {
-    let len = piece_len(label)?;
+    let len = pair_len(label, b'\\', b'n')?;
     Some((trimmed(&label[..len]), &label[len + 2..]))
 }
 

@@ -1,14 +1,14 @@
 //! Attributes in a bracket, and names in a group.
 ghost use Rattle.std.specs.Prelude.{◌≡◌, ◌<◌, ◌≤◌, length, IfSome, IfOk};
 ghost use Rattle.std.specs.Option.{option_map};
-ghost use Rattle.rv_dot.specs.Tokens.{GivesSome, lexeme, lexemes};
-ghost use Rattle.rv_dot.specs.Lists.{separated, attribute_at, attributes_at, last_value, bracket_at, names_at};
-ghost use Rattle.rv_dot.specs.Settings.{setting, settings};
+ghost use Rattle.rv_text.specs.Unreads.{IsReadAs};
+ghost use Rattle.rv_dot.specs.Held.{lexeme, lexemes, setting};
+ghost use Rattle.rv_dot.specs.Lists.{separated, attribute_at, bracket_at, names_at};
 
 use crate::attribute::Attribute;
-use crate::fault::DotFault;
 use crate::marks::{begins, expect, front_word, name_at, past_mark, value_at};
 use crate::token::{DotToken, Mark};
+use rv_text::Unread;
 use std::alloc::Global;
 
 /// The tokens behind at most one comma or semicolon.
@@ -24,8 +24,11 @@ fn separated<'t, 'a>(tokens: &'t [DotToken<'a>]) -> &'t [DotToken<'a>]
     }
 }
 
+/// A word, `=` and a value at the front, and the tokens behind them.
 #[tactic(auto, unfolding(crate::specs::Lists::attribute_at))]
-fn attribute_at<'t, 'a>(tokens: &'t [DotToken<'a>]) -> Option<(Attribute<'a>, &'t [DotToken<'a>])>
+pub fn attribute_at<'t, 'a>(
+    tokens: &'t [DotToken<'a>],
+) -> Option<(Attribute<'a>, &'t [DotToken<'a>])>
     ensures value { option_map (λ x. (setting x.0, lexemes x.1.now)) result ≡ attribute_at (lexemes tokens.now) }
     ensures within { IfSome result (λ x. length x.1.now < length tokens.now) }
 {
@@ -35,68 +38,39 @@ fn attribute_at<'t, 'a>(tokens: &'t [DotToken<'a>]) -> Option<(Attribute<'a>, &'
     Some((Attribute { key, value }, rest))
 }
 
-/// Behind an opening bracket: the attributes, and the tokens behind the closing bracket.
-fn attributes<'t, 'a>(
-    alloc: Global,
-    tokens: &'t [DotToken<'a>],
-) -> Result<(Vec<Attribute<'a>>, &'t [DotToken<'a>]), DotFault>
-    ensures value { GivesSome (λ x. (settings x.0.items, lexemes x.1.now)) result (attributes_at (lexemes tokens.now)) }
-    ensures within { IfOk result (λ x. length x.1.now ≤ length tokens.now) }
-{
-    let mut found = Vec::new(alloc);
-    let mut rest = tokens;
-    'attributes: while !begins(rest, Mark::CloseBracket) {
-        let Some((attribute, after)) = attribute_at(rest) else {
-            return Err(DotFault::Syntax);
-        };
-        found.push(attribute)?;
-        rest = separated(after);
-    }
-    Ok((found, past_mark(rest, Mark::CloseBracket)))
-}
-
-/// The value that counts for the key: the last one.
-fn last_value<'a>(attributes: &[Attribute<'a>], key: &[u8]) -> Option<DotToken<'a>>
-    ensures { option_map lexeme result ≡ last_value key.now (settings attributes.now) }
-{
-    let mut count = attributes.len();
-    while 0 < count {
-        count -= 1;
-        if attributes[count].key == key {
-            return Some(attributes[count].value);
-        }
-    }
-    None
-}
-
-/// Behind an opening bracket: the value that counts for the key, and the tokens behind the closing bracket.
+/// Behind an opening bracket: the value that counts for the key, which is the last one, and the tokens behind the closing bracket.
 #[tactic(auto, unfolding(crate::specs::Lists::bracket_at))]
 pub fn bracket<'t, 'a>(
-    alloc: Global,
     tokens: &'t [DotToken<'a>],
     key: &[u8],
-) -> Result<(Option<DotToken<'a>>, &'t [DotToken<'a>]), DotFault>
-    ensures value { GivesSome (λ x. (option_map lexeme x.0, lexemes x.1.now)) result (bracket_at key.now (lexemes tokens.now)) }
-    ensures within { IfOk result (λ x. length x.1.now ≤ length tokens.now) }
+) -> Option<(Option<DotToken<'a>>, &'t [DotToken<'a>])>
+    ensures value { option_map (λ x. (option_map lexeme x.0, lexemes x.1.now)) result ≡ bracket_at key.now (lexemes tokens.now) }
+    ensures within { IfSome result (λ x. length x.1.now ≤ length tokens.now) }
 {
-    let (attributes, rest) = attributes(alloc, tokens)?;
-    Ok((last_value(&attributes, key), rest))
+    let mut value = None;
+    let mut rest = tokens;
+    'attributes: while !begins(rest, Mark::CloseBracket) {
+        let (attribute, after) = attribute_at(rest)?;
+        if attribute.key == key {
+            value = Some(attribute.value);
+        }
+        rest = separated(after);
+    }
+    Some((value, past_mark(rest, Mark::CloseBracket)))
 }
 
 /// The names up to the closing brace, and the tokens behind it.
 pub fn names<'t, 'a>(
     alloc: Global,
     tokens: &'t [DotToken<'a>],
-) -> Result<(Vec<DotToken<'a>>, &'t [DotToken<'a>]), DotFault>
-    ensures value { GivesSome (λ x. (lexemes x.0.items, lexemes x.1.now)) result (names_at (lexemes tokens.now)) }
+) -> Result<(Vec<DotToken<'a>>, &'t [DotToken<'a>]), Unread>
+    ensures value { IsReadAs (λ x. (lexemes x.0.items, lexemes x.1.now)) result (names_at (lexemes tokens.now)) }
     ensures within { IfOk result (λ x. length x.1.now ≤ length tokens.now) }
 {
     let mut found = Vec::new(alloc);
     let mut rest = tokens;
     'names: while !begins(rest, Mark::CloseBrace) {
-        let Some((name, after)) = name_at(rest) else {
-            return Err(DotFault::Syntax);
-        };
+        let (name, after) = name_at(rest).ok_or(Unread::Syntax)?;
         found.push(name)?;
         rest = past_mark(after, Mark::Semicolon);
     }

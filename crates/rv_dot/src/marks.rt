@@ -1,7 +1,7 @@
 //! Single tokens: marks, words, values and names.
 ghost use Rattle.std.specs.Prelude.{◌≡◌, ◌<◌, ◌≤◌, length, IfSome};
 ghost use Rattle.std.specs.Option.{option_map};
-ghost use Rattle.rv_dot.specs.Tokens.{lexeme, lexemes};
+ghost use Rattle.rv_dot.specs.Held.{lexeme, lexemes};
 ghost use Rattle.rv_dot.specs.Marks.{begins, expects, past_mark, is_assignment, mark_eq};
 ghost use Rattle.rv_dot.specs.Lists.{is_keyword, front_word, value_at, name_at};
 
@@ -13,7 +13,7 @@ fn same(a: Mark, b: Mark) -> bool
     a == b
 }
 
-/// The mark stands at the front.
+/// Whether this mark stands at the front.
 #[tactic(auto, unfolding(crate::specs::Marks::begins))]
 pub fn begins(tokens: &[DotToken<'_>], mark: Mark) -> bool
     ensures value { result ≡ begins mark (lexemes tokens.now) }
@@ -48,7 +48,7 @@ pub fn past_mark<'t, 'a>(tokens: &'t [DotToken<'a>], mark: Mark) -> &'t [DotToke
     }
 }
 
-/// A word and `=` stand at the front.
+/// Whether a word and `=` stand at the front.
 #[tactic(auto, unfolding(crate::specs::Marks::is_assignment))]
 pub fn is_assignment(tokens: &[DotToken<'_>]) -> bool
     ensures { result ≡ is_assignment (lexemes tokens.now) }

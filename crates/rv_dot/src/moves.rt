@@ -1,7 +1,7 @@
 //! Moves by number, ascending, and whether two of them clash.
 
 ghost use Rattle.std.specs.Prelude.{◌≡◌};
-ghost use Rattle.rv_dot.specs.Moves.{has_clash};
+ghost use Rattle.rv_dot.specs.Clashes.{has_clash};
 
 /// From one state to another by an event, each by its number.
 #[derive(Clone, Copy, Debug, PartialEq, Eq, PartialOrd, Ord)]
@@ -11,7 +11,7 @@ pub struct Move {
     pub to: usize,
 }
 
-/// Two neighbours lead from one state by one event to different states.
+/// Whether two neighbours lead from one state by one event to different states.
 pub fn clash(moves: &[Move]) -> bool
     ensures { result ≡ has_clash moves.now }
 {

@@ -3,9 +3,8 @@ ghost use Rattle.std.specs.Prelude.{◌≡◌, ◌&&◌, ◌==◌, not, IfOk};
 ghost use Rattle.std.specs.List.{list_all};
 ghost use Rattle.rv_dot.specs.Runs.{is_word_byte};
 ghost use Rattle.std.specs.Option.{option_map};
-ghost use Rattle.rv_dot.specs.Tokens.{lexeme};
+ghost use Rattle.rv_dot.specs.Held.{lexeme, bytes_of};
 ghost use Rattle.rv_dot.specs.Names.{content_of, name_byte, name_of, is_marker, is_state_name, is_event_name, is_marking_shape};
-ghost use Rattle.rv_dot.specs.Sets.{bytes_of};
 
 use crate::runs::is_word_byte;
 use crate::token::DotToken;
@@ -39,7 +38,7 @@ pub fn name(alloc: Global, token: DotToken<'_>) -> Result<Vec<u8>, AllocError>
         .collect(alloc)
 }
 
-/// Names of markers begin so, and no others.
+/// Whether the name is a marker's.
 pub fn is_marker(name: &[u8]) -> bool
     ensures { result ≡ is_marker name.now }
 {
@@ -58,21 +57,21 @@ fn has_event_bytes(name: &[u8]) -> bool
     name.iter().all(|byte| is_word_byte(*byte) && *byte != b'.')
 }
 
-/// 1 to 64 letters, digits, `_` and `.`.
+/// Whether the name has 1 to 64 letters, digits, `_` and `.`.
 pub fn is_state_name(name: &[u8]) -> bool
     ensures { result ≡ is_state_name name.now }
 {
     !name.is_empty() && name.len() <= 64 && has_state_bytes(name)
 }
 
-/// 1 to 64 letters, digits and `_`.
+/// Whether the name has 1 to 64 letters, digits and `_`.
 pub fn is_event_name(name: &[u8]) -> bool
     ensures { result ≡ is_event_name name.now }
 {
     !name.is_empty() && name.len() <= 64 && has_event_bytes(name)
 }
 
-/// A shape that marks the state that is declared with it.
+/// Whether the shape marks the state that is declared with it.
 pub fn is_marking_shape(shape: Option<&[u8]>) -> bool
     ensures { result ≡ is_marking_shape (option_map bytes_of shape.entry) }
 {

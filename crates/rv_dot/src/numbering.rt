@@ -3,10 +3,10 @@ ghost use Rattle.std.specs.Prelude.{◌≡◌, ◌<◌, ◌∷◌, length, map, 
 ghost use Rattle.std.specs.List.{list_all};
 ghost use Rattle.std.specs.Cmp.Lexicographic.{slice_cmp};
 ghost use Rattle.std.specs.Ordering.{nat_cmp};
-ghost use Rattle.rv_dot.specs.Members.{Ascends};
-ghost use Rattle.rv_dot.specs.Sets.{ascending, bytes_of, place_of, stands_in, number_in};
+ghost use Rattle.rv_text.specs.Ascending.{Ascends};
+ghost use Rattle.rv_dot.specs.Sets.{ascending, place_of, stands_in, number_in};
+ghost use Rattle.rv_dot.specs.Held.{bytes_of, arc as arc_of};
 ghost use Rattle.rv_dot.specs.Moves.{moves_of, arc_move};
-ghost use Rattle.rv_dot.specs.Sayings.{arc as arc_of};
 ghost use Rattle.rv_dot.specs.Dot.{ends_declared};
 
 use crate::gather::Arc;
@@ -68,7 +68,7 @@ pub struct Numbering<'n, 's> {
 impl Numbering<'_, '_> {
     ghost use Rattle.rv_dot.specs.Numberings.{IsNumbering, states_by, events_by};
 
-    /// The name is a state's.
+    /// Whether the name is a state's.
     pub fn is_declared(&self, name: &[u8]) -> bool
         requires { IsNumbering self.now }
         ensures { result ≡ stands_in (states_by self.now) name.now }
@@ -101,7 +101,7 @@ impl Numbering<'_, '_> {
         }
     }
 
-    /// Both ends of each arc are states.
+    /// Whether both ends of each arc are states.
     pub fn are_declared(&self, arcs: &[Arc<'_>]) -> bool
         requires { IsNumbering self.now }
         ensures { result ≡ list_all (ends_declared (states_by self.now)) (map arc_of arcs.now) }

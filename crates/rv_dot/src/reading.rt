@@ -3,18 +3,17 @@ ghost use Rattle.std.specs.Prelude.{◌≡◌, ◌↔◌, IfOk, List, ℕ, map, 
 ghost use Rattle.std.specs.List.{list_all, filter};
 ghost use Rattle.std.specs.Str.{bytes_eq};
 ghost use Rattle.rv_text.specs.Readings.{Gives, refused_with};
-ghost use Rattle.rv_dot.specs.Tokens.{GivesSome};
+ghost use Rattle.rv_text.specs.Unreads.{IsReadAs};
 ghost use Rattle.rv_dot.specs.Text.{said_by};
-ghost use Rattle.rv_dot.specs.Sayings.{sayings_claims, arc};
+ghost use Rattle.rv_dot.specs.Held.{sayings_claims, arc, bytes_of};
 ghost use Rattle.rv_dot.specs.Gathered.{states_in, arcs_in, all_fit};
-ghost use Rattle.rv_dot.specs.Sets.{bytes_of, ascending, stands_in};
+ghost use Rattle.rv_dot.specs.Sets.{ascending, stands_in};
 ghost use Rattle.rv_dot.specs.Numberings.{IsNumbering, states_by, events_by};
 ghost use Rattle.rv_model.specs.Machine.{Machine};
 ghost use Rattle.rv_dot.specs.Drawn.{IsDotOf};
 ghost use Rattle.rv_dot.specs.Dot.{initial_of, with_initial, machine_of, states_from, events_from, dot_of};
 
 use crate::drawing::built;
-use crate::fault::DotFault;
 use crate::gather::{Arc, all_fit, arcs_in, events_fit, states_in, targets_in};
 use crate::moves::clash;
 use crate::numbering::{Numbering, ascending, place_among};
@@ -24,7 +23,7 @@ use crate::token::tokens;
 use rv_model::Automaton;
 use rv_text::{
     DOT_SYNTAX, NO_INITIAL, NOT_DETERMINISTIC, Refusal, Refused, TOO_MANY_EVENTS, TOO_MANY_STATES,
-    TWO_INITIALS, UNDECLARED_STATE,
+    TWO_INITIALS, UNDECLARED_STATE, Unread,
 };
 use std::alloc::{AllocError, Global};
 
@@ -43,15 +42,15 @@ fn refused(number: u8) -> Refused
 }
 
 /// What the text's statements say.
-fn said_by(alloc: Global, bytes: &[u8]) -> Result<Vec<Saying<'_>>, DotFault>
-    ensures { GivesSome (λ v. sayings_claims v.items) result (said_by bytes.now) }
+fn said_by(alloc: Global, bytes: &[u8]) -> Result<Vec<Saying<'_>>, Unread>
+    ensures { IsReadAs (λ v. sayings_claims v.items) result (said_by bytes.now) }
 {
     let tokens = tokens(alloc, bytes)?;
     let facts = facts(alloc, &tokens)?;
     Ok(sayings(alloc, &facts)?)
 }
 
-/// Each of the names is this one.
+/// Whether each of the names is this one.
 fn all_are(first: &[u8], others: &[&[u8]]) -> bool
     ensures { result ≡ list_all (bytes_eq first.now) (map bytes_of others.now) }
 {
@@ -189,8 +188,8 @@ pub fn read_dot(alloc: Global, bytes: &[u8]) -> Result<Automaton, Refused>
     }
     match said_by(alloc, bytes) {
         Ok(said) => automaton(alloc, &said),
-        Err(DotFault::Memory) => Err(Refused::Memory),
-        Err(DotFault::Syntax) => Err(refused(DOT_SYNTAX)),
+        Err(Unread::Memory) => Err(Refused::Memory),
+        Err(Unread::Syntax) => Err(refused(DOT_SYNTAX)),
     }
 }
 

@@ -1,15 +1,15 @@
 //! How far a word, a line, a comment and a string reach.
 ghost use Rattle.std.specs.Prelude.{◌≡◌, ◌≤◌, ◌<◌, ◌+◌, length, IfSome, position, ◌==◌, not};
-ghost use Rattle.rv_dot.specs.Runs.{is_word_byte, line_len, word_len, block_len, string_len, begins_with};
+ghost use Rattle.rv_dot.specs.Runs.{is_word_byte, line_len, word_len, pair_len, string_len, begins_with};
 
-/// Letters, digits, `_` and `.`.
+/// Whether the byte is a letter, a digit, `_` or `.`.
 pub fn is_word_byte(byte: u8) -> bool
     ensures { result ≡ is_word_byte byte }
 {
     matches!(byte, b'a'..=b'z' | b'A'..=b'Z' | b'0'..=b'9' | b'_' | b'.')
 }
 
-/// The text begins with this byte.
+/// Whether the text begins with this byte.
 pub fn begins_with(bytes: &[u8], byte: u8) -> bool
     ensures { result ≡ begins_with byte bytes.now }
 {
@@ -51,16 +51,16 @@ pub fn word_len(bytes: &[u8]) -> usize
     word_end(bytes).unwrap_or(bytes.len())
 }
 
-/// How many bytes stand before the first `*/`.
-#[tactic(auto, unfolding(crate::specs::Runs::block_len), using(crate::proofs::Scans::counted_on_more, crate::proofs::Scans::counted_on_zero))]
-pub fn block_len(bytes: &[u8]) -> Option<usize>
-    ensures value { result ≡ block_len bytes.now }
+/// How many bytes stand before the first pair of these two.
+#[tactic(auto, unfolding(crate::specs::Runs::pair_len), using(crate::proofs::Scans::counted_on_more, crate::proofs::Scans::counted_on_zero))]
+pub fn pair_len(bytes: &[u8], one: u8, other: u8) -> Option<usize>
+    ensures value { result ≡ pair_len one other bytes.now }
     ensures within { IfSome result (λ len. len + 1 < length bytes.now) }
 {
     let mut rest = bytes;
     let mut len = 0;
     while let [first, after @ ..] = rest {
-        if *first == b'*' && begins_with(after, b'/') {
+        if *first == one && begins_with(after, other) {
             return Some(len);
         }
         len += 1;

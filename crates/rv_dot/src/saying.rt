@@ -1,10 +1,8 @@
 //! What statements say, with names as they read.
 ghost use Rattle.std.specs.Prelude.{◌≡◌, IfOk};
 ghost use Rattle.std.specs.Option.{option_map};
-ghost use Rattle.rv_dot.specs.Tokens.{lexeme};
-ghost use Rattle.rv_dot.specs.Statements.{value_held, claim, claims};
-ghost use Rattle.rv_dot.specs.Sayings.{claim_of, sayings_claims};
-ghost use Rattle.rv_dot.specs.Sets.{bytes_of};
+ghost use Rattle.rv_dot.specs.Held.{lexeme, claim, claims, claim_of, sayings_claims, bytes_of};
+ghost use Rattle.rv_dot.specs.Statements.{value_held};
 
 use crate::fact::Fact;
 use crate::names::{content, name};

@@ -1,10 +1,12 @@
 //! From a text's bytes to its tokens.
 ghost use Rattle.std.specs.Prelude.{◌≡◌, List, Some, IfOk, true};
 ghost use Rattle.rv_dot.specs.Pieces.{Piece, SplitsInto, tokens_in};
-ghost use Rattle.rv_dot.specs.Tokens.{GivesSome, lexemes, tokens_of};
+ghost use Rattle.rv_text.specs.Unreads.{IsReadAs};
+ghost use Rattle.rv_dot.specs.Tokens.{tokens_of};
+ghost use Rattle.rv_dot.specs.Held.{lexemes};
 
-use crate::fault::DotFault;
 use crate::front::front;
+use rv_text::Unread;
 use std::alloc::Global;
 
 /// The marks.
@@ -29,15 +31,15 @@ pub enum DotToken<'a> {
     Text(&'a [u8]),
 }
 
-fn all(alloc: Global, bytes: &[u8]) -> Result<Vec<DotToken<'_>>, DotFault>
-    ensures { GivesSome (λ v. lexemes v.items) result (tokens_of bytes.now) }
+fn all(alloc: Global, bytes: &[u8]) -> Result<Vec<DotToken<'_>>, Unread>
+    ensures { IsReadAs (λ v. lexemes v.items) result (tokens_of bytes.now) }
 {
     let mut found = Vec::new(alloc);
     let mut starts_line = true;
     let mut rest = bytes;
     while let [first, ..] = rest {
         let Some((token, after)) = front(rest, starts_line) else {
-            return Err(DotFault::Syntax);
+            return Err(Unread::Syntax);
         };
         if let Some(token) = token {
             found.push(token)?;
@@ -49,12 +51,12 @@ fn all(alloc: Global, bytes: &[u8]) -> Result<Vec<DotToken<'_>>, DotFault>
 }
 
 /// The tokens of the text.
-pub fn tokens(alloc: Global, bytes: &[u8]) -> Result<Vec<DotToken<'_>>, DotFault>
+pub fn tokens(alloc: Global, bytes: &[u8]) -> Result<Vec<DotToken<'_>>, Unread>
     // The text is made of pieces, of which these are the tokens.
     ensures found { IfOk result (λ v. (ps : List Piece) × SplitsInto true bytes.now ps × (tokens_in ps ≡ lexemes v.items)) }
     // A text that is made of pieces is read, unless memory runs out.
-    ensures only { (ps : List Piece) → SplitsInto true bytes.now ps → GivesSome (λ v. lexemes v.items) result (Some (tokens_in ps)) }
-    ensures exact { GivesSome (λ v. lexemes v.items) result (tokens_of bytes.now) }
+    ensures only { (ps : List Piece) → SplitsInto true bytes.now ps → IsReadAs (λ v. lexemes v.items) result (Some (tokens_in ps)) }
+    ensures exact { IsReadAs (λ v. lexemes v.items) result (tokens_of bytes.now) }
 {
     all(alloc, bytes)
 }

@@ -1,1 +1,2 @@
+pub mod AutomatonLemmas
 pub mod LineLemmas

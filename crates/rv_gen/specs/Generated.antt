@@ -11,23 +11,19 @@ use Rattle.rv_gen.specs.declared.trace.GenTask.{GenTask}
 abbrev pub edge : ℕ → ℕ → ℕ → Edge
 edge from event to = record { from = from; event = event; to = to }
 
+-- an automaton of these states, events and edges, whose first state is marked
+abbrev pub marked_first : List (List ℕ) → List (List ℕ) → List Edge → Machine
+marked_first states events edges = record { states = states; events = events; edges = edges; marked = 1 }
+
 -- preemption is off wherever a task is woken
 abbrev pub wip : Machine
-wip = record {
-  states = codes "preemptive" ∷ codes "non_preemptive" ∷ [];
-  events = codes "preempt_disable" ∷ codes "preempt_enable" ∷ codes "sched_waking" ∷ [];
-  edges = edge 0 0 1 ∷ edge 1 1 0 ∷ edge 1 2 1 ∷ [];
-  marked = 1;
-}
+wip =
+    marked_first (codes "preemptive" ∷ codes "non_preemptive" ∷ []) (codes "preempt_disable" ∷ codes "preempt_enable" ∷ codes "sched_waking" ∷ [])
+    (edge 0 0 1 ∷ edge 1 1 0 ∷ edge 1 2 1 ∷ [])
 
 -- a task is woken only while it does not run
 abbrev pub wwnr : Machine
-wwnr = record {
-  states = codes "not_running" ∷ codes "running" ∷ [];
-  events = codes "switch_in" ∷ codes "switch_out" ∷ codes "wakeup" ∷ [];
-  edges = edge 0 0 1 ∷ edge 0 2 0 ∷ edge 1 1 0 ∷ [];
-  marked = 1;
-}
+wwnr = marked_first (codes "not_running" ∷ codes "running" ∷ []) (codes "switch_in" ∷ codes "switch_out" ∷ codes "wakeup" ∷ []) (edge 0 0 1 ∷ edge 0 2 0 ∷ edge 1 1 0 ∷ [])
 
 -- ---- the bindings
 

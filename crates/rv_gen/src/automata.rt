@@ -1,52 +1,85 @@
-//! The automata, by their canonical texts.
-ghost use Rattle.std.specs.Prelude.{◌≡◌};
-ghost use Rattle.rv_dot.specs.Canonical.{dot_text};
-ghost use Rattle.rv_gen.specs.Generated.{wip, wwnr};
+//! The automata (Linux, Documentation/trace/rv, monitor_wip.rst and monitor_wwnr.rst).
+ghost use Rattle.std.specs.Prelude.{◌≡◌, IfOk, [], ◌∷◌};
+ghost use Rattle.rv_gen.specs.Generated.{edge, wip, wwnr};
 
-/// The text of wip.
-const WIP: &[u8] = b"digraph state_automaton {
-\tcenter = true;
-\tsize = \"7,11\";
-\t{node [shape = plaintext, style=invis, label=\"\"] \"__init_preemptive\"};
-\t{node [shape = doublecircle] \"preemptive\"};
-\t{node [shape = circle] \"non_preemptive\"};
-\t\"__init_preemptive\" -> \"preemptive\";
-\t\"preemptive\" [label = \"preemptive\"];
-\t\"non_preemptive\" [label = \"non_preemptive\"];
-\t\"preemptive\" -> \"non_preemptive\" [ label = \"preempt_disable\" ];
-\t\"non_preemptive\" -> \"preemptive\" [ label = \"preempt_enable\" ];
-\t\"non_preemptive\" -> \"non_preemptive\" [ label = \"sched_waking\" ];
-}
-";
+use rv_model::{Automaton, Edge, Name, Names};
+use std::alloc::{AllocError, Global};
 
-/// The text of wwnr.
-const WWNR: &[u8] = b"digraph state_automaton {
-\tcenter = true;
-\tsize = \"7,11\";
-\t{node [shape = plaintext, style=invis, label=\"\"] \"__init_not_running\"};
-\t{node [shape = doublecircle] \"not_running\"};
-\t{node [shape = circle] \"running\"};
-\t\"__init_not_running\" -> \"not_running\";
-\t\"not_running\" [label = \"not_running\"];
-\t\"running\" [label = \"running\"];
-\t\"not_running\" -> \"running\" [ label = \"switch_in\" ];
-\t\"not_running\" -> \"not_running\" [ label = \"wakeup\" ];
-\t\"running\" -> \"not_running\" [ label = \"switch_out\" ];
+fn two_names(alloc: Global, first: &[u8], second: &[u8]) -> Result<Names, AllocError>
+    ensures { IfOk result (λ names. names ≡ first.now ∷ second.now ∷ []) }
+{
+    let mut names = Names::new(alloc);
+    names.push(Name::new(alloc, first)?)?;
+    names.push(Name::new(alloc, second)?)?;
+    Ok(names)
 }
-";
+
+fn three_names(
+    alloc: Global,
+    first: &[u8],
+    second: &[u8],
+    third: &[u8],
+) -> Result<Names, AllocError>
+    ensures { IfOk result (λ names. names ≡ first.now ∷ second.now ∷ third.now ∷ []) }
+{
+    let mut names = two_names(alloc, first, second)?;
+    names.push(Name::new(alloc, third)?)?;
+    Ok(names)
+}
+
+/// The edge that leads from a state to another by an event.
+fn edge(from: u8, event: u8, to: u8) -> Edge
+    ensures { result ≡ edge from event to }
+{
+    Edge { from, event, to }
+}
+
+fn three_edges(
+    alloc: Global,
+    first: Edge,
+    second: Edge,
+    third: Edge,
+) -> Result<Vec<Edge>, AllocError>
+    ensures { IfOk result (λ edges. edges.items ≡ first ∷ second ∷ third ∷ []) }
+{
+    let mut edges = Vec::new(alloc);
+    edges.push(first)?;
+    edges.push(second)?;
+    edges.push(third)?;
+    Ok(edges)
+}
 
 /// Preemption is off wherever a task is woken.
-#[tactic(auto, unfolding(rv_dot::specs::Canonical::dot_text))]
-pub(crate) fn wip_text() -> &'static [u8]
-    ensures { result.now ≡ dot_text wip }
+pub fn wip(alloc: Global) -> Result<Automaton, AllocError>
+    ensures { IfOk result (λ automaton. automaton ≡ wip) }
 {
-    WIP
+    let states = two_names(alloc, b"preemptive", b"non_preemptive")?;
+    let events = three_names(
+        alloc,
+        b"preempt_disable",
+        b"preempt_enable",
+        b"sched_waking",
+    )?;
+    let edges = three_edges(alloc, edge(0, 0, 1), edge(1, 1, 0), edge(1, 2, 1))?;
+    Ok(Automaton {
+        states,
+        events,
+        edges,
+        marked: 1,
+    })
 }
 
 /// A task is woken only while it does not run.
-#[tactic(auto, unfolding(rv_dot::specs::Canonical::dot_text))]
-pub(crate) fn wwnr_text() -> &'static [u8]
-    ensures { result.now ≡ dot_text wwnr }
+pub fn wwnr(alloc: Global) -> Result<Automaton, AllocError>
+    ensures { IfOk result (λ automaton. automaton ≡ wwnr) }
 {
-    WWNR
+    let states = two_names(alloc, b"not_running", b"running")?;
+    let events = three_names(alloc, b"switch_in", b"switch_out", b"wakeup")?;
+    let edges = three_edges(alloc, edge(0, 0, 1), edge(0, 2, 0), edge(1, 1, 0))?;
+    Ok(Automaton {
+        states,
+        events,
+        edges,
+        marked: 1,
+    })
 }

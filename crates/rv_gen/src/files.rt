@@ -3,15 +3,16 @@ ghost use Rattle.std.specs.Prelude.{◌≡◌, IfOk};
 ghost use Rattle.rv_dot.specs.Canonical.{dot_text};
 ghost use Rattle.rv_gen.specs.Generated.{wip, wwnr, bindings_text, trace_text};
 
-use crate::automata::{wip_text, wwnr_text};
+use crate::automata::{wip, wwnr};
 use crate::trace::put_trace;
+use rv_dot::write_dot;
 use rv_text::Line;
 use std::alloc::{AllocError, Global};
 
 /// The most blocks: their lines are as many as a trace may have.
 pub const MAX_BLOCKS: u32 = 15_625;
 
-/// The bindings.
+/// The text of the bindings.
 const BINDINGS: &[u8] = b"monitor wip cpu da wip.dot
 on wip preempt_disable : event preempt_disable
 on wip preempt_enable : start preempt_enable
@@ -51,8 +52,8 @@ pub fn generate(alloc: Global, blocks: u32) -> Result<Generated, AllocError>
 {
     Ok(Generated {
         bindings: Vec::from_slice(alloc, BINDINGS)?,
-        wip: Vec::from_slice(alloc, wip_text())?,
-        wwnr: Vec::from_slice(alloc, wwnr_text())?,
+        wip: write_dot(alloc, &wip(alloc)?)?,
+        wwnr: write_dot(alloc, &wwnr(alloc)?)?,
         trace: trace_of(alloc, blocks)?,
     })
 }

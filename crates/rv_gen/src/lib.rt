@@ -5,4 +5,5 @@ mod automata;
 mod files;
 mod trace;
 
+pub use automata::{wip, wwnr};
 pub use files::{Generated, MAX_BLOCKS, generate};

@@ -45,7 +45,7 @@ fn second_run(cpu: u64) -> GenTask
     }
 }
 
-/// A CPU in three digits.
+/// Appends the CPU in three digits.
 #[tactic(auto, unfolding(crate::specs::Generated::cpu_text))]
 fn put_cpu(out: &mut Line, cpu: u64) -> Result<(), AllocError>
     ensures { OnOk result (out.new ≡ out.old ++ cpu_text cpu) }
@@ -54,7 +54,7 @@ fn put_cpu(out: &mut Line, cpu: u64) -> Result<(), AllocError>
     out.number(cpu)
 }
 
-/// The name of a field, up to its value.
+/// Appends the name of a field, up to its value.
 fn put_name(out: &mut Line, name: &[u8]) -> Result<(), AllocError>
     ensures { OnOk result (out.new ≡ out.old ++ field_text name.now []) }
 {
@@ -63,7 +63,7 @@ fn put_name(out: &mut Line, name: &[u8]) -> Result<(), AllocError>
     out.text(b"=")
 }
 
-/// A field whose value is a word.
+/// Appends a field whose value is a word.
 fn put_word(out: &mut Line, name: &[u8], value: &[u8]) -> Result<(), AllocError>
     ensures { OnOk result (out.new ≡ out.old ++ field_text name.now value.now) }
 {
@@ -71,7 +71,7 @@ fn put_word(out: &mut Line, name: &[u8], value: &[u8]) -> Result<(), AllocError>
     out.text(value)
 }
 
-/// A field whose value is a number.
+/// Appends a field whose value is a number.
 fn put_number(out: &mut Line, name: &[u8], value: u64) -> Result<(), AllocError>
     ensures { OnOk result (out.new ≡ out.old ++ field_text name.now (decimal value)) }
 {
@@ -79,7 +79,7 @@ fn put_number(out: &mut Line, name: &[u8], value: u64) -> Result<(), AllocError>
     out.number(value)
 }
 
-/// The CPU that a task is woken on.
+/// Appends the field of the CPU that a task is woken on.
 fn put_target(out: &mut Line, cpu: u64) -> Result<(), AllocError>
     ensures { OnOk result (out.new ≡ out.old ++ field_text (codes "target_cpu") (cpu_text cpu)) }
 {
@@ -87,7 +87,7 @@ fn put_target(out: &mut Line, cpu: u64) -> Result<(), AllocError>
     put_cpu(out, cpu)
 }
 
-/// The first task is woken.
+/// Appends the event by which the first task is woken.
 fn put_woken(out: &mut Line, event: &[u8], cpu: u64) -> Result<(), AllocError>
     requires { cpu < 8 }
     ensures { OnOk result (out.new ≡ out.old ++ woken_text event.now cpu) }
@@ -99,7 +99,7 @@ fn put_woken(out: &mut Line, event: &[u8], cpu: u64) -> Result<(), AllocError>
     put_target(out, cpu)
 }
 
-/// The task that goes, and its state.
+/// Appends the fields of the task that goes, and its state.
 fn put_prev(out: &mut Line, run: GenTask, state: &[u8]) -> Result<(), AllocError>
     ensures { OnOk result (out.new ≡ out.old ++ prev_text run state.now) }
 {
@@ -109,7 +109,7 @@ fn put_prev(out: &mut Line, run: GenTask, state: &[u8]) -> Result<(), AllocError
     put_word(out, b"prev_state", state)
 }
 
-/// The task that comes.
+/// Appends the fields of the task that comes.
 fn put_next(out: &mut Line, run: GenTask) -> Result<(), AllocError>
     ensures { OnOk result (out.new ≡ out.old ++ next_text run) }
 {
@@ -118,7 +118,7 @@ fn put_next(out: &mut Line, run: GenTask) -> Result<(), AllocError>
     put_word(out, b"next_prio", b"120")
 }
 
-/// One task goes, in this state, and another comes.
+/// Appends the event by which one task goes, in this state, and another comes.
 fn put_switch(out: &mut Line, prev: GenTask, state: &[u8], next: GenTask) -> Result<(), AllocError>
     ensures { OnOk result (out.new ≡ out.old ++ switch_text prev state.now next) }
 {
@@ -128,7 +128,7 @@ fn put_switch(out: &mut Line, prev: GenTask, state: &[u8], next: GenTask) -> Res
     put_next(out, next)
 }
 
-/// The event of this number in a block of the CPU.
+/// Appends the event of this number in a block of the CPU.
 fn put_event(out: &mut Line, number: u64, cpu: u64) -> Result<(), AllocError>
     requires cpu { cpu < 8 }
     requires number { number < 8 }
@@ -144,7 +144,7 @@ fn put_event(out: &mut Line, number: u64, cpu: u64) -> Result<(), AllocError>
     }
 }
 
-/// A digit of a number.
+/// The decimal digit of this weight.
 fn digit(number: u64, weight: u64) -> u8
     requires { 0 < weight }
     ensures { result ≡ digit number weight }
@@ -152,7 +152,7 @@ fn digit(number: u64, weight: u64) -> u8
     b'0' + (number / weight % 10) as u8
 }
 
-/// A number in six digits.
+/// Appends the number's last six digits.
 fn put_six_digits(out: &mut Line, n: u64) -> Result<(), AllocError>
     ensures { OnOk result (out.new ≡ out.old ++ six_digits n) }
 {
@@ -166,7 +166,7 @@ fn put_six_digits(out: &mut Line, n: u64) -> Result<(), AllocError>
     ])
 }
 
-/// The line of this number.
+/// Appends line `i`, counted from 0.
 fn put_line(out: &mut Line, i: u64) -> Result<(), AllocError>
     ensures { OnOk result (out.new ≡ out.old ++ generated_line i) }
 {

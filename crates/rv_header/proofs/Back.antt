@@ -93,7 +93,7 @@ module _ (name : List ℕ) (a : Machine) (named : is_header_name name ≡ true) 
   unfolding header_text
   cut_back =
       ap (pieces 46) (apart_tables (declarations name a) tag (list_text (map quoted a.states)) (list_text (map quoted a.events)) (function_text name a) (tagged name (slice_index_or a.states 0 [])) (list_text (marks a)))
-      ∙ six _ _ _ _ _ _
+      ∙ six
       (both_lack 46 (declarations name a) (codes "static const struct " ++ tag ++ codes " " ++ tag ++ codes " = {\n\t") declarations_lack
       (and_then (codes " = {\n\t") refl (and_then tag (tags (codes "automaton") refl) (and_then (codes " ") refl (and_then tag (tags (codes "automaton") refl) (dotless (codes "static const struct ") refl))))).none)
       (both_lack 46 (codes "state_names = " ++ list_text (map quoted a.states)) (codes ",\n\t") (list_lacks (map quoted a.states) (quoted_lack a.states states)) refl)

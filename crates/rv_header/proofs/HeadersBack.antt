@@ -3,7 +3,7 @@ use Rattle.std.proofs.Common.{◌≡◌, ℕ, true, false, List, Some, refl, sym
 use Rattle.std.specs.Prelude.{Result, Ok, Err}
 use Rattle.rv_text.specs.declared.refusals.Refusal.{Refusal}
 use Rattle.rv_text.specs.declared.refusals.Refused.{Refused}
-use Rattle.rv_text.specs.declared.refusals.Refused.TheVariants.{Memory, Because}
+use Rattle.rv_text.specs.declared.refusals.Refused.TheVariants.{Because}
 use Rattle.rv_text.specs.Readings.{Gives}
 use Rattle.rv_model.specs.Machine.{Machine}
 use Rattle.rv_dot.specs.Canonical.{dot_text}
@@ -12,7 +12,7 @@ use Rattle.rv_dot.proofs.ReadAgain.{read_again}
 use Rattle.rv_text.specs.declared.numbers.TheConstants.{HEADER_SYNTAX}
 use Rattle.rv_header.specs.declared.reading.Header.{Header}
 use Rattle.rv_header.specs.Naming.{is_header_name}
-use Rattle.rv_header.specs.Headers.{IsHeaderOf, Finds, Yields}
+use Rattle.rv_header.specs.Headers.{IsHeaderOf, Finds}
 use Rattle.rv_header.specs.Taking.{name_in, file_in}
 use Rattle.rv_header.proofs.Back.{name_back, file_back}
 
@@ -45,8 +45,10 @@ refused_for bytes r is none = subst (λ (x : Refused). Finds {X = Header} (IsHea
 pub unnamed : (bytes : List ℕ) (h : Header) → IsHeaderOf bytes h → is_header_name (name_in bytes) ≡ false → ⊥
 unnamed bytes h is no_name = let apart : true ≡ false = sym is.named ∙ ap is_header_name (sym (name_taken bytes h is)) ∙ no_name in absurd (cc)
 
--- what gives an automaton yields it
-pub yields_from : (a : Machine) (r : Result Machine Refused) → Gives (λ x. x) r (Ok a) → Yields (λ x. x) a r
-yields_from a (Ok x) h = sym (cc)
-yields_from a (Err Memory) h = tt
-yields_from a (Err (Because refusal)) h = absurd (cc)
+-- what is read of a header's text is its automaton
+pub machine_read : (a b : Machine) → Gives {X = Machine} (λ x. x) (Ok a) (Ok b) → a ≡ b
+machine_read a b h = sym (cc)
+
+-- and no refusal
+pub no_refusal : (a : Machine) (refusal : Refusal) → Gives {X = Machine} (λ x. x) (Err (Because refusal)) (Ok a) → ⊥
+no_refusal a refusal h = absurd (cc)

@@ -1,9 +1,12 @@
 -- Lists that are gone through by their places.
-use Rattle.std.proofs.Common.{◌≡◌, ℕ, suc, ◌+◌, ◌<◌, ◌≤◌, Bool, true, false, List, [], ◌∷◌, ◌++◌, length, get_or, drop, Some, refl, sym, ap, ◌∙◌, arith, append_assoc, drop-cons}
-use Rattle.std.specs.Prelude.{map, slice_get, ◌%◌, ◌/◌, ◌==◌}
+use Rattle.std.proofs.Common.{◌≡◌, ℕ, suc, ◌+◌, ◌<◌, ◌≤◌, Bool, true, false, List, [], ◌∷◌, ◌++◌, length, get_or, drop, Option, Some, None, cond, refl, sym, ap, ◌∙◌, arith, append_assoc, drop-cons}
+use Rattle.std.specs.Prelude.{map, ◌||◌, slice_get, ◌%◌, ◌/◌, ◌==◌}
 use Rattle.std.specs.List.{flat_map, list_any, enumerate_from}
+use Rattle.std.specs.Option.{option_map, is_some}
+use Rattle.std.specs.Str.{bytes_eq}
 use Rattle.std.proofs.lemmas.Option.{get_or_from_slice_get}
 use Rattle.std.proofs.lemmas.List.{drop_all}
+use Rattle.rv_dot.specs.Sets.{place_of, stands_in}
 use Rattle.rv_dot.specs.Canonical.{State, states_marked}
 
 -- the member at a place, and those behind it
@@ -38,6 +41,17 @@ any_here p xs place x lt at passes = rw (cut_at xs place x lt at, passes) refl
 -- the next one does not pass
 pub any_later : {A : Type 0} (p : A → Bool) (xs : List A) (place : ℕ) (x : A) → place < length xs → slice_get xs place ≡ Some x → p x ≡ false → list_any p (drop (place + 1) xs) ≡ list_any p (drop place xs)
 any_later p xs place x lt at fails = rw (cut_at xs place x lt at, fails) refl
+
+-- a name stands in a list where one of its members has the same bytes
+pub stands_any : (names : List (List ℕ)) (name : List ℕ) → stands_in names name ≡ list_any (λ n. bytes_eq n name) names
+unfolding place_of
+stands_any [] name = refl
+stands_any (x ∷ names) name = go (bytes_eq x name) (place_of name names) (stands_any names name)
+  where
+    go : (same : Bool) (place : Option ℕ) → is_some place ≡ list_any (λ n. bytes_eq n name) names → is_some (cond same (Some 0) (option_map (λ n. n + 1) place)) ≡ (same || list_any (λ n. bytes_eq n name) names)
+    go true place later = refl
+    go false None later = later
+    go false (Some k) later = later
 
 -- one member more is appended
 pub more : {A : Type 0} (f : A → List ℕ) (xs : List A) (place : ℕ) (x : A) (out next total : List ℕ) → place < length xs → slice_get xs place ≡ Some x

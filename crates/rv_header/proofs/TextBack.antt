@@ -33,9 +33,9 @@ apart_tables d t states events rows initial marked =
     apart_dots (46 ∷ []) d (codes "static const struct " ++ t ++ codes " " ++ t) (codes " = {\n\t") (codes "state_names = ") states (codes ",\n\t") (codes "event_names = ") events (codes ",\n\t") (codes "function = {\n") rows (codes "\t},\n\t") (codes "initial_state = ") initial (codes ",\n\t") (codes "final_states = ") (marked) (codes ",\n};\n")
 
 -- six pieces
-pub six : (p q r s t u : List ℕ) → lacks 46 p ≡ true → lacks 46 q ≡ true → lacks 46 r ≡ true → lacks 46 s ≡ true → lacks 46 t ≡ true → lacks 46 u ≡ true
+pub six : {p q r s t u : List ℕ} → lacks 46 p ≡ true → lacks 46 q ≡ true → lacks 46 r ≡ true → lacks 46 s ≡ true → lacks 46 t ≡ true → lacks 46 u ≡ true
     → pieces 46 (p ++ 46 ∷ (q ++ 46 ∷ (r ++ 46 ∷ (s ++ 46 ∷ (t ++ 46 ∷ u))))) ≡ p ∷ q ∷ r ∷ s ∷ t ∷ u ∷ []
-six p q r s t u a b c d e f = rw (cut 46 p (q ++ 46 ∷ (r ++ 46 ∷ (s ++ 46 ∷ (t ++ 46 ∷ u)))) a, cut 46 q (r ++ 46 ∷ (s ++ 46 ∷ (t ++ 46 ∷ u))) b, cut 46 r (s ++ 46 ∷ (t ++ 46 ∷ u)) c, cut 46 s (t ++ 46 ∷ u) d, cut 46 t u e, uncut 46 u f) refl
+six {p} {q} {r} {s} {t} {u} a b c d e f = rw (cut 46 p (q ++ 46 ∷ (r ++ 46 ∷ (s ++ 46 ∷ (t ++ 46 ∷ u)))) a, cut 46 q (r ++ 46 ∷ (s ++ 46 ∷ (t ++ 46 ∷ u))) b, cut 46 r (s ++ 46 ∷ (t ++ 46 ∷ u)) c, cut 46 s (t ++ 46 ∷ u) d, cut 46 t u e, uncut 46 u f) refl
 
 -- a member of simple texts is simple
 pub at_simple : (texts : List (List ℕ)) (place : ℕ) → AllByRecursion (λ n. simple n ≡ true) texts → simple (get_or texts place []) ≡ true

@@ -19,9 +19,3 @@ abbrev pub Finds : {X : Type 0} → (X → Type 0) → ℕ → Result X Refused 
 Finds HasIt number (Ok x) = HasIt x
 Finds HasIt number (Err refuseds.Memory) = Unit {0}
 Finds {X} HasIt number (Err (refuseds.Because refusal)) = (refusal ≡ record { number = number; line = 0 }) × ((x : X) → ¬ HasIt x)
-
--- where a text is a header's, what is read of it is this, unless memory ran out
-abbrev pub Yields : {X Y : Type 0} → (X → Y) → Y → Result X Refused → Type 0
-Yields view y (Ok x) = view x ≡ y
-Yields view y (Err refuseds.Memory) = Unit {0}
-Yields view y (Err (refuseds.Because refusal)) = ⊥

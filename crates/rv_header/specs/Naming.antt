@@ -4,6 +4,7 @@ use Rattle.std.specs.List.{list_all, list_any}
 use Rattle.std.specs.Str.{bytes_eq}
 use Rattle.rv_model.specs.Machine.{Machine}
 use Rattle.rv_model.specs.WellFormed.{is_between}
+use Rattle.rv_dot.specs.Sets.{stands_in}
 
 -- a lower-case letter, a digit or `_`
 abbrev pub is_header_byte : ℕ → Bool
@@ -33,10 +34,6 @@ has_dot name = list_any (λ b. b == 46) name
 -- no state of tables has such a name
 unfoldable pub is_unfit_state : List ℕ → Bool
 is_unfit_state name = has_dot name || is_unfit name
-
--- the name stands in the list
-unfoldable pub stands_in : List (List ℕ) → List ℕ → Bool
-stands_in names name = list_any (λ n. bytes_eq n name) names
 
 -- the automaton has no tables: for the name of a state or of an event, or because a state and an event have one name
 unfoldable pub has_no_tables : Machine → Bool

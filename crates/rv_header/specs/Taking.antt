@@ -75,13 +75,17 @@ rows_in text = drop 2 (pieces 123 (piece_from 46 3 text))
 abbrev pub marks_in : List ℕ → List (List ℕ)
 marks_in text = members_in (piece_from 123 1 (piece_from 46 5 text))
 
+-- what is drawn by the header's name, the names of states and of events, the rows and the marks
+abbrev pub drawing_by : List ℕ → List (List ℕ) → List (List ℕ) → List (List ℕ) → List (List ℕ) → Drawing
+drawing_by name states events rows marks = record {
+  initial = slice_index_or states 0 [];
+  states = marked_by states marks;
+  arcs = rows_arcs name events states rows;
+}
+
 -- what the text draws
 abbrev pub drawing_in : List ℕ → Drawing
-drawing_in text = record {
-  initial = slice_index_or (state_names_in text) 0 [];
-  states = marked_by (state_names_in text) (marks_in text);
-  arcs = rows_arcs (name_in text) (events_in text) (state_names_in text) (rows_in text);
-}
+drawing_in text = drawing_by (name_in text) (state_names_in text) (events_in text) (rows_in text) (marks_in text)
 
 -- at most so many names, each of at most 64 bytes
 abbrev pub are_few : ℕ → List (List ℕ) → Bool

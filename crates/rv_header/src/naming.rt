@@ -1,7 +1,8 @@
 //! Which names stand in C tables.
 ghost use Rattle.std.specs.Prelude.{◌≡◌};
 ghost use Rattle.std.specs.List.{list_all, list_any};
-ghost use Rattle.rv_header.specs.Naming.{is_header_byte, is_header_name, begins_with_digit, is_reserved, is_unfit, has_dot, is_unfit_state, stands_in, has_no_tables};
+ghost use Rattle.rv_dot.specs.Sets.{stands_in};
+ghost use Rattle.rv_header.specs.Naming.{is_header_byte, is_header_name, begins_with_digit, is_reserved, is_unfit, has_dot, is_unfit_state, has_no_tables};
 
 use rv_model::{Automaton, Names};
 
@@ -20,7 +21,7 @@ fn are_header_bytes(name: &[u8]) -> bool
     name.iter().all(|byte| is_header_byte(*byte))
 }
 
-/// 1 to 32 lower-case letters, digits and `_`.
+/// Whether the name has 1 to 32 lower-case letters, digits and `_`.
 pub fn is_header_name(name: &[u8]) -> bool
     ensures { result ≡ is_header_name name.now }
 {
@@ -36,7 +37,7 @@ fn begins_with_digit(name: &[u8]) -> bool
     }
 }
 
-/// The tables have the name for themselves.
+/// Whether the tables have the name for themselves.
 fn is_reserved(name: &[u8]) -> bool
     ensures { result ≡ is_reserved name.now }
 {
@@ -96,7 +97,7 @@ fn has_unfit_event(events: &Names) -> bool
 }
 
 /// Whether the name stands in the list.
-#[tactic(auto, unfolding(crate::specs::Naming::stands_in), using(crate::proofs::ListSteps::any_none, crate::proofs::ListSteps::any_here, crate::proofs::ListSteps::any_later))]
+#[tactic(auto, using(crate::proofs::ListSteps::stands_any, crate::proofs::ListSteps::any_none, crate::proofs::ListSteps::any_here, crate::proofs::ListSteps::any_later))]
 fn stands_in(names: &Names, name: &[u8]) -> bool
     ensures { result ≡ stands_in names.now name.now }
 {

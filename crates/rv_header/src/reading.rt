@@ -1,9 +1,10 @@
 //! From a header's text to its name and automaton.
-ghost use Rattle.std.specs.Prelude.{◌≡◌, List, ℕ, IfOk, map};
-ghost use Rattle.rv_dot.specs.Sets.{bytes_of};
+ghost use Rattle.std.specs.Prelude.{◌≡◌, List, ℕ, IfOk, Ok, map};
+ghost use Rattle.rv_text.specs.Readings.{Gives};
+ghost use Rattle.rv_dot.specs.Held.{bytes_of};
 ghost use Rattle.rv_header.specs.Taking.{name_in, are_few, file_in};
 ghost use Rattle.rv_header.specs.declared.reading.Header.{Header as HeaderValue};
-ghost use Rattle.rv_header.specs.Headers.{IsHeaderOf, Finds, Yields};
+ghost use Rattle.rv_header.specs.Headers.{IsHeaderOf, Finds};
 
 use crate::drawing::{Drawing, drawn};
 use crate::naming::{has_no_tables, is_header_name};
@@ -21,7 +22,7 @@ const MOST_STATES: usize = 31;
 /// The most events of an automaton.
 const MOST_EVENTS: usize = 64;
 
-/// What C tables are of.
+/// The name and the automaton that C tables are of.
 #[derive(Drop)]
 pub struct Header {
     pub name: Name,
@@ -43,7 +44,7 @@ fn name_in<'a>(alloc: Global, bytes: &'a [u8]) -> Result<&'a [u8], AllocError>
     Ok(behind(text, b"states_".len()))
 }
 
-/// As many names as an automaton may have, and none too long.
+/// Whether there are at most so many names, and none is too long.
 fn are_few(names: &[&[u8]], most: usize) -> bool
     ensures { result ≡ are_few most (map bytes_of names.now) }
 {
@@ -77,7 +78,7 @@ fn file_in(alloc: Global, bytes: &[u8], name: &[u8]) -> Result<Option<Line>, All
 /// The automaton, where the text is a header's.
 fn automaton_in(alloc: Global, bytes: &[u8], name: &[u8]) -> Result<Automaton, Refused>
     requires { name.now ≡ name_in bytes.now }
-    ensures { (h : HeaderValue) → IsHeaderOf bytes.now h → Yields (λ a. a) h.automaton result }
+    ensures { (h : HeaderValue) → IsHeaderOf bytes.now h → Gives (λ a. a) result (Ok h.automaton) }
 {
     let Some(text) = file_in(alloc, bytes, name)? else {
         return Err(refused());

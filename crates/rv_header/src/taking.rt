@@ -1,7 +1,7 @@
 //! The pieces of a text, and what stands in them.
 ghost use Rattle.std.specs.Prelude.{◌≡◌, IfOk, map, slice_index_or, [], drop, nat_le, length};
 ghost use Rattle.std.specs.List.{list_all};
-ghost use Rattle.rv_dot.specs.Sets.{bytes_of};
+ghost use Rattle.rv_dot.specs.Held.{bytes_of};
 ghost use Rattle.rv_header.specs.Taking.{pieces, piece_from, quoted_in, members_in, seconds};
 
 use std::alloc::{AllocError, Global};
@@ -9,7 +9,7 @@ use std::alloc::{AllocError, Global};
 /// The most bytes of the name of a state or an event.
 const MOST_BYTES: usize = 64;
 
-/// The pieces between the bytes that are this one.
+/// The pieces that the mark cuts the text into.
 pub(crate) fn pieces<'a>(
     alloc: Global,
     text: &'a [u8],
@@ -101,7 +101,7 @@ pub(crate) fn behind_two<'s, 'a>(texts: &'s [&'a [u8]]) -> &'s [&'a [u8]]
     }
 }
 
-/// No name is longer than a state's or event's.
+/// Whether no name is longer than that of a state or an event may be.
 pub(crate) fn are_short(names: &[&[u8]]) -> bool
     ensures { result ≡ list_all (λ name. nat_le (length name) 64) (map bytes_of names.now) }
 {

@@ -3,9 +3,9 @@ use Rattle.std.proofs.Common.{◌≡◌, ◌≢◌, ℕ, zero, suc, ◌-◌, Lis
 use Rattle.std.proofs.lemmas.List.{append-nil}
 use Rattle.rv_ltl.specs.declared.token.Token.{Token}
 use Rattle.rv_ltl.specs.declared.token.Token.TheVariants as token
-use Rattle.rv_ltl.specs.declared.unread.Unread.{Unread}
-use Rattle.rv_ltl.specs.declared.unread.Unread.TheVariants.{Memory, Syntax}
-use Rattle.rv_ltl.specs.Unreads.{Fails}
+use Rattle.rv_text.specs.declared.unread.Unread.{Unread}
+use Rattle.rv_text.specs.declared.unread.Unread.TheVariants.{Memory, Syntax}
+use Rattle.rv_text.specs.Unreads.{Fails}
 use Rattle.rv_ltl.specs.Grammar.{Expr, spell}
 use Rattle.rv_ltl.specs.Parse.{operator, term_at, expr_by, ◌>>=◌}
 use Rattle.rv_ltl.specs.File.{Def, spell_file, IsFile, head_name, defs_at}

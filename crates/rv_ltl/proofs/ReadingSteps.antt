@@ -9,9 +9,9 @@ use Rattle.rv_text.specs.Readings.{Refuses, refused_with, and_then}
 use Rattle.rv_model.specs.Formulas.{RuleValue}
 use Rattle.rv_ltl.specs.declared.token.Token.{Token}
 use Rattle.rv_ltl.specs.declared.definitions.Definition.{Definition}
-use Rattle.rv_ltl.specs.declared.unread.Unread.{Unread}
-use Rattle.rv_ltl.specs.declared.unread.Unread.TheVariants.{Memory, Syntax}
-use Rattle.rv_ltl.specs.Unreads.{Fails}
+use Rattle.rv_text.specs.declared.unread.Unread.{Unread}
+use Rattle.rv_text.specs.declared.unread.Unread.TheVariants.{Memory, Syntax}
+use Rattle.rv_text.specs.Unreads.{Fails}
 use Rattle.rv_ltl.specs.Grammar.{Expr}
 use Rattle.rv_ltl.specs.Parse.{◌>>=◌}
 use Rattle.rv_ltl.specs.File.{Def, defs_at}

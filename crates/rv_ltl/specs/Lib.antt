@@ -1,5 +1,4 @@
 pub mod Operators
-pub mod Unreads
 pub mod Grammar
 pub mod Parse
 pub mod File

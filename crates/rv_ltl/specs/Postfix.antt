@@ -2,12 +2,12 @@
 use Rattle.std.specs.Prelude.{◌≡◌, ℕ, List, [], ◌∷◌, ◌++◌, map, Option, Some, Result, Ok, Err, Vec}
 use Rattle.std.specs.Borrow.{Bor}
 use Rattle.std.specs.declared.alloc.Global.{Global}
-use Rattle.rv_ltl.specs.declared.unread.Unread.{Unread}
+use Rattle.rv_text.specs.declared.unread.Unread.{Unread}
 use Rattle.rv_ltl.specs.declared.token.Token.{Token}
 use Rattle.rv_ltl.specs.declared.token.CodeStep.{CodeStep}
 use Rattle.rv_ltl.specs.declared.token.CodeStep.TheVariants as step
 use Rattle.rv_ltl.specs.declared.definitions.Definition.{Definition}
-use Rattle.rv_ltl.specs.Unreads.{Fails}
+use Rattle.rv_text.specs.Unreads.{Fails}
 use Rattle.rv_ltl.specs.Grammar.{Expr, Paren, One, Two}
 use Rattle.rv_ltl.specs.Parse.{◌>>=◌}
 use Rattle.rv_ltl.specs.File.{Def}

@@ -7,9 +7,9 @@ use Rattle.rv_text.specs.declared.refusals.Refused.{Refused}
 use Rattle.rv_text.specs.declared.refusals.Refused.TheVariants as refuseds
 use Rattle.rv_text.specs.Readings.{Refuses}
 use Rattle.rv_ltl.specs.declared.definitions.Definition.{Definition}
-use Rattle.rv_ltl.specs.declared.unread.Unread.{Unread}
-use Rattle.rv_ltl.specs.declared.unread.Unread.TheVariants.{Memory, Syntax}
-use Rattle.rv_ltl.specs.Unreads.{Fails}
+use Rattle.rv_text.specs.declared.unread.Unread.{Unread}
+use Rattle.rv_text.specs.declared.unread.Unread.TheVariants.{Memory, Syntax}
+use Rattle.rv_text.specs.Unreads.{Fails}
 use Rattle.rv_ltl.specs.Grammar.{Expr}
 use Rattle.rv_ltl.specs.File.{Def}
 use Rattle.rv_ltl.specs.Reach.{Mentions}

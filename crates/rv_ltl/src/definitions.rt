@@ -7,7 +7,7 @@ ghost use Rattle.rv_ltl.specs.Postfix.{ReadsCode};
 use crate::expression::expression;
 use crate::marks::after;
 use crate::token::{CodeStep, Token};
-use crate::unread::Unread;
+use rv_text::Unread;
 use std::alloc::Global;
 
 /// A name and its formula, as postfix code.

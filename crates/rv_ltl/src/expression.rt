@@ -7,7 +7,7 @@ ghost use Rattle.rv_ltl.specs.Postfix.{Appends};
 use crate::marks::{after, front, is_close, operator};
 use crate::operators::{is_same_operator, joins};
 use crate::token::{CodeStep, Token};
-use crate::unread::Unread;
+use rv_text::Unread;
 
 /// Puts down the code of the term in front, and gives the tokens after it.
 #[cycle(expression)]

@@ -16,7 +16,6 @@ mod reading;
 mod replacing;
 mod settle;
 mod token;
-mod unread;
 mod uses;
 mod weighing;
 mod weight;

@@ -4,8 +4,8 @@ ghost use Rattle.std.specs.Prelude.{◌≡◌, ℕ, List, map, IfOk, option_map}
 ghost use Rattle.std.specs.Cmp.Lexicographic.{slice_cmp};
 ghost use Rattle.std.specs.Ordering.{nat_cmp};
 ghost use Rattle.rv_ltl.specs.Texts.{texts};
+ghost use Rattle.rv_text.specs.Ascending.{Ascends};
 ghost use Rattle.rv_ltl.specs.Names.{is_upper, is_atom_byte, all_name_bytes, is_atom_name, names_of, place_in};
-ghost use Rattle.rv_ltl.specs.Fronts.{Ascends};
 
 use std::alloc::{AllocError, Global};
 use std::collections::BTreeSet;

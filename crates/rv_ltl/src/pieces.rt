@@ -1,12 +1,12 @@
 //! A rule file's text, cut into marks and words.
 
 ghost use Rattle.std.specs.Prelude.{◌≡◌, ◌≤◌, ◌<◌, ℕ, length, map, false};
-ghost use Rattle.rv_ltl.specs.Unreads.{IsReadAs};
+ghost use Rattle.rv_text.specs.Unreads.{IsReadAs};
 ghost use Rattle.rv_ltl.specs.Pieces.{is_whitespace, is_mark, is_word, pieces_of};
 ghost use Rattle.rv_ltl.specs.Lengths.{word_len, comment_len, piece_len, skipped};
 ghost use Rattle.rv_ltl.specs.Texts.{texts};
 
-use crate::unread::Unread;
+use rv_text::Unread;
 use std::alloc::Global;
 
 fn is_whitespace(b: u8) -> bool

@@ -6,8 +6,8 @@ ghost use Rattle.std.specs.Ordering.{nat_cmp};
 ghost use Rattle.rv_text.specs.Readings.{Gives};
 ghost use Rattle.rv_model.specs.Formulas.{IsRule, ltl};
 ghost use Rattle.rv_ltl.specs.Texts.{texts};
+ghost use Rattle.rv_text.specs.Ascending.{Ascends};
 ghost use Rattle.rv_ltl.specs.Names.{names_of};
-ghost use Rattle.rv_ltl.specs.Fronts.{Ascends};
 ghost use Rattle.rv_ltl.specs.Machine.{defs, AllCoded};
 ghost use Rattle.rv_ltl.specs.Atoms.{name_at};
 ghost use Rattle.rv_ltl.specs.RuleFile.{rule_in, ltl_of};
@@ -18,23 +18,21 @@ use crate::definitions::{Definition, definitions};
 use crate::names::{find, names};
 use crate::pieces::pieces;
 use crate::replacing::{limited_atoms, refused};
-use crate::unread::Unread;
 use crate::words::tokens;
 use rv_model::{Formula, Name, Names, Rule};
-use rv_text::{LTL_SYNTAX, NO_RULE, Refused};
+use rv_text::{LTL_SYNTAX, NO_RULE, Refused, Unread};
 use std::alloc::{AllocError, Global};
 
 /// The most bytes that a rule file may have.
 pub const MAX_BYTES: usize = 1_048_576;
 
-impl From<Unread> for Refused {
-    ghost from_gives = { λ unread refused. refused ≡ of_unread unread };
-
-    fn from(unread: Unread) -> Refused {
-        match unread {
-            Unread::Memory => Refused::Memory,
-            Unread::Syntax => refused(LTL_SYNTAX),
-        }
+// The refusal of a text that could not be read.
+fn refused_by(unread: Unread) -> Refused
+    ensures { result ≡ of_unread unread }
+{
+    match unread {
+        Unread::Memory => Refused::Memory,
+        Unread::Syntax => refused(LTL_SYNTAX),
     }
 }
 
@@ -104,8 +102,14 @@ pub fn read_ltl(alloc: Global, bytes: &[u8]) -> Result<Rule, Refused>
     if bytes.len() > MAX_BYTES {
         return Err(refused(LTL_SYNTAX));
     }
-    let pieces = pieces(alloc, bytes)?;
+    let pieces = match pieces(alloc, bytes) {
+        Ok(pieces) => pieces,
+        Err(unread) => return Err(refused_by(unread)),
+    };
     let names = names(alloc, &pieces)?;
-    let definitions = definitions_in(alloc, &names, &pieces)?;
+    let definitions = match definitions_in(alloc, &names, &pieces) {
+        Ok(definitions) => definitions,
+        Err(unread) => return Err(refused_by(unread)),
+    };
     rule_in(alloc, &names, &definitions)
 }

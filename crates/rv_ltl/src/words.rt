@@ -4,13 +4,13 @@ ghost use Rattle.std.specs.Prelude.{◌≡◌};
 ghost use Rattle.std.specs.Cmp.Lexicographic.{slice_cmp};
 ghost use Rattle.std.specs.Ordering.{nat_cmp};
 ghost use Rattle.rv_ltl.specs.Texts.{texts};
-ghost use Rattle.rv_ltl.specs.Unreads.{IsReadAs};
-ghost use Rattle.rv_ltl.specs.Fronts.{Ascends};
+ghost use Rattle.rv_text.specs.Unreads.{IsReadAs};
+ghost use Rattle.rv_text.specs.Ascending.{Ascends};
 ghost use Rattle.rv_ltl.specs.Tokens.{plain_of, unary_of, binary_of, token_of, tokens_of};
 
 use crate::names::find;
 use crate::token::{Binary, Token, Unary};
-use crate::unread::Unread;
+use rv_text::Unread;
 use std::alloc::Global;
 
 fn plain(piece: &[u8]) -> Option<Token>

@@ -1,7 +1,8 @@
 -- A text is appended in parts.
 use Rattle.std.proofs.Common.{◌≡◌, ℕ, ◌+◌, ◌<◌, List, [], ◌∷◌, ◌++◌, Result, Ok, Err, Bor, take, drop, length, slice_index_or, sym, ap, ◌∙◌, append_assoc, take-append-drop, append-nil, refl}
 use Rattle.std.proofs.lemmas.List.{take_more}
-use Rattle.rv_react.specs.Appending.{joined, Appends}
+use Rattle.rv_react.specs.Appending.{Appends}
+use Rattle.rv_react.specs.Parts.{joined}
 
 -- a refusal in the first part
 pub Appends-front : {E : Type 0} (old new first later : List ℕ) (refused : E) → Appends {E = E} old new first (Err refused) → Appends {E = E} old new (first ++ later) (Err refused)
@@ -35,10 +36,10 @@ joined-next old out new pieces i d within before grown =
     ∙ ap (λ text. old ++ text) (sym (joined-more pieces i d within))
 
 -- the pieces of a line, however they are grouped
-pub line-pieces : (front instance monitor denied event on state line : List ℕ) (monitor' denied' event' on' state' line' : List ℕ)
+pub line-pieces : {monitor denied event on state line : List ℕ} (front instance : List ℕ) (monitor' denied' event' on' state' line' : List ℕ)
     → monitor ≡ monitor' → denied ≡ denied' → event ≡ event' → on ≡ on' → state ≡ state' → line ≡ line'
     → front ++ (monitor ++ (instance ++ (denied ++ (event ++ (on ++ (state ++ (line ++ []))))))) ≡ (((front ++ monitor') ++ instance) ++ (((denied' ++ event') ++ on') ++ state')) ++ line'
-line-pieces front instance monitor denied event on state line monitor' denied' event' on' state' line' a b c d e f =
+line-pieces {monitor} {denied} {event} {on} {state} {line} front instance monitor' denied' event' on' state' line' a b c d e f =
     rw (a, b, c, d, e, f) (simp (append_assoc, append-nil) refl)
 
 -- a line in its two parts

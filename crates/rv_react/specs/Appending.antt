@@ -1,11 +1,5 @@
 -- A text is appended, or after a refusal some front of it.
-use Rattle.std.specs.Prelude.{◌≡◌, ℕ, List, ◌++◌, map, Result, Ok, Err}
-use Rattle.std.specs.Borrow.{Bor}
-use Rattle.std.specs.List.{concat}
-
--- the pieces as one text
-abbrev pub joined : List (Bor (List ℕ)) → List ℕ
-joined pieces = concat (map (λ piece. piece.now) pieces)
+use Rattle.std.specs.Prelude.{◌≡◌, ℕ, List, ◌++◌, Result, Ok, Err}
 
 -- the text was appended; after a refusal, a front of it
 abbrev pub Appends : {E : Type 0} → List ℕ → List ℕ → List ℕ → Result Unit E → Type 0

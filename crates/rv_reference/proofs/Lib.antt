@@ -8,4 +8,4 @@ pub mod RowLemmas
 pub mod SpecJudgeLemmas
 pub mod TestLemmas
 pub mod WellFormedLemmas
-pub mod WorkedTables
+pub mod WorkedRules

@@ -4,5 +4,6 @@ pub mod Monitors
 pub mod PlainPhases
 pub mod PlainRecords
 pub mod Plans
+pub mod PlainParts
 pub mod Views
 pub mod Worked

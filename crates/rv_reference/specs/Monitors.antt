@@ -1,6 +1,5 @@
 -- A monitor's table, as the definitions have it.
-use Rattle.std.specs.Prelude.{◌≡◌, ℕ, ◌<◌, List, map, true}
-use Rattle.rv_model.specs.declared.hit.Letter.{Letter}
+use Rattle.std.specs.Prelude.{List, map}
 use Rattle.rv_model.specs.declared.formula.Spec.{Spec}
 use Rattle.rv_model.specs.declared.formula.Spec.TheVariants.{Da, Ltl}
 use Rattle.rv_model.specs.Formulas.{ltl}
@@ -20,7 +19,3 @@ table_from (Ltl rule) nodes = model.of_labels (map node_of nodes)
 -- the table of a monitor's specification, with the monitor's rows
 abbrev pub table_by : Monitor → model.Table
 table_by m = table_from m.spec m.nodes.items
-
--- what follows a row has a number below the count
-abbrev pub BelowCount : model.Table → ℕ → Type 0
-BelowCount t count = (row : ℕ) (x : Letter) (next : ℕ) → model.follows t row x next ≡ true → next < count

@@ -1,12 +1,10 @@
 -- What the plain phases and answers are, by whatever judge has the monitor's specification and table.
-use Rattle.std.specs.Prelude.{◌≡◌, ℕ, List, ◌∷◌, reverse}
+use Rattle.std.specs.Prelude.{◌≡◌, ℕ, List, reverse}
 use Rattle.rv_model.specs.declared.entry.Answer.{Answer}
 use Rattle.rv_model.specs.declared.entry.Entry.{Entry}
 use Rattle.rv_model.specs.declared.hit.Letter.{Letter}
-use Rattle.rv_model.specs.declared.hit.Mode.{Mode}
 use Rattle.rv_model.specs.Judging.{Judge, JudgesBySpec}
 use Rattle.rv_model.specs.Phases as model
-use Rattle.rv_model.specs.SharedWords.{packed}
 use Rattle.rv_reference.specs.declared.monitor.Monitor.{Monitor}
 use Rattle.rv_reference.specs.declared.phase.Phase.{Phase}
 use Rattle.rv_reference.specs.declared.phase.Phase.TheVariants.{Waiting, Running, Stopped}
@@ -26,14 +24,6 @@ ByJudge m P = (j : Judge) → JudgesBySpec m.spec (table_by m) j → P j
 abbrev pub IsRowsOf : Monitor → List Letter → ℕ → Type 0
 IsRowsOf m letters rows = ByJudge m (λ j. rows ≡ model.rows_of j letters)
 
--- the answer and the phase after it are those that a hit of this mode with this letter gives
-abbrev pub IsTurn : Monitor → Phase → Mode → Letter → Answer → Phase → Type 0
-IsTurn m phase mode letter answer after = ByJudge m (λ j. (answer ≡ (model.turn j (phase_in phase) mode letter).0) × (phase_in after ≡ (model.turn j (phase_in phase) mode letter).1))
-
--- the phase after the entry is the one that its act makes of the phase before it
-abbrev pub IsPhaseAfter : Monitor → List Entry → Entry → ℕ → Phase → Phase → Type 0
-IsPhaseAfter m before entry slot phase after = ByJudge m (λ j. phase_in after ≡ model.phase_after j (model.level m.start (entry ∷ reverse before) slot) slot entry.act (phase_in phase))
-
 -- the phase is that of the slot after the history
 abbrev pub IsPhaseOf : Monitor → List Entry → ℕ → Phase → Type 0
 IsPhaseOf m history slot phase = ByJudge m (λ j. phase_in phase ≡ model.phase_of j m.start (reverse history) slot)
@@ -41,7 +31,3 @@ IsPhaseOf m history slot phase = ByJudge m (λ j. phase_in phase ≡ model.phase
 -- the answer is that of the entry after what went before
 abbrev pub IsAnswer : Monitor → List Entry → Entry → Answer → Type 0
 IsAnswer m before entry answer = ByJudge m (λ j. answer ≡ model.answer_to j m.start (reverse before) entry entry.act)
-
--- the word of a phase and levels
-abbrev pub IsPacked : Monitor → ℕ → Phase → ℕ → Type 0
-IsPacked m levels phase word = ByJudge m (λ j. word ≡ packed j levels (phase_in phase))

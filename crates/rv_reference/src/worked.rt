@@ -1,116 +1,31 @@
-//! Worked specifications, for tests: two automata, and rules over the atoms A, B and so on.
-ghost use Rattle.std.specs.Prelude.{◌≡◌, ◌≤◌, ◌↔◌, IfOk, IsTrue, [], ◌∷◌};
+//! Worked specifications, for tests: the text of an automaton, and rules over the atoms A, B and so on.
+ghost use Rattle.std.specs.Prelude.{◌≡◌, ◌≤◌, ◌↔◌, IfOk, IsTrue};
 ghost use Rattle.rv_model.specs.Formulas.{ltl, HasAtomsBelow};
-ghost use Rattle.rv_reference.specs.Worked.{wip, wwnr, letter_names};
+ghost use Rattle.rv_reference.specs.Worked.{letter_names};
 
-use rv_model::{Automaton, Edge, Formula, Name, Names, Rule};
+use rv_model::{Formula, Name, Names, Rule};
 use std::alloc::{AllocError, Global};
 
-/// Preemption is off wherever a task is woken (Linux, Documentation/trace/rv, monitor_wip.rst).
-pub fn wip(alloc: Global) -> Result<Automaton, AllocError>
-    ensures { IfOk result (λ automaton. automaton ≡ wip) }
-{
-    let states = two_names(alloc, b"preemptive", b"non_preemptive")?;
-    let events = three_names(
-        alloc,
-        b"preempt_disable",
-        b"preempt_enable",
-        b"sched_waking",
-    )?;
-    let edges = three_edges(
-        alloc,
-        Edge {
-            from: 0,
-            event: 0,
-            to: 1,
-        },
-        Edge {
-            from: 1,
-            event: 1,
-            to: 0,
-        },
-        Edge {
-            from: 1,
-            event: 2,
-            to: 1,
-        },
-    )?;
-    Ok(Automaton {
-        states,
-        events,
-        edges,
-        marked: 1,
-    })
+/// The text of wip in the style of the kernel's own models (Linux, Documentation/trace/rv, monitor_wip.rst), which is not its canonical one.
+pub const WIP_MODEL: &str = "digraph state_automaton {
+\tcenter = true;
+\tsize = \"7,11\";
+\t{node [shape = circle] \"non_preemptive\"};
+\t{node [shape = plaintext, style=invis, label=\"\"] \"__init_preemptive\"};
+\t{node [shape = doublecircle] \"preemptive\"};
+\t{node [shape = circle] \"preemptive\"};
+\t\"__init_preemptive\" -> \"preemptive\";
+\t\"non_preemptive\" [label = \"non_preemptive\"];
+\t\"non_preemptive\" -> \"non_preemptive\" [ label = \"sched_waking\" ];
+\t\"non_preemptive\" -> \"preemptive\" [ label = \"preempt_enable\" ];
+\t\"preemptive\" [label = \"preemptive\", color = green3];
+\t\"preemptive\" -> \"non_preemptive\" [ label = \"preempt_disable\" ];
+\t{ rank = min ;
+\t\t\"__init_preemptive\";
+\t\t\"preemptive\";
+\t}
 }
-
-/// A task is woken only while it does not run (Linux, Documentation/trace/rv, monitor_wwnr.rst).
-pub fn wwnr(alloc: Global) -> Result<Automaton, AllocError>
-    ensures { IfOk result (λ automaton. automaton ≡ wwnr) }
-{
-    let states = two_names(alloc, b"not_running", b"running")?;
-    let events = three_names(alloc, b"switch_in", b"switch_out", b"wakeup")?;
-    let edges = three_edges(
-        alloc,
-        Edge {
-            from: 0,
-            event: 0,
-            to: 1,
-        },
-        Edge {
-            from: 0,
-            event: 2,
-            to: 0,
-        },
-        Edge {
-            from: 1,
-            event: 1,
-            to: 0,
-        },
-    )?;
-    Ok(Automaton {
-        states,
-        events,
-        edges,
-        marked: 1,
-    })
-}
-
-fn two_names(alloc: Global, first: &[u8], second: &[u8]) -> Result<Names, AllocError>
-    ensures { IfOk result (λ names. names ≡ first.now ∷ second.now ∷ []) }
-{
-    let mut names = Names::new(alloc);
-    names.push(Name::new(alloc, first)?)?;
-    names.push(Name::new(alloc, second)?)?;
-    Ok(names)
-}
-
-fn three_names(
-    alloc: Global,
-    first: &[u8],
-    second: &[u8],
-    third: &[u8],
-) -> Result<Names, AllocError>
-    ensures { IfOk result (λ names. names ≡ first.now ∷ second.now ∷ third.now ∷ []) }
-{
-    let mut names = two_names(alloc, first, second)?;
-    names.push(Name::new(alloc, third)?)?;
-    Ok(names)
-}
-
-fn three_edges(
-    alloc: Global,
-    first: Edge,
-    second: Edge,
-    third: Edge,
-) -> Result<Vec<Edge>, AllocError>
-    ensures { IfOk result (λ edges. edges.items ≡ first ∷ second ∷ third ∷ []) }
-{
-    let mut edges = Vec::new(alloc);
-    edges.push(first)?;
-    edges.push(second)?;
-    edges.push(third)?;
-    Ok(edges)
-}
+";
 
 /// Whether all atoms of the formula are below the number.
 pub fn has_atoms_below(count: u8, formula: &Formula) -> bool

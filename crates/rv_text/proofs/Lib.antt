@@ -5,4 +5,5 @@ pub mod SelectLemmas
 pub mod TextLineLemmas
 pub mod WordLemmas
 pub mod LinesStand
+pub mod AscendingLemmas
 pub mod PieceLemmas

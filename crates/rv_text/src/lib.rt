@@ -9,6 +9,7 @@ mod numbers;
 mod pieces;
 mod refusals;
 mod runs;
+mod unread;
 mod words;
 
 pub use cursor::{Cursor, TextLine, line_end, next_number, past_line_end};
@@ -26,4 +27,5 @@ pub use numbers::{
 pub use pieces::Pieces;
 pub use refusals::{Refusal, Refused};
 pub use runs::{ByteClass, run_end};
+pub use unread::Unread;
 pub use words::Words;

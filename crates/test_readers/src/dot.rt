@@ -2,31 +2,11 @@
 use crate::drawing::redrawn;
 use crate::numbers::refusal_of;
 use rv_dot::read_dot;
+use rv_reference::worked::WIP_MODEL;
 use std::alloc::{AllocError, Global};
 use std::test::Fail;
 
-/// An automaton in the style of the kernel's own models, which stands in no canonical form.
-const WIP: &[u8] = b"digraph state_automaton {
-\tcenter = true;
-\tsize = \"7,11\";
-\t{node [shape = circle] \"non_preemptive\"};
-\t{node [shape = plaintext, style=invis, label=\"\"] \"__init_preemptive\"};
-\t{node [shape = doublecircle] \"preemptive\"};
-\t{node [shape = circle] \"preemptive\"};
-\t\"__init_preemptive\" -> \"preemptive\";
-\t\"non_preemptive\" [label = \"non_preemptive\"];
-\t\"non_preemptive\" -> \"non_preemptive\" [ label = \"sched_waking\" ];
-\t\"non_preemptive\" -> \"preemptive\" [ label = \"preempt_enable\" ];
-\t\"preemptive\" [label = \"preemptive\", color = green3];
-\t\"preemptive\" -> \"non_preemptive\" [ label = \"preempt_disable\" ];
-\t{ rank = min ;
-\t\t\"__init_preemptive\";
-\t\t\"preemptive\";
-\t}
-}
-";
-
-/// Its canonical text.
+/// The canonical text of wip.
 const WIP_CANONICAL: &[u8] = b"digraph state_automaton {
 \tcenter = true;
 \tsize = \"7,11\";
@@ -188,10 +168,11 @@ fn texts_have_the_first_refusal_that_applies(rt: HostRuntime) -> Result<(), Fail
 
 #[test]
 fn a_file_is_read_up_to_its_last_brace_and_not_before(rt: HostRuntime) -> Result<(), Fail> {
-    for len in 0..WIP.len() + 1 {
-        let wanted = if len + 1 < WIP.len() { 2 } else { 0 };
+    let text = WIP_MODEL.as_bytes();
+    for len in 0..text.len() + 1 {
+        let wanted = if len + 1 < text.len() { 2 } else { 0 };
         assert!(rt;
-            refusal_of(read_dot(rt.alloc(), &WIP[..len])) == wanted,
+            refusal_of(read_dot(rt.alloc(), &text[..len])) == wanted,
             "at {len}"
         );
     }
@@ -245,7 +226,7 @@ fn the_limits_of_states_events_and_bytes_are_exact(rt: HostRuntime) -> Result<()
 
 #[test]
 fn a_kernel_model_has_its_canonical_text(rt: HostRuntime) -> Result<(), Fail> {
-    for text in [WIP, WIP_CANONICAL] {
+    for text in [WIP_MODEL.as_bytes(), WIP_CANONICAL] {
         assert!(rt; redrawn(rt.alloc(), text)?.as_slice() == WIP_CANONICAL);
     }
     Ok(())

@@ -8,8 +8,8 @@ ghost use Rattle.rv_core.specs.Advance.{FitsKind};
 ghost use Rattle.rv_core.specs.Setup.{table_at};
 
 use rv_core::Setup;
+use rv_gen::wip;
 use rv_model::Scope;
-use rv_reference::worked::wip;
 use rv_slots::Shape;
 use rv_table::Table;
 use std::alloc::{AllocError, Global};

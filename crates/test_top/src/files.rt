@@ -1,27 +1,7 @@
 //! The files that the tests run on.
 use rv_io::MemStore;
+use rv_reference::worked::WIP_MODEL;
 use std::alloc::{AllocError, Global};
-
-/// A model in the style of the kernel's own.
-pub(crate) const WIP: &str = "digraph state_automaton {
-\tcenter = true;
-\tsize = \"7,11\";
-\t{node [shape = circle] \"non_preemptive\"};
-\t{node [shape = plaintext, style=invis, label=\"\"] \"__init_preemptive\"};
-\t{node [shape = doublecircle] \"preemptive\"};
-\t{node [shape = circle] \"preemptive\"};
-\t\"__init_preemptive\" -> \"preemptive\";
-\t\"non_preemptive\" [label = \"non_preemptive\"];
-\t\"non_preemptive\" -> \"non_preemptive\" [ label = \"sched_waking\" ];
-\t\"non_preemptive\" -> \"preemptive\" [ label = \"preempt_enable\" ];
-\t\"preemptive\" [label = \"preemptive\", color = green3];
-\t\"preemptive\" -> \"non_preemptive\" [ label = \"preempt_disable\" ];
-\t{ rank = min ;
-\t\t\"__init_preemptive\";
-\t\t\"preemptive\";
-\t}
-}
-";
 
 /// Its bindings.
 pub(crate) const BINDINGS: &str = "monitor wip cpu da wip.dot
@@ -65,7 +45,7 @@ t-1 [000] 1.000006: preempt_disable:
 /// A store with bindings and a trace, which are called `wip.rv` and `wip.txt`.
 pub(crate) fn store_of(alloc: Global, bindings: &str, trace: &str) -> Result<MemStore, AllocError> {
     let mut store = MemStore::new(alloc);
-    store.add("wip.dot", WIP.as_bytes())?;
+    store.add("wip.dot", WIP_MODEL.as_bytes())?;
     store.add("wip.rv", bindings.as_bytes())?;
     store.add("wip.txt", trace.as_bytes())?;
     Ok(store)

@@ -1,6 +1,7 @@
 //! What the tests share: formulas from their text, steps of a history, and the check of each step.
+use rv_gen::{wip, wwnr};
 use rv_model::{Act, Answer, Entry, Formula, Hit, Mode, Spec, What};
-use rv_reference::worked::{has_atoms_below, rule, wip, wwnr};
+use rv_reference::worked::{has_atoms_below, rule};
 use rv_reference::{Monitor, Node, Plan};
 use std::alloc::{AllocError, Global};
 use std::process::Abort;

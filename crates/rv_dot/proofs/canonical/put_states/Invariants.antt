@@ -4,7 +4,7 @@ use Rattle.rv_dot.specs.Canonical.{state_line, states_marked}
 use Rattle.rv_dot.proofs.canonical.put_states.Given as goal
 
 abbrev pub invariant-states : goal.invariant-states
-invariant-states l = l.out.items ++ flat_map state_line (states_marked l.bits (drop l.place l.states)) ≡ l.initial.out.items ++ flat_map state_line (states_marked l.marked l.states)
+invariant-states l = l.out ++ flat_map state_line (states_marked l.bits (drop l.place l.states)) ≡ l.initial.out ++ flat_map state_line (states_marked l.marked l.states)
 
 abbrev pub decreases-states : goal.decreases-states
 decreases-states l = length l.states - l.place

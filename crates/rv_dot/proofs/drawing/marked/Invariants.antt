@@ -1,8 +1,7 @@
 use Rattle.std.proofs.Common.{◌≡◌, length, map, drop, ◌≤◌}
-use Rattle.rv_dot.specs.Sayings.{sayings_claims}
+use Rattle.rv_dot.specs.Held.{sayings_claims, bytes_of}
 use Rattle.rv_dot.specs.Gathered.{is_marked}
 use Rattle.rv_dot.specs.Dot.{bits_of}
-use Rattle.rv_dot.specs.Sets.{bytes_of}
 use Rattle.rv_dot.proofs.drawing.marked.Given as goal
 
 abbrev pub invariant-states : goal.invariant-states

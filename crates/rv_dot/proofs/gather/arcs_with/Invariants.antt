@@ -1,7 +1,6 @@
 use Rattle.std.proofs.Common.{◌≡◌, take, map}
 use Rattle.rv_dot.specs.Gathered.{arcs_with}
-use Rattle.rv_dot.specs.Sayings.{arc}
-use Rattle.rv_dot.specs.Sets.{bytes_of}
+use Rattle.rv_dot.specs.Held.{arc, bytes_of}
 use Rattle.rv_dot.proofs.gather.arcs_with.Given as goal
 
 abbrev pub invariant-events : goal.invariant-events

@@ -1,5 +1,5 @@
 use Rattle.std.proofs.Common.{arith, sym, ◌∙◌, ap, cond, get_or, ◌+◌}
-use Rattle.rv_dot.specs.Labels.{is_blank}
+use Rattle.rv_text.specs.Places.{is_blank}
 use Rattle.rv_dot.proofs.LabelLaws.{kept_more, kept_none, kept_within}
 use Rattle.rv_dot.proofs.label.kept_len.Goals as goal
 

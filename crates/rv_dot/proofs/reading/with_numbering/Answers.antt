@@ -2,9 +2,9 @@ use Rattle.std.proofs.Common.{◌≡◌, ◌≤◌, map, length, false, sym, ap,
 use Rattle.std.specs.Prelude.{Ok}
 use Rattle.std.proofs.lemmas.List.{length-map}
 use Rattle.rv_model.specs.WellFormed.{IsAutomaton}
-use Rattle.rv_dot.specs.Sets.{bytes_of}
-use Rattle.rv_dot.specs.Sayings.{sayings_claims, arc}
-use Rattle.rv_dot.specs.Moves.{has_clash, moves_of, arc_move}
+use Rattle.rv_dot.specs.Held.{bytes_of, sayings_claims, arc}
+use Rattle.rv_dot.specs.Moves.{moves_of, arc_move}
+use Rattle.rv_dot.specs.Clashes.{has_clash}
 use Rattle.rv_dot.specs.Numberings.{states_by, events_by}
 use Rattle.rv_dot.proofs.InitialLaws.{ends_refused, is_drawn, clash_refused, states_refused, events_refused, machine_given, machine_keeps, machine_is, many_states, few_states_of}
 use Rattle.rv_dot.proofs.reading.with_numbering.Goals as goal

@@ -1,6 +1,5 @@
 use Rattle.std.proofs.Common.{◌≡◌, take}
-use Rattle.rv_dot.specs.Statements.{claims}
-use Rattle.rv_dot.specs.Sayings.{sayings_claims}
+use Rattle.rv_dot.specs.Held.{claims, sayings_claims}
 use Rattle.rv_dot.proofs.saying.sayings.Given as goal
 
 abbrev pub invariant-loop-fact : goal.invariant-loop-fact

@@ -1,10 +1,11 @@
-use Rattle.std.proofs.Common.{◌++◌, ◌∙◌, ℕ, List, [], map, ap, arith, get_or}
-use Rattle.std.specs.List.{flat_map}
+use Rattle.std.proofs.Common.{◌++◌, ◌∙◌, ℕ, List, [], map, ap, sym, arith, get_or}
+use Rattle.std.specs.List.{flat_map, zip}
 use Rattle.std.proofs.lemmas.List.{length-map}
-use Rattle.rv_dot.specs.Sets.{bytes_of}
+use Rattle.rv_dot.specs.Held.{bytes_of}
+use Rattle.rv_dot.specs.Gathered.{Arc}
 use Rattle.rv_dot.specs.Canonical.{arc_line}
 use Rattle.rv_header.specs.Taking.{cell_arcs}
-use Rattle.rv_header.proofs.Zips.{zipped_more, zipped_all}
+use Rattle.rv_header.proofs.Zips.{zipped_more, zipped_all, flat_flat}
 use Rattle.rv_header.proofs.drawing.put_row.Goals as goal
 
 pub events-preserved : goal.events-preserved
@@ -17,5 +18,7 @@ events-preserved c =
 
 pub returns : goal.returns
 returns c =
-    zipped_all (λ (p : List ℕ × List ℕ). flat_map arc_line (cell_arcs c.args.name.now c.args.from.now p.0 p.1)) (map bytes_of c.args.events.now) (map bytes_of c.args.row.now) c.events.place c.events.out _
+    let arcs : List ℕ × List ℕ → List Arc = λ p. cell_arcs c.args.name.now c.args.from.now p.0 p.1 in
+    zipped_all (λ (p : List ℕ × List ℕ). flat_map arc_line (arcs p)) (map bytes_of c.args.events.now) (map bytes_of c.args.row.now) c.events.place c.events.out _
     (simp length-map (omega arith)) c.events.invariant
+    ∙ ap (λ (z : List ℕ). c.args.out.now ++ z) (sym (flat_flat arc_line arcs (zip (map bytes_of c.args.events.now) (map bytes_of c.args.row.now))))

@@ -1,10 +1,11 @@
-use Rattle.std.proofs.Common.{◌++◌, ◌∙◌, ℕ, List, [], map, ap, arith, get_or}
-use Rattle.std.specs.List.{flat_map}
+use Rattle.std.proofs.Common.{◌++◌, ◌∙◌, ℕ, List, [], map, ap, sym, arith, get_or}
+use Rattle.std.specs.List.{flat_map, zip}
 use Rattle.std.proofs.lemmas.List.{length-map}
-use Rattle.rv_dot.specs.Sets.{bytes_of}
+use Rattle.rv_dot.specs.Held.{bytes_of}
+use Rattle.rv_dot.specs.Gathered.{Arc}
 use Rattle.rv_dot.specs.Canonical.{arc_line}
 use Rattle.rv_header.specs.Taking.{row_arcs, members_in}
-use Rattle.rv_header.proofs.Zips.{zipped_more, zipped_all}
+use Rattle.rv_header.proofs.Zips.{zipped_more, zipped_all, flat_flat}
 use Rattle.rv_header.proofs.drawing.put_rows.Goals as goal
 
 pub states-preserved : goal.states-preserved
@@ -17,5 +18,7 @@ states-preserved c =
 
 pub returns : goal.returns
 returns c =
-    zipped_all (λ (p : List ℕ × List ℕ). flat_map arc_line (row_arcs c.args.name.now (map bytes_of c.args.events.now) p.0 (members_in p.1))) (map bytes_of c.args.states.now) (map bytes_of c.args.rows.now) c.states.place c.states.out _
+    let arcs : List ℕ × List ℕ → List Arc = λ p. row_arcs c.args.name.now (map bytes_of c.args.events.now) p.0 (members_in p.1) in
+    zipped_all (λ (p : List ℕ × List ℕ). flat_map arc_line (arcs p)) (map bytes_of c.args.states.now) (map bytes_of c.args.rows.now) c.states.place c.states.out _
     (simp length-map (omega arith)) c.states.invariant
+    ∙ ap (λ (z : List ℕ). c.args.out.now ++ z) (sym (flat_flat arc_line arcs (zip (map bytes_of c.args.states.now) (map bytes_of c.args.rows.now))))

@@ -1,8 +1,10 @@
-use Rattle.std.proofs.Common.{◌++◌, ◌∙◌, ℕ, List, [], codes, map, ap, arith, get_or, Bool}
+use Rattle.std.proofs.Common.{◌++◌, ◌∙◌, ℕ, List, [], codes, map, ap, sym, arith, get_or, Bool}
+use Rattle.std.specs.List.{zip}
 use Rattle.std.specs.Str.{bytes_eq}
+use Rattle.std.proofs.lemmas.List.Folds.{flat_map-map}
 use Rattle.std.proofs.lemmas.List.{length-map}
-use Rattle.rv_dot.specs.Sets.{bytes_of}
-use Rattle.rv_dot.specs.Canonical.{state_line}
+use Rattle.rv_dot.specs.Held.{bytes_of}
+use Rattle.rv_dot.specs.Canonical.{State, state_line}
 use Rattle.rv_header.specs.Taking.{state_by}
 use Rattle.rv_header.proofs.Zips.{zipped_more, zipped_all}
 use Rattle.rv_header.proofs.drawing.put_states.Goals as goal
@@ -17,5 +19,7 @@ states-preserved c =
 
 pub returns : goal.returns
 returns c =
+    let by : List ℕ × List ℕ → State = λ p. state_by p.0 p.1 in
     zipped_all (λ (p : List ℕ × List ℕ). state_line (state_by p.0 p.1)) (map bytes_of c.args.states.now) (map bytes_of c.args.marks.now) c.states.place c.states.out _
     (simp length-map (omega arith)) c.states.invariant
+    ∙ ap (λ (z : List ℕ). c.args.out.now ++ z) (sym (flat_map-map state_line by (zip (map bytes_of c.args.states.now) (map bytes_of c.args.marks.now))))

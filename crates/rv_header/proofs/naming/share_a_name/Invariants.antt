@@ -1,6 +1,6 @@
 use Rattle.std.proofs.Common.{◌≡◌, ◌-◌, drop, length}
 use Rattle.std.specs.List.{list_any}
-use Rattle.rv_header.specs.Naming.{stands_in}
+use Rattle.rv_dot.specs.Sets.{stands_in}
 use Rattle.rv_header.proofs.naming.share_a_name.Given as goal
 
 abbrev pub invariant-states : goal.invariant-states

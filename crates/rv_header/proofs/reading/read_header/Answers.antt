@@ -3,7 +3,7 @@ use Rattle.std.specs.Prelude.{not}
 use Rattle.rv_header.specs.Naming.{is_header_name}
 use Rattle.rv_header.specs.HeaderText.{header_text}
 use Rattle.rv_dot.proofs.StandsLaws.{name_test}
-use Rattle.rv_header.proofs.HeadersBack.{name_taken, refused_for, unnamed}
+use Rattle.rv_header.proofs.HeadersBack.{name_taken, refused_for, unnamed, machine_read}
 use Rattle.rv_header.proofs.reading.read_header.Goals as goal
 
 pub returns-then-not-is_header_name : goal.returns-then-not-is_header_name
@@ -11,7 +11,7 @@ returns-then-not-is_header_name c = refused_for c.args.bytes.now c.refused.resul
 
 pub returns-then-ne : goal.returns-then-ne
 returns-then-ne c = refused_for c.args.bytes.now c.refused-then-ne.result c.refused-then-ne.ensures (λ h is.
-    let machine : c.in-Ok.automaton ≡ h.automaton = c.in-Ok.ensures h is in
+    let machine : c.in-Ok.automaton ≡ h.automaton = machine_read c.in-Ok.automaton h.automaton (c.in-Ok.ensures h is) in
     let name : c.in_ok-name.name.now ≡ h.name = c.in_ok-name.ensures ∙ name_taken c.args.bytes.now h is in
     let written : c.in_ok-text.text.items ≡ header_text h.name h.automaton = c.in_ok-text.ensures ∙ ap (λ (n : List ℕ). header_text n c.in-Ok.automaton) name ∙ ap (header_text h.name) machine in
     let same : c.as_slice.result.now ≡ c.args.bytes.now = c.as_slice.ensures.value ∙ written ∙ sym is.text in

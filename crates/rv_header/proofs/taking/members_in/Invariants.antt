@@ -1,5 +1,5 @@
 use Rattle.std.proofs.Common.{◌≡◌, map, take}
-use Rattle.rv_dot.specs.Sets.{bytes_of}
+use Rattle.rv_dot.specs.Held.{bytes_of}
 use Rattle.rv_header.specs.Taking.{member_in}
 use Rattle.rv_header.proofs.taking.members_in.Given as goal
 

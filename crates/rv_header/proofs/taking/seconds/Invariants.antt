@@ -1,5 +1,5 @@
 use Rattle.std.proofs.Common.{◌≡◌, ◌++◌, length, map}
-use Rattle.rv_dot.specs.Sets.{bytes_of}
+use Rattle.rv_dot.specs.Held.{bytes_of}
 use Rattle.rv_header.specs.Taking.{seconds}
 use Rattle.rv_header.proofs.taking.seconds.Given as goal
 

@@ -2,7 +2,8 @@ use Rattle.std.proofs.Common.{◌≡◌, ◌+◌, ap, subst, length, sym, ◌∙
 use Rattle.rv_model.specs.declared.formula.Spec.TheVariants.{Da}
 use Rattle.rv_model.specs.Machine.{Machine}
 use Rattle.rv_model.specs.WellFormed.{IsAutomaton}
-use Rattle.rv_reference.specs.Monitors.{BelowCount, table_from}
+use Rattle.rv_reference.specs.Monitors.{table_from}
+use Rattle.rv_reference.specs.PlainParts.{BelowCount}
 use Rattle.rv_reference.proofs.EntryLemmas.{automaton-below}
 use Rattle.rv_reference.proofs.monitor.Monitor.row_count.Goals as goal
 
