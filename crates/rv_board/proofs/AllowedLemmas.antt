@@ -24,7 +24,7 @@ use Rattle.rv_board.proofs.CallLemmas.{may}
 or-small : (n bits : ℕ) → n < 18446744073709551616 → bits < 2 ^ 64 → bit_or n bits < 2 ^ 64
 or-small n bits a b = let f : Fits w64 n = record { fits = a } in let g : Fits w64 bits = record { fits = b } in (Fits-or f g).fits
 
-module _ (k : Setup) (slots id number end : ℕ) (me : Ours) (u : IsUsable number end me) (setup : me.0.setup ≡ k) where
+module _ {k : Setup} (slots id : ℕ) {number end : ℕ} {me : Ours} (u : IsUsable number end me) (setup : me.0.setup ≡ k) where
   -- a load
   pub loads : (i : ℕ) → i < width k → Allows (KeptPlainly k) slots id me i (λ n. n) (IsLoadStep (step slots i 0 0 none) me)
   loads i inside = sees k slots id me i inside setup u.has
@@ -45,18 +45,20 @@ module _ (k : Setup) (slots id number end : ℕ) (me : Ours) (u : IsUsable numbe
       makes k slots id me (Lower bits) (λ n. bit_and n mask) (may k number end me (Lower bits) u setup tt (omega arith) actor tt) (λ n small. (ap (bit_and n) same, and_lt 64 n mask small low))
 
   -- a clear
-  pub clears : (slot first : ℕ) → slot < sum k.shape → start_of k slot < 2 ^ 32 → first ≡ packed 1 (start_of k slot) → me.0.part.number ≡ 1 → Allows (KeptPlainly k) slots id me (slot + 1) (λ _. first) (IsClearStep (step slots (slot + 1) first 0 none) me)
-  clears slot first inside low is actor =
+  pub clears : (slot first : ℕ) → slot < sum k.shape → (start_of k slot < 2 ^ 32) × (first ≡ packed 1 (start_of k slot)) → me.0.part.number ≡ 1 → Allows (KeptPlainly k) slots id me (slot + 1) (λ _. first) (IsClearStep (step slots (slot + 1) first 0 none) me)
+  clears slot first inside opens actor =
+      let low = opens.0 in
       let back : slot ≡ (slot + 1) - 1 = omega arith in
       subst (λ (z : ℕ). Allows (KeptPlainly k) slots id me (slot + 1) (λ _. first) (IsActStep (Clear z) me)) back
-      (makes k slots id me (Clear slot) (λ _. first) (may k number end me (Clear slot) u setup inside low actor tt) (λ n _. (is, omega arith)))
+      (makes k slots id me (Clear slot) (λ _. first) (may k number end me (Clear slot) u setup inside low actor tt) (λ n _. (opens.1, omega arith)))
 
   -- an end
-  pub ends : (slot first : ℕ) → slot < sum k.shape → start_of k slot < 2 ^ 32 → first ≡ packed 1 (start_of k slot) → Allows (KeptPlainly k) slots id me (slot + 1) (λ _. first) (IsEndStep (step slots (slot + 1) first 0 none) me)
-  ends slot first inside low is =
+  pub ends : (slot first : ℕ) → slot < sum k.shape → (start_of k slot < 2 ^ 32) × (first ≡ packed 1 (start_of k slot)) → Allows (KeptPlainly k) slots id me (slot + 1) (λ _. first) (IsEndStep (step slots (slot + 1) first 0 none) me)
+  ends slot first inside opens =
+      let low = opens.0 in
       let back : slot ≡ (slot + 1) - 1 = omega arith in
       subst (λ (z : ℕ). Allows (KeptPlainly k) slots id me (slot + 1) (λ _. first) (IsActStep (End z) me)) back
-      (makes k slots id me (End slot) (λ _. first) (may k number end me (End slot) u setup inside low tt tt) (λ n _. (is, omega arith)))
+      (makes k slots id me (End slot) (λ _. first) (may k number end me (End slot) u setup inside low tt tt) (λ n _. (opens.1, omega arith)))
 
   -- a stop, which three lost tries have earned
   pub stops : (slot : ℕ) → slot < sum k.shape → LostThrice slot me.0.part.number me.0.part.seen → Allows (KeptPlainly k) slots id me (slot + 1) (λ _. 0) (IsStopStep (step slots (slot + 1) 0 0 none) me)

@@ -85,22 +85,22 @@ pub usable_first : (k : Setup) (me : Ours) → me ≡ (first_view k, []) → IsU
 usable_first k me same = subst (IsUsable 0 67) (sym same) record { number_is = refl; end_is = refl; has = omega arith; small = omega arith; left = refl; right = refl; empty = refl; sound = sound-empty k (judges_of k) }
 
 -- what a step that made an act tells of the seat
-pub acts-by : (number end : ℕ) (table table' : TableId) (m m' : Ours) (act : Act) (found : ℕ) (old : SeatValue) → IsUsable number end m → seat_value m.0.part (board_id table m.0.setup) ≡ old → table' ≡ table → (t : IsActStep act m found m')
+pub acts-by : {number end : ℕ} {table table' : TableId} {m m' : Ours} (act : Act) {found : ℕ} {old : SeatValue} → IsUsable number end m → seat_value m.0.part (board_id table m.0.setup) ≡ old → table' ≡ table → (t : IsActStep act m found m')
     → Acts old (seat_value m'.0.part (board_id table' m'.0.setup)) act (entry_of m.0 m'.0 act found t.0)
-acts-by number end table table' m m' act found old u is same t =
+acts-by {number} {end} {table} {table'} {m} {m'} act {found} {old} u is same t =
     subst (λ (o : SeatValue). Acts o (seat_value m'.0.part (board_id table' m'.0.setup)) act (entry_of m.0 m'.0 act found t.0)) is
     record { grows = record { grows = grown_by m.0 m'.0 act found u.has t.0; board = λ i. board_id (same i) (ap (λ (v : View). v.setup) t.0.same i) }; act_is = refl }
 
 -- the same where the act is spelled otherwise
-pub acts-as : (number end : ℕ) (table table' : TableId) (m m' : Ours) (act act' : Act) (found : ℕ) (old : SeatValue) → act' ≡ act → IsUsable number end m → seat_value m.0.part (board_id table m.0.setup) ≡ old → table' ≡ table → IsActStep act' m found m'
+pub acts-as : {number end : ℕ} {table table' : TableId} {m m' : Ours} {act act' : Act} {found : ℕ} {old : SeatValue} → act' ≡ act → IsUsable number end m → seat_value m.0.part (board_id table m.0.setup) ≡ old → table' ≡ table → IsActStep act' m found m'
     → (entry : Entry) × Acts old (seat_value m'.0.part (board_id table' m'.0.setup)) act entry
-acts-as number end table table' m m' act act' found old e u is same t =
+acts-as {number} {end} {table} {table'} {m} {m'} {act} {act'} {found} {old} e u is same t =
     let t' = subst (λ (a : Act). IsActStep a m found m') e t in
-    (entry_of m.0 m'.0 act found t'.0, acts-by number end table table' m m' act found old u is same t')
+    (entry_of m.0 m'.0 act found t'.0, acts-by act u is same t')
 
 -- a call that adds nothing
-pub grows_seen : (table table' : TableId) (v w : View) (place found : ℕ) (old : SeatValue) → seat_value v.part (board_id table v.setup) ≡ old → table' ≡ table → Saw word_at v w place found → SeatGrows old (seat_value w.part (board_id table' w.setup)) []
-grows_seen table table' v w place found old is same s =
+pub grows_seen : {table table' : TableId} {v w : View} {place found : ℕ} {old : SeatValue} → seat_value v.part (board_id table v.setup) ≡ old → table' ≡ table → Saw word_at v w place found → SeatGrows old (seat_value w.part (board_id table' w.setup)) []
+grows_seen {table} {table'} {v} {w} {place} {found} {old} is same s =
     subst (λ (o : SeatValue). SeatGrows o (seat_value w.part (board_id table' w.setup)) []) is
     record {
       grows = record {
@@ -134,16 +134,16 @@ all_seen k seat h f sound all = on f.rest f.list f.none
     on (e ∷ rest) whole none-left = absurd (no_such e rest (known_of seat) (all e.seat (sound.permitted seat.seen e rest whole).0) none-left)
 
 -- what the last load tells
-pub closes : (table : TableId) (v w : View) (place found : ℕ) (seat : SeatValue) → seat_value v.part (board_id table v.setup) ≡ seat → Saw word_at v w place found → Closes seat w.part.seen
-closes table v w place found seat is s =
+pub closes : {table : TableId} {v w : View} {place found : ℕ} {seat : SeatValue} → seat_value v.part (board_id table v.setup) ≡ seat → Saw word_at v w place found → Closes seat w.part.seen
+closes {table} {v} {w} {place} {found} {seat} is s =
     let f : ExtendsSeen w.part.seen v.part = follows w.part.seen v.part record { rest = s.rest; whole = s.list; none = s.none } in
     subst (λ (o : SeatValue). Closes o w.part.seen) is
     record { list = f; sound = s.sound; whole = all_seen v.setup v.part w.part.seen f s.sound }
 
 -- what a look tells
-pub looks-by : (number end : ℕ) (table table' : TableId) (m m' : Ours) (found : ℕ) (old : SeatValue) → IsUsable number end m → seat_value m.0.part (board_id table m.0.setup) ≡ old → table' ≡ table → IsActStep Look m found m'
+pub looks-by : {number end : ℕ} {table table' : TableId} {m m' : Ours} {found : ℕ} {old : SeatValue} → IsUsable number end m → seat_value m.0.part (board_id table m.0.setup) ≡ old → table' ≡ table → IsActStep Look m found m'
     → Looks old (seat_value m'.0.part (board_id table' m'.0.setup)) found
-looks-by number end table table' m m' found old u is same t = record { entry = entry_of m.0 m'.0 Look found t.0; acts = acts-by number end table table' m m' Look found old u is same t; found = sym t.0.word }
+looks-by {number} {end} {table} {table'} {m} {m'} {found} {old} u is same t = record { entry = entry_of m.0 m'.0 Look found t.0; acts = acts-by Look u is same t; found = sym t.0.word }
 
 -- what the two loads of a join tell
 joined-view : (table table' other : TableId) (v w x : View) (found : ℕ) → table' ≡ table → Saw word_at (joined v w) x 0 found → Joins (seat_value v.part (board_id table v.setup)) (seat_value w.part (board_id other w.setup)) (seat_value x.part (board_id table' x.setup))
@@ -158,8 +158,8 @@ joined-view table table' other v w x found same s = record {
 }
 
 -- and of the seats as contracts see them
-pub joins-by : (table table' other : TableId) (v w m x : View) (found : ℕ) (old from : SeatValue) → m ≡ joined v w → seat_value v.part (board_id table v.setup) ≡ old → seat_value w.part (board_id other w.setup) ≡ from → table' ≡ table → Saw word_at m x 0 found
+pub joins-by : {table table' other : TableId} (v w : View) {m x : View} {found : ℕ} {old from : SeatValue} → m ≡ joined v w → seat_value v.part (board_id table v.setup) ≡ old → seat_value w.part (board_id other w.setup) ≡ from → table' ≡ table → Saw word_at m x 0 found
     → Joins old from (seat_value x.part (board_id table' x.setup))
-joins-by table table' other v w m x found old from both is from-is same s =
+joins-by {table} {table'} {other} v w {m} {x} {found} {old} {from} both is from-is same s =
     subst (λ (o : SeatValue × SeatValue). Joins o.0 o.1 (seat_value x.part (board_id table' x.setup))) (λ i. (is i, from-is i))
     (joined-view table table' other v w x found same (subst (λ (z : View). Saw word_at z x 0 found) both s))

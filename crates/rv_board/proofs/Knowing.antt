@@ -30,21 +30,21 @@ none_of p q (x ∷ xs) within e = on (p x.seat) (q x.seat) refl refl (λ e'. non
 pub none_append : (p : ℕ → Bool) (xs ys : List Entry) → entries_of p xs ≡ [] → entries_of p ys ≡ [] → entries_of p (xs ++ ys) ≡ []
 none_append p xs ys e f = filter-append (λ (x : Entry). p x.seat) xs ys ∙ (ap (λ l. l ++ entries_of p ys) e ∙ f)
 
--- none in both, none in the second
-pub none_after : (p : ℕ → Bool) (xs ys : List Entry) → entries_of p (xs ++ ys) ≡ [] → entries_of p ys ≡ []
-none_after p xs ys e = tail (entries_of p xs) (entries_of p ys) (sym (filter-append (λ (x : Entry). p x.seat) xs ys) ∙ e)
+-- none in both, none in either
+none_parts : (p : ℕ → Bool) (xs ys : List Entry) → entries_of p (xs ++ ys) ≡ [] → (entries_of p xs ≡ []) × (entries_of p ys ≡ [])
+none_parts p xs ys e = parts (entries_of p xs) (entries_of p ys) (sym (filter-append (λ (x : Entry). p x.seat) xs ys) ∙ e)
   where
-    tail : (a b : List Entry) → a ++ b ≡ [] → b ≡ []
-    tail [] b f = f
-    tail (x ∷ a) b f = absurd (cc)
+    parts : (a b : List Entry) → a ++ b ≡ [] → (a ≡ []) × (b ≡ [])
+    parts [] b f = (refl, f)
+    parts (x ∷ a) b f = absurd (cc)
 
--- none in both, none in the first
+-- none in the first
 pub none_before : (p : ℕ → Bool) (xs ys : List Entry) → entries_of p (xs ++ ys) ≡ [] → entries_of p xs ≡ []
-none_before p xs ys e = front (entries_of p xs) (entries_of p ys) (sym (filter-append (λ (x : Entry). p x.seat) xs ys) ∙ e)
-  where
-    front : (a b : List Entry) → a ++ b ≡ [] → a ≡ []
-    front [] b f = refl
-    front (x ∷ a) b f = absurd (cc)
+none_before p xs ys e = (none_parts p xs ys e).0
+
+-- none in the second
+pub none_after : (p : ℕ → Bool) (xs ys : List Entry) → entries_of p (xs ++ ys) ≡ [] → entries_of p ys ≡ []
+none_after p xs ys e = (none_parts p xs ys e).1
 
 -- of numbers that are known by one of two, where neither has an entry
 pub none_either : (p q r : ℕ → Bool) (xs : List Entry) → ((n : ℕ) → r n ≡ true → (p n ≡ true) ⊎ (q n ≡ true)) → entries_of p xs ≡ [] → entries_of q xs ≡ [] → entries_of r xs ≡ []

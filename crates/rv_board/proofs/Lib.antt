@@ -5,6 +5,7 @@ pub mod JoinLemmas
 pub mod KeepLemmas
 pub mod Knowing
 pub mod ListLemmas
+pub mod MeetLemmas
 pub mod NumberLemmas
 pub mod RaceLemmas
 pub mod RunSeatLemmas

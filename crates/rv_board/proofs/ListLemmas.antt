@@ -34,6 +34,10 @@ kept-holds P passes h before e after cut passed all =
 
 -- ---- from the end
 
+-- what was made of one element more, from the end
+pub map-reverse-more : {X Y : Type 0} (f : X → Y) (x : X) (xs : List X) → reverse (map f (x ∷ xs)) ≡ reverse (map f xs) ++ f x ∷ []
+map-reverse-more f x xs = reverse-append (f x ∷ []) (map f xs)
+
 -- what was made of each, from the end
 pub map-reverse : {X Y : Type 0} (f : X → Y) (xs : List X) → map f (reverse xs) ≡ reverse (map f xs)
 map-reverse f [] = refl
@@ -81,19 +85,20 @@ module _ {X : Type 0} (R : X → X → Type 0) where
   zip-with A B C f (x ∷ xs) (y ∷ ys) zip a b =
       (f x y zip.0 (All-head A x xs a) (All-head B y ys b), zip-with A B C f xs ys zip.1 (All-tail A x xs a) (All-tail B y ys b))
 
+  -- what follows for the elements of either list
+  zip-each : (A B : X → Type 0) → ((x y : X) → R x y → A x × B y) → (xs ys : List X) → AllZip R xs ys → All A xs × All B ys
+  zip-each A B f [] [] zip = (All-nil A, All-nil B)
+  zip-each A B f [] (y ∷ ys) zip = absurd zip
+  zip-each A B f (x ∷ xs) [] zip = absurd zip
+  zip-each A B f (x ∷ xs) (y ∷ ys) zip = let one = f x y zip.0 in let rest = zip-each A B f xs ys zip.1 in (All-cons A x xs one.0 rest.0, All-cons B y ys one.1 rest.1)
+
   -- of the left list
   pub zip-left : (A : X → Type 0) → ((x y : X) → R x y → A x) → (xs ys : List X) → AllZip R xs ys → All A xs
-  zip-left A f [] [] zip = All-nil A
-  zip-left A f [] (y ∷ ys) zip = absurd zip
-  zip-left A f (x ∷ xs) [] zip = absurd zip
-  zip-left A f (x ∷ xs) (y ∷ ys) zip = All-cons A x xs (f x y zip.0) (zip-left A f xs ys zip.1)
+  zip-left A f xs ys zip = (zip-each A (λ y. Unit {0}) (λ x y both. (f x y both, tt)) xs ys zip).0
 
   -- of the right list
   pub zip-right : (B : X → Type 0) → ((x y : X) → R x y → B y) → (xs ys : List X) → AllZip R xs ys → All B ys
-  zip-right B f [] [] zip = All-nil B
-  zip-right B f [] (y ∷ ys) zip = absurd zip
-  zip-right B f (x ∷ xs) [] zip = absurd zip
-  zip-right B f (x ∷ xs) (y ∷ ys) zip = All-cons B y ys (f x y zip.0) (zip-right B f xs ys zip.1)
+  zip-right B f xs ys zip = (zip-each (λ x. Unit {0}) B (λ x y both. (tt, f x y both)) xs ys zip).1
 
   -- where the same is made of each two
   pub zip-map : {Y : Type 0} (f : X → Y) → ((x y : X) → R x y → f y ≡ f x) → (xs ys : List X) → AllZip R xs ys → map f ys ≡ map f xs
@@ -103,8 +108,8 @@ module _ {X : Type 0} (R : X → X → Type 0) where
   zip-map f same (x ∷ xs) (y ∷ ys) zip = λ i. same x y zip.0 i ∷ zip-map f same xs ys zip.1 i
 
 -- what a list is after it was lent as a slice
-pub lent : {X : Type 0} (R : X → X → Type 0) (n : ℕ) (xs slice ys : List X) → n ≡ length xs → slice ≡ xs → AllZip R slice ys → AllZip R xs (take n (ys ++ drop (length ys) xs))
-lent R n xs slice ys count is zip =
+pub lent : {X : Type 0} (R : X → X → Type 0) {n : ℕ} {xs slice : List X} (ys : List X) → n ≡ length xs → slice ≡ xs → AllZip R slice ys → AllZip R xs (take n (ys ++ drop (length ys) xs))
+lent {X} R {n} {xs} {slice} ys count is zip =
     let zip' : AllZip R xs ys = subst (λ (z : List _). AllZip R z ys) is zip in
     let same : length ys ≡ n = sym (length_all_zip R xs ys zip') ∙ sym count in
     subst (AllZip R xs) (sym (take_at ys (drop (length ys) xs) n same)) zip'

@@ -47,8 +47,8 @@ lost_none v w slot place word at s = record {
 }
 
 -- one more try is lost, since another seat changed the word
-pub lost_more : (v w x : View) (slot place lost word found : ℕ) → place ≡ suc slot → Lost v w slot lost word → Saw word_at w x place found → found ≢ word → Lost v x slot (lost + 1) found
-lost_more v w x slot place lost word found at l s ne =
+pub lost_more : {v w x : View} {slot place lost word found : ℕ} → place ≡ suc slot → Lost v w slot lost word → Saw word_at w x place found → found ≢ word → Lost v x slot (lost + 1) found
+lost_more {v} {w} {x} {slot} {place} {lost} {word} {found} at l s ne =
     let setup : w.setup ≡ v.setup = ap (λ (z : View). z.setup) l.same in
     let here : found ≡ word_at v.setup x.part.seen (suc slot) = s.word ∙ ap (word_at w.setup x.part.seen) at ∙ ap (λ (k : Setup). word_at k x.part.seen (suc slot)) setup in
     let sound : IsSound v.setup (judges_of v.setup) x.part.seen = subst (λ (k : Setup). IsSound k (judges_of k) x.part.seen) setup s.sound in
@@ -67,8 +67,8 @@ lost_more v w x slot place lost word found at l s ne =
     }
 
 -- three lost tries earn a stop
-pub raced : (v w : View) (slot lost word : ℕ) → v.part.number < v.part.end → 3 ≤ lost → Lost v w slot lost word → LostThrice slot w.part.number w.part.seen
-raced v w slot lost word has three l =
+pub raced : {v w : View} {slot lost word : ℕ} → v.part.number < v.part.end → 3 ≤ lost → Lost v w slot lost word → LostThrice slot w.part.number w.part.seen
+raced {v} {w} {slot} {lost} {word} has three l =
     let count = l.count in
     let number : w.part.number ≡ v.part.number = ap (λ (z : View). z.part.number) l.same in
     let own : knows v.part v.part.number ≡ true = knows_own v.part.number v.part.end v.part.joined_in has in
@@ -115,31 +115,35 @@ abbrev pub opened : SeatValue → View
 opened f = view f.part blank blank f.board.setup
 
 -- is read from what contracts see of it
-pub opened_is : (number end : ℕ) (table : TableId) (me : Ours) (old : SeatValue) → IsUsable number end me → seat_value me.0.part (board_id table me.0.setup) ≡ old → me.0 ≡ opened old
-opened_is number end table me old u same = λ i. view ((same i).part) (u.left i) (u.right i) ((same i).board.setup)
+pub opened_is : {number end : ℕ} {table : TableId} {me : Ours} {old : SeatValue} → IsUsable number end me → seat_value me.0.part (board_id table me.0.setup) ≡ old → me.0 ≡ opened old
+opened_is {number} {end} {table} {me} {old} u same = λ i. view ((same i).part) (u.left i) (u.right i) ((same i).board.setup)
 
 -- a seat that has lost tries is usable
-pub usable_lost : (number end : ℕ) (table : TableId) (m m' : Ours) (old : SeatValue) (slot lost word : ℕ) → IsUsable number end m → seat_value m.0.part (board_id table m.0.setup) ≡ old → Lost (opened old) m'.0 slot lost word → m'.1 ≡ [] → IsUsable number end m'
-usable_lost number end table m m' old slot lost word u is l none-held =
-    let back = opened_is number end table m old u is in
+pub usable_lost : {number end : ℕ} {table : TableId} {m : Ours} (m' : Ours) {old : SeatValue} {slot lost word : ℕ} → IsUsable number end m → seat_value m.0.part (board_id table m.0.setup) ≡ old → Lost (opened old) m'.0 slot lost word → m'.1 ≡ [] → IsUsable number end m'
+usable_lost {number} {end} {table} {m} m' {old} {slot} {lost} {word} u is l none-held =
+    let back = opened_is u is in
     usable number end m m' u (l.same ∙ ap (λ (z : View). with_seen z m'.0.part.seen) (sym back)) (subst (λ (v : View). IsSound v.setup (judges_of v.setup) m'.0.part.seen) (sym back) l.sound) (none-held ∙ sym u.empty)
+
+-- and of the setup that it was of
+pub setup_lost : {number end : ℕ} {table : TableId} {m : Ours} {w : View} {old : SeatValue} {slot lost word : ℕ} → IsUsable number end m → seat_value m.0.part (board_id table m.0.setup) ≡ old → Lost (opened old) w slot lost word → w.setup ≡ m.0.setup
+setup_lost u is l = ap (λ (v : View). v.setup) l.same ∙ ap (λ (f : SeatValue). f.board.setup) (sym is)
 
 -- the act of a seat, from what contracts saw of it before the call
 acts_opened : (old : SeatValue) (x : View) (table : TableId) (act : Act) (found : ℕ) → old.part.number < old.part.end → table ≡ old.board.table → (m : Made word_at (opened old) x act found) → Acts old (seat_value x.part (board_id table x.setup)) act (entry_of (opened old) x act found m)
 acts_opened old x table act found has same m = record { grows = record { grows = grown_by (opened old) x act found has m; board = λ i. board_id (same i) (ap (λ (v : View). v.setup) m.same i) }; act_is = refl }
 
 -- what a compare-exchange tells where it won
-pub at_same : (found old : ℕ) (P Q : Type 0) → found ≡ old → MatchBool (found == old) P Q → P
-at_same found old P Q is h = let e : (found == old) ≡ true = grind (arith, nat_tests) in subst (λ (b : Bool). MatchBool b P Q) e h
+pub at_same : {found old : ℕ} {P : Type 0} (Q : Type 0) → found ≡ old → MatchBool (found == old) P Q → P
+at_same {found} {old} {P} Q is h = let e : (found == old) ≡ true = grind (arith, nat_tests) in subst (λ (b : Bool). MatchBool b P Q) e h
 
 -- and where it lost
-pub at_other : (found old : ℕ) (P Q : Type 0) → found ≢ old → MatchBool (found == old) P Q → Q
-at_other found old P Q is h = let e : (found == old) ≡ false = grind (arith, nat_tests) in subst (λ (b : Bool). MatchBool b P Q) e h
+pub at_other : {found old : ℕ} (P : Type 0) {Q : Type 0} → found ≢ old → MatchBool (found == old) P Q → Q
+at_other {found} {old} P {Q} is h = let e : (found == old) ≡ false = grind (arith, nat_tests) in subst (λ (b : Bool). MatchBool b P Q) e h
 
 -- the delivery is made
-pub is-made : (old : SeatValue) (w x : View) (table : TableId) (slot lost word found : ℕ) (hit : Hit) (answer : Answer) → old.part.number < old.part.end → table ≡ old.board.table → Lost (opened old) w slot lost word → found ≡ word
+pub is-made : (old : SeatValue) {w x : View} {table : TableId} (slot : ℕ) {lost : ℕ} (word : ℕ) {found : ℕ} (hit : Hit) {answer : Answer} → old.part.number < old.part.end → table ≡ old.board.table → Lost (opened old) w slot lost word → found ≡ word
     → answer ≡ (advanced (table_at old.board.setup slot) word hit).0 → Made word_at w x (Deliver slot hit) found → IsMade old (seat_value x.part (board_id table x.setup)) slot hit answer
-is-made old w x table slot lost word found hit answer has same l hits is m =
+is-made old {w} {x} {table} slot {lost} word {found} hit {answer} has same l hits is m =
     let t = (lost_made (opened old) w x slot lost word (Deliver slot hit) found l m).0 in record {
       entry = entry_of (opened old) x (Deliver slot hit) found t;
       acts = acts_opened old x table (Deliver slot hit) found has same t;
@@ -149,9 +153,9 @@ is-made old w x table slot lost word found hit answer has same l hits is m =
     }
 
 -- the seat gives up
-pub given_up : (old : SeatValue) (w x : View) (table : TableId) (slot act-slot lost word found : ℕ) → old.part.number < old.part.end → 3 ≤ lost → act-slot ≡ slot → table ≡ old.board.table → Lost (opened old) w slot lost word → Made word_at w x (Stop act-slot) found
+pub given_up : (old : SeatValue) {w x : View} {table : TableId} (slot : ℕ) {act-slot lost word found : ℕ} → old.part.number < old.part.end → 3 ≤ lost → act-slot ≡ slot → table ≡ old.board.table → Lost (opened old) w slot lost word → Made word_at w x (Stop act-slot) found
     → IsGivenUp old (seat_value x.part (board_id table x.setup)) slot
-given_up old w x table slot act-slot lost word found has three is same l m =
+given_up old {w} {x} {table} slot {act-slot} {lost} {word} {found} has three is same l m =
     let t = lost_made (opened old) w x slot lost word (Stop slot) found l (subst (λ (z : ℕ). Made word_at w x (Stop z) found) is m) in
     let many = t.1 in record {
       entry = entry_of (opened old) x (Stop slot) found t.0;

@@ -2,15 +2,15 @@
 use Rattle.std.proofs.Common.{◌≡◌, ◌⊎◌, inl, inr, ℕ, Bool, true, false, List, [], ◌∷◌, ◌++◌, refl, sym, ap, ◌∙◌, subst, arith, append_assoc, append-nil}
 use Rattle.std.specs.Prelude.{All, nat_lt}
 use Rattle.std.proofs.lemmas.Bool.Decides.{nat_tests}
-use Rattle.std.proofs.lemmas.List.Elements.{filter-append}
+use Rattle.std.proofs.lemmas.List.Elements.{filter-append, All-nil, All-cons, All-head, All-weaker}
 use Rattle.rv_model.specs.declared.entry.Entry.{Entry}
-use Rattle.rv_model.specs.Seats.{is_within, is_among, known_of, entries_of}
+use Rattle.rv_model.specs.Seats.{Seat, is_within, is_among, known_of, entries_of}
 use Rattle.rv_board.specs.Known.{known_by, part}
 use Rattle.rv_board.specs.RunSeats.{HasTakenIn}
-use Rattle.rv_board.specs.Seats.{SeatValue, SeatGrows, ExtendsSeen, Joins}
+use Rattle.rv_board.specs.Seats.{BoardId, SeatValue, SeatGrows, ExtendsSeen, Joins}
 use Rattle.rv_board.proofs.GrowLemmas.{own_within, other_within, same_known}
 use Rattle.rv_board.proofs.Knowing.{known_is, none_of, none_append}
-use Rattle.rv_board.proofs.ListLemmas.{kept-holds}
+use Rattle.rv_board.proofs.ListLemmas.{All-front, All-back, kept-holds}
 
 -- ---- split
 
@@ -58,7 +58,47 @@ module _ (old from new : SeatValue) (joins : Joins old from new) where
   pub holds-joined : HasTakenIn new from
   holds-joined = record { follows = joins.other; within = other_within old from new joins }
 
+-- ---- joined one after another
+
+module _ {F : Type 0} (seat_of : F → SeatValue) (board : BoardId) where
+  -- the seats of these items, the last ones, were joined into one, and the others are of its board
+  pub record JoinedSoFar (old cur : SeatValue) (all left joined_in : List F) : Type 0 where
+    pub split : all ≡ left ++ joined_in
+    pub on : All (λ (f : F). (seat_of f).board ≡ board) left
+    pub board_is : cur.board ≡ board
+    pub into : HasTakenIn cur old
+    pub seats : All (λ (f : F). HasTakenIn cur (seat_of f)) joined_in
+
+  -- none was joined
+  pub joined-none : (old : SeatValue) (all : List F) → old.board ≡ board → All (λ (f : F). (seat_of f).board ≡ board) all → JoinedSoFar old old all all []
+  joined-none old all board_is on = record { split = sym (append-nil all); on = on; board_is = board_is; into = holds-itself old; seats = All-nil (λ (f : F). HasTakenIn old (seat_of f)) }
+
+  module _ {old cur : SeatValue} {all left joined_in : List F} (front : List F) {f : F} (i : JoinedSoFar old cur all left joined_in) (popped : left ≡ front ++ f ∷ []) where
+    -- the last one that is left is of the board
+    pub joined-on : (seat_of f).board ≡ board
+    joined-on = All-head (λ (f : F). (seat_of f).board ≡ board) f [] (All-back (λ (f : F). (seat_of f).board ≡ board) front (f ∷ []) (subst (All (λ (f : F). (seat_of f).board ≡ board)) popped i.on))
+
+    -- it is joined
+    pub joined-more : {new : SeatValue} → Joins cur (seat_of f) new → JoinedSoFar old new all front (f ∷ joined_in)
+    joined-more {new} joins = record {
+      split = i.split ∙ ap (λ (z : List F). z ++ joined_in) popped ∙ append_assoc front (f ∷ []) joined_in;
+      on = All-front (λ (f : F). (seat_of f).board ≡ board) front (f ∷ []) (subst (All (λ (f : F). (seat_of f).board ≡ board)) popped i.on);
+      board_is = joins.board ∙ i.board_is;
+      into = holds-still cur (seat_of f) new joins old i.into;
+      seats = All-cons (λ (g : F). HasTakenIn new (seat_of g)) f joined_in (holds-joined cur (seat_of f) new joins)
+          (All-weaker (λ (g : F). HasTakenIn cur (seat_of g)) (λ (g : F). HasTakenIn new (seat_of g)) (λ g holds. holds-still cur (seat_of f) new joins (seat_of g) holds) joined_in i.seats);
+    }
+
 -- ---- in a later history
+
+-- of the numbers of a seat that had seen nothing, and made nothing, none has an entry
+pub none-of-fresh : (seat : Seat) (h : List Entry) → seat.seen ≡ [] → ExtendsSeen h seat → entries_of (known_of seat) h ≡ []
+none-of-fresh seat h fresh later = let all : h ≡ later.rest = later.list ∙ ap (λ (z : List Entry). z ++ later.rest) fresh in ap (entries_of (known_of seat)) all ∙ later.none
+
+-- so whose entry is in it knows no such number
+pub not-fresh : (seat : Seat) (h : List Entry) → seat.seen ≡ [] → ExtendsSeen h seat → (before : List Entry) (e : Entry) (after : List Entry) → h ≡ before ++ e ∷ after → known_of seat e.seat ≡ true → ⊥
+not-fresh seat h fresh later before e after cut knows =
+    kept-holds (λ (x : Entry). ⊥) (λ (x : Entry). known_of seat x.seat) h before e after cut knows (subst (All (λ (x : Entry). ⊥)) (sym (none-of-fresh seat h fresh later)) (All-nil (λ (x : Entry). ⊥)))
 
 -- of the numbers that a seat knew, which had seen nothing, only its own has entries
 pub later-own : (old new : SeatValue) (h : List Entry) → old.part.seen ≡ [] → ExtendsSeen h new.part → (own : List Entry) → SeatGrows old new own → (before : List Entry) (e : Entry) (after : List Entry) → h ≡ before ++ e ∷ after → known_of old.part e.seat ≡ true → e.seat ≡ old.part.number

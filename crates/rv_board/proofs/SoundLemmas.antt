@@ -53,7 +53,7 @@ module _ (s : Setup) (js : List Judge) where
   elsewhere slot (Lower bits) out = λ e. absurd (omega arith)
 
   -- the word of an act on the slot is the slot's
-  on-slot : (past : List Entry) (slot : ℕ) (act : Act) → is_on slot act ≡ true → word_on s js past act ≡ word_of s js past slot
+  pub on-slot : (past : List Entry) (slot : ℕ) (act : Act) → is_on slot act ≡ true → word_on s js past act ≡ word_of s js past slot
   on-slot past slot (Deliver other hit) here = let same : other ≡ slot = grind (arith, nat_tests) in ap (word_of s js past) same
   on-slot past slot (Stop other) here = let same : other ≡ slot = grind (arith, nat_tests) in ap (word_of s js past) same
   on-slot past slot (Clear other) here = let same : other ≡ slot = grind (arith, nat_tests) in ap (word_of s js past) same
@@ -63,7 +63,7 @@ module _ (s : Setup) (js : List Judge) where
   on-slot past slot (Lower bits) here = cc
 
   -- an entry that is not counted leaves the slot's word as it was
-  still : (history : List Entry) (slot : ℕ) (e : Entry) → FitsWords s js history e → changed slot e ≡ false → word_of s js (e ∷ reverse history) slot ≡ word_of s js (reverse history) slot
+  pub still : (history : List Entry) (slot : ℕ) (e : Entry) → FitsWords s js history e → changed slot e ≡ false → word_of s js (e ∷ reverse history) slot ≡ word_of s js (reverse history) slot
   still history slot e fits calm = on (is_on slot e.act) refl
     where
       on : (b : Bool) → is_on slot e.act ≡ b → word_of s js (e ∷ reverse history) slot ≡ word_of s js (reverse history) slot

@@ -98,10 +98,9 @@ acts s history seat act m replays fits bits fit = record {
     after = core-after s (plain s history) history c seat act found left fits bits read refl fit
 
 -- the words that a machine opens with are those of a board
+pub opening-of : (s : Setup) (words : List ℕ) → IsCore s words [] → IsOpening s words
+opening-of s words c = record { is_setup = c.is_setup; wide = c.count ∙ add-one (sum s.shape); each = core-word s words [] c }
+
+-- spelled out
 pub opening-is : (s : Setup) → IsSetup s → IsOpening s (opening_words s (sum s.shape))
-opening-is s k =
-    let c = core-opens s k in record {
-      is_setup = k;
-      wide = c.count ∙ add-one (sum s.shape);
-      each = core-word s (opening_words s (sum s.shape)) [] c;
-    }
+opening-is s k = opening-of s (opening_words s (sum s.shape)) (core-opens s k)

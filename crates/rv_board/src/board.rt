@@ -4,14 +4,13 @@ ghost use Rattle.rv_model.specs.declared.entry.Act.TheVariants.{Look, Raise, Low
 ghost use Rattle.rv_model.specs.SharedWords.{word_of};
 ghost use Rattle.rv_core.specs.Setup.{judges_of};
 ghost use Rattle.rv_board.specs.Known.{part};
-ghost use Rattle.rv_board.specs.Rule.{IsOpening};
 ghost use Rattle.rv_board.specs.Seats.{seat_value, SeatGrows, Looks, Does};
 
 use crate::rule::{ClearStep, EndStep, Law, LoadStep, LookStep, LowerStep, RaiseStep};
 use crate::seat::{SEATS, Seat};
 use crate::view::View;
 use atomic_table::Table;
-use rv_core::Setup;
+use rv_core::{Setup, opening_words};
 use rv_model::Act;
 use rv_slots::Shape;
 use std::alloc::{AllocError, Global};
@@ -46,20 +45,6 @@ impl Model for Board {
 pub struct BoardStart {
     pub board: Board,
     pub seat: Seat,
-}
-
-/// The switches, and then each slot's opening word.
-fn opening_words(alloc: Global, setup: &Setup) -> Result<Vec<u64>, AllocError>
-    ensures { IfOk result (λ words. IsOpening setup.now words.items) }
-{
-    setup.assert_invariant();
-    let slots = setup.shape.slots();
-    let mut words = Vec::new(alloc);
-    words.push(setup.switches)?;
-    for slot in 0..slots {
-        words.push(setup.opening(slot))?;
-    }
-    Ok(words)
 }
 
 impl Board {

@@ -10,6 +10,8 @@ mod sharing;
 mod view;
 
 pub use board::{Board, BoardStart};
+pub use rule::{Cut, Cutting, Joining};
 pub use rv_model::Delivered;
 pub use seat::{SEATS, Seat};
+pub use sharing::cut;
 pub use view::{Part, View};

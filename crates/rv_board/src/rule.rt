@@ -90,7 +90,7 @@ impl Play<Act, View> for EndStep {
 }
 
 /// The number at which a view is cut. Each call picks it.
-pub(crate) trait Cutting {
+pub trait Cutting {
     ghost use Rattle.std.specs.Prelude.{ℕ};
 
     ghost at: { ℕ };
@@ -101,7 +101,7 @@ impl Cutting for Brand {
 }
 
 /// A view is cut at a number.
-pub(crate) struct Cut<N> {
+pub struct Cut<N> {
     of: PhantomData<N>,
 }
 
@@ -114,7 +114,7 @@ impl<N: Cutting> Split<View> for Cut<N> {
 }
 
 /// A view takes in another.
-pub(crate) struct Joining;
+pub struct Joining;
 
 impl Join<View> for Joining {
     ghost use Rattle.rv_board.specs.Rule.{joined, spent_view};

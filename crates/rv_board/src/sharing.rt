@@ -1,5 +1,6 @@
 //! Seats are split and joined, and the last one closes the board.
-ghost use Rattle.std.specs.Prelude.{◌≡◌, ◌<◌, ◌≤◌, []};
+ghost use Rattle.std.specs.Prelude.{◌≡◌, ◌<◌, []};
+ghost use Rattle.atomic_table.specs.Table.{Splits};
 ghost use Rattle.rv_board.specs.Known.{part};
 ghost use Rattle.rv_board.specs.Rule.{cut_left, cut_right};
 ghost use Rattle.rv_board.specs.Seats.{seat_value, Joins, Closes};
@@ -8,20 +9,21 @@ use crate::board::Board;
 use crate::rule::{Cut, Cutting, Joining, Law, LoadStep};
 use crate::seat::Seat;
 use crate::view::View;
-use atomic_table::{Seat as Token, Shared};
+use atomic_table::{Seat as Token, Shared, TableRule};
 use rv_core::Setup;
 use rv_model::{Act, Closed};
 use std::marker::Brand;
 
-/// The token keeps what is below the number that is picked, and the new one has the rest.
-fn cut<N: Cutting>(
-    shared: &Shared<Act, View, Setup, Law>,
+/// The token keeps what is below the number that is picked, and the new one has the rest. It is for a board of any
+/// rule, which has to allow the cut.
+pub fn cut<N: Cutting, L: TableRule<Act, View, Setup>>(
+    shared: &Shared<Act, View, Setup, L>,
     token: &mut Token<Act, View>,
     number: u32,
 ) -> Token<Act, View>
     requires pick { number ≡ N.at }
     requires board { (token.old.table_id ≡ shared.now.table_id) × (0 < shared.now.table_id.words) }
-    requires range { (token.old.me.0.part.number ≤ number) × (number ≤ token.old.me.0.part.end) }
+    requires allowed { Splits (L.holds shared.now.key) token.old.id token.old.me.0 (cut_left number token.old.me.0) (cut_right number token.old.me.0) }
     ensures old { (token.new.table_id ≡ token.old.table_id) × (token.new.me ≡ (cut_left number token.old.me.0, token.old.me.1)) }
     ensures new { (result.table_id ≡ token.old.table_id) × (result.me ≡ (cut_right number token.old.me.0, [])) }
 {
@@ -37,7 +39,7 @@ impl Board {
         ensures new { result ≡ seat_value (part number seat.old.part.end [] seat.old.part.seen) seat.old.board }
     {
         let end = seat.end;
-        let token = cut::<Brand>(&self.table.shared, &mut seat.token, number);
+        let token = cut::<Brand, Law>(&self.table.shared, &mut seat.token, number);
         seat.end = number;
         Seat { token, number, end }
     }

@@ -1,6 +1,5 @@
 //! A history that has begun, which entries make longer.
 ghost use Rattle.std.specs.Prelude.{◌≡◌, ◌↔◌, ◌++◌, ◌∷◌, [], true, false, length, replicate, IfOk, IsTrue};
-ghost use Rattle.rv_core.specs.Core.{IsCore};
 ghost use Rattle.rv_core.specs.Judged.{JudgesBySpecs};
 ghost use Rattle.rv_check.specs.declared.next.Next.TheVariants.{Look};
 ghost use Rattle.rv_check.specs.Beginnings.{FitWorks};
@@ -10,7 +9,7 @@ ghost use Rattle.rv_check.specs.Standing.{AllPlayed};
 use crate::next::Next;
 use crate::script::{after, allows, may_end, watch_all};
 use crate::work::work_of;
-use rv_core::{Setup, act_on, word_index};
+use rv_core::{Setup, act_on, opening_words, word_index};
 use rv_model::{Closed, CpuWork, Entry};
 use std::alloc::{AllocError, Global};
 use std::marker::Model;
@@ -41,19 +40,6 @@ impl Model for Run {
     ghost view = { λ r. record { setup = r.setup; panics = r.panics; works = r.works.items; history = r.history } };
 
     ghost invariant = { λ r. IsRun r.setup r.panics r.works.items r.words.items r.nexts.items r.history };
-}
-
-fn opening_words(alloc: Global, setup: &Setup) -> Result<Vec<u64>, AllocError>
-    ensures { IfOk result (λ words. IsCore setup.now words.items []) }
-{
-    setup.assert_invariant();
-    let slots = setup.shape.slots();
-    let mut words = Vec::new(alloc);
-    words.push(setup.switches)?;
-    for slot in 0..slots {
-        words.push(setup.opening(slot))?;
-    }
-    Ok(words)
 }
 
 /// Each script is at its first turn.

@@ -5,7 +5,7 @@ ghost use Rattle.rv_model.specs.Scripts.{is_enabled_by, fails};
 ghost use Rattle.rv_model.specs.declared.entry.Answer.{Answer};
 ghost use Rattle.rv_check.specs.declared.next.Next.{Next};
 ghost use Rattle.rv_check.specs.declared.next.Next.TheVariants.{Look, Deliver};
-ghost use Rattle.rv_check.specs.Beginnings.{FitsDelivery};
+ghost use Rattle.rv_core.specs.Deliveries.{FitsDelivery};
 ghost use Rattle.rv_check.specs.Nexts.{IsNext, HasPlace, IsDue, IsHalt, ServesDue, Allows, MayEnd, Settles, Moves, CanMove, after_other};
 
 use crate::entries::changes;

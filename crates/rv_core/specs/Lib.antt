@@ -1,5 +1,6 @@
 pub mod Advance
 pub mod Core
+pub mod Deliveries
 pub mod Judged
 pub mod Levels
 pub mod Setup

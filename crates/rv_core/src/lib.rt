@@ -8,6 +8,6 @@ mod turn;
 mod word;
 
 pub use act::{act_on, word_index};
-pub use machine::Core;
+pub use machine::{Core, opening_words};
 pub use setup::Setup;
 pub use word::{Step, advance};

@@ -2,7 +2,7 @@
 ghost use Rattle.std.specs.Prelude.{IfOk, ◌≡◌, []};
 ghost use Rattle.rv_model.specs.Histories.{Replays};
 ghost use Rattle.rv_core.specs.Setup.{FitsAct, IsSetup, judges_of};
-ghost use Rattle.rv_core.specs.Core.{Steps, CoreValue};
+ghost use Rattle.rv_core.specs.Core.{Steps, CoreValue, IsCore};
 ghost use Rattle.rv_core.specs.Judged.{JudgesBySpecs};
 
 use crate::act::{act_on, word_index};
@@ -38,18 +38,26 @@ impl Keeps<Entry> for Core {
     ghost list = { λ c. c.history };
 }
 
+/// The switches, and then each slot's opening word.
+pub fn opening_words(alloc: Global, setup: &Setup) -> Result<Vec<u64>, AllocError>
+    ensures { IfOk result (λ words. IsCore setup.now words.items []) }
+{
+    setup.assert_invariant();
+    let slots = setup.shape.slots();
+    let mut words = Vec::new(alloc);
+    words.push(setup.switches)?;
+    for slot in 0..slots {
+        words.push(setup.opening(slot))?;
+    }
+    Ok(words)
+}
+
 impl Core {
     /// Every slot waits, and the history is empty.
     pub fn new(alloc: Global, setup: Setup) -> Result<Core, AllocError>
         ensures { IfOk result (λ core. core ≡ record { setup = setup; history = [] }) }
     {
-        setup.assert_invariant();
-        let slots = setup.shape.slots();
-        let mut words = Vec::new(alloc);
-        words.push(setup.switches)?;
-        for slot in 0..slots {
-            words.push(setup.opening(slot))?;
-        }
+        let words = opening_words(alloc, &setup)?;
         Ok(Core {
             setup,
             words,

@@ -1,5 +1,5 @@
 -- The history of a run at once is legal, and its records are the lanes'.
-use Rattle.std.proofs.Common.{◌≡◌, ◌⊎◌, inl, inr, ℕ, ◌+◌, ◌<◌, Bool, true, List, [], ◌∷◌, ◌++◌, length, map, reverse, arith, sym, ap, ◌∙◌, subst}
+use Rattle.std.proofs.Common.{◌≡◌, ◌⊎◌, inl, inr, ℕ, ◌+◌, ◌<◌, ◌≤◌, Bool, true, List, [], ◌∷◌, ◌++◌, length, map, reverse, arith, sym, ap, ◌∙◌, subst}
 use Rattle.std.specs.Prelude.{All, Any}
 use Rattle.std.specs.List.{AllZip}
 use Rattle.std.proofs.lemmas.List.{length-map, length-reverse}
@@ -13,13 +13,14 @@ use Rattle.rv_model.specs.Judging.{Judge}
 use Rattle.rv_model.specs.Records.{script_records}
 use Rattle.rv_model.specs.Scripts.{played, Plays, control_acts}
 use Rattle.rv_model.specs.Seats.{known_of}
+use Rattle.rv_model.specs.Setups.{Setup}
 use Rattle.rv_model.specs.Works.{Work}
 use Rattle.rv_core.specs.Setup.{judges_of}
 use Rattle.rv_board.specs.Known.{part}
 use Rattle.rv_board.specs.RunSeats.{IsFresh, HasTakenIn}
 use Rattle.rv_board.specs.Seats.{BoardId, SeatValue, seat_value, ExtendsSeen, Joins, Closes}
-use Rattle.rv_board.proofs.ListLemmas.{kept-holds, map-reverse, All-reverse, Any-reverse, Any-implied, Any-map, zip-with, zip-left, zip-right, zip-map}
-use Rattle.rv_board.proofs.RunSeatLemmas.{follows-then, holds-itself, holds-still, holds-joined, later-own, split_known}
+use Rattle.rv_board.proofs.ListLemmas.{map-reverse, All-reverse, Any-reverse, Any-implied, Any-map, zip-with, zip-left, zip-right, zip-map}
+use Rattle.rv_board.proofs.RunSeatLemmas.{follows-then, holds-itself, holds-still, holds-joined, later-own, not-fresh, split_known}
 use Rattle.rv_feed.specs.declared.feeder.Feeder.{Feeder}
 use Rattle.rv_feed.specs.AtOnce.{input_with, IsLegalOf, IsSeated, lanes_of, AreSeated}
 use Rattle.rv_feed.specs.Changes.{DoesAll}
@@ -72,7 +73,7 @@ module _ {G : Type 0} (board : BoardId) (panics : ℕ → Bool) (h : List Entry)
     pub first_in : ExtendsSeen h first.part
     pub cover : (n : ℕ) → n < 67 → (known_of first.part n ≡ true) ⊎ ((known_of actor.part n ≡ true) ⊎ Any (λ f. known_of f.seat.part n ≡ true) fs)
 
-  module _ (first actor actor' : SeatValue) (changes : List Change) (fs fs' : List (Feeder G)) (fed : IsFed first actor actor' changes fs fs') where
+  module _ {first actor actor' : SeatValue} {changes : List Change} {fs fs' : List (Feeder G)} (fed : IsFed first actor actor' changes fs fs') where
     -- each feeder's script is in the history
     all-in : AllZip IsIn fs fs'
     all-in = zip-with (RunsFeeder panics) (IsSeated board) (λ f. ExtendsSeen h f.seat.part) IsIn is-in fs fs' fed.ran fed.seated fed.feeders_in
@@ -97,19 +98,13 @@ module _ {G : Type 0} (board : BoardId) (panics : ℕ → Bool) (h : List Entry)
     -- every entry is the control actor's or a CPU's
     nobody : AtEach (λ before e. (e.seat ≡ 1) ⊎ Any (λ w. e.seat ≡ 2 + w.cpu) (works_of (lanes_of fs))) h
     nobody before e after cut = elim (fed.cover e.seat (fed.sound.permitted before e after cut).0) [
-      | inl knows ↦ absurd (nothing knows)
+      | inl knows ↦ absurd (not-fresh first.part h fed.seen fed.first_in before e after cut knows)
       | inr other ↦ elim other [
         | inl knows ↦ inl (later-own actor actor' h fed.actor_fresh.seen fed.actor_in fed.did.own fed.did.grows before e after cut knows ∙ fed.actor_is)
         | inr any ↦ inr (of_works (Any-implied (λ f. known_of f.seat.part e.seat ≡ true) (λ f. e.seat ≡ 2 + f.lane.work.cpu) fs (zip-left IsIn (λ f. known_of f.seat.part e.seat ≡ true → e.seat ≡ 2 + f.lane.work.cpu) (λ f f' i. i.own before e after cut) fs fs' all-in) any))
       ]
     ]
       where
-        -- the first seat makes no entry
-        nothing : known_of first.part e.seat ≡ true → ⊥
-        nothing knows =
-            let all : h ≡ fed.first_in.rest = fed.first_in.list ∙ ap (λ (z : List Entry). z ++ fed.first_in.rest) fed.seen in
-            kept-holds (λ (x : Entry). ⊥) (λ (x : Entry). known_of first.part x.seat) fed.first_in.rest before e after (sym all ∙ cut) knows (subst (All (λ (x : Entry). ⊥)) (sym fed.first_in.none) (All-nil (λ (x : Entry). ⊥)))
-
         of_works : Any (λ (f : Feeder G). e.seat ≡ 2 + f.lane.work.cpu) fs → Any (λ w. e.seat ≡ 2 + w.cpu) (works_of (lanes_of fs))
         of_works any =
             Any-map (λ (w : Work). e.seat ≡ 2 + w.cpu) (λ (l : LaneValue). l.work) (lanes_of fs)
@@ -124,9 +119,20 @@ module _ {G : Type 0} (board : BoardId) (panics : ℕ → Bool) (h : List Entry)
         run-of board.setup panics h (lanes_of fs) (lanes_of fs') specs changes fed-works whole Says are
         (says (legal-of-run board.setup panics h (lanes_of fs) (lanes_of fs') specs changes fed-works whole fed.sound acts nobody))
 
-    -- nothing else is said
-    pub fed-legal : (specs : List Spec) → AreJudges specs board.setup.tables (judges_of board.setup) → IsLegalOf (input_with board.setup specs panics (lanes_of fs) changes) (lane_records (lanes_of fs')) h
-    fed-legal specs are = fed-says specs IsLegal (λ legal. legal) are
+    -- the lanes come back where there are none
+    pub lanes-back : {back left : List LaneValue} → back ≡ left ++ lanes_of fs' → left ≡ [] → back ≡ lanes_of fs'
+    lanes-back is empty = is ∙ ap (λ (z : List LaneValue). z ++ lanes_of fs') empty
+
+    -- with the works of the lanes of the call
+    pub works-back : {lanes back left : List LaneValue} → lanes ≡ lanes_of fs → back ≡ left ++ lanes_of fs' → left ≡ [] → works_of back ≡ works_of lanes
+    works-back lanes_are is empty = ap works_of (lanes-back is empty) ∙ fed-works ∙ ap works_of (sym lanes_are)
+
+    -- nothing else is said, of the setup and the lanes of the call
+    pub fed-legal : {setup : Setup} {lanes back left : List LaneValue} (specs : List Spec) → board.setup ≡ setup → lanes ≡ lanes_of fs → back ≡ left ++ lanes_of fs' → left ≡ [] → AreJudges specs setup.tables (judges_of setup)
+        → IsLegalOf (input_with setup specs panics lanes changes) (lane_records back) h
+    fed-legal {setup} {lanes} {back} {left} specs setup_is lanes_are is empty are =
+        let judges : AreJudges specs board.setup.tables (judges_of board.setup) = subst (λ (s : Setup). AreJudges specs s.tables (judges_of s)) (sym setup_is) are in
+        subst (λ (z : Setup × (List LaneValue × List LaneValue)). IsLegalOf (input_with z.0 specs panics z.1.0 changes) (lane_records z.1.1) h) (λ i. (setup_is i, (sym lanes_are i, sym (lanes-back is empty) i))) (fed-says specs IsLegal (λ legal. legal) judges)
 
 -- ---- from the calls of a run
 
@@ -139,17 +145,19 @@ ran-on {G} board panics fs fs' seated ran =
     On : Feeder G → Feeder G → Type 0
     On f f' = f'.seat.board ≡ board
 
--- and as many as there were lanes
-pub ran-many : {G : Type 0} (panics : ℕ → Bool) (lanes : List LaneValue) (fs fs' : List (Feeder G)) → lanes ≡ lanes_of fs → AllZip (RunsFeeder panics) fs fs' → length fs' ≡ length lanes
-ran-many {G} panics lanes fs fs' is ran =
-    sym (length_all_zip (RunsFeeder panics) fs fs' ran) ∙ sym (ap length is ∙ length-reverse (map (λ (f : Feeder G). f.lane) fs) ∙ length-map fs (λ (f : Feeder G). f.lane))
+-- their lanes have room where theirs stood
+pub ran-room : {G : Type 0} (panics : ℕ → Bool) (lanes left : List LaneValue) (fs fs' : List (Feeder G)) (cap : ℕ) → lanes ≡ lanes_of fs → AllZip (RunsFeeder panics) fs fs' → left ≡ [] → length lanes ≤ cap → length left + length fs' ≤ cap
+ran-room {G} panics lanes left fs fs' cap is ran empty room =
+    let many : length fs' ≡ length lanes = sym (length_all_zip (RunsFeeder panics) fs fs' ran) ∙ sym (ap length is ∙ length-reverse (map (λ (f : Feeder G). f.lane) fs) ∙ length-map fs (λ (f : Feeder G). f.lane)) in
+    let none : length left ≡ 0 = ap length empty in
+    omega arith
 
 -- the seats were split off, the feeders and the control actor ran, and all seats were joined into the one that closed the board
-pub fed-from : {G : Type 0} (board : BoardId) (end : ℕ) (panics : ℕ → Bool) (h : List Entry) (old first actor actor' mid last : SeatValue) (changes : List Change) (lanes : List LaneValue) (fs fs' : List (Feeder G))
+pub fed-from : {G : Type 0} {board : BoardId} {end : ℕ} {panics : ℕ → Bool} {h : List Entry} {old first actor actor' mid last : SeatValue} (changes : List Change) {lanes : List LaneValue} {fs fs' : List (Feeder G)}
     → AreSeated board end old lanes [] fs → end ≡ 67 → first ≡ seat_value (part old.part.number 1 old.part.joined_in old.part.seen) old.board → actor ≡ seat_value (part 1 old.part.end [] old.part.seen) old.board
     → AllZip (RunsFeeder panics) fs fs' → DoesAll actor actor' (control_acts actor.board.setup.shape changes)
     → Joins first actor' mid → HasTakenIn last mid → All (λ (f : Feeder G). HasTakenIn last f.seat) fs' → last.board ≡ board → Closes last h → IsFed board panics h first actor actor' changes fs fs'
-fed-from {G} board end panics h old first actor actor' mid last changes lanes fs fs' are all first_is actor_is ran did joins held feeders on closes =
+fed-from {G} {board} {end} {panics} {h} {old} {first} {actor} {actor'} {mid} {last} changes {lanes} {fs} {fs'} are all first_is actor_is ran did joins held feeders on closes =
     let mid_in : ExtendsSeen h mid.part = follows-then last mid h held closes.list in
     let same_board : actor.board ≡ board = ap (λ (s : SeatValue). s.board) actor_is ∙ are.is_first.board_is in
     record {

@@ -33,7 +33,28 @@ fed-none panics a lane sound can =
       room = can.new_lane.room;
     }
 
-module _ (panics : ℕ → Bool) (old cur new : SeatValue) (lane lane' lane'' : LaneValue) (place : ℕ) (so_far : FedSoFar panics old cur lane lane' place) (turn : Turn) (turn_is : turn ≡ get_or lane.work.turns place turn) (lt : place < length lane.work.turns) where
+-- the turn at a place, which has a part of the list, and behind all that were played
+pub record NextTurn (lane lane' : LaneValue) (place : ℕ) (turn : Turn) : Type 0 where
+  pub turn_is : turn ≡ get_or lane.work.turns place turn
+  pub inside : place < length lane.work.turns
+  pub order : turn.from ≤ turn.to
+  pub in_list : turn.to ≤ length lane'.work.deliveries
+  pub kept : length lane'.records ≤ turn.from
+
+-- the lane gives it
+pub next-turn : {panics : ℕ → Bool} {old cur : SeatValue} {lane lane' : LaneValue} {place : ℕ} {turn : Turn} → FedSoFar panics old cur lane lane' place → IsWork lane.work → place < length lane.work.turns → ((any : Turn) → turn ≡ get_or lane'.work.turns place any) → NextTurn lane lane' place turn
+next-turn {panics} {old} {cur} {lane} {lane'} {place} {turn} so_far is_work lt found =
+    let is : turn ≡ get_or lane.work.turns place turn = found turn ∙ ap (λ (w : Work). get_or w.turns place turn) so_far.work_is in
+    let range = names-in 0 lane.work.turns (length lane.work.deliveries) is_work place turn lt in
+    record {
+      turn_is = is;
+      inside = lt;
+      order = subst (λ (x : Turn). x.from ≤ x.to) (sym is) range.0;
+      in_list = subst (λ (w : Work). turn.to ≤ length w.deliveries) (sym so_far.work_is) (subst (λ (x : Turn). x.to ≤ length lane.work.deliveries) (sym is) range.1);
+      kept = subst (λ (x : Turn). length lane'.records ≤ x.from) (sym is) (so_far.kept turn lt);
+    }
+
+module _ {panics : ℕ → Bool} {old cur : SeatValue} {lane lane' : LaneValue} {place : ℕ} {turn : Turn} (so_far : FedSoFar panics old cur lane lane' place) (next : NextTurn lane lane' place turn) where
   -- the setup of the seat's board
   abbrev s : Setup
   s = old.board.setup
@@ -44,11 +65,12 @@ module _ (panics : ℕ → Bool) (old cur new : SeatValue) (lane lane' lane'' : 
 
   -- the turns with one more are those before and this one
   one-more : take (place + 1) turns ≡ take place turns ++ turn ∷ []
-  one-more = take_more turns place turn lt ∙ ap (λ (t : Turn). take place turns ++ t ∷ []) (sym turn_is)
+  one-more = take_more turns place turn next.inside ∙ ap (λ (t : Turn). take place turns ++ t ∷ []) (sym next.turn_is)
 
   -- a turn after which the script goes on
-  pub fed-more : IsWork lane.work → FeedsTurn cur new panics turn lane' lane'' false → FedSoFar panics old new lane lane'' (place + 1)
-  fed-more is_work v =
+  pub fed-more : {new : SeatValue} {lane'' : LaneValue} {ends : Bool} → IsWork lane.work → ends ≡ false → FeedsTurn cur new panics turn lane' lane'' ends → FedSoFar panics old new lane lane'' (place + 1)
+  fed-more {new} {lane''} {ends} is_work on by =
+      let v = subst (FeedsTurn cur new panics turn lane' lane'') on by in
       let goes = subst (λ (w : Work). GoesOn s panics w.deliveries (turn ∷ []) (v.first ∷ v.more) v.rs) so_far.work_is (subst (λ (z : Setup). GoesOn z panics lane'.work.deliveries (turn ∷ []) (v.first ∷ v.more) v.rs) (same-setup old cur so_far.ps so_far.adds) v.script) in
       record {
         ps = so_far.ps ++ v.first ∷ v.more;
@@ -58,10 +80,10 @@ module _ (panics : ℕ → Bool) (old cur new : SeatValue) (lane lane' lane'' : 
             (goes-join s panics lane.work.deliveries (take place turns) (turn ∷ []) so_far.ps (v.first ∷ v.more) lane'.records v.rs so_far.goes goes));
         work_is = v.kept.work_is ∙ so_far.work_is;
         kept = λ t later.
-            let next = names-next 0 turns (length lane.work.deliveries) is_work place t later in
-            let order = (names-in 0 turns (length lane.work.deliveries) is_work place t lt).0 in
-            let k = so_far.kept t lt in
-            let same : turn ≡ get_or turns place t = turn_is ∙ get_or_default turns place turn t lt in
+            let after = names-next 0 turns (length lane.work.deliveries) is_work place t later in
+            let order = (names-in 0 turns (length lane.work.deliveries) is_work place t next.inside).0 in
+            let k = so_far.kept t next.inside in
+            let same : turn ≡ get_or turns place t = next.turn_is ∙ get_or_default turns place turn t next.inside in
             let few : length v.rs ≤ (get_or turns place t).to - (get_or turns place t).from = subst (λ (x : Turn). length v.rs ≤ x.to - x.from) same v.few in
             let many : length lane''.records ≡ length lane'.records + length v.rs = ap length v.kept.records_are ∙ length-append lane'.records v.rs in
             omega arith;
@@ -69,10 +91,11 @@ module _ (panics : ℕ → Bool) (old cur new : SeatValue) (lane lane' lane'' : 
       }
 
   -- a turn with which it ends
-  pub fed-last : FeedsTurn cur new panics turn lane' lane'' true → Feeds panics old new lane lane''
-  fed-last v =
-      let ends = subst (λ (w : Work). EndsScript s panics w.deliveries (turn ∷ []) (v.first ∷ v.more) v.rs) so_far.work_is (subst (λ (z : Setup). EndsScript z panics lane'.work.deliveries (turn ∷ []) (v.first ∷ v.more) v.rs) (same-setup old cur so_far.ps so_far.adds) v.script) in
-      let whole = goes-end s panics lane.work.deliveries (take place turns) (turn ∷ []) so_far.ps (v.first ∷ v.more) lane'.records v.rs so_far.goes ends in
+  pub fed-last : {new : SeatValue} {lane'' : LaneValue} {ends : Bool} → ends ≡ true → FeedsTurn cur new panics turn lane' lane'' ends → Feeds panics old new lane lane''
+  fed-last {new} {lane''} {ends} off by =
+      let v = subst (FeedsTurn cur new panics turn lane' lane'') off by in
+      let last = subst (λ (w : Work). EndsScript s panics w.deliveries (turn ∷ []) (v.first ∷ v.more) v.rs) so_far.work_is (subst (λ (z : Setup). EndsScript z panics lane'.work.deliveries (turn ∷ []) (v.first ∷ v.more) v.rs) (same-setup old cur so_far.ps so_far.adds) v.script) in
+      let whole = goes-end s panics lane.work.deliveries (take place turns) (turn ∷ []) so_far.ps (v.first ∷ v.more) lane'.records v.rs so_far.goes last in
       let all : (take place turns ++ turn ∷ []) ++ drop (place + 1) turns ≡ turns = ap (λ (ts : List Turn). ts ++ drop (place + 1) turns) (sym one-more) ∙ take-append-drop (place + 1) turns in
       record {
         script = so_far.ps ++ v.first ∷ v.more;

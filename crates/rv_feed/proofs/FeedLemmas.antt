@@ -1,7 +1,5 @@
 -- A turn of a feeder, delivery by delivery.
-use Rattle.std.proofs.Common.{◌≡◌, ℕ, ◌+◌, ◌-◌, ◌<◌, ◌≤◌, ◌^◌, Bool, true, false, ◌&&◌, List, [], ◌∷◌, ◌++◌, length, arith, sym, ap, ◌∙◌, subst, append-nil, drop, get_or, length-append}
-use Rattle.std.specs.Prelude.{filter, slice_range}
-use Rattle.std.proofs.lemmas.List.Elements.{filter-append}
+use Rattle.std.proofs.Common.{◌≡◌, ℕ, ◌+◌, ◌-◌, ◌^◌, Bool, true, false, ◌&&◌, List, [], ◌∷◌, ◌++◌, arith, sym, ap, ◌∙◌, subst, length-append}
 use Rattle.rv_model.specs.declared.entry.Act.TheVariants.{Raise}
 use Rattle.rv_model.specs.declared.entry.Answer.TheVariants.{Looked, Switched}
 use Rattle.rv_model.specs.declared.record.Delivered.{Delivered}
@@ -18,19 +16,15 @@ use Rattle.rv_board.specs.Seats.{BoardId, SeatValue, Looks, Does}
 use Rattle.rv_feed.specs.Lane.{LaneValue, AddsRecords}
 use Rattle.rv_feed.specs.Feeding.{Adds, Serves, FeedsDelivery, FeedsPart, FeedsTurn}
 use Rattle.rv_feed.proofs.AddLemmas.{adds-then, adds-look, adds-raise}
-use Rattle.rv_feed.proofs.TurnLemmas.{slice-more, slice-split, filter-one, filter-none, adds-nothing, adds-join}
+use Rattle.rv_feed.proofs.PlaceLemmas.{record-for, adds-nothing, adds-join, AtPlace, shown_to, shown_behind, hidden-more, shown-more, shown-split}
 
 -- a seat stays on its board
 pub same-setup : (a b : SeatValue) (ps : List Played) → Adds a b ps → b.board.setup ≡ a.board.setup
 same-setup a b ps adds = ap (λ (z : BoardId). z.setup) adds.grows.board
 
--- the record of a delivery
-abbrev pub record-for : ℕ → ℕ → Delivery → Delivered → Record
-record-for line look d outcome = record { order = d.order; line = line; monitor = d.monitor; instance = d.instance; hit = d.hit; outcome = outcome; reacting = has_bit look 33 }
-
 -- ---- a delivery
 
-module _ (panics : ℕ → Bool) (look line : ℕ) (d : Delivery) (outcome : Delivered) (old mid : SeatValue) (lane lane' : LaneValue) (v : Serves old mid d outcome) (kept : AddsRecords lane lane' (record-for line look d outcome ∷ [])) where
+module _ (panics : ℕ → Bool) (look line : ℕ) {d : Delivery} {outcome : Delivered} {old mid : SeatValue} {lane lane' : LaneValue} (v : Serves old mid d outcome) (kept : AddsRecords lane lane' (record-for line look d outcome ∷ [])) where
   -- the record of the entry and its answer is that of the delivery's outcome
   made-is : record_of line look (d, (v.entry, v.answer)) ≡ record-for line look d outcome
   made-is = ap (record-for line look d) v.outcome_is
@@ -51,8 +45,8 @@ module _ (panics : ℕ → Bool) (look line : ℕ) (d : Delivery) (outcome : Del
   }
 
   -- after which the run halts
-  pub delivery-ends : (new : SeatValue) → (failed_outcome outcome && (panics d.monitor && has_bit look 33)) ≡ true → (h : Does mid new (Raise (2 ^ 34))) → FeedsDelivery old new panics look line d lane lane' true
-  delivery-ends new off h = record {
+  pub delivery-ends : {new : SeatValue} → (failed_outcome outcome && (panics d.monitor && has_bit look 33)) ≡ true → (h : Does mid new (Raise (2 ^ 34))) → FeedsDelivery old new panics look line d lane lane' true
+  delivery-ends {new} off h = record {
     first = (v.entry, v.answer);
     more = (h.0, Switched) ∷ [];
     made = record-for line look d outcome;
@@ -95,17 +89,7 @@ module _ (panics : ℕ → Bool) (word : ℕ) (turn : Turn) (lane : LaneValue) w
     few = omega arith;
   }
 
-  module _ (old cur : SeatValue) (lane' : LaneValue) (place : ℕ) (done : FeedsPart old cur panics word turn lane lane' place)
-      (d : Delivery) (d_is : d ≡ get_or ds place d) (le : turn.from ≤ place) (lt : place < length ds) where
-    front : List Delivery
-    front = filter (is_enabled_by word) (slice_range ds turn.from place)
-
-    so_far : filter (is_enabled_by word) (slice_range ds turn.from (place + 1)) ≡ filter (is_enabled_by word) (slice_range ds turn.from place) ++ filter (is_enabled_by word) (d ∷ [])
-    so_far = ap (filter (is_enabled_by word)) (slice-more ds turn.from place d le lt ∙ ap (λ (x : Delivery). slice_range ds turn.from place ++ x ∷ []) (sym d_is)) ∙ filter-append (is_enabled_by word) (slice_range ds turn.from place) (d ∷ [])
-
-    shown-so_far : is_enabled_by word d ≡ true → filter (is_enabled_by word) (slice_range ds turn.from (place + 1)) ≡ filter (is_enabled_by word) (slice_range ds turn.from place) ++ d ∷ []
-    shown-so_far shown = so_far ∙ ap (λ (z : List Delivery). filter (is_enabled_by word) (slice_range ds turn.from place) ++ z) (filter-one word d shown)
-
+  module _ {old cur : SeatValue} {lane' : LaneValue} {place : ℕ} {d : Delivery} (done : FeedsPart old cur panics word turn lane lane' place) (at : AtPlace ds turn place d) where
     -- the look does not show the delivery on
     pub part-hidden : is_enabled_by word d ≡ false → FeedsPart old cur panics word turn lane lane' (place + 1)
     part-hidden hidden = record {
@@ -114,14 +98,14 @@ module _ (panics : ℕ → Bool) (word : ℕ) (turn : Turn) (lane : LaneValue) w
       ps = done.ps;
       rs = done.rs;
       adds = done.adds;
-      part = subst (λ (z : List Delivery). TurnPart old.board.setup panics word turn.line z done.ps done.rs) (sym (so_far ∙ ap (λ (z : List Delivery). filter (is_enabled_by word) (slice_range ds turn.from place) ++ z) (filter-none word d hidden) ∙ append-nil (filter (is_enabled_by word) (slice_range ds turn.from place)))) done.part;
+      part = subst (λ (z : List Delivery). TurnPart old.board.setup panics word turn.line z done.ps done.rs) (sym (hidden-more word at hidden)) done.part;
       kept = done.kept;
       few = let f = done.few in omega arith;
     }
 
     -- it is made, and the script goes on
-    pub part-shown : (new : SeatValue) (lane'' : LaneValue) → is_enabled_by word d ≡ true → FeedsDelivery cur new panics word turn.line d lane' lane'' false → FeedsPart old new panics word turn lane lane'' (place + 1)
-    part-shown new lane'' shown v =
+    pub part-shown : {new : SeatValue} {lane'' : LaneValue} → is_enabled_by word d ≡ true → FeedsDelivery cur new panics word turn.line d lane' lane'' false → FeedsPart old new panics word turn lane lane'' (place + 1)
+    part-shown {new} {lane''} shown v =
         let ps : List Played = v.first ∷ v.more in
         let part = subst (λ (s : Setup). TurnPart s panics word turn.line (d ∷ []) ps (v.made ∷ [])) (same-setup old cur ((done.look, Looked word) ∷ done.ps) done.adds) v.part in
         record {
@@ -130,23 +114,18 @@ module _ (panics : ℕ → Bool) (word : ℕ) (turn : Turn) (lane : LaneValue) w
           ps = done.ps ++ ps;
           rs = done.rs ++ v.made ∷ [];
           adds = adds-then old cur new ((done.look, Looked word) ∷ done.ps) v.first v.more done.adds v.adds;
-          part = subst (λ (z : List Delivery). TurnPart old.board.setup panics word turn.line z (done.ps ++ ps) (done.rs ++ v.made ∷ [])) (sym (shown-so_far shown))
-              (part-join old.board.setup panics word turn.line (filter (is_enabled_by word) (slice_range ds turn.from place)) (d ∷ []) done.ps ps done.rs (v.made ∷ []) done.part part);
+          part = subst (λ (z : List Delivery). TurnPart old.board.setup panics word turn.line z (done.ps ++ ps) (done.rs ++ v.made ∷ [])) (sym (shown-more word at shown))
+              (part-join old.board.setup panics word turn.line (shown_to word ds turn place) (d ∷ []) done.ps ps done.rs (v.made ∷ []) done.part part);
           kept = adds-join lane lane' lane'' done.rs (v.made ∷ []) done.kept v.kept;
-          few = let f = done.few in let l = length-append done.rs (v.made ∷ []) in omega arith;
+          few = let f = done.few in let le = at.from in let l = length-append done.rs (v.made ∷ []) in omega arith;
         }
 
     -- it is made, and the script ends
-    pub part-ends : (new : SeatValue) (lane'' : LaneValue) → has_bit word 34 ≡ false → place < turn.to → is_enabled_by word d ≡ true → FeedsDelivery cur new panics word turn.line d lane' lane'' true → FeedsTurn old new panics turn lane lane'' true
-    part-ends new lane'' on before shown v =
+    pub part-ends : {new : SeatValue} {lane'' : LaneValue} → has_bit word 34 ≡ false → is_enabled_by word d ≡ true → FeedsDelivery cur new panics word turn.line d lane' lane'' true → FeedsTurn old new panics turn lane lane'' true
+    part-ends {new} {lane''} on shown v =
         let s : Setup = old.board.setup in
         let ps : List Played = v.first ∷ v.more in
-        let front : List Delivery = filter (is_enabled_by word) (slice_range ds turn.from place) in
-        let rest : List Delivery = filter (is_enabled_by word) (drop ((place + 1) - turn.from) (slice_range ds turn.from turn.to)) in
-        let split : filter (is_enabled_by word) (slice_range ds turn.from turn.to) ≡ (front ++ d ∷ []) ++ rest =
-        ap (filter (is_enabled_by word)) (slice-split ds turn.from (place + 1) turn.to (omega arith))
-        ∙ filter-append (is_enabled_by word) (slice_range ds turn.from (place + 1)) (drop ((place + 1) - turn.from) (slice_range ds turn.from turn.to))
-        ∙ ap (λ (z : List Delivery). z ++ rest) (shown-so_far shown) in
+        let front : List Delivery = shown_to word ds turn place in
         let part = subst (λ (s : Setup). LastPart s panics word turn.line (d ∷ []) ps (v.made ∷ [])) (same-setup old cur ((done.look, Looked word) ∷ done.ps) done.adds) v.part in
         let last = last-join s panics word turn.line front (d ∷ []) done.ps ps done.rs (v.made ∷ []) done.part part in
         record {
@@ -154,9 +133,9 @@ module _ (panics : ℕ → Bool) (word : ℕ) (turn : Turn) (lane : LaneValue) w
           more = done.ps ++ ps;
           rs = done.rs ++ v.made ∷ [];
           adds = adds-then old cur new ((done.look, Looked word) ∷ done.ps) v.first v.more done.adds v.adds;
-          script = turn-ends s panics ds turn done.look done.look_is word on (front ++ d ∷ []) rest (done.ps ++ ps) (done.rs ++ v.made ∷ []) split last;
+          script = turn-ends s panics ds turn done.look done.look_is word on (front ++ d ∷ []) (shown_behind word at) (done.ps ++ ps) (done.rs ++ v.made ∷ []) (shown-split word at shown) last;
           kept = adds-join lane lane' lane'' done.rs (v.made ∷ []) done.kept v.kept;
-          few = let f = done.few in let l = length-append done.rs (v.made ∷ []) in omega arith;
+          few = let f = done.few in let le = at.from in let lt = at.before in let l = length-append done.rs (v.made ∷ []) in omega arith;
         }
 
   -- all deliveries

@@ -7,11 +7,11 @@ pub mod DoneLemmas
 pub mod EntryLemmas
 pub mod FedLemmas
 pub mod FeedLemmas
-pub mod JoinAllLemmas
 pub mod JoinedLemmas
 pub mod LaneLemmas
 pub mod LineLemmas
 pub mod OneLemmas
+pub mod PlaceLemmas
 pub mod RunLemmas
 pub mod SeatedLemmas
 pub mod SortedLemmas

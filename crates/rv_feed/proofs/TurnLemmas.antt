@@ -1,55 +1,76 @@
 -- A turn, delivery by delivery.
-use Rattle.std.proofs.Common.{◌≡◌, ℕ, ◌+◌, ◌-◌, ◌<◌, ◌≤◌, Bool, true, false, List, [], ◌∷◌, ◌++◌, length, arith, refl, sym, ap, ◌∙◌, subst, append_assoc, append-nil, take, drop, get_or, length-drop, length-append}
-use Rattle.std.specs.Prelude.{filter, slice_range}
-use Rattle.std.proofs.lemmas.List.{take_more, take-take, take-append-drop, get_or-drop}
-use Rattle.std.proofs.lemmas.List.Elements.{filter-append}
+use Rattle.std.proofs.Common.{◌≡◌, inl, inr, ℕ, ◌+◌, ◌-◌, ◌^◌, Bool, true, false, ◌&&◌, List, [], ◌∷◌, ◌++◌, arith, refl, sym, ap, ◌∙◌, subst, length-append}
+use Rattle.rv_model.specs.declared.entry.Act.{Act}
+use Rattle.rv_model.specs.declared.entry.Act.TheVariants.{Raise}
+use Rattle.rv_model.specs.declared.entry.Answer.{Answer}
 use Rattle.rv_model.specs.declared.entry.Answer.TheVariants.{Looked}
-use Rattle.rv_model.specs.declared.record.Record.{Record}
+use Rattle.rv_model.specs.declared.record.Delivered.TheVariants.{Done}
 use Rattle.rv_model.specs.declared.work.Delivery.{Delivery}
 use Rattle.rv_model.specs.declared.work.Turn.{Turn}
 use Rattle.rv_model.specs.Numbers.{has_bit}
-use Rattle.rv_model.specs.Setups.{Setup}
-use Rattle.rv_model.specs.Scripts.{is_enabled_by}
+use Rattle.rv_model.specs.Histories.{IsNoStop, IsPermittedTo, look_count}
+use Rattle.rv_model.specs.Records.{outcome_of, record_of}
+use Rattle.rv_model.specs.Setups.{Setup, slot_of}
+use Rattle.rv_model.specs.Scripts.{is_enabled_by, fails, hit_act}
 use Rattle.rv_model.specs.ScriptParts.{TurnPart, LastPart, GoesOn, EndsScript}
-use Rattle.rv_model.proofs.ScriptPartLemmas.{part-nothing, part-join, last-join, turn-goes, turn-ends, turn-halted}
-use Rattle.rv_core.specs.Core.{CoreValue}
+use Rattle.rv_model.proofs.ScriptPartLemmas.{part-nothing, part-join, last-join, part-one, last-one, part-quiet, turn-goes, turn-ends, turn-halted}
+use Rattle.rv_core.specs.Core.{CoreValue, Steps}
 use Rattle.rv_feed.specs.Lane.{LaneValue, AddsRecords}
 use Rattle.rv_feed.specs.Turns.{Did, LooksAt, DeliversRecorded, PlaysTurn, PartDone}
-use Rattle.rv_feed.proofs.DoneLemmas.{did-nothing, did-join, no_looks-append}
+use Rattle.rv_feed.proofs.ActLemmas.{hit-free, hit-held, hit-done}
+use Rattle.rv_feed.proofs.DoneLemmas.{did-step, did-nothing, did-join, no_looks-append}
+use Rattle.rv_feed.proofs.PlaceLemmas.{record-for, adds-nothing, adds-join, AtPlace, shown_to, shown_behind, hidden-more, shown-more, shown-split}
 
--- one more place
-pub slice-more : (ds : List Delivery) (from place : ℕ) (d : Delivery) → from ≤ place → place < length ds → slice_range ds from (place + 1) ≡ slice_range ds from place ++ get_or ds place d ∷ []
-slice-more ds from place d le lt =
-    let n : (place + 1) - from ≡ (place - from) + 1 = omega arith in
-    let long : place - from < length (drop from ds) = let l = length-drop from ds in omega arith in
-    let back : from + (place - from) ≡ place = omega arith in
-    ap (λ (k : ℕ). take k (drop from ds)) n ∙ take_more (drop from ds) (place - from) d long
-    ∙ ap (λ (x : Delivery). take (place - from) (drop from ds) ++ x ∷ []) (get_or-drop from ds (place - from) d ∙ ap (λ (k : ℕ). get_or ds k d) back)
+-- ---- a delivery
 
--- the places before one, and the rest
-pub slice-split : (ds : List Delivery) (from place to : ℕ) → place ≤ to → slice_range ds from to ≡ slice_range ds from place ++ drop (place - from) (slice_range ds from to)
-slice-split ds from place to le =
-    sym (take-append-drop (place - from) (take (to - from) (drop from ds))) ∙ ap (λ (z : List Delivery). z ++ drop (place - from) (take (to - from) (drop from ds))) (take-take (place - from) (to - from) (drop from ds) (omega arith))
+module _ (panics : ℕ → Bool) (seat word line : ℕ) {d : Delivery} {old mid : CoreValue} {act : Act} {a : Answer} {lane lane' : LaneValue} (t : Steps old mid seat act a) (act_is : act ≡ hit_act (slot_of old.setup.shape d.monitor d.instance) d.hit)
+    (kept : AddsRecords lane lane' (record-for line word d (Done a) ∷ [])) where
+  -- the slot of the delivery's instance
+  abbrev slot : ℕ
+  slot = slot_of old.setup.shape d.monitor d.instance
 
--- a delivery that is shown
-pub filter-one : (word : ℕ) (d : Delivery) → is_enabled_by word d ≡ true → filter (is_enabled_by word) (d ∷ []) ≡ d ∷ []
-filter-one word d shown = rw shown refl
+  -- the entry is of the hit's act
+  entry-is : t.entry.act ≡ hit_act slot d.hit
+  entry-is = t.act_is ∙ act_is
 
--- a delivery that is not
-pub filter-none : (word : ℕ) (d : Delivery) → is_enabled_by word d ≡ false → filter (is_enabled_by word) (d ∷ []) ≡ []
-filter-none word d hidden = rw hidden refl
+  -- the seat made it
+  did-it : Did old mid seat ((t.entry, a) ∷ [])
+  did-it = did-step old mid seat act a t (subst IsNoStop (sym act_is) (hit-free slot d.hit)) (subst (λ (z : Act). IsPermittedTo z seat) (sym act_is) (hit-held seat slot d.hit))
 
--- no record
-pub adds-nothing : (lane : LaneValue) → AddsRecords lane lane []
-adds-nothing lane = record { work_is = refl; records_are = sym (append-nil lane.records); room = omega arith }
+  -- it is no look
+  no-look : look_count t.entry.act ≡ 0
+  no-look = part-quiet old.setup panics word line d t.entry a (inl entry-is)
 
--- records after records
-pub adds-join : (a b c : LaneValue) (rs us : List Record) → AddsRecords a b rs → AddsRecords b c us → AddsRecords a c (rs ++ us)
-adds-join a b c rs us one two = record {
-  work_is = two.work_is ∙ one.work_is;
-  records_are = two.records_are ∙ ap (λ (z : List Record). z ++ us) one.records_are ∙ append_assoc a.records rs us;
-  room = let x = one.room in let y = two.room in omega arith;
-}
+  -- its record is the one that is kept
+  made-is : record_of line word (d, (t.entry, a)) ≡ record-for line word d (Done a)
+  made-is = ap (λ (z : Act). record-for line word d (outcome_of z a)) entry-is ∙ ap (record-for line word d) (hit-done slot d.hit a)
+
+  -- after which the script goes on
+  pub made-on : {ends : Bool} → ends ≡ (fails a && (panics d.monitor && has_bit word 33)) → ends ≡ false → DeliversRecorded old mid panics seat word line d lane lane' ends
+  made-on {ends} is on = record {
+    ps = (t.entry, a) ∷ [];
+    made = record-for line word d (Done a);
+    did = did-it;
+    quiet = (no-look, tt);
+    part = rw on (part-one old.setup panics word line d t.entry a (inl entry-is) (record-for line word d (Done a)) made-is (sym is ∙ on));
+    kept = kept;
+  }
+
+  -- after which the run halts
+  pub made-last : {new : CoreValue} {b : Answer} {ends : Bool} → ends ≡ (fails a && (panics d.monitor && has_bit word 33)) → ends ≡ true → Steps mid new seat (Raise (2 ^ 34)) b → DeliversRecorded old new panics seat word line d lane lane' ends
+  made-last {new} {b} {ends} is off u =
+      let raise : u.entry.act ≡ Raise (2 ^ 34) = u.act_is in
+      let quiet_too : look_count u.entry.act ≡ 0 = rw raise refl in
+      record {
+        ps = (t.entry, a) ∷ (u.entry, b) ∷ [];
+        made = record-for line word d (Done a);
+        did = did-join old mid new seat ((t.entry, a) ∷ []) ((u.entry, b) ∷ []) did-it (did-step mid new seat (Raise (2 ^ 34)) b u tt (inr (inr refl)));
+        quiet = (no-look, (quiet_too, tt));
+        part = rw off (last-one old.setup panics word line d t.entry a (inl entry-is) (record-for line word d (Done a)) made-is (sym is ∙ off) u.entry b raise);
+        kept = kept;
+      }
+
+-- ---- a turn
 
 module _ (panics : ℕ → Bool) (seat word : ℕ) (turn : Turn) (lane : LaneValue) where
   -- the deliveries of the lane's work
@@ -70,11 +91,7 @@ module _ (panics : ℕ → Bool) (seat word : ℕ) (turn : Turn) (lane : LaneVal
         few = omega arith;
       }
 
-  module _ (mid cur : CoreValue) (lane' : LaneValue) (place : ℕ) (done : PartDone mid cur panics seat word turn lane lane' place)
-      (d : Delivery) (d_is : d ≡ get_or ds place d) (le : turn.from ≤ place) (lt : place < length ds) where
-    so_far : filter (is_enabled_by word) (slice_range ds turn.from (place + 1)) ≡ filter (is_enabled_by word) (slice_range ds turn.from place) ++ filter (is_enabled_by word) (d ∷ [])
-    so_far = ap (filter (is_enabled_by word)) (slice-more ds turn.from place d le lt ∙ ap (λ (x : Delivery). slice_range ds turn.from place ++ x ∷ []) (sym d_is)) ∙ filter-append (is_enabled_by word) (slice_range ds turn.from place) (d ∷ [])
-
+  module _ {mid cur : CoreValue} {lane' : LaneValue} {place : ℕ} {d : Delivery} (done : PartDone mid cur panics seat word turn lane lane' place) (at : AtPlace ds turn place d) where
     same_setup : cur.setup ≡ mid.setup
     same_setup = ap (λ (v : CoreValue). v.setup) done.did.grows
 
@@ -85,40 +102,32 @@ module _ (panics : ℕ → Bool) (seat word : ℕ) (turn : Turn) (lane : LaneVal
       rs = done.rs;
       did = done.did;
       quiet = done.quiet;
-      part = subst (λ (z : List Delivery). TurnPart mid.setup panics word turn.line z done.ps done.rs) (sym (so_far ∙ ap (λ (z : List Delivery). filter (is_enabled_by word) (slice_range ds turn.from place) ++ z) (filter-none word d hidden) ∙ append-nil (filter (is_enabled_by word) (slice_range ds turn.from place)))) done.part;
+      part = subst (λ (z : List Delivery). TurnPart mid.setup panics word turn.line z done.ps done.rs) (sym (hidden-more word at hidden)) done.part;
       kept = done.kept;
       few = let f = done.few in omega arith;
     }
 
-    shown-so_far : is_enabled_by word d ≡ true → filter (is_enabled_by word) (slice_range ds turn.from (place + 1)) ≡ filter (is_enabled_by word) (slice_range ds turn.from place) ++ d ∷ []
-    shown-so_far shown = so_far ∙ ap (λ (z : List Delivery). filter (is_enabled_by word) (slice_range ds turn.from place) ++ z) (filter-one word d shown)
-
     -- it is made, and the script goes on
-    pub done-shown : (new : CoreValue) (lane'' : LaneValue) → is_enabled_by word d ≡ true → DeliversRecorded cur new panics seat word turn.line d lane' lane'' false → PartDone mid new panics seat word turn lane lane'' (place + 1)
-    done-shown new lane'' shown v = record {
+    pub done-shown : {new : CoreValue} {lane'' : LaneValue} → is_enabled_by word d ≡ true → DeliversRecorded cur new panics seat word turn.line d lane' lane'' false → PartDone mid new panics seat word turn lane lane'' (place + 1)
+    done-shown {new} {lane''} shown v = record {
       ps = done.ps ++ v.ps;
       rs = done.rs ++ v.made ∷ [];
       did = did-join mid cur new seat done.ps v.ps done.did v.did;
       quiet = no_looks-append done.ps v.ps done.quiet v.quiet;
-      part = subst (λ (z : List Delivery). TurnPart mid.setup panics word turn.line z (done.ps ++ v.ps) (done.rs ++ v.made ∷ [])) (sym (shown-so_far shown))
-          (part-join mid.setup panics word turn.line (filter (is_enabled_by word) (slice_range ds turn.from place)) (d ∷ []) done.ps v.ps done.rs (v.made ∷ []) done.part
+      part = subst (λ (z : List Delivery). TurnPart mid.setup panics word turn.line z (done.ps ++ v.ps) (done.rs ++ v.made ∷ [])) (sym (shown-more word at shown))
+          (part-join mid.setup panics word turn.line (shown_to word ds turn place) (d ∷ []) done.ps v.ps done.rs (v.made ∷ []) done.part
           (subst (λ (s : Setup). TurnPart s panics word turn.line (d ∷ []) v.ps (v.made ∷ [])) same_setup v.part));
       kept = adds-join lane lane' lane'' done.rs (v.made ∷ []) done.kept v.kept;
-      few = let f = done.few in let l = length-append done.rs (v.made ∷ []) in omega arith;
+      few = let f = done.few in let le = at.from in let l = length-append done.rs (v.made ∷ []) in omega arith;
     }
 
     -- it is made, and the script ends
-    pub done-ends : (old new : CoreValue) (lane'' : LaneValue) → (l : LooksAt old mid seat word) → has_bit word 34 ≡ false → seat ≡ 2 + lane.work.cpu → place < turn.to → is_enabled_by word d ≡ true → DeliversRecorded cur new panics seat word turn.line d lane' lane'' true → PlaysTurn old new panics turn lane lane'' true
-    done-ends old new lane'' l on seat_is before shown v =
+    pub done-ends : {old new : CoreValue} {lane'' : LaneValue} → (l : LooksAt old mid seat word) → has_bit word 34 ≡ false → seat ≡ 2 + lane.work.cpu → is_enabled_by word d ≡ true → DeliversRecorded cur new panics seat word turn.line d lane' lane'' true → PlaysTurn old new panics turn lane lane'' true
+    done-ends {old} {new} {lane''} l on seat_is shown v =
         let s = mid.setup in
-        let front : List Delivery = filter (is_enabled_by word) (slice_range ds turn.from place) in
-        let rest : List Delivery = filter (is_enabled_by word) (drop ((place + 1) - turn.from) (slice_range ds turn.from turn.to)) in
-        let split : filter (is_enabled_by word) (slice_range ds turn.from turn.to) ≡ (front ++ d ∷ []) ++ rest =
-        ap (filter (is_enabled_by word)) (slice-split ds turn.from (place + 1) turn.to (omega arith))
-        ∙ filter-append (is_enabled_by word) (slice_range ds turn.from (place + 1)) (drop ((place + 1) - turn.from) (slice_range ds turn.from turn.to))
-        ∙ ap (λ (z : List Delivery). z ++ rest) (shown-so_far shown) in
+        let front : List Delivery = shown_to word ds turn place in
         let last = last-join s panics word turn.line front (d ∷ []) done.ps v.ps done.rs (v.made ∷ []) done.part (subst (λ (s : Setup). LastPart s panics word turn.line (d ∷ []) v.ps (v.made ∷ [])) same_setup v.part) in
-        let ends = turn-ends s panics ds turn l.entry l.act_is word on (front ++ d ∷ []) rest (done.ps ++ v.ps) (done.rs ++ v.made ∷ []) split last in
+        let ends = turn-ends s panics ds turn l.entry l.act_is word on (front ++ d ∷ []) (shown_behind word at) (done.ps ++ v.ps) (done.rs ++ v.made ∷ []) (shown-split word at shown) last in
         let back : mid.setup ≡ old.setup = ap (λ (v : CoreValue). v.setup) l.did.grows in
         record {
           ps = (l.entry, Looked word) ∷ (done.ps ++ v.ps);
@@ -128,7 +137,7 @@ module _ (panics : ℕ → Bool) (seat word : ℕ) (turn : Turn) (lane : LaneVal
           script = subst (λ (s : Setup). EndsScript s panics ds (turn ∷ []) ((l.entry, Looked word) ∷ (done.ps ++ v.ps)) (done.rs ++ v.made ∷ [])) back ends;
           one = (l.act_is, no_looks-append done.ps v.ps done.quiet v.quiet);
           kept = adds-join lane lane' lane'' done.rs (v.made ∷ []) done.kept v.kept;
-          few = let f = done.few in let l = length-append done.rs (v.made ∷ []) in omega arith;
+          few = let f = done.few in let le = at.from in let lt = at.before in let l = length-append done.rs (v.made ∷ []) in omega arith;
         }
 
   -- all deliveries

@@ -13,7 +13,8 @@ use Rattle.rv_model.specs.ScriptParts.{TurnPart, PartOr, GoesOn, ScriptOr}
 use Rattle.rv_model.specs.Scripts.{Played, played, is_enabled_by, fails, Makes, Plays}
 use Rattle.rv_core.specs.Setup.{judges_of}
 use Rattle.rv_board.specs.Seats.{BoardId, SeatValue, SeatGrows}
-use Rattle.rv_feed.specs.Lane.{LaneValue, AddsRecords, IsNewLane, FitsDelivery}
+use Rattle.rv_core.specs.Deliveries.{FitsDelivery}
+use Rattle.rv_feed.specs.Lane.{LaneValue, AddsRecords, IsNewLane}
 use Rattle.rv_feed.specs.Turns.{entries_played}
 
 -- ---- entries of one seat

@@ -1,14 +1,12 @@
 -- What one CPU has to do and did, and what a run in order begins with.
-use Rattle.std.specs.Prelude.{◌≡◌, ◌≢◌, ℕ, ◌<◌, ◌≤◌, Bool, true, false, List, [], ◌++◌, map, length, All, AllPairs, Option, Some, slice_get, slice_index}
+use Rattle.std.specs.Prelude.{◌≡◌, ◌≢◌, ℕ, ◌<◌, ◌≤◌, Bool, true, false, List, [], ◌++◌, map, length, All, AllPairs, Option, Some, slice_get}
 use Rattle.rv_model.specs.declared.reactor.Reactor.{Reactor}
 use Rattle.rv_model.specs.declared.reactor.Reactor.TheVariants.{Panic}
 use Rattle.rv_model.specs.declared.record.Record.{Record}
-use Rattle.rv_model.specs.declared.work.Delivery.{Delivery}
 use Rattle.rv_model.specs.Histories.{LinesApart}
-use Rattle.rv_model.specs.Setups.{Setup, slot_of}
+use Rattle.rv_model.specs.Setups.{Setup}
 use Rattle.rv_model.specs.Works.{Work}
-use Rattle.rv_core.specs.Advance.{FitsHit}
-use Rattle.rv_core.specs.Setup.{table_at}
+use Rattle.rv_core.specs.Deliveries.{FitsDelivery}
 
 -- a work, the records so far, and for how many the memory is there
 pub record LaneValue : Type 0 where
@@ -36,12 +34,6 @@ is_panic_reactor _ = false
 -- which monitors' reactor is panic
 abbrev pub panics_of : List Reactor → ℕ → Bool
 panics_of reactors monitor = is_panic_reactor (slice_get reactors monitor)
-
--- the monitor and the instance are the setup's, and the hit ends it or fits the monitor's table
-pub record FitsDelivery (s : Setup) (d : Delivery) : Type 0 where
-  pub monitor : d.monitor < length s.shape
-  pub instance_fits : d.instance < slice_index s.shape d.monitor
-  pub hit : FitsHit (table_at s (slot_of s.shape d.monitor d.instance)) d.hit
 
 -- the lane is new, its CPU is below 64, its lines ascend, and its deliveries fit
 pub record FitsLane (s : Setup) (lane : LaneValue) : Type 0 where

@@ -12,7 +12,8 @@ use Rattle.rv_model.specs.Works.{IsWork}
 use Rattle.rv_core.specs.Core.{CoreValue}
 use Rattle.rv_core.specs.Setup.{judges_of}
 use Rattle.rv_feed.specs.declared.order.NextTurn.{NextTurn}
-use Rattle.rv_feed.specs.Lane.{LaneValue, FitsDelivery, works_of}
+use Rattle.rv_core.specs.Deliveries.{FitsDelivery}
+use Rattle.rv_feed.specs.Lane.{LaneValue, works_of}
 use Rattle.rv_feed.specs.Turns.{PlaysTurn}
 
 -- the next turn of a lane; the places are by CPU

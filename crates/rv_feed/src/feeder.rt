@@ -3,7 +3,8 @@ ghost use Rattle.std.specs.Prelude.{◌≡◌, ◌&&◌, ◌<◌, ◌≤◌, len
 ghost use Rattle.rv_model.specs.declared.work.Delivery.{Delivery};
 ghost use Rattle.rv_model.specs.Numbers.{has_bit};
 ghost use Rattle.rv_model.specs.Records.{failed_outcome};
-ghost use Rattle.rv_feed.specs.Lane.{FitsDelivery, panics_of};
+ghost use Rattle.rv_core.specs.Deliveries.{FitsDelivery};
+ghost use Rattle.rv_feed.specs.Lane.{panics_of};
 ghost use Rattle.rv_feed.specs.Feeders.{FitsFeeder, RunsFeeder};
 ghost use Rattle.rv_feed.specs.Feeding.{Serves, FeedsDelivery, FeedsTurn, CanFeed, Feeds};
 

@@ -1,7 +1,8 @@
 //! All scripts on one thread. The lane whose next turn has the least line goes on.
 ghost use Rattle.rv_model.specs.declared.work.Turn.{Turn};
 ghost use Rattle.std.specs.Prelude.{◌≡◌, ◌≢◌, ℕ, ◌^◌, ◌<◌, ◌≤◌, true, List, length, replicate, All, AllPairs, slice_index, slice_index_or};
-ghost use Rattle.rv_feed.specs.Lane.{LaneValue, FitLanes, FitsDelivery, panics_of};
+ghost use Rattle.rv_core.specs.Deliveries.{FitsDelivery};
+ghost use Rattle.rv_feed.specs.Lane.{LaneValue, FitLanes, panics_of};
 ghost use Rattle.rv_feed.specs.Order.{Ran};
 ghost use Rattle.rv_feed.specs.SoFar.{IsPending, next_line, HasLines, IsLeast, PlaysNext};
 

@@ -3,7 +3,8 @@ ghost use Rattle.std.specs.Prelude.{◌≡◌, ◌+◌, ◌<◌, ◌≤◌, ◌&
 ghost use Rattle.rv_model.specs.declared.work.Delivery.{Delivery};
 ghost use Rattle.rv_model.specs.Numbers.{has_bit};
 ghost use Rattle.rv_model.specs.Scripts.{fails, hit_act};
-ghost use Rattle.rv_feed.specs.Lane.{panics_of, FitsDelivery};
+ghost use Rattle.rv_core.specs.Deliveries.{FitsDelivery};
+ghost use Rattle.rv_feed.specs.Lane.{panics_of};
 ghost use Rattle.rv_feed.specs.Turns.{LooksAt, DeliversRecorded, PlaysTurn};
 
 use crate::lane::{Lane, delivery_at, is_panic, keep, seat_of};

@@ -22,12 +22,12 @@ use Rattle.rv_journal.proofs.CountLemmas.{by-append, by-none, by-snoc}
 -- ---- what the words of a board tell
 
 -- a load, as it would tell of the words without counts
-pub saw-plain : (v w : View) (place found : ℕ) → Saw counted_at v w place found → Saw word_at v w place (word_at v.setup w.part.seen place)
-saw-plain v w place found s = record { same = s.same; rest = s.rest; list = s.list; none = s.none; word = refl; sound = s.sound; left = s.left; right = s.right }
+pub saw-plain : {v w : View} {place found : ℕ} → Saw counted_at v w place found → Saw word_at v w place (word_at v.setup w.part.seen place)
+saw-plain s = record { same = s.same; rest = s.rest; list = s.list; none = s.none; word = refl; sound = s.sound; left = s.left; right = s.right }
 
 -- an act
-pub made-plain : (v w : View) (act : Act) (found : ℕ) → (m : Made counted_at v w act found) → Made word_at v w act (word_at v.setup (v.part.seen ++ m.rest) (word_index act))
-made-plain v w act found m = record { same = m.same; rest = m.rest; list = m.list; none = m.none; word = refl; sound = m.sound; answer = m.answer }
+pub made-plain : {v w : View} {act : Act} {found : ℕ} → (m : Made counted_at v w act found) → Made word_at v w act (word_at v.setup (v.part.seen ++ m.rest) (word_index act))
+made-plain m = record { same = m.same; rest = m.rest; list = m.list; none = m.none; word = refl; sound = m.sound; answer = m.answer }
 
 -- ---- what a seat keeps
 
@@ -69,8 +69,8 @@ kept v w number end left m' is same u counted room unused =
     }
 
 -- a seat that has seen more
-pub seat-seen : (number end left : ℕ) (m m' : Ours) (place found : ℕ) → IsCountedSeat number end left m → SawCounted m.0 m'.0 place found → m'.1 ≡ m.1 → IsCountedSeat number end left m'
-seat-seen number end left m m' place found c s held =
+pub seat-seen : {number end left : ℕ} (m : Ours) {m' : Ours} {place found : ℕ} → IsCountedSeat number end left m → SawCounted m.0 m'.0 place found → m'.1 ≡ m.1 → IsCountedSeat number end left m'
+seat-seen {number} {end} {left} m {m'} {place} {found} c s held =
     let saw = s.0 in
     let u = c.usable in
     let b : Begun m'.0.part.seen m.0.part = record { rest = saw.rest; whole = saw.list; none = saw.none } in
@@ -79,8 +79,8 @@ seat-seen number end left m m' place found c s held =
     kept m.0 m'.0 number end left m' refl saw.same (usable number end m m' u saw.same saw.sound held) s.1 (omega arith) (unused-begun m'.0.part.seen m.0.part b c.unused)
 
 -- a seat that has made an entry may make one less
-pub seat-made : (number end left : ℕ) (m m' : Ours) (act : Act) (found : ℕ) → 0 < left → IsCountedSeat number end left m → MadeCounted m.0 m'.0 act found → m'.1 ≡ m.1 → IsCountedSeat number end (left - 1) m'
-seat-made number end left m m' act found some c t held =
+pub seat-made : {number end left : ℕ} (m : Ours) {m' : Ours} {act : Act} {found : ℕ} → IsCountedSeat number end (left + 1) m → MadeCounted m.0 m'.0 act found → m'.1 ≡ m.1 → IsCountedSeat number end left m'
+seat-made {number} {end} {left} m {m'} {act} {found} c t held =
     let made = t.made in
     let u = c.usable in
     let p = m.0.part in
@@ -93,5 +93,5 @@ seat-made number end left m m' act found some c t held =
     let list = ap (entries_by p.number) made.list in
     let out : is_within (suc p.number) p.end x.seat ≡ false = range_not_own p.number p.end in
     let last : entries_of (is_within (suc p.number) p.end) (x ∷ []) ≡ [] = rw out refl in
-    kept m.0 m'.0 number end (left - 1) m' refl made.same (usable number end m m' u made.same made.sound held) t.after (omega arith)
+    kept m.0 m'.0 number end left m' refl made.same (usable number end m m' u made.same made.sound held) t.after (omega arith)
     (subst (λ (l : List Entry). entries_of (is_within (suc p.number) p.end) l ≡ []) (sym made.list) (none_append (is_within (suc p.number) p.end) (p.seen ++ made.rest) (x ∷ []) (unused-begun (p.seen ++ made.rest) p b c.unused) last))

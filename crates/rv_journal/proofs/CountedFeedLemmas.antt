@@ -1,7 +1,8 @@
 -- What a feeder adds, delivery by delivery.
 use Rattle.std.proofs.Common.{◌≡◌, ℕ, ◌+◌, ◌<◌, ◌≤◌, Bool, List, [], ◌∷◌, ◌++◌, length, reverse, take, drop, get_or, refl, sym, ap, ◌∙◌, subst, arith, append_assoc, add-one, length-append, drop-cons}
 use Rattle.std.proofs.lemmas.List.{append-nil, map-append, take_more}
-use Rattle.std.proofs.lemmas.List.Elements.{filter-append}
+use Rattle.std.specs.Prelude.{All}
+use Rattle.std.proofs.lemmas.List.Elements.{filter-append, All-get_or}
 use Rattle.rv_model.specs.declared.entry.Entry.{Entry}
 use Rattle.rv_model.specs.declared.record.Delivered.{Delivered}
 use Rattle.rv_model.specs.declared.record.Delivered.TheVariants.{Done, Racing}
@@ -11,7 +12,7 @@ use Rattle.rv_model.specs.Histories.{IsSound}
 use Rattle.rv_model.specs.Seats.{known_of, entries_of}
 use Rattle.rv_model.specs.Setups.{Setup}
 use Rattle.rv_model.specs.SharedWords.{answer_at}
-use Rattle.rv_model.specs.Works.{NamesEach}
+use Rattle.rv_model.specs.Works.{Work, NamesEach}
 use Rattle.rv_core.specs.Setup.{judges_of}
 use Rattle.rv_board.specs.Deliveries.{DeliversOrStops}
 use Rattle.rv_board.specs.Seats.{BoardId, SeatValue, SeatGrows}
@@ -21,6 +22,7 @@ use Rattle.rv_journal.specs.declared.counted.Counted.{Counted}
 use Rattle.rv_journal.specs.CountedSeats.{CountedValue, Counts}
 use Rattle.rv_journal.specs.CountedLanes.{CountedLaneValue, IsNewCountedLane, slot_at, EndsAs, IsObserved, AllObservedAfter, entries_observed, FeedsCounted, KeepsObserved}
 use Rattle.rv_journal.proofs.CountedStepLemmas.{snoc-front, snoc-last}
+use Rattle.rv_journal.proofs.MergeStepLemmas.{names-within}
 
 -- ---- one delivery
 
@@ -161,17 +163,12 @@ pub record FedTurns (old cur : CountedValue) (lane lane' : CountedLaneValue) (tu
   pub fed : FedTo old cur lane lane' place
   pub names : NamesEach place (drop turn lane.work.turns) (length lane.work.deliveries)
 
--- turns name no more deliveries than there are
-pub names-within : (place count : ℕ) (turns : List Turn) → NamesEach place turns count → place ≤ count
-names-within place count [] names = omega arith
-names-within place count (turn ∷ turns) names = let rest = names-within turn.to count turns names.2 in let order = names.1 in let from = names.0 in omega arith
-
--- the next turn goes on where those before it ended
-pub next-turn : (place count at : ℕ) (turns : List Turn) (turn : Turn) → at < length turns → turn ≡ get_or turns at turn → NamesEach place (drop at turns) count
-    → (turn.from ≡ place) × (turn.from ≤ turn.to) × NamesEach turn.to (drop (at + 1) turns) count
-next-turn place count at turns turn low is names =
-    let whole : drop at turns ≡ turn ∷ drop (at + 1) turns = drop-cons turns at turn low ∙ (λ i. sym is i ∷ drop (sym (add-one at) i) turns) in
-    subst (λ (l : List Turn). NamesEach place l count) whole names
+-- within a turn, which ends here: the deliveries before this one were made, the lane has all to the end, and the turns behind it name those that are left
+pub record FedIn (old cur : CountedValue) (lane lane' : CountedLaneValue) (place end number : ℕ) : Type 0 where
+  pub fed : FedTo old cur lane lane' number
+  pub so_far : number ≤ end
+  pub within : end ≤ length lane.work.deliveries
+  pub names : NamesEach end (drop (place + 1) lane.work.turns) (length lane.work.deliveries)
 
 -- no delivery was made
 pub fed-start : (old : CountedValue) (lane : CountedLaneValue) → IsSound old.seat.board.setup (judges_of old.seat.board.setup) old.seat.part.seen → IsNewCountedLane lane.work lane → NamesEach 0 lane.work.turns (length lane.work.deliveries) → FedTurns old old lane lane 0
@@ -181,18 +178,52 @@ fed-start old lane sound new names = record {
   names = names;
 }
 
--- one more delivery was made
-pub fed-next : (old cur next : CountedValue) (lane lane' lane'' : CountedLaneValue) (place : ℕ) (d : Delivery) (observed : Counted) → FedTo old cur lane lane' place → place < length lane.work.deliveries → d ≡ get_or lane.work.deliveries place d
-    → FeedsCounted cur next (d ∷ []) (observed ∷ []) → KeepsObserved lane' lane'' observed → FedTo old next lane lane'' (place + 1)
-fed-next old cur next lane lane' lane'' place d observed fed low is feeds kept =
-    let more : take place lane.work.deliveries ++ d ∷ [] ≡ take (place + 1) lane.work.deliveries = ap (λ (x : Delivery). take place lane.work.deliveries ++ x ∷ []) is ∙ sym (take_more lane.work.deliveries place d low) in
-    let all = fed-more old cur next (take place lane.work.deliveries) lane'.counted d observed fed.feeds feeds in
-    let room = fed.room in
-    let wider = kept.room in
-    let count = fed.count in
-    let longer : length lane''.counted ≡ length lane'.counted + 1 = ap length kept.counted_is ∙ length-append lane'.counted (observed ∷ []) in record {
-      feeds = subst (λ (z : List Delivery × List Counted). FeedsCounted old next z.0 z.1) (λ i. (more i, sym kept.counted_is i)) all;
-      work_is = kept.work_is ∙ fed.work_is;
-      room = omega arith;
-      count = omega arith;
-    }
+module _ {old cur : CountedValue} {lane lane' : CountedLaneValue} {place : ℕ} where
+  -- the next turn goes on where those before it ended
+  pub in-turn : {turn : Turn} → FedTurns old cur lane lane' place → place < length lane.work.turns → ((any : Turn) → turn ≡ get_or lane'.work.turns place any) → FedIn old cur lane lane' place turn.to turn.from
+  in-turn {turn} made low found =
+      let is : turn ≡ get_or lane.work.turns place turn = found turn ∙ ap (λ (w : Work). get_or w.turns place turn) made.fed.work_is in
+      let whole : drop place lane.work.turns ≡ turn ∷ drop (place + 1) lane.work.turns = drop-cons lane.work.turns place turn low ∙ (λ i. sym is i ∷ drop (sym (add-one place) i) lane.work.turns) in
+      let next = subst (λ (l : List Turn). NamesEach made.place l (length lane.work.deliveries)) whole made.names in
+      record {
+        fed = subst (FedTo old cur lane lane') (sym next.0) made.fed;
+        so_far = next.1;
+        within = names-within turn.to (drop (place + 1) lane.work.turns) (length lane.work.deliveries) next.2;
+        names = next.2;
+      }
+
+  -- all its deliveries were made
+  pub turn-made : {end number : ℕ} → FedIn old cur lane lane' place end number → end ≤ number → FedTurns old cur lane lane' (place + 1)
+  turn-made {end} {number} i all = record { place = end; fed = subst (FedTo old cur lane lane') (let below = i.so_far in omega arith) i.fed; names = i.names }
+
+  module _ {end number : ℕ} {d : Delivery} (i : FedIn old cur lane lane' place end number) (low : number < end) (found : (any : Delivery) → d ≡ get_or lane'.work.deliveries number any) where
+    -- the delivery is the lane's
+    delivery-is : d ≡ get_or lane.work.deliveries number d
+    delivery-is = found d ∙ ap (λ (w : Work). get_or w.deliveries number d) i.fed.work_is
+
+    -- what holds of all deliveries holds of it
+    pub delivery-holds : (P : Delivery → Type 0) → All P lane.work.deliveries → P d
+    delivery-holds P all = let few = i.within in subst P (sym delivery-is) (All-get_or P lane.work.deliveries number d (omega arith) all)
+
+    -- it was made
+    pub fed-next : {next : CountedValue} {lane'' : CountedLaneValue} {observed : Counted} → FeedsCounted cur next (d ∷ []) (observed ∷ []) → KeepsObserved lane' lane'' observed → FedIn old next lane lane'' place end (number + 1)
+    fed-next {next} {lane''} {observed} feeds kept =
+        let few = i.within in
+        let fed = i.fed in
+        let inside : number < length lane.work.deliveries = omega arith in
+        let more : take number lane.work.deliveries ++ d ∷ [] ≡ take (number + 1) lane.work.deliveries = ap (λ (x : Delivery). take number lane.work.deliveries ++ x ∷ []) delivery-is ∙ sym (take_more lane.work.deliveries number d inside) in
+        let all = fed-more old cur next (take number lane.work.deliveries) lane'.counted d observed fed.feeds feeds in
+        let room = fed.room in
+        let wider = kept.room in
+        let count = fed.count in
+        let longer : length lane''.counted ≡ length lane'.counted + 1 = ap length kept.counted_is ∙ length-append lane'.counted (observed ∷ []) in record {
+          fed = record {
+            feeds = subst (λ (z : List Delivery × List Counted). FeedsCounted old next z.0 z.1) (λ j. (more j, sym kept.counted_is j)) all;
+            work_is = kept.work_is ∙ fed.work_is;
+            room = omega arith;
+            count = omega arith;
+          };
+          so_far = omega arith;
+          within = i.within;
+          names = i.names;
+        }

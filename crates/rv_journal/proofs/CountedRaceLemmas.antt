@@ -44,8 +44,8 @@ pub record LostCounted (u w : View) (slot lost raw : ℕ) : Type 0 where
 
 module _ (slot : ℕ) where
   -- at the first load no try is lost
-  pub counted-none : (v u : View) (raw : ℕ) → slot < sum u.setup.shape → SawCounted v u (slot + 1) raw → LostCounted u u slot 0 raw
-  counted-none v u raw low s =
+  pub counted-none : {v u : View} {raw : ℕ} → slot < sum u.setup.shape → SawCounted v u (slot + 1) raw → LostCounted u u slot 0 raw
+  counted-none {v} {u} {raw} low s =
       let saw = s.0 in
       let setup : u.setup ≡ v.setup = ap (λ (z : View). z.setup) saw.same in
       let sound : IsSound u.setup (judges_of u.setup) u.part.seen = subst (λ (k : Setup). IsSound k (judges_of k) u.part.seen) (sym setup) saw.sound in
@@ -65,8 +65,8 @@ module _ (slot : ℕ) where
       }
 
   -- one more try is lost, since another seat changed the word
-  pub counted-more : (u w x : View) (lost raw found : ℕ) → slot < sum u.setup.shape → LostCounted u w slot lost raw → SawCounted w x (slot + 1) found → found ≢ raw → LostCounted u x slot (lost + 1) found
-  counted-more u w x lost raw found low l s ne =
+  pub counted-more : {u w x : View} {lost raw found : ℕ} → slot < sum u.setup.shape → LostCounted u w slot lost raw → SawCounted w x (slot + 1) found → found ≢ raw → LostCounted u x slot (lost + 1) found
+  counted-more {u} {w} {x} {lost} {raw} {found} low l s ne =
       let p = l.plain in
       let saw = s.0 in
       let setup : w.setup ≡ u.setup = ap (λ (z : View). z.setup) p.same in

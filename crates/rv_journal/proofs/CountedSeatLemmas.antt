@@ -26,34 +26,38 @@ in-cut : (number at end : ℕ) → number < at → at < end → is_within (suc n
 unfolding is_within
 in-cut number at end low high = grind (arith, nat_tests)
 
-module _ (number end left at : ℕ) (me : Ours) (c : IsCountedSeat number end left me) (low : me.0.part.number < at) (high : at < me.0.part.end) where
+module _ {number end left at : ℕ} (me : Ours) (c : IsCountedSeat number end left me) (range : (me.0.part.number < at) × (at < me.0.part.end)) where
   -- the seat that was cut keeps what is below
-  pub seat-below : (me' : Ours) → me' ≡ (cut_left at me.0, me.1) → IsCountedSeat number at left me'
-  seat-below me' is =
+  pub seat-below : {me' : Ours} → me' ≡ (cut_left at me.0, me.1) → IsCountedSeat number at left me'
+  seat-below {me'} is =
       let u = c.usable in
+      let low = range.0 in
+      let high = range.1 in
       let small = u.small in
       subst (IsCountedSeat number at left) (sym is) record {
-        usable = record { number_is = u.number_is; end_is = refl; has = low; small = omega arith; left = refl; right = refl; empty = u.empty; sound = u.sound };
+        usable = record { number_is = u.number_is; end_is = refl; has = range.0; small = omega arith; left = refl; right = refl; empty = u.empty; sound = u.sound };
         counted = c.counted;
         room = c.room;
         unused = none_of (is_within (suc me.0.part.number) me.0.part.end) (is_within (suc me.0.part.number) at) me.0.part.seen (λ n t. range_left (suc me.0.part.number) at me.0.part.end n (omega arith) t) c.unused;
       }
 
   -- the new seat has made no entry
-  pub seat-above : (me' : Ours) → me' ≡ (cut_right at me.0, []) → IsCountedSeat at end most_entries me'
-  seat-above me' is =
+  pub seat-above : {me' : Ours} → me' ≡ (cut_right at me.0, []) → IsCountedSeat at end most_entries me'
+  seat-above {me'} is =
       let u = c.usable in
+      let low = range.0 in
+      let high = range.1 in
       let none : entries_by at me.0.part.seen ≡ 0 = by-none (is_within (suc me.0.part.number) me.0.part.end) at me.0.part.seen (in-cut me.0.part.number at me.0.part.end low high) c.unused in
       subst (IsCountedSeat at end most_entries) (sym is) record {
-        usable = record { number_is = refl; end_is = u.end_is; has = high; small = u.small; left = refl; right = refl; empty = refl; sound = u.sound };
+        usable = record { number_is = refl; end_is = u.end_is; has = range.1; small = u.small; left = refl; right = refl; empty = refl; sound = u.sound };
         counted = c.counted;
         room = omega arith;
         unused = none_of (is_within (suc me.0.part.number) me.0.part.end) (is_within (suc at) me.0.part.end) me.0.part.seen (λ n t. range_right (suc me.0.part.number) (suc at) me.0.part.end n (omega arith) t) c.unused;
       }
 
 -- a seat that another was joined into, after its load
-pub seat-joined : (number end left : ℕ) (m m' : Ours) (w : View) (found : ℕ) → IsCountedSeat number end left m → SawCounted (joined m.0 w) m'.0 0 found → m'.1 ≡ [] → IsCountedSeat number end left m'
-seat-joined number end left m m' w found c s held =
+pub seat-joined : {number end left : ℕ} (m : Ours) {m' : Ours} (w : View) {found : ℕ} → IsCountedSeat number end left m → SawCounted (joined m.0 w) m'.0 0 found → m'.1 ≡ [] → IsCountedSeat number end left m'
+seat-joined {number} {end} {left} m {m'} w {found} c s held =
     let saw = s.0 in
     let u = c.usable in
     let has = u.has in

@@ -18,32 +18,26 @@ use Rattle.rv_board.specs.Seats.{SeatValue, board_id, seat_value}
 use Rattle.rv_board.specs.Steps.{made_after}
 use Rattle.rv_board.proofs.Knowing.{none_append, known_is}
 use Rattle.rv_board.proofs.SoundLemmas.{filter_append, sound-front}
-use Rattle.rv_board.proofs.RaceLemmas.{opened}
 use Rattle.rv_journal.specs.declared.counted.Counted.{Counted}
 use Rattle.rv_journal.specs.CountedWords.{word_in, count_in, count_on, rows_at, counted_at}
-use Rattle.rv_journal.specs.CountedSteps.{SawCounted, MadeCounted}
+use Rattle.rv_journal.specs.CountedSteps.{MadeCounted, next_word}
 use Rattle.rv_journal.specs.CountedSeats.{Counts}
 use Rattle.rv_journal.proofs.CountedWordLemmas.{found-count}
-use Rattle.rv_journal.proofs.CountedRaceLemmas.{LostCounted}
-use Rattle.rv_journal.proofs.CountedDeliveryLemmas.{w-setup, word-found}
+use Rattle.rv_journal.proofs.CountedDeliveryLemmas.{Tried, w-setup, word-found}
 
 -- an entry by its parts
 abbrev pub entry_at : ℕ → Act → ℕ → ℕ → Entry
 entry_at seat act before after = record { seat = seat; act = act; before = before; after = after }
 
-module _ (old : SeatValue) (u w x : View) (slot begun lost raw found : ℕ) (s : SawCounted (opened old) u (slot + 1) begun) (l : LostCounted u w slot lost raw) (low : slot < sum old.board.setup.shape) where
-  -- the setup is still that of the board
-  setup-is : w.setup ≡ old.board.setup
-  setup-is = w-setup old u w x slot begun lost raw found s l low
-
+module _ {old : SeatValue} {u w : View} {slot begun lost raw : ℕ} (t : Tried old u w slot begun lost raw) where
   -- what is none of the seat's after the first load is none of its before the call
   quiet-since : (more : List Entry) → entries_of (knows u.part) more ≡ [] → entries_of (knows old.part) more ≡ []
-  quiet-since more none = subst (λ (z : View). entries_of (knows z.part) more ≡ []) s.0.same none
+  quiet-since more none = subst (λ (z : View). entries_of (knows z.part) more ≡ []) t.saw.0.same none
 
-  module _ (act : Act) (m : MadeCounted w x act found) where
+  module _ {x : View} {found : ℕ} {act : Act} (m : MadeCounted w x act found) where
     -- what the call's own entry was added to
-    front-is : w.part.seen ++ m.made.rest ≡ (old.part.seen ++ s.0.rest) ++ (l.plain.rest ++ m.made.rest)
-    front-is = ap (λ z. z ++ m.made.rest) (l.plain.list ∙ ap (λ z. z ++ l.plain.rest) s.0.list) ∙ append_assoc (old.part.seen ++ s.0.rest) l.plain.rest m.made.rest
+    front-is : w.part.seen ++ m.made.rest ≡ (old.part.seen ++ t.saw.0.rest) ++ (t.since.plain.rest ++ m.made.rest)
+    front-is = ap (λ z. z ++ m.made.rest) (t.since.plain.list ∙ ap (λ z. z ++ t.since.plain.rest) t.saw.0.list) ∙ append_assoc (old.part.seen ++ t.saw.0.rest) t.since.plain.rest m.made.rest
 
     -- it is sound
     front-sound : IsSound w.setup (judges_of w.setup) (w.part.seen ++ m.made.rest)
@@ -52,35 +46,35 @@ module _ (old : SeatValue) (u w x : View) (slot begun lost raw found : ℕ) (s :
     -- the count that was found is the slot's, just before the entry
     count-found : word_index act ≡ slot + 1 → count_in found ≡ count_on slot (w.part.seen ++ m.made.rest)
     count-found at =
-        found-count w.setup (w.part.seen ++ m.made.rest) 0 slot m.before (subst (λ (k : Setup). slot < sum k.shape) (sym setup-is) low) found front-sound
+        found-count w.setup (w.part.seen ++ m.made.rest) 0 slot m.before (subst (λ (k : Setup). slot < sum k.shape) (sym (w-setup t)) t.low) found front-sound
         (m.made.word ∙ ap (counted_at w.setup (w.part.seen ++ m.made.rest)) at)
 
     -- what the call tells of its entry and the counts
-    pub counts-by : (table : TableId) (observed : Counted) → word_index act ≡ slot + 1 → observed.entry ≡ made_after w.setup w.part.number act (w.part.seen ++ m.made.rest) → observed.first ≡ count_in begun → observed.count ≡ count_in found → (observed.outcome ≡ Racing → 3 ≤ lost)
+    pub counts-by : {table : TableId} {observed : Counted} → word_index act ≡ slot + 1 → observed.entry ≡ made_after w.setup w.part.number act (w.part.seen ++ m.made.rest) → observed.first ≡ count_in begun → observed.count ≡ count_in found → (observed.outcome ≡ Racing → 3 ≤ lost)
         → Counts old (seat_value x.part (board_id table x.setup)) slot observed
-    counts-by table observed at entry-is first-is count-is racing = record {
-      earlier = s.0.rest;
-      since = l.plain.rest ++ m.made.rest;
+    counts-by {table} {observed} at entry-is first-is count-is racing = record {
+      earlier = t.saw.0.rest;
+      since = t.since.plain.rest ++ m.made.rest;
       list = m.made.list ∙ (λ i. front-is i ++ sym entry-is i ∷ []);
-      others = subst (λ (p : ℕ → _). entries_of p (s.0.rest ++ (l.plain.rest ++ m.made.rest)) ≡ []) (sym (known_is old.part))
-          (none_append (knows old.part) s.0.rest (l.plain.rest ++ m.made.rest) s.0.none
-          (none_append (knows old.part) l.plain.rest m.made.rest (quiet-since l.plain.rest l.plain.none)
-          (quiet-since m.made.rest (subst (λ (z : View). entries_of (knows z.part) m.made.rest ≡ []) l.plain.same m.made.none))));
-      first = first-is ∙ found-count old.board.setup u.part.seen 0 slot s.1 low begun s.0.sound s.0.word ∙ ap (count_on slot) s.0.list;
+      others = subst (λ (p : ℕ → _). entries_of p (t.saw.0.rest ++ (t.since.plain.rest ++ m.made.rest)) ≡ []) (sym (known_is old.part))
+          (none_append (knows old.part) t.saw.0.rest (t.since.plain.rest ++ m.made.rest) t.saw.0.none
+          (none_append (knows old.part) t.since.plain.rest m.made.rest (quiet-since t.since.plain.rest t.since.plain.none)
+          (quiet-since m.made.rest (subst (λ (z : View). entries_of (knows z.part) m.made.rest ≡ []) t.since.plain.same m.made.none))));
+      first = first-is ∙ found-count old.board.setup u.part.seen 0 slot t.saw.1 t.low begun t.saw.0.sound t.saw.0.word ∙ ap (count_on slot) t.saw.0.list;
       count = count-is ∙ count-found at ∙ ap (count_on slot) front-is;
-      racing = λ is. let three = racing is in let some = l.plain.count in let both = filter_append slot l.plain.rest m.made.rest in omega arith;
+      racing = λ is. let three = racing is in let some = t.since.plain.count in let both = filter_append slot t.since.plain.rest m.made.rest in omega arith;
     }
 
   -- the entry that the call answers with, where the delivery was made
-  pub entry-made : (hit : Hit) (m : MadeCounted w x (Deliver slot hit) found) (number after : ℕ) → found ≡ raw → number ≡ w.part.number → after ≡ (advanced (table_at old.board.setup slot) (word_in (rows_at old.board.setup slot) raw) hit).1
-      → entry_at number (Deliver slot hit) (word_in (rows_at old.board.setup slot) raw) after ≡ made_after w.setup w.part.number (Deliver slot hit) (w.part.seen ++ m.made.rest)
-  entry-made hit m number after hits mine is =
-      let word = ap (word_in (rows_at old.board.setup slot)) (sym hits) ∙ word-found old u w x slot begun lost raw found s l low (Deliver slot hit) m m.made.word in
-      let setup = setup-is in
+  pub entry-made : {x : View} {found : ℕ} (hit : Hit) (m : MadeCounted w x (Deliver slot hit) found) {number before after : ℕ} → found ≡ raw → number ≡ w.part.number → before ≡ word_in (rows_at old.board.setup slot) raw → after ≡ next_word (table_at old.board.setup slot) (rows_at old.board.setup slot) raw hit
+      → entry_at number (Deliver slot hit) before after ≡ made_after w.setup w.part.number (Deliver slot hit) (w.part.seen ++ m.made.rest)
+  entry-made {x} {found} hit m {number} {before} {after} hits mine at is =
+      let word = ap (word_in (rows_at old.board.setup slot)) (sym hits) ∙ word-found t (Deliver slot hit) m m.made.word in
+      let setup = w-setup t in
       let left : after ≡ (advanced (table_at w.setup slot) (word_at w.setup (w.part.seen ++ m.made.rest) (slot + 1)) hit).1 = is ∙ (λ i. (advanced (table_at (sym setup i) slot) (word i) hit).1) in
-      λ i. entry_at (mine i) (Deliver slot hit) (word i) (left i)
+      λ i. entry_at (mine i) (Deliver slot hit) ((at ∙ word) i) (left i)
 
   -- and where the slot was stopped
-  pub entry-stopped : (m : MadeCounted w x (Stop slot) found) (number : ℕ) → number ≡ w.part.number
-      → entry_at number (Stop slot) (word_in (rows_at old.board.setup slot) found) 0 ≡ made_after w.setup w.part.number (Stop slot) (w.part.seen ++ m.made.rest)
-  entry-stopped m number mine = λ i. entry_at (mine i) (Stop slot) (word-found old u w x slot begun lost raw found s l low (Stop slot) m m.made.word i) 0
+  pub entry-stopped : {x : View} {found : ℕ} (m : MadeCounted w x (Stop slot) found) {number before : ℕ} → number ≡ w.part.number → before ≡ word_in (rows_at old.board.setup slot) found
+      → entry_at number (Stop slot) before 0 ≡ made_after w.setup w.part.number (Stop slot) (w.part.seen ++ m.made.rest)
+  entry-stopped m mine at = λ i. entry_at (mine i) (Stop slot) ((at ∙ word-found t (Stop slot) m m.made.word) i) 0

@@ -24,7 +24,7 @@ use Rattle.rv_journal.proofs.CountedWordLemmas.{found-word, found-count, hit-nar
 use Rattle.rv_journal.proofs.CountedStepLemmas.{sees, tries, stops}
 use Rattle.rv_journal.proofs.CountedRaceLemmas.{LostCounted}
 
-module _ (k : Setup) (u w : View) (slot lost raw : ℕ) (l : LostCounted u w slot lost raw) (setup : u.setup ≡ k) (low : slot < sum k.shape) where
+module _ {k : Setup} {u w : View} {slot lost raw : ℕ} (l : LostCounted u w slot lost raw) (setup : u.setup ≡ k) (low : slot < sum k.shape) where
   -- what the seat has seen is counted, sound, and gives the word
   counted : FitsCounts k w.part.seen
   counted = subst (λ (z : Setup). FitsCounts z w.part.seen) setup l.counted
@@ -49,20 +49,20 @@ module _ (k : Setup) (u w : View) (slot lost raw : ℕ) (l : LostCounted u w slo
   pub next-fits : count_in raw + 1 < 2 ^ 32
   next-fits = let fits = count-fits k (judges_of k) w.part.seen slot sound counted.few in let is = found-count k w.part.seen 0 slot counted low raw sound raw-is in omega arith
 
-module _ (k : Setup) (slots id number end left : ℕ) (me : Ours) (c : IsCountedSeat number end left me) (setup : me.0.setup ≡ k) where
+module _ {k : Setup} (slots id : ℕ) {number end left : ℕ} {me : Ours} (c : IsCountedSeat number end left me) (setup : me.0.setup ≡ k) where
   -- a load
   pub counted-loads : (i : ℕ) → i < width k → Allows (KeptCounted k) slots id me i (λ n. n) (IsCountedLoad (step slots i 0 0 none) me)
   counted-loads i inside = sees k slots id me i inside setup c.usable.has
 
   -- a compare-exchange to the next word
-  pub counted-exchanges : (slot old new : ℕ) (hit : Hit) → 0 < left → slot < sum k.shape → FitsTable (table_at k slot) hit → WhatFits hit.what → IsBelow (32 - rows_at k slot) hit.what → new ≡ next_counted (table_at k slot) (rows_at k slot) old hit
+  pub counted-exchanges : (slot old : ℕ) {new : ℕ} (hit : Hit) → 0 < left → slot < sum k.shape → FitsTable (table_at k slot) hit → WhatFits hit.what → IsBelow (32 - rows_at k slot) hit.what → new ≡ next_counted (table_at k slot) (rows_at k slot) old hit
       → Allows (KeptCounted k) slots id me (slot + 1) (λ n. either (n == old) new n) (IsCountedExchange (step slots (slot + 1) old new (some (Deliver slot hit))) me)
-  counted-exchanges slot old new hit some_left low fits bits below is =
+  counted-exchanges slot old {new} hit some_left low fits bits below is =
       let room = c.room in tries k slots id me slot old new hit low (may k number end me (Deliver slot hit) c.usable setup (low, fits) bits tt tt) (omega arith) below is
 
   -- a stop, which three lost tries have earned
-  pub counted-stops : (u : View) (slot lost raw : ℕ) → 0 < left → slot < sum k.shape → u.part.number < u.part.end → 3 ≤ lost → LostCounted u me.0 slot lost raw
+  pub counted-stops : {u : View} (slot : ℕ) {lost raw : ℕ} → 0 < left → slot < sum k.shape → u.part.number < u.part.end → 3 ≤ lost → LostCounted u me.0 slot lost raw
       → Allows (KeptCounted k) slots id me (slot + 1) (λ n. bit_and n 4294967295) (IsCountedStop (step slots (slot + 1) 4294967295 0 none) me)
-  counted-stops u slot lost raw some_left low has three l =
+  counted-stops {u} slot {lost} {raw} some_left low has three l =
       let room = c.room in
-      stops k slots id me slot low record { setup = setup; has = c.usable.has; small = c.usable.small; fits = low; bits = tt; permitted = tt; justified = raced u me.0 slot lost (word_in (rows_at u.setup slot) raw) has three l.plain } (omega arith)
+      stops k slots id me slot low record { setup = setup; has = c.usable.has; small = c.usable.small; fits = low; bits = tt; permitted = tt; justified = raced has three l.plain } (omega arith)

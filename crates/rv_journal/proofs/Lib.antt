@@ -4,7 +4,7 @@ pub mod CountLemmas
 pub mod CountedCallLemmas
 pub mod CountedDeliveryLemmas
 pub mod CountedFeedLemmas
-pub mod CountedJoinLemmas
+pub mod CountedNextLemmas
 pub mod CountedOpeningLemmas
 pub mod CountedRaceLemmas
 pub mod CountedSeatLemmas
@@ -19,6 +19,7 @@ pub mod ExitLemmas
 pub mod FinishLemmas
 pub mod FirstOpenLemmas
 pub mod GapLemmas
+pub mod ItemLemmas
 pub mod LeftLemmas
 pub mod MarkLemmas
 pub mod MergeStepLemmas

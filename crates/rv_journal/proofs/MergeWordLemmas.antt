@@ -17,6 +17,7 @@ use Rattle.rv_model.proofs.CutLemmas.{reverse-cut}
 use Rattle.rv_model.proofs.NumberLemmas.{number_of-same, number_of-bits}
 use Rattle.rv_core.specs.Setup.{IsSetup, word_index, judges_of}
 use Rattle.rv_core.proofs.WordLemmas.{packed-other}
+use Rattle.rv_board.proofs.SoundLemmas.{on-slot, still}
 use Rattle.rv_journal.specs.MergeStates.{IsMergedAct}
 
 -- ---- words by changes
@@ -27,41 +28,9 @@ word_by word [] = word
 word_by word (e ∷ changes) = word_by e.after changes
 
 module _ (s : Setup) where
-  -- an act that is not on the slot has another place
-  elsewhere : (slot : ℕ) (act : Act) → is_on slot act ≡ false → word_index act ≢ slot + 1
-  elsewhere slot (Deliver other hit) out = λ e. let same : other ≡ slot = omega arith in let equal : (other == slot) ≡ true = grind (arith, nat_tests) in cc
-  elsewhere slot (Stop other) out = λ e. let same : other ≡ slot = omega arith in let equal : (other == slot) ≡ true = grind (arith, nat_tests) in cc
-  elsewhere slot (Clear other) out = λ e. let same : other ≡ slot = omega arith in let equal : (other == slot) ≡ true = grind (arith, nat_tests) in cc
-  elsewhere slot (End other) out = λ e. let same : other ≡ slot = omega arith in let equal : (other == slot) ≡ true = grind (arith, nat_tests) in cc
-  elsewhere slot Look out = λ e. absurd (omega arith)
-  elsewhere slot (Raise bits) out = λ e. absurd (omega arith)
-  elsewhere slot (Lower bits) out = λ e. absurd (omega arith)
-
-  -- the word of an act on the slot is the slot's
-  on-slot : (past : List Entry) (slot : ℕ) (act : Act) → is_on slot act ≡ true → word_on s (judges_of s) past act ≡ word_of s (judges_of s) past slot
-  on-slot past slot (Deliver other hit) here = let same : other ≡ slot = grind (arith, nat_tests) in ap (word_of s (judges_of s) past) same
-  on-slot past slot (Stop other) here = let same : other ≡ slot = grind (arith, nat_tests) in ap (word_of s (judges_of s) past) same
-  on-slot past slot (Clear other) here = let same : other ≡ slot = grind (arith, nat_tests) in ap (word_of s (judges_of s) past) same
-  on-slot past slot (End other) here = let same : other ≡ slot = grind (arith, nat_tests) in ap (word_of s (judges_of s) past) same
-  on-slot past slot Look here = cc
-  on-slot past slot (Raise bits) here = cc
-  on-slot past slot (Lower bits) here = cc
-
-  -- an entry that is not counted leaves the slot's word as it was
-  pub still : (history : List Entry) (slot : ℕ) (e : Entry) → FitsWords s (judges_of s) history e → changed slot e ≡ false → word_of s (judges_of s) (e ∷ reverse history) slot ≡ word_of s (judges_of s) (reverse history) slot
-  still history slot e fits calm = on (is_on slot e.act) refl
-    where
-      on : (b : Bool) → is_on slot e.act ≡ b → word_of s (judges_of s) (e ∷ reverse history) slot ≡ word_of s (judges_of s) (reverse history) slot
-      on true here =
-          let quiet : (is_on slot e.act && not (e.before == e.after)) ≡ false = calm in
-          let equal : (e.before == e.after) ≡ true = (let q = (rw here at quiet) in grind (arith, nat_tests)) in
-          let same : e.before ≡ e.after = grind (arith, nat_tests) in
-          sym (on-slot (e ∷ reverse history) slot e.act here) ∙ sym fits.left ∙ sym same ∙ fits.found ∙ on-slot (reverse history) slot e.act here
-      on false out = packed-other (judge_of s (judges_of s) slot) (start_of s slot) (level (start_of s slot) (reverse history) slot) slot e.act (phase_of (judge_of s (judges_of s) slot) (start_of s slot) (reverse history) slot) (elsewhere slot e.act out)
-
-  -- one that is leaves its own word
+  -- an entry that changes the slot leaves its own word
   pub moved : (history : List Entry) (slot : ℕ) (e : Entry) → FitsWords s (judges_of s) history e → changed slot e ≡ true → word_of s (judges_of s) (e ∷ reverse history) slot ≡ e.after
-  moved history slot e fits is = let here = (and_parts (is_on slot e.act) (not (e.before == e.after)) is).0 in sym (on-slot (e ∷ reverse history) slot e.act here) ∙ sym fits.left
+  moved history slot e fits is = let here = (and_parts (is_on slot e.act) (not (e.before == e.after)) is).0 in sym (on-slot s (judges_of s) (e ∷ reverse history) slot e.act here) ∙ sym fits.left
 
   -- so the word is told by the changes
   pub word-by : (history more : List Entry) (slot : ℕ) → Replays s (judges_of s) (history ++ more) → word_of s (judges_of s) (reverse (history ++ more)) slot ≡ word_by (word_of s (judges_of s) (reverse history) slot) (filter (changed slot) more)
@@ -84,7 +53,7 @@ module _ (s : Setup) where
           let now : word_of s (judges_of s) (reverse (history ++ e ∷ [])) slot ≡ e.after = ap (λ (h : List Entry). word_of s (judges_of s) h slot) back ∙ moved history slot e (replays history e more refl) is in
           ap (λ (h : List Entry). word_of s (judges_of s) (reverse h) slot) (sym regroup) ∙ (rest ∙ (ap (λ (w : ℕ). word_by w (filter (changed slot) more)) now ∙ rw is refl))
       on false is rest =
-          let now : word_of s (judges_of s) (reverse (history ++ e ∷ [])) slot ≡ word_of s (judges_of s) (reverse history) slot = ap (λ (h : List Entry). word_of s (judges_of s) h slot) back ∙ still history slot e (replays history e more refl) is in
+          let now : word_of s (judges_of s) (reverse (history ++ e ∷ [])) slot ≡ word_of s (judges_of s) (reverse history) slot = ap (λ (h : List Entry). word_of s (judges_of s) h slot) back ∙ still s (judges_of s) history slot e (replays history e more refl) is in
           ap (λ (h : List Entry). word_of s (judges_of s) (reverse h) slot) (sym regroup) ∙ (rest ∙ (ap (λ (w : ℕ). word_by w (filter (changed slot) more)) now ∙ rw is refl))
 
   -- where the changes are the same, so is the word

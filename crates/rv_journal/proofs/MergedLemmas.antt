@@ -23,6 +23,7 @@ use Rattle.rv_journal.specs.CountedLanes.{CountedLaneValue}
 use Rattle.rv_journal.specs.MergeSteps.{items_of}
 use Rattle.rv_journal.specs.MergeStates.{Mark, mark, items_in, entries_in, entry_in, IsItemAct, StandsAs, step_entries, IsUnderWay}
 use Rattle.rv_journal.specs.Merging.{FitsSetup, CanMerge, NumbersFit, seat_of, no_lane, lanes_of, works_of, input_of, IsMergeOf}
+use Rattle.rv_journal.proofs.ItemLemmas.{by-item}
 use Rattle.rv_journal.proofs.MarkLemmas.{filter_yes, filter_no, AllPlaced, placed-filter}
 use Rattle.rv_journal.proofs.PlaceLemmas.{entries-filter, marked-items}
 use Rattle.rv_journal.proofs.PlaysLemmas.{played-is, looks-tell, plays-steps}
@@ -82,13 +83,7 @@ no-acts (e ∷ h) all =
 
 -- an item's act is no look
 no-look_act : (act : Act) → IsItemAct act → is_look_act act ≡ false
-no-look_act (Deliver slot hit) is = refl
-no-look_act (Stop slot) is = refl
-no-look_act Look is = absurd is
-no-look_act (Raise _) is = absurd is
-no-look_act (Lower _) is = absurd is
-no-look_act (Clear _) is = absurd is
-no-look_act (End _) is = absurd is
+no-look_act = by-item (λ (a : Act). is_look_act a ≡ false) (λ slot hit. refl) (λ slot. refl)
 
 -- but for looks, the entries of steps are those of their items
 without-looks : (n switches : ℕ) (steps : List MergeStep) → ((b : List Counted) (c : Counted) (a : List Counted) → items_of steps ≡ b ++ c ∷ a → IsItemAct c.entry.act) → filter (λ e. not (is_look_act e.act)) (step_entries n switches steps) ≡ entries_in (items_of steps)

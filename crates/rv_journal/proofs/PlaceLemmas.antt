@@ -19,6 +19,7 @@ use Rattle.rv_board.proofs.SoundLemmas.{filter_append}
 use Rattle.rv_journal.specs.declared.counted.Counted.{Counted}
 use Rattle.rv_journal.specs.MergeSteps.{slot_in, changes_on}
 use Rattle.rv_journal.specs.MergeStates.{Mark, mark, items_in, entries_in, entry_in, IsItemAct, IsMergedAct, IsKnownItem, Divides, LastBy}
+use Rattle.rv_journal.proofs.ItemLemmas.{by-item}
 use Rattle.rv_journal.proofs.MarkLemmas.{cut_alike, filter_yes, filter_no}
 use Rattle.rv_journal.proofs.SlotActLemmas.{on-slot_in, word-after}
 use Rattle.rv_journal.proofs.MergeWordLemmas.{same-word, switches-are}
@@ -113,23 +114,11 @@ earned-there s before history c t many last = by c.entry.act refl
 
 -- an item's act is held
 pub held-item : (act : Act) (seat : ℕ) → IsItemAct act → IsPermittedTo act seat
-held-item (Deliver slot hit) seat is = tt
-held-item (Stop slot) seat is = tt
-held-item Look seat is = absurd is
-held-item (Raise _) seat is = absurd is
-held-item (Lower _) seat is = absurd is
-held-item (Clear _) seat is = absurd is
-held-item (End _) seat is = absurd is
+held-item act seat = by-item (λ (a : Act). IsPermittedTo a seat) (λ slot hit. tt) (λ slot. tt) act
 
 -- and merged
 pub merged-item : (act : Act) → IsItemAct act → IsMergedAct act
-merged-item (Deliver slot hit) is = tt
-merged-item (Stop slot) is = tt
-merged-item Look is = absurd is
-merged-item (Raise _) is = absurd is
-merged-item (Lower _) is = absurd is
-merged-item (Clear _) is = absurd is
-merged-item (End _) is = absurd is
+merged-item = by-item IsMergedAct (λ slot hit. tt) (λ slot. tt)
 
 -- ---- entries of no seat
 

@@ -8,13 +8,13 @@ use Rattle.rv_model.specs.Setups.{Setup}
 use Rattle.rv_model.specs.Histories.{is_on, changed}
 use Rattle.rv_core.specs.Setup.{judges_of}
 use Rattle.rv_board.specs.Rule.{IsMachine}
-use Rattle.rv_board.proofs.SoundLemmas.{filter_append}
+use Rattle.rv_board.proofs.SoundLemmas.{filter_append, still}
 use Rattle.rv_journal.specs.CountedWords.{is_deliver, counts, count_on}
 use Rattle.rv_journal.specs.MergeSteps.{slot_in, changes_on}
 use Rattle.rv_journal.proofs.CountLemmas.{count-snoc}
 use Rattle.rv_journal.proofs.MarkLemmas.{filter_yes, filter_no}
 use Rattle.rv_journal.proofs.SlotActLemmas.{slot_in-is}
-use Rattle.rv_journal.proofs.MergeWordLemmas.{still, moved}
+use Rattle.rv_journal.proofs.MergeWordLemmas.{moved}
 use Rattle.rv_journal.proofs.StoppedLemmas.{IsItemEntry, found, stopped-still, stop-none, deliver-some}
 
 -- 1 where the word is that of a stopped instance
@@ -52,7 +52,7 @@ module _ (s : Setup) where
             let none : counts i e ≡ false = no-count (is_deliver e.act) off in
             let zero' : changes_on i (e ∷ []) ≡ 0 = ap length (filter_no (changed i) e [] off) in
             let number' : count_on i (history ++ e ∷ []) ≡ count_on i history + 0 = number ∙ ap (λ (b : Bool). count_on i history + (if b then 1 else 0)) none in
-            let word = ap stop_count (back ∙ still s history i e it.words off) in
+            let word = ap stop_count (back ∙ still s (judges_of s) history i e it.words off) in
             let sums' = sums in
             omega arith
           where
@@ -113,4 +113,4 @@ module _ (s : Setup) where
           let there : slot_in e.act ≡ i = slot_in-is i e.act parts.0 in
           let before_is : e.before ≡ 0 = found s history e first.0 first.1 ∙ (ap (word_of s (judges_of s) (reverse history)) there ∙ none) in
           absurd (parts.1 (before_is ∙ sym (stopped-still s history e first.0 first.1 before_is)))
-      by false off rest = ap length (filter_no (changed i) e more off) ∙ rest (ap (λ (h : List Entry). word_of s (judges_of s) h i) (reverse-append history (e ∷ [])) ∙ (still s history i e first.1.words off ∙ none))
+      by false off rest = ap length (filter_no (changed i) e more off) ∙ rest (ap (λ (h : List Entry). word_of s (judges_of s) h i) (reverse-append history (e ∷ [])) ∙ (still s (judges_of s) history i e first.1.words off ∙ none))

@@ -15,8 +15,8 @@ use Rattle.rv_model.specs.Works.{Work}
 use Rattle.rv_core.specs.Setup.{judges_of}
 use Rattle.rv_board.specs.RunSeats.{HasTakenIn}
 use Rattle.rv_board.specs.Seats.{BoardId, SeatValue, ExtendsSeen}
-use Rattle.rv_board.proofs.ListLemmas.{kept-holds, map-reverse, All-reverse, Any-reverse, Any-map, zip-with, zip-right, zip-map}
-use Rattle.rv_board.proofs.RunSeatLemmas.{later-own}
+use Rattle.rv_board.proofs.ListLemmas.{map-reverse, All-reverse, Any-reverse, Any-map, zip-with, zip-right, zip-map}
+use Rattle.rv_board.proofs.RunSeatLemmas.{later-own, not-fresh}
 use Rattle.rv_journal.specs.declared.feeding.CountedFeeder.{CountedFeeder}
 use Rattle.rv_journal.specs.CountedFeeders.{FitsCountedFeeder, RunsCounted}
 use Rattle.rv_journal.specs.CountedLanes.{CountedLaneValue, FitsCounted, AllObservedAfter, FeedsCounted, entries_observed}
@@ -86,16 +86,10 @@ module _ {G : Type 0} (board : BoardId) (h : List Entry) where
     -- every entry is a lane's
     nobody-else : AtEach (λ before e. Any (λ l. e.seat ≡ seat_of l) (lanes_in fs')) h
     nobody-else before e after cut = elim (are.cover e.seat (are.sound.permitted before e after cut).0) [
-      | inl knows ↦ absurd (nothing knows)
+      | inl knows ↦ absurd (not-fresh first.part h are.seen are.first_in before e after cut knows)
       | inr any ↦ of_lanes (over fs fs' all-recorded any.0 any.1 any.2 any.3 any.4)
     ]
       where
-        -- the first seat makes no entry
-        nothing : known_of first.part e.seat ≡ true → ⊥
-        nothing knows =
-            let all : h ≡ are.first_in.rest = are.first_in.list ∙ ap (λ (z : List Entry). z ++ are.first_in.rest) are.seen in
-            kept-holds (λ (x : Entry). ⊥) (λ (x : Entry). known_of first.part x.seat) are.first_in.rest before e after (sym all ∙ cut) knows (subst (All (λ (x : Entry). ⊥)) (sym are.first_in.none) (All-nil (λ (x : Entry). ⊥)))
-
         -- a feeder whose seat knew the number has it in its lane
         over : (gs gs' : List (CountedFeeder G)) → AllZip IsRecorded gs gs' → (k : ℕ) (f : CountedFeeder G) → k < length gs → get_or gs k f ≡ f → known_of f.seat.seat.part e.seat ≡ true → Any (λ (f : CountedFeeder G). e.seat ≡ seat_of f.lane) gs'
         over [] gs' zip k f low at knows = absurd (omega arith)

@@ -11,6 +11,7 @@ use Rattle.rv_slots.proofs.ShapeLemmas.{sum-cons}
 use Rattle.rv_journal.specs.declared.counted.Counted.{Counted}
 use Rattle.rv_journal.specs.MergeStates.{IsItemAct}
 use Rattle.rv_journal.specs.Merging.{FitsSetup, Serves, AllServed, HitFits}
+use Rattle.rv_journal.proofs.ItemLemmas.{by-item}
 
 -- the slot of an instance is one of the setup's
 pub slot_of-lt : (shape : List ℕ) (monitor instance : ℕ) → monitor < length shape → instance < slice_index shape monitor → slot_of shape monitor instance < sum shape
@@ -53,10 +54,4 @@ all-cut P (i ∷ items) all (x ∷ front) c back eq = let tail : items ≡ front
 
 -- an item's numbers are an act's
 pub bits-fit : (s : Setup) (act : Act) → IsItemAct act → HitFits act → ActFits s act
-bits-fit s (Deliver slot hit) is fits = fits
-bits-fit s (Stop slot) is fits = tt
-bits-fit s Look is fits = absurd is
-bits-fit s (Raise _) is fits = absurd is
-bits-fit s (Lower _) is fits = absurd is
-bits-fit s (Clear _) is fits = absurd is
-bits-fit s (End _) is fits = absurd is
+bits-fit s = by-item (λ (a : Act). HitFits a → ActFits s a) (λ slot hit fits. fits) (λ slot fits. tt)

@@ -22,6 +22,7 @@ use Rattle.rv_core.proofs.WordLemmas.{Acts, acted-same, live-same, phase_after-o
 use Rattle.rv_board.specs.Rule.{IsMachine}
 use Rattle.rv_journal.specs.MergeSteps.{slot_in}
 use Rattle.rv_journal.specs.MergeStates.{IsItemAct, IsMergedAct}
+use Rattle.rv_journal.proofs.ItemLemmas.{by-item}
 
 -- equal or not
 same_or_not : (a b : ℕ) → (a ≡ b) ⊎ (a ≢ b)
@@ -31,13 +32,7 @@ same_or_not a b = grind arith
 
 -- the word that an item's act is on is its slot's
 pub on-slot_in : (s : Setup) (past : List Entry) (act : Act) → IsItemAct act → word_on s (judges_of s) past act ≡ word_of s (judges_of s) past (slot_in act)
-on-slot_in s past (Deliver slot hit) is = refl
-on-slot_in s past (Stop slot) is = refl
-on-slot_in s past Look is = absurd is
-on-slot_in s past (Raise _) is = absurd is
-on-slot_in s past (Lower _) is = absurd is
-on-slot_in s past (Clear _) is = absurd is
-on-slot_in s past (End _) is = absurd is
+on-slot_in s past = by-item (λ (a : Act). word_on s (judges_of s) past a ≡ word_of s (judges_of s) past (slot_in a)) (λ slot hit. refl) (λ slot. refl)
 
 -- it is on this slot alone
 pub slot_in-is : (slot : ℕ) (act : Act) → is_on slot act ≡ true → slot_in act ≡ slot
@@ -51,43 +46,19 @@ slot_in-is slot (Lower _) on = absurd (let no : false ≡ true = on in cc)
 
 -- and it is on it
 pub is_on-slot : (act : Act) → IsItemAct act → is_on (slot_in act) act ≡ true
-is_on-slot (Deliver slot hit) is = grind (arith, nat_tests)
-is_on-slot (Stop slot) is = grind (arith, nat_tests)
-is_on-slot Look is = absurd is
-is_on-slot (Raise _) is = absurd is
-is_on-slot (Lower _) is = absurd is
-is_on-slot (Clear _) is = absurd is
-is_on-slot (End _) is = absurd is
+is_on-slot = by-item (λ (a : Act). is_on (slot_in a) a ≡ true) (λ slot hit. grind (arith, nat_tests)) (λ slot. grind (arith, nat_tests))
 
 -- the slot's place is behind the switches
 pub place-slot_in : (act : Act) → IsItemAct act → word_index act ≡ slot_in act + 1
-place-slot_in (Deliver slot hit) is = refl
-place-slot_in (Stop slot) is = refl
-place-slot_in Look is = absurd is
-place-slot_in (Raise _) is = absurd is
-place-slot_in (Lower _) is = absurd is
-place-slot_in (Clear _) is = absurd is
-place-slot_in (End _) is = absurd is
+place-slot_in = by-item (λ (a : Act). word_index a ≡ slot_in a + 1) (λ slot hit. refl) (λ slot. refl)
 
 -- the slot is one of the setup's
 pub slot-below : (s : Setup) (act : Act) → IsItemAct act → FitsAct s act → slot_in act < sum s.shape
-slot-below s (Deliver slot hit) is fits = fits.0
-slot-below s (Stop slot) is fits = fits
-slot-below s Look is fits = absurd is
-slot-below s (Raise _) is fits = absurd is
-slot-below s (Lower _) is fits = absurd is
-slot-below s (Clear _) is fits = absurd is
-slot-below s (End _) is fits = absurd is
+slot-below s = by-item (λ (a : Act). FitsAct s a → slot_in a < sum s.shape) (λ slot hit fits. fits.0) (λ slot fits. fits)
 
 -- what an act on a slot wants
 acts-there : (s : Setup) (act : Act) → IsItemAct act → FitsAct s act → ActFits s act → Acts (table_at s (slot_in act)) (start_of s (slot_in act)) act
-acts-there s (Deliver slot hit) is fits bits = (bits, fits-start (table_at s slot) hit.mode hit.what fits.1.1)
-acts-there s (Stop slot) is fits bits = tt
-acts-there s Look is fits bits = absurd is
-acts-there s (Raise _) is fits bits = absurd is
-acts-there s (Lower _) is fits bits = absurd is
-acts-there s (Clear _) is fits bits = absurd is
-acts-there s (End _) is fits bits = absurd is
+acts-there s = by-item (λ (a : Act). FitsAct s a → ActFits s a → Acts (table_at s (slot_in a)) (start_of s (slot_in a)) a) (λ slot hit fits bits. (bits, fits-start (table_at s slot) hit.mode hit.what fits.1.1)) (λ slot fits bits. tt)
 
 module _ (s : Setup) where
   -- an act makes of the word what the tables make of it

@@ -20,6 +20,7 @@ use Rattle.rv_board.specs.Rule.{IsMachine}
 use Rattle.rv_journal.specs.CountedWords.{is_deliver}
 use Rattle.rv_journal.specs.MergeSteps.{slot_in}
 use Rattle.rv_journal.specs.MergeStates.{IsItemAct}
+use Rattle.rv_journal.proofs.ItemLemmas.{by-item}
 use Rattle.rv_journal.proofs.SlotActLemmas.{on-slot_in, word-after, machine-snoc, slot-below}
 use Rattle.rv_journal.proofs.PlaceLemmas.{merged-item}
 
@@ -76,29 +77,13 @@ module _ (s : Setup) where
 
     -- what is stopped is not changed
     pub stopped-still : e.before ≡ 0 → e.after ≡ 0
-    stopped-still none = by-table ∙ (ap (λ (w : ℕ). (acted (table_at s (slot_in e.act)) (start_of s (slot_in e.act)) w e.act).1) none ∙ zero-word e.act it.item_act)
-      where
-        zero-word : (act : Act) → IsItemAct act → (acted (table_at s (slot_in e.act)) (start_of s (slot_in e.act)) 0 act).1 ≡ 0
-        zero-word (Deliver i hit) is = refl
-        zero-word (Stop i) is = refl
-        zero-word Look is = absurd is
-        zero-word (Raise _) is = absurd is
-        zero-word (Lower _) is = absurd is
-        zero-word (Clear _) is = absurd is
-        zero-word (End _) is = absurd is
+    stopped-still none = by-table ∙ (ap (λ (w : ℕ). (acted (table_at s (slot_in e.act)) (start_of s (slot_in e.act)) w e.act).1) none ∙ by-item (λ (a : Act). (acted (table_at s (slot_in e.act)) (start_of s (slot_in e.act)) 0 a).1 ≡ 0) (λ i hit. refl) (λ i. refl) e.act it.item_act)
 
     -- a Stop leaves no word
     pub stop-none : is_deliver e.act ≡ false → e.after ≡ 0
-    stop-none no-deliver = by-table ∙ by e.act it.item_act no-deliver
-      where
-        by : (act : Act) → IsItemAct act → is_deliver act ≡ false → (acted (table_at s (slot_in e.act)) (start_of s (slot_in e.act)) e.before act).1 ≡ 0
-        by (Deliver i hit) is d = absurd (let no' : true ≡ false = d in cc)
-        by (Stop i) is d = refl
-        by Look is d = absurd is
-        by (Raise _) is d = absurd is
-        by (Lower _) is d = absurd is
-        by (Clear _) is d = absurd is
-        by (End _) is d = absurd is
+    stop-none no-deliver =
+        by-table
+        ∙ by-item (λ (a : Act). is_deliver a ≡ false → (acted (table_at s (slot_in e.act)) (start_of s (slot_in e.act)) e.before a).1 ≡ 0) (λ i hit d. absurd (let no' : true ≡ false = d in cc)) (λ i d. refl) e.act it.item_act no-deliver
 
     -- a delivery leaves one where there was one
     pub deliver-some : is_deliver e.act ≡ true → e.before ≢ 0 → e.after ≢ 0

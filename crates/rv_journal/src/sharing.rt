@@ -1,33 +1,15 @@
 //! Seats of a counted board are split and joined, and the last one closes the board.
-ghost use Rattle.std.specs.Prelude.{◌≡◌, ◌<◌, ◌≤◌, []};
+ghost use Rattle.std.specs.Prelude.{◌≡◌, ◌<◌, []};
 ghost use Rattle.rv_board.specs.Known.{part};
-ghost use Rattle.rv_board.specs.Rule.{cut_left, cut_right};
 ghost use Rattle.rv_board.specs.Seats.{seat_value, Joins, Closes};
 ghost use Rattle.rv_journal.specs.CountedSeats.{counted_value};
 
 use crate::board::CountedBoard;
-use crate::rule::{CountedLaw, CountedLoad, Cut, Cutting, Joining};
+use crate::rule::{CountedLaw, CountedLoad};
 use crate::seat::{CountedSeat, MAX_ENTRIES};
-use atomic_table::{Seat as Token, Shared};
-use rv_board::View;
-use rv_core::Setup;
-use rv_model::{Act, Closed};
+use rv_board::{Joining, cut};
+use rv_model::Closed;
 use std::marker::Brand;
-
-/// The token keeps what is below the number that is picked, and the new one has the rest.
-fn cut<N: Cutting>(
-    shared: &Shared<Act, View, Setup, CountedLaw>,
-    token: &mut Token<Act, View>,
-    number: u32,
-) -> Token<Act, View>
-    requires pick { number ≡ N.at }
-    requires board { (token.old.table_id ≡ shared.now.table_id) × (0 < shared.now.table_id.words) }
-    requires range { (token.old.me.0.part.number ≤ number) × (number ≤ token.old.me.0.part.end) }
-    ensures old { (token.new.table_id ≡ token.old.table_id) × (token.new.me ≡ (cut_left number token.old.me.0, token.old.me.1)) }
-    ensures new { (result.table_id ≡ token.old.table_id) × (result.me ≡ (cut_right number token.old.me.0, [])) }
-{
-    shared.split_seat::<Cut<N>>(token)
-}
 
 impl CountedBoard {
     /// A new seat, which has the numbers from `number` on, has seen what the old one has, and has made no entry.
@@ -38,7 +20,7 @@ impl CountedBoard {
         ensures new { result ≡ counted_value (seat_value (part number seat.old.seat.part.end [] seat.old.seat.part.seen) seat.old.seat.board) 4000000 }
     {
         let end = seat.end;
-        let token = cut::<Brand>(&self.table.shared, &mut seat.token, number);
+        let token = cut::<Brand, CountedLaw>(&self.table.shared, &mut seat.token, number);
         seat.end = number;
         CountedSeat {
             token,

@@ -9,7 +9,8 @@ use Rattle.rv_model.specs.Works.{Work}
 use Rattle.rv_slots.specs.Shapes.{count_of}
 use Rattle.rv_slots.specs.declared.shape.TheConstants.{CPUS}
 use Rattle.rv_bind.specs.declared.bindings.Monitor.{Monitor}
-use Rattle.rv_feed.specs.Lane.{LaneValue, FitsDelivery, FitsLane, FitLanes, works_of}
+use Rattle.rv_core.specs.Deliveries.{FitsDelivery}
+use Rattle.rv_feed.specs.Lane.{LaneValue, FitsLane, FitLanes, works_of}
 use Rattle.rv_laws.specs.SingleWriter.{HasInstance, HaveInstances, IsByCpu}
 use Rattle.rv_laws.proofs.CpuLemmas.{cpu_slots_are_lone, all_by_cpu_are_lone}
 use Rattle.rv_tool.specs.declared.input.Prepared.{Prepared}

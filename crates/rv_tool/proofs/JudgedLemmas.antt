@@ -13,8 +13,8 @@ use Rattle.rv_model.specs.Setups.{Setup}
 use Rattle.rv_model.specs.Works.{Work}
 use Rattle.rv_model.proofs.NumberLemmas.{number_of-lt, has_bit-number_of}
 use Rattle.rv_core.specs.Judged.{JudgesBySpecs}
-use Rattle.rv_feed.specs.Lane.{LaneValue, FitsLane, FitLanes, FitsDelivery, panics_of, works_of}
-use Rattle.rv_check.specs.Beginnings.{FitsDelivery as FitsChecked, FitsWork, FitWorks, input_of}
+use Rattle.rv_feed.specs.Lane.{LaneValue, FitsLane, FitLanes, panics_of, works_of}
+use Rattle.rv_check.specs.Beginnings.{FitsWork, FitWorks, input_of}
 use Rattle.rv_check.specs.declared.reading.Verdict.{Verdict}
 use Rattle.rv_check.specs.Readings.{ReaderValue, with_more_text, grown}
 use Rattle.rv_check.specs.Verdicts.{Journal, VerdictHolds}
@@ -74,10 +74,7 @@ pairs_mapped lanes pairs i j d lt within =
 
 -- a lane that fits has a work that fits
 fits_work : (s : Setup) (lane : LaneValue) → FitsLane s lane → FitsWork s lane.work
-fits_work s lane f = record {
-  cpu = f.cpu;
-  fit = All-weaker (FitsDelivery s) (FitsChecked s) (λ (d : Delivery) g. record { monitor = g.monitor; instance_fits = g.instance_fits; hit = g.hit }) lane.work.deliveries f.fit;
-}
+fits_work s lane f = record { cpu = f.cpu; fit = f.fit }
 
 -- lanes that fit have works that fit
 pub works_fit : (s : Setup) (lanes : List LaneValue) → FitLanes s lanes → FitWorks s (works_of lanes)

@@ -13,7 +13,8 @@ use Rattle.rv_slots.specs.Shapes.{count_of}
 use Rattle.rv_slots.proofs.ShapeLemmas.{monitor_of-slot_of}
 use Rattle.rv_core.specs.Setup.{FitsShape, no_table, table_at}
 use Rattle.rv_core.specs.Judged.{AllMean}
-use Rattle.rv_feed.specs.Lane.{LaneValue, IsNewLane, FitsDelivery, FitsLane, FitLanes, works_of}
+use Rattle.rv_core.specs.Deliveries.{FitsDelivery}
+use Rattle.rv_feed.specs.Lane.{LaneValue, IsNewLane, FitsLane, FitLanes, works_of}
 use Rattle.rv_bind.specs.declared.bindings.Monitor.{Monitor}
 use Rattle.rv_bind.specs.Compiling.{IsTableOf}
 use Rattle.rv_bind.specs.WellFormed.{MonitorKind, kind_of, kinds_of, HasTable, HaveTables}

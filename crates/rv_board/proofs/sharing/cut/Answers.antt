@@ -1,7 +1,6 @@
 use Rattle.std.proofs.Common.{ℕ, subst}
 use Rattle.atomic_table.specs.Table.{Splits}
-use Rattle.rv_board.specs.Rule.{KeptPlainly, cut_left, cut_right}
-use Rattle.rv_board.proofs.SplitLemmas.{splits}
+use Rattle.rv_board.specs.Rule.{cut_left, cut_right}
 use Rattle.rv_board.proofs.sharing.cut.Goals as goal
 
 pub split_seat-requires : goal.split_seat-requires
@@ -9,6 +8,5 @@ split_seat-requires g c =
     let v = c.args.token.now.me.0 in (
       c.requires.board.0,
       c.requires.board.1,
-      subst (λ (z : ℕ). Splits (KeptPlainly c.args.shared.now.key) c.args.token.now.id v (cut_left z v) (cut_right z v)) c.requires.pick
-          (splits c.args.shared.now.key c.args.token.now.id v c.args.number c.requires.range.0 c.requires.range.1),
+      subst (λ (z : ℕ). Splits (g.L.TableRule.holds c.args.shared.now.key) c.args.token.now.id v (cut_left z v) (cut_right z v)) c.requires.pick c.requires.allowed,
     )

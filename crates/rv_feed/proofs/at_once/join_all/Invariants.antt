@@ -1,7 +1,6 @@
 -- What was joined is in the seat, and its lanes are back.
 use Rattle.std.proofs.Common.{◌≡◌, ◌+◌, ◌≤◌, List, ◌++◌, length, vec_len}
-use Rattle.std.specs.Prelude.{All}
-use Rattle.rv_board.specs.RunSeats.{HasTakenIn}
+use Rattle.rv_board.proofs.RunSeatLemmas.{JoinedSoFar}
 use Rattle.rv_feed.specs.declared.feeder.Feeder.{Feeder}
 use Rattle.rv_feed.specs.AtOnce.{lanes_of}
 use Rattle.rv_feed.proofs.at_once.join_all.Given as goal
@@ -9,11 +8,7 @@ use Rattle.rv_feed.proofs.at_once.join_all.Given as goal
 abbrev pub invariant-loop-feeder : goal.invariant-loop-feeder
 invariant-loop-feeder g l = record {
   joined_in : List (Feeder g.row.G.Denot);
-  split : l.fn.feeders.items ≡ l.feeders.items ++ joined_in;
-  on : All (λ (f : Feeder g.row.G.Denot). f.seat.board ≡ l.fn.board) l.feeders.items;
-  board : l.into.board ≡ l.fn.board;
-  into : HasTakenIn l.into l.fn.into;
-  seats : All (λ (f : Feeder g.row.G.Denot). HasTakenIn l.into f.seat) joined_in;
+  seats : JoinedSoFar (λ (f : Feeder g.row.G.Denot). f.seat) l.fn.board l.fn.into l.into l.fn.feeders.items l.feeders.items joined_in;
   lanes : l.lanes.items ≡ l.fn.lanes.items ++ lanes_of joined_in;
   room : length l.lanes.items + length l.feeders.items ≤ l.lanes.cap;
 }

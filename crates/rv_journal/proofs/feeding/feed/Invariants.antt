@@ -1,4 +1,4 @@
-use Rattle.rv_journal.proofs.CountedFeedLemmas.{FedTo, FedTurns}
+use Rattle.rv_journal.proofs.CountedFeedLemmas.{FedIn, FedTurns}
 use Rattle.rv_journal.proofs.feeding.feed.Given as goal
 
 -- the turns so far were made
@@ -7,4 +7,4 @@ invariant-loop-place g l = FedTurns l.fn.seat l.seat l.fn.lane l.lane l.place
 
 -- the deliveries so far were made
 abbrev pub invariant-loop-number : goal.invariant-loop-number
-invariant-loop-number g l = FedTo l.fn.seat l.seat l.fn.lane l.lane l.number
+invariant-loop-number g l = FedIn l.fn.seat l.seat l.fn.lane l.lane l.place l.number-end l.number

@@ -1,7 +1,6 @@
 -- What was joined is in the seat, and its lanes are back.
-use Rattle.std.proofs.Common.{◌≡◌, List, ◌++◌, vec_len}
-use Rattle.std.specs.Prelude.{All}
-use Rattle.rv_board.specs.RunSeats.{HasTakenIn}
+use Rattle.std.proofs.Common.{◌≡◌, List, vec_len}
+use Rattle.rv_board.proofs.RunSeatLemmas.{JoinedSoFar}
 use Rattle.rv_journal.specs.declared.feeding.CountedFeeder.{CountedFeeder}
 use Rattle.rv_journal.specs.Running.{lanes_in}
 use Rattle.rv_journal.proofs.running.join_all.Given as goal
@@ -9,11 +8,7 @@ use Rattle.rv_journal.proofs.running.join_all.Given as goal
 abbrev pub invariant-loop-feeder : goal.invariant-loop-feeder
 invariant-loop-feeder g l = record {
   joined_in : List (CountedFeeder g.row.G.Denot);
-  split : l.fn.feeders.items ≡ l.feeders.items ++ joined_in;
-  on : All (λ (f : CountedFeeder g.row.G.Denot). f.seat.seat.board ≡ l.fn.board) l.feeders.items;
-  board : l.into.seat.board ≡ l.fn.board;
-  into : HasTakenIn l.into.seat l.fn.into.seat;
-  seats : All (λ (f : CountedFeeder g.row.G.Denot). HasTakenIn l.into.seat f.seat.seat) joined_in;
+  seats : JoinedSoFar (λ (f : CountedFeeder g.row.G.Denot). f.seat.seat) l.fn.board l.fn.into.seat l.into.seat l.fn.feeders.items l.feeders.items joined_in;
   lanes : l.lanes.items ≡ lanes_in joined_in;
 }
 

@@ -1,18 +1,15 @@
-use Rattle.std.proofs.Common.{inl, sym, ap, ◌∙◌, refl, arith}
-use Rattle.rv_board.specs.Seats.{BoardId, SeatValue}
+use Rattle.std.proofs.Common.{inl, ap, ◌∙◌, refl, arith}
+use Rattle.rv_board.specs.Seats.{SeatValue}
 use Rattle.rv_board.proofs.AllowedLemmas.{raises}
 use Rattle.rv_board.proofs.CallLemmas.{acts-as}
+use Rattle.rv_board.proofs.MeetLemmas.{meets}
 use Rattle.rv_board.proofs.board.Board.raise.Goals as goal
 
 pub fetch_or-requires : goal.fetch_or-requires
 fetch_or-requires c =
-    let e = ap (λ (f : SeatValue). f.board) c.seat.view_is ∙ c.requires.board ∙ sym c.self.view_is in
-    let w = c.self.invariant.1 in
-    let few = c.requires.bits in (
-      ap (λ (b : BoardId). b.table) e,
-      omega arith,
-      raises _ _ _ _ _ _ c.seat.invariant (ap (λ (b : BoardId). b.setup) e ∙ sym c.self.invariant.0) _ (omega arith) (inl (ap (λ (f : SeatValue). f.part.number) c.seat.view_is ∙ c.requires.actor)),
-    )
+    let m = meets c.seat.view_is c.requires.board c.self.view_is c.self.invariant in
+    let few = c.requires.bits in
+    (m.table_is, m.front, raises _ _ c.seat.invariant m.setup_is _ (omega arith) (inl (ap (λ (f : SeatValue). f.part.number) c.seat.view_is ∙ c.requires.actor)))
 
 pub returns : goal.returns
-returns c = acts-as _ _ _ _ _ _ _ _ _ _ refl c.seat.invariant c.seat.view_is c.fetch_or.ensures.0 c.fetch_or.ensures.2
+returns c = acts-as refl c.seat.invariant c.seat.view_is c.fetch_or.ensures.0 c.fetch_or.ensures.2

@@ -3,7 +3,7 @@ use Rattle.std.proofs.Common.{◌≡◌, ◌∷◌, ◌++◌, [], ℕ, List, ari
 use Rattle.rv_model.specs.Setups.{Setup}
 use Rattle.rv_core.specs.Core.{IsCore}
 use Rattle.rv_core.proofs.OpeningLemmas.{opening_words, opens-none, opens-more, core-opens}
-use Rattle.rv_check.proofs.run.opening_words.Goals as goal
+use Rattle.rv_core.proofs.machine.opening_words.Goals as goal
 
 pub loop-slot-init : goal.loop-slot-init
 loop-slot-init c =
