@@ -1,71 +1,194 @@
--- From how the parts of a run end to what the top call answers.
-use Rattle.std.proofs.Common.{◌≡◌, ℕ, List, sym, ap, ◌∙◌, inl, inr, subst, arith}
-use Rattle.std.specs.Prelude.{Option, Some, Result, Ok, Err}
+-- From what a command comes to, and how that is put, to what the top call answers.
+use Rattle.std.proofs.Common.{◌≡◌, ℕ, List, [], refl, sym, ap, ◌∙◌, inl, inr, subst, arith}
+use Rattle.std.specs.Prelude.{Option, Some, None, codes, Result, Ok, Err}
+use Rattle.rv_text.specs.declared.numbers.TheConstants.{USAGE}
 use Rattle.rv_text.specs.declared.refusals.Refusal.{Refusal}
 use Rattle.rv_model.specs.declared.entry.Entry.{Entry}
+use Rattle.rv_model.specs.Histories.{IsOneHistory, IsLegal}
 use Rattle.rv_io.specs.Files.{Files}
 use Rattle.rv_bind.specs.declared.fault.BindFault.{BindFault}
 use Rattle.rv_bind.specs.declared.fault.BindFault.TheVariants as faults
-use Rattle.rv_bind.specs.Outcomes.{Outcome, accepted, refused, missing, Refines, BlamesReached}
-use Rattle.rv_tool.specs.Inputs.{InputValue}
-use Rattle.rv_tool.specs.Output.{refusal_text, missing_text}
-use Rattle.rv_tool.specs.Words.{CommandValue}
-use Rattle.rv_tool.specs.Headline.{Histories, IsReported, Ending, GivesUp, PrintsText, PrintsRefusal, PrintsSome, Reports, Ends}
-use Rattle.rv_tool.specs.Runs.{PrintsFault, EndsRead, AnswersBy, Answers}
+use Rattle.rv_bind.specs.Outcomes.{Outcome, accepted, refused, missing}
+use Rattle.rv_tool.specs.declared.replaying.FinishedRun.{FinishedRun}
+use Rattle.rv_tool.specs.Calls.{CallEnd, Call}
+use Rattle.rv_tool.specs.Changes.{input_beside}
+use Rattle.rv_tool.specs.Checks.{IsCheckReport, checked_input}
+use Rattle.rv_tool.specs.Commands.{IsOneReport, IsVerdictReport, IsText, IsSomeText, IsSessionText, ComesTo, CommandComes, IsPut}
+use Rattle.rv_tool.specs.HeaderFiles.{header_of_text, header_in}
+use Rattle.rv_tool.specs.Headline.{IsReported, Ending, GivesUp, PrintsText, PrintsRefusal, PrintsSome, Reports, Ends}
+use Rattle.rv_tool.specs.Inputs.{InputValue, run_input}
+use Rattle.rv_tool.specs.Journals.{IsJournalReport, recordable_input}
+use Rattle.rv_tool.specs.Loaded.{generated_files}
+use Rattle.rv_tool.specs.Opaque.{EndsOnSomeInput, EndsAsOneOf, AnswersOpaque}
+use Rattle.rv_tool.specs.Output.{IsWritten, refusal_text, missing_text}
+use Rattle.rv_tool.specs.Runs.{Prints, PrintsSession, AnswersBy, Answers}
+use Rattle.rv_tool.specs.Sessions.{Printed, IsSession, control_in}
+use Rattle.rv_tool.specs.SomeTexts.{IsOfSomeText}
+use Rattle.rv_tool.specs.Tables.{table_text, table_in}
+use Rattle.rv_tool.specs.Verdicts.{Verdicts}
+use Rattle.rv_tool.specs.Watched.{watched_input}
+use Rattle.rv_tool.specs.WatchReports.{IsWatchReport}
+use Rattle.rv_tool.specs.Words.{CommandValue, replay, feed, feed_beside, journal, check, watch, table, header, control, load}
 
-module _ (old new : Option (List ℕ)) (before now status : ℕ) (h : List Entry) where
-  -- want of memory ends a run
-  pub no_telling : (Goes : List Entry → List ℕ → ℕ → Type 0) → GivesUp old new before now status h → PrintsSome Goes old new before now status h
-  no_telling Goes up = inr up
+-- ---- texts
 
-  -- want of memory ends a run that is reported
-  pub no_report : (Is : Histories) (i : InputValue) → GivesUp old new before now status h → Reports Is i old new before now status h
-  no_report Is i = no_telling (IsReported Is i)
+-- where a text was told and no history is kept, this text is said
+pub says_told : (e : CallEnd) (told said_text : List ℕ) (said : ℕ) → IsWritten e.before e.after told said e.status → told ≡ said_text → e.history ≡ [] → PrintsText said_text said e
+says_told e told said_text said is same none = inl (subst (λ (text : List ℕ). IsWritten e.before e.after text said e.status) same is, none)
 
-  -- and a text
-  pub no_text : (text : List ℕ) (said : ℕ) → GivesUp old new before now status h → PrintsText text said old new before now status h
-  no_text text said up = inr up
+-- a text that goes with no run is said
+text_ends : (e : CallEnd) (told : List ℕ) (said : ℕ) (text : List ℕ) (status : ℕ) → IsText told said e.history text status → IsWritten e.before e.after text status e.status → PrintsText told said e
+text_ends e told said text status is written = says_told e text told said (subst (λ (n : ℕ). IsWritten e.before e.after text n e.status) is.1 written) is.0 is.2
 
-  module _ {X Y : Type 0} (view : X → Y) (Accepted : Y → Ending) (outcome : Files → Outcome Y) (no : (y : Y) → GivesUp old new before now status h → Accepted y old new before now status h) where
+-- ---- what is put
+
+-- a refusal that was said
+pub refused_put : (done : Result FinishedRun BindFault) (e : CallEnd) (file told : List ℕ) (refusal : Refusal) → done ≡ Err (faults.Refused file refusal) → told ≡ file → PrintsText (refusal_text (Some told) refusal) 2 e → IsPut done e
+refused_put done e file told refusal is same says = rw is (subst (λ (f : List ℕ). PrintsText (refusal_text (Some f) refusal) 2 e) same says)
+
+-- an unread file that was said
+pub unread_put : (done : Result FinishedRun BindFault) (e : CallEnd) (file told : List ℕ) → done ≡ Err (faults.Unread file) → told ≡ file → PrintsText (missing_text told) 3 e → IsPut done e
+unread_put done e file told is same says = rw is (subst (λ (f : List ℕ). PrintsText (missing_text f) 3 e) same says)
+
+-- ---- a command
+
+-- what goes with the value is written, and so it ends in its own way
+abbrev Accepts : {Y : Type 0} → (Y → List Entry → List ℕ → ℕ → Type 0) → (Y → Ending) → CallEnd → Type 0
+Accepts {Y} Goes Accepted e = (y : Y) (text : List ℕ) (said : ℕ) → Goes y e.history text said → IsWritten e.before e.after text said e.status → Accepted y e
+
+module _ (c : Call) {Y : Type 0} (Goes : Y → List Entry → List ℕ → ℕ → Type 0) (Accepted : Y → Ending) (accepts : Accepts Goes Accepted c.end) (outcome : Files → Outcome Y) (told : Option Files) where
+  -- what was done and put ends in its own way
+  done_ends : (y : Y) (done : FinishedRun) → Goes y done.closed done.text.items done.status → IsPut (Ok done) c.end → Accepted y c.end
+  done_ends y done goes put = accepts y done.text.items done.status (subst (λ (h : List Entry). Goes y h done.text.items done.status) (sym put.1) goes) put.0
+
+  -- on a store that tells no files
+  pub untold_ends : (result : Result FinishedRun BindFault) → ComesTo Goes outcome told c.faults_before c.faults_after result → IsPut result c.end → told ≡ None → EndsOnSomeInput Accepted c
+  untold_ends (Ok done) comes put none = inl (comes.1.0, done_ends comes.1.0 done comes.1.1 put)
+  untold_ends (Err faults.Memory) comes up none = inr (inl ([], record { number = USAGE; line = 0 }, (omega arith, omega arith), inr up))
+  untold_ends (Err (faults.Refused file refusal)) comes says none = inr (inl (file, refusal, comes.0.0, says))
+  untold_ends (Err (faults.Unread file)) (inl lacks, named) says none = absurd (let both : Some lacks.0 ≡ None = rw (← lacks.1) none in cc)
+  untold_ends (Err (faults.Unread file)) (inr rose, named) says none = inr (inr (rose, file, says))
+
+  module _ (no : (y : Y) → GivesUp c.end → Accepted y c.end) where
     -- want of memory ends every command
-    gives_up : (o : Outcome Y) → GivesUp old new before now status h → Ends Accepted o old new before now status h
+    gives_up : (o : Outcome Y) → GivesUp c.end → Ends Accepted o c.end
     gives_up (accepted y) up = no y up
     gives_up (refused file refusal) up = inr up
     gives_up (missing file) up = inr up
 
-    -- what was read is what the files come to
-    pub read_answers : (told : Option Files) (first last : ℕ) (read : Result X BindFault) → Refines view told first last read outcome → BlamesReached told read outcome → EndsRead view Accepted read old new before now status h
-        → (files : Files) → told ≡ Some files → AnswersBy Accepted outcome files first last old new before now status h
-    read_answers told first last (Ok x) comes named ends files known = inl (subst (λ (o : Outcome Y). Ends Accepted o old new before now status h) (sym (comes files known)) ends)
-    read_answers told first last (Err faults.Memory) comes named ends files known = inl (gives_up (outcome files) ends)
-    read_answers told first last (Err (faults.Refused file refusal)) comes named ends files known = inl (subst (λ (o : Outcome Y). Ends Accepted o old new before now status h) (sym (comes.1 files known)) (said ends))
+    -- on a store that tells its files
+    pub told_ends : (result : Result FinishedRun BindFault) → ComesTo Goes outcome told c.faults_before c.faults_after result → IsPut result c.end → (files : Files) → told ≡ Some files → AnswersBy Accepted outcome files c
+    told_ends (Ok done) comes put files known =
+        let found = comes.0 files known in
+        inl (subst (λ (o : Outcome Y). Ends Accepted o c.end) (sym found.1) (done_ends found.0 done found.2 put))
+    told_ends (Err faults.Memory) comes up files known = inl (gives_up (outcome files) up)
+    told_ends (Err (faults.Refused file refusal)) comes says files known = inl (subst (λ (o : Outcome Y). Ends Accepted o c.end) (sym (comes.0.1 files known)) (said says))
       where
-        said : PrintsText (refusal_text (Some file) refusal) 2 old new before now status h → PrintsRefusal file refusal old new before now status h
-        said (inl told) = inl (comes.0, told.0, told.1)
+        said : PrintsText (refusal_text (Some file) refusal) 2 c.end → PrintsRefusal file refusal c.end
+        said (inl told) = inl (comes.0.0, told.0, told.1)
         said (inr up) = inr up
-    read_answers told first last (Err (faults.Unread file)) (inl lacks) named ends files known =
+    told_ends (Err (faults.Unread file)) (inl lacks, named) says files known =
         let both : Some lacks.0 ≡ Some files = sym lacks.1 ∙ known in
         let same : lacks.0 ≡ files = cc in
-        inl (subst (λ (o : Outcome Y). Ends Accepted o old new before now status h) (sym (ap outcome (sym same) ∙ lacks.2)) ends)
-    read_answers told first last (Err (faults.Unread file)) (inr rose) named ends files known = inr (rose, file, named files known, ends)
+        inl (subst (λ (o : Outcome Y). Ends Accepted o c.end) (sym (ap outcome (sym same) ∙ lacks.2)) says)
+    told_ends (Err (faults.Unread file)) (inr rose, named) says files known = inr (rose, file, named files known, says)
 
-  -- where no fault was counted, no file is blamed
-  pub no_blame : {Y : Type 0} (Accepted : Y → Ending) (outcome : Files → Outcome Y) (files : Files) → AnswersBy Accepted outcome files 0 0 old new before now status h → Ends Accepted (outcome files) old new before now status h
-  no_blame Accepted outcome files (inl ends) = ends
-  no_blame Accepted outcome files (inr (rose, file, reached, said)) = absurd (elim rose [
-    | inl lt ↦ omega arith
-    | inr last ↦ omega arith
-  ])
+-- where no fault was counted, no file is blamed
+no_blame : {Y : Type 0} (Accepted : Y → Ending) (outcome : Files → Outcome Y) (files : Files) (c : Call) → c.faults_before ≡ 0 → c.faults_after ≡ 0 → AnswersBy Accepted outcome files c → Ends Accepted (outcome files) c.end
+no_blame Accepted outcome files c first last (inl ends) = ends
+no_blame Accepted outcome files c first last (inr (rose, file, reached, said)) = absurd (elim rose [
+  | inl lt ↦ omega arith
+  | inr full ↦ omega arith
+])
 
-  -- a refusal that was said
-  pub refused_fails : (fault : BindFault) (file told : List ℕ) (refusal : Refusal) → fault ≡ faults.Refused file refusal → told ≡ file → PrintsText (refusal_text (Some told) refusal) 2 old new before now status h → PrintsFault fault old new before now status h
-  refused_fails fault file told refusal is same says = rw is (subst (λ (f : List ℕ). PrintsText (refusal_text (Some f) refusal) 2 old new before now status h) same says)
+-- ---- all commands
 
-  -- an unread file that was said
-  pub unread_fails : (fault : BindFault) (file told : List ℕ) → fault ≡ faults.Unread file → told ≡ file → PrintsText (missing_text told) 3 old new before now status h → PrintsFault fault old new before now status h
-  unread_fails fault file told is same says = rw is (subst (λ (f : List ℕ). PrintsText (missing_text f) 3 old new before now status h) same says)
+-- what is promised of a call
+pub record IsAnswered (asked : Option CommandValue) (told : Option Files) (c : Call) : Type 0 where
+  pub answers : (files : Files) → told ≡ Some files → Answers asked files c
+  pub verdicts : (files : Files) → told ≡ Some files → Verdicts asked files c
+  pub opaque : told ≡ None → AnswersOpaque asked c
 
-  -- the words ask for the command that was read
-  pub words_answer : (asked : Option CommandValue) (said : Option CommandValue) (told : Option Files) (first last : ℕ) → said ≡ asked
-      → ((files : Files) → told ≡ Some files → Answers said files first last old new before now status h) → (files : Files) → told ≡ Some files → Answers asked files first last old new before now status h
-  words_answer asked said told first last same answers files known = subst (λ (o : Option CommandValue). Answers o files first last old new before now status h) same (answers files known)
+module _ (c : Call) (told : Option Files) (result : Result FinishedRun BindFault) (put : IsPut result c.end) where
+  -- what goes with the value is told as it is
+  module _ {Y : Type 0} (Goes : Y → List Entry → List ℕ → ℕ → Type 0) (outcome : Files → Outcome Y) (comes : ComesTo Goes outcome told c.faults_before c.faults_after result) where
+    report_told : (Weaker : Y → List Entry → List ℕ → ℕ → Type 0) → ((y : Y) (h : List Entry) (text : List ℕ) (said : ℕ) → Goes y h text said → Weaker y h text said) → (files : Files) → told ≡ Some files → AnswersBy (λ y. PrintsSome (Weaker y)) outcome files c
+    report_told Weaker weaker = told_ends c Goes (λ y. PrintsSome (Weaker y)) (λ y text said goes written. inl (text, said, weaker y c.end.history text said goes, written)) outcome told (λ y up. inr up) result comes put
+
+    report_untold : told ≡ None → EndsOnSomeInput (λ y. PrintsSome (Goes y)) c
+    report_untold = untold_ends c Goes (λ y. PrintsSome (Goes y)) (λ y text said goes written. inl (text, said, goes, written)) outcome told result comes put
+
+  -- a text that is one of these is printed
+  module _ (Is : List ℕ → Type 0) (outcome : Files → Outcome (List ℕ)) (comes : ComesTo (IsSomeText Is) outcome told c.faults_before c.faults_after result) where
+    text_told : (files : Files) → told ≡ Some files → AnswersBy Prints outcome files c
+    text_told = told_ends c (IsSomeText Is) Prints (λ y text said goes written. text_ends c.end y 0 text said goes.1 written) outcome told (λ y up. inr up) result comes put
+
+    text_untold : told ≡ None → EndsOnSomeInput (EndsAsOneOf Is Prints) c
+    text_untold = untold_ends c (IsSomeText Is) (EndsAsOneOf Is Prints) (λ y text said goes written. (goes.0, text_ends c.end y 0 text said goes.1 written)) outcome told result comes put
+
+  -- a command that was done and put is answered
+  pub command_answered : (command : CommandValue) → CommandComes command told c.faults_before c.faults_after result → IsAnswered (Some command) told c
+  command_answered (replay bindings trace) comes =
+      let outcome : Files → Outcome InputValue = λ files. run_input files bindings trace in record {
+        answers = report_told IsOneReport outcome comes (IsReported IsOneHistory) (λ y h text said goes. goes.0);
+        verdicts = report_told IsOneReport outcome comes IsOneReport (λ y h text said goes. goes);
+        opaque = report_untold IsOneReport outcome comes;
+      }
+  command_answered (feed bindings trace) comes =
+      let outcome : Files → Outcome InputValue = λ files. run_input files bindings trace in record {
+        answers = report_told IsVerdictReport outcome comes (IsReported IsLegal) (λ y h text said goes. goes.0);
+        verdicts = report_told IsVerdictReport outcome comes IsVerdictReport (λ y h text said goes. goes);
+        opaque = report_untold IsVerdictReport outcome comes;
+      }
+  command_answered (feed_beside bindings trace script) comes = record {
+    answers = report_told (IsReported IsLegal) (λ files. input_beside files bindings trace script) comes (IsReported IsLegal) (λ y h text said goes. goes);
+    verdicts = λ files known. tt;
+    opaque = report_untold (IsReported IsLegal) (λ files. input_beside files bindings trace script) comes;
+  }
+  command_answered (watch bindings trace monitor instance) comes = record {
+    answers = report_told IsWatchReport (λ files. watched_input files bindings trace monitor instance) comes IsWatchReport (λ y h text said goes. goes);
+    verdicts = λ files known. tt;
+    opaque = report_untold IsWatchReport (λ files. watched_input files bindings trace monitor instance) comes;
+  }
+  command_answered (journal bindings trace) comes = record {
+    answers = report_told IsJournalReport (λ files. recordable_input files bindings trace) comes IsJournalReport (λ y h text said goes. goes);
+    verdicts = λ files known. tt;
+    opaque = report_untold IsJournalReport (λ files. recordable_input files bindings trace) comes;
+  }
+  command_answered (check bindings trace judged) comes = record {
+    answers = report_told IsCheckReport (λ files. checked_input files bindings trace judged) comes IsCheckReport (λ y h text said goes. goes);
+    verdicts = λ files known. tt;
+    opaque = report_untold IsCheckReport (λ files. checked_input files bindings trace judged) comes;
+  }
+  command_answered (table kind file) comes = record {
+    answers = text_told (IsOfSomeText (table_text kind)) (λ files. table_in files kind file) comes;
+    verdicts = λ files known. tt;
+    opaque = text_untold (IsOfSomeText (table_text kind)) (λ files. table_in files kind file) comes;
+  }
+  command_answered (header name file) comes = record {
+    answers = text_told (IsOfSomeText (header_of_text name)) (λ files. header_in files name file) comes;
+    verdicts = λ files known. tt;
+    opaque = text_untold (IsOfSomeText (header_of_text name)) (λ files. header_in files name file) comes;
+  }
+  command_answered (control bindings script) comes =
+      let outcome : Files → Outcome Printed = λ files. control_in files bindings script in record {
+        answers = told_ends c (IsSessionText script) PrintsSession (λ y text said goes written. text_ends c.end y.text y.status text said goes.1 written) outcome told (λ y up. inr up) result comes put;
+        verdicts = λ files known. tt;
+        opaque = untold_ends c (IsSessionText script) (EndsAsOneOf (IsSession script) PrintsSession) (λ y text said goes written. (goes.0, text_ends c.end y.text y.status text said goes.1 written)) outcome told result comes put;
+      }
+  command_answered (load blocks) comes = record { answers = λ files known. loaded (IsReported IsLegal) (λ y h text said goes. goes.0); verdicts = λ files known. whole; opaque = λ none. whole }
+    where
+      loaded : (Weaker : InputValue → List Entry → List ℕ → ℕ → Type 0) → ((y : InputValue) (h : List Entry) (text : List ℕ) (said : ℕ) → IsVerdictReport y h text said → Weaker y h text said) → Ends (λ y. PrintsSome (Weaker y)) (run_input (generated_files blocks) (codes "gen.rv") (codes "gen.txt")) c.end
+      loaded Weaker weaker = no_blame (λ y. PrintsSome (Weaker y)) (λ files. run_input files (codes "gen.rv") (codes "gen.txt")) (generated_files blocks) (record c { faults_before = 0; faults_after = 0 }) refl refl
+          (told_ends (record c { faults_before = 0; faults_after = 0 }) IsVerdictReport (λ y. PrintsSome (Weaker y)) (λ y text said goes written. inl (text, said, weaker y c.end.history text said goes, written)) (λ files. run_input files (codes "gen.rv") (codes "gen.txt")) (Some (generated_files blocks)) (λ y up. inr up) result comes put (generated_files blocks) refl)
+
+      whole : Ends (λ y. PrintsSome (IsVerdictReport y)) (run_input (generated_files blocks) (codes "gen.rv") (codes "gen.txt")) c.end
+      whole = loaded IsVerdictReport (λ y h text said goes. goes)
+
+-- the words ask for the command that was done
+pub words_answered : (asked said : Option CommandValue) (told : Option Files) (c : Call) → said ≡ asked → IsAnswered said told c → IsAnswered asked told c
+words_answered asked said told c same = subst (λ (o : Option CommandValue). IsAnswered o told c) same
+
+-- words that are no command are refused
+pub usage_answered : (told : Option Files) (c : Call) → PrintsText (refusal_text None (record { number = USAGE; line = 0 })) 2 c.end → IsAnswered None told c
+usage_answered told c said = record { answers = λ files known. said; verdicts = λ files known. tt; opaque = λ none. said }

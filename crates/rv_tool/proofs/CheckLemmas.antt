@@ -1,23 +1,18 @@
 -- How much of a journal has to be read, and what its verdict answers.
 use Rattle.std.proofs.Common.{◌≡◌, ◌⊎◌, ℕ, ◌+◌, ◌<◌, ◌≤◌, true, List, [], ◌++◌, length, drop, refl, sym, ap, ◌∙◌, subst, inl, inr, arith, take-append-drop}
-use Rattle.std.specs.Prelude.{Option, Some, None, option_map, Result, Ok, Err}
+use Rattle.std.specs.Prelude.{Option, Some, None, option_map, Err}
 use Rattle.std.proofs.lemmas.List.{drop_all}
 use Rattle.rv_io.specs.Files.{Files, Rose, front_read}
-use Rattle.rv_model.specs.declared.entry.Entry.{Entry}
-use Rattle.rv_check.specs.declared.reading.Verdict.{Verdict}
 use Rattle.rv_check.specs.Readings.{ReaderValue}
 use Rattle.rv_bind.specs.declared.fault.BindFault.{BindFault}
 use Rattle.rv_bind.specs.declared.fault.BindFault.TheVariants as faults
 use Rattle.rv_bind.specs.Outcomes.{Outcome, accepted, refused, missing, reading, of_text, of_name, files_without, BlamesReached}
 use Rattle.rv_bind.proofs.ReachedLemmas.{step_named, behind_named}
-use Rattle.rv_tool.specs.Checks.{CheckedValue, checked_input, IsJudged, verdict_text, verdict_status, IsCheckReport, Checks, JudgesRead}
+use Rattle.rv_tool.specs.Checks.{CheckedValue, checked_input}
 use Rattle.rv_tool.specs.Faults.{FaultRefines, FaultBlamesReached}
 use Rattle.rv_tool.specs.Feeding.{FedOf, IsFileFed, PieceIn, IsFilePiece}
-use Rattle.rv_tool.specs.Headline.{PrintsText, Ends}
 use Rattle.rv_tool.specs.Inputs.{InputValue, run_input}
 use Rattle.rv_tool.specs.JournalPieces.{EnoughOf, IsEnough}
-use Rattle.rv_tool.specs.Runs.{EndsRead, AnswersBy}
-use Rattle.rv_tool.proofs.AnswerLemmas.{no_telling, read_answers}
 use Rattle.rv_tool.proofs.BesideLemmas.{input-local}
 
 -- ---- faults
@@ -120,20 +115,3 @@ module _ (told : Option Files) (bindings trace journal : List ℕ) (i : InputVal
   checked_named X Z fault named =
       behind_named (List ℕ) Z told fault (λ files. run_input files bindings trace) i behind (input-local bindings trace) read
       (step_named (List ℕ) (List ℕ) told fault (λ files. of_text journal (files journal) accepted) (λ files. with_journal i) (λ files. behind files i) (λ files. text_reading journal i (files journal)) named)
-
--- ---- the verdict
-
-module _ (old new : Option (List ℕ)) (before now status : ℕ) (h : List Entry) where
-  -- a verdict that was said of a journal is its report
-  pub says_checked : (c : CheckedValue) (verdict : Verdict) → IsJudged c verdict → PrintsText (verdict_text verdict) (verdict_status verdict) old new before now status h → Checks c old new before now status h
-  says_checked c verdict is (inl said) = inl (verdict_text verdict, verdict_status verdict, record { verdict = verdict; judged = is; text_is = refl; status_is = refl; no_history = said.1 }, said.0)
-  says_checked c verdict is (inr up) = inr up
-
-  -- a verdict that was said is what the files come to
-  pub check_answers : (outcome : Files → Outcome CheckedValue) (told : Option Files) (first last : ℕ) (read : Result Verdict BindFault) → JudgesRead told first last read outcome → BlamesReached told read outcome
-      → EndsRead (λ (v : Verdict). v) (λ (v : Verdict). PrintsText (verdict_text v) (verdict_status v)) read old new before now status h → (files : Files) → told ≡ Some files → AnswersBy Checks outcome files first last old new before now status h
-  check_answers outcome told first last (Ok verdict) judges named ends files known =
-      let found = judges files known in
-      inl (subst (λ (o : Outcome CheckedValue). Ends Checks o old new before now status h) (sym found.1) (says_checked found.0 verdict found.2 ends))
-  check_answers outcome told first last (Err fault) comes named ends files known =
-      read_answers old new before now status h {X = CheckedValue} {Y = CheckedValue} (λ (c : CheckedValue). c) Checks outcome (λ c. no_telling old new before now status h (IsCheckReport c)) told first last (Err fault) comes named ends files known

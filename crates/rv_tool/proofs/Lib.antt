@@ -3,6 +3,7 @@ pub mod BesideLemmas
 pub mod ChangesLemmas
 pub mod CheckLemmas
 pub mod ComesLemmas
+pub mod CommandLemmas
 pub mod CpuLemmas
 pub mod FeedingLemmas
 pub mod FitLemmas
@@ -17,11 +18,9 @@ pub mod PiecesLemmas
 pub mod ReadyLemmas
 pub mod RecordingLemmas
 pub mod ReportedLemmas
-pub mod SaysLemmas
 pub mod SessionLemmas
 pub mod SomeTextLemmas
 pub mod TableLemmas
-pub mod UntoldLemmas
 pub mod VerdictLemmas
 pub mod WatchLemmas
 pub mod WidthLemmas

@@ -1,6 +1,7 @@
 -- What one thread tells: nothing is stopped, and the input determines the report.
-use Rattle.std.proofs.Common.{◌≡◌, ◌≢◌, ℕ, List, map, inl, inr, sym, ap, ◌∙◌}
-use Rattle.std.specs.Prelude.{Option, Result, Ok, Err, IfOk}
+use Rattle.std.proofs.Common.{◌≡◌, ◌≢◌, ℕ, List, map, sym, ap, ◌∙◌}
+use Rattle.std.specs.Prelude.{Result, Ok, Err, IfOk}
+use Rattle.std.specs.declared.alloc.AllocError.{AllocError}
 use Rattle.rv_model.specs.declared.entry.Entry.{Entry}
 use Rattle.rv_model.specs.Cuts.{AtEach}
 use Rattle.rv_model.specs.Histories.{IsNoStop, IsOneHistory, LinesApart}
@@ -9,15 +10,15 @@ use Rattle.rv_model.specs.Records.{records_of, status_of}
 use Rattle.rv_model.specs.Reports.{report_text}
 use Rattle.rv_model.proofs.OneJudgeLemmas.{lists-same}
 use Rattle.rv_model.proofs.UniqueLemmas.{one_has_no_stop, one_is_unique}
-use Rattle.rv_bind.specs.declared.fault.BindFault.{BindFault}
 use Rattle.rv_report.specs.Reported.{reported}
 use Rattle.rv_laws.proofs.StatusLemmas.{free_gives_no_six}
 use Rattle.rv_tool.specs.declared.input.Prepared.{Prepared}
+use Rattle.rv_tool.specs.declared.replaying.FinishedRun.{FinishedRun}
+use Rattle.rv_tool.specs.Commands.{IsOneReport}
 use Rattle.rv_tool.specs.Headline.{IsReported}
 use Rattle.rv_tool.specs.Inputs.{InputValue, run_of}
 use Rattle.rv_tool.specs.Prepared.{prepared_value, IsPrepared}
-use Rattle.rv_tool.specs.Runs.{EndsRead, ReportsRead}
-use Rattle.rv_tool.specs.Verdicts.{HasOneVerdict, ReportsOne}
+use Rattle.rv_tool.specs.Verdicts.{HasOneVerdict}
 
 module _ (i : InputValue) (apart : LinesApart (run_of i).works) (h : List Entry) (text : List ℕ) (status : ℕ) (is : IsReported IsOneHistory i h text status) where
   -- nothing is stopped
@@ -41,8 +42,7 @@ module _ (i : InputValue) (apart : LinesApart (run_of i).works) (h : List Entry)
   has_one_verdict : HasOneVerdict i h text status
   has_one_verdict = record { no_stop = free; not_six = no_six; only = same_report }
 
--- a run on one thread that was read has its verdict
-pub runs_one : (old new : Option (List ℕ)) (before now status : ℕ) (h : List Entry) (read : Result Prepared BindFault) → IfOk read IsPrepared → ReportsRead IsOneHistory read old new before now status h → EndsRead prepared_value ReportsOne read old new before now status h
-runs_one old new before now status h (Ok ready) is (inl (text, said, reported, told)) = inl (text, said, (reported, has_one_verdict (prepared_value ready) is.lanes.apart h text said reported), told)
-runs_one old new before now status h (Ok ready) is (inr up) = inr up
-runs_one old new before now status h (Err fault) is fails = fails
+-- a run on one thread of what is ready has its verdict
+pub runs_one : (ready : Prepared) (ran : Result FinishedRun AllocError) → IsPrepared ready → IfOk ran (λ done. IsReported IsOneHistory (prepared_value ready) done.closed done.text.items done.status) → IfOk ran (λ done. IsOneReport (prepared_value ready) done.closed done.text.items done.status)
+runs_one ready (Ok done) is reported = (reported, has_one_verdict (prepared_value ready) is.lanes.apart done.closed done.text.items done.status reported)
+runs_one ready (Err none) is done = done

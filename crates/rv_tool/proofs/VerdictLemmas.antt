@@ -1,8 +1,8 @@
 -- What is told of lone slots follows from what was read.
-use Rattle.std.proofs.Common.{◌≡◌, ◌≢◌, ℕ, zero, suc, false, List, [], ◌∷◌, map, inl, inr, refl, sym, ap, ◌∙◌, subst}
-use Rattle.std.specs.Prelude.{Option, Some, All, Result, Ok, Err, IfOk}
+use Rattle.std.proofs.Common.{◌≡◌, ◌≢◌, ℕ, zero, suc, false, List, [], ◌∷◌, map, refl, sym, ap, ◌∙◌, subst}
+use Rattle.std.specs.Prelude.{Some, All, Result, Ok, Err, IfOk}
+use Rattle.std.specs.declared.alloc.AllocError.{AllocError}
 use Rattle.std.proofs.lemmas.List.Elements.{All-head, All-tail}
-use Rattle.rv_io.specs.Files.{Files}
 use Rattle.rv_model.specs.declared.entry.Act.TheVariants.{Stop}
 use Rattle.rv_model.specs.declared.entry.Entry.{Entry}
 use Rattle.rv_model.specs.declared.reactor.Reactor.{Reactor}
@@ -15,7 +15,6 @@ use Rattle.rv_model.specs.Reports.{report_text}
 use Rattle.rv_model.specs.Setups.{slot_of}
 use Rattle.rv_model.proofs.OneJudgeLemmas.{lists-same}
 use Rattle.rv_bind.specs.declared.bindings.Monitor.{Monitor}
-use Rattle.rv_bind.specs.declared.fault.BindFault.{BindFault}
 use Rattle.rv_feed.specs.Lane.{panics_of, is_panic_reactor}
 use Rattle.rv_report.specs.Reported.{reported}
 use Rattle.rv_laws.specs.Verdicts.{IsSteady, AgreeOnSingleWriter}
@@ -23,12 +22,12 @@ use Rattle.rv_laws.proofs.StatusLemmas.{all_lone_give_no_six}
 use Rattle.rv_laws.proofs.StopLemmas.{lone_has_no_stop}
 use Rattle.rv_laws.proofs.VerdictLemmas.{lone_records_are_one, all_records_are_one}
 use Rattle.rv_tool.specs.declared.input.Prepared.{Prepared}
-use Rattle.rv_tool.specs.Headline.{GivesUp, IsReported}
+use Rattle.rv_tool.specs.declared.replaying.FinishedRun.{FinishedRun}
+use Rattle.rv_tool.specs.Commands.{IsVerdictReport}
+use Rattle.rv_tool.specs.Headline.{IsReported}
 use Rattle.rv_tool.specs.Inputs.{InputValue, run_of}
 use Rattle.rv_tool.specs.Prepared.{prepared_value, IsPrepared}
-use Rattle.rv_tool.specs.Runs.{EndsRead, ReportsRead}
-use Rattle.rv_tool.specs.Verdicts.{HasOneWriterIn, HasNoPanic, HasVerdicts, ReportsVerdicts, Verdicts}
-use Rattle.rv_tool.specs.Words.{CommandValue}
+use Rattle.rv_tool.specs.Verdicts.{HasOneWriterIn, HasNoPanic, HasVerdicts}
 use Rattle.rv_tool.proofs.CpuLemmas.{FitCpus, ready_routed, cpu_is_lone, all_are_lone}
 
 -- ---- reactors
@@ -89,19 +88,8 @@ module _ (i : InputValue) (unchanged : i.changes ≡ []) (h : List Entry) (text 
     };
   }
 
--- ---- the top call
-module _ (old new : Option (List ℕ)) (before now status : ℕ) (h : List Entry) where
-  -- a run at once that was read has its verdicts
-  pub runs_verdicts : (read : Result Prepared BindFault) → IfOk read IsPrepared → IfOk read (λ ready. ready.changes.items ≡ []) → ReportsRead IsLegal read old new before now status h → EndsRead prepared_value ReportsVerdicts read old new before now status h
-  runs_verdicts (Ok ready) is unchanged (inl (text, said, reported, told)) = inl (text, said, reported, has_verdicts (prepared_value ready) unchanged h text said reported (ready_routed ready is), told)
-  runs_verdicts (Ok ready) is unchanged (inr up) = inr up
-  runs_verdicts (Err fault) is unchanged fails = fails
-
-  -- want of memory ends a run at once
-  pub no_verdicts : (i : InputValue) → GivesUp old new before now status h → ReportsVerdicts i old new before now status h
-  no_verdicts i up = inr up
-
-  -- the words ask for the command that was read
-  pub words_verdict : (asked said : Option CommandValue) (told : Option Files) (first last : ℕ) → said ≡ asked
-      → ((files : Files) → told ≡ Some files → Verdicts said files first last old new before now status h) → (files : Files) → told ≡ Some files → Verdicts asked files first last old new before now status h
-  words_verdict asked said told first last same verdicts files known = subst (λ (o : Option CommandValue). Verdicts o files first last old new before now status h) same (verdicts files known)
+-- a run at once of what is ready has its verdicts
+pub runs_verdicts : (ready : Prepared) (ran : Result FinishedRun AllocError) → IsPrepared ready → ready.changes.items ≡ [] → IfOk ran (λ done. IsReported IsLegal (prepared_value ready) done.closed done.text.items done.status)
+    → IfOk ran (λ done. IsVerdictReport (prepared_value ready) done.closed done.text.items done.status)
+runs_verdicts ready (Ok done) is unchanged reported = (reported, has_verdicts (prepared_value ready) unchanged done.closed done.text.items done.status reported (ready_routed ready is))
+runs_verdicts ready (Err none) is unchanged done = done

@@ -1,5 +1,5 @@
 -- What the top call promises: the bytes and the status are the report of one history of what the words and files come to.
-use Rattle.std.specs.Prelude.{◌≡◌, ◌⊎◌, ℕ, List, [], map, Option, Some}
+use Rattle.std.specs.Prelude.{◌≡◌, ◌⊎◌, ℕ, List, [], map, Some}
 use Rattle.rv_text.specs.declared.refusals.Refusal.{Refusal}
 use Rattle.rv_model.specs.declared.entry.Entry.{Entry}
 use Rattle.rv_model.specs.Judging.{Judge}
@@ -8,6 +8,7 @@ use Rattle.rv_model.specs.Records.{records_of, status_of}
 use Rattle.rv_model.specs.Reports.{report_text}
 use Rattle.rv_report.specs.Reported.{reported}
 use Rattle.rv_bind.specs.Outcomes.{Outcome, accepted, refused, missing, IsRefusal}
+use Rattle.rv_tool.specs.Calls.{CallEnd}
 use Rattle.rv_tool.specs.Inputs.{InputValue, run_of}
 use Rattle.rv_tool.specs.Output.{IsWritten, refusal_text, missing_text}
 
@@ -23,21 +24,21 @@ pub record IsReported (Is : Histories) (i : InputValue) (h : List Entry) (text :
   pub text_is : text ≡ report_text (map (reported i.bound.containers) i.bound.monitors) i.routed.tasks (records_of (run_of i) judges h)
   pub status_is : status ≡ status_of (records_of (run_of i) judges h)
 
--- how a call ends: what the sink had taken before and after it, its faults before and after, the status, and the history
+-- how a call may end
 abbrev pub Ending : Type 1
-Ending = Option (List ℕ) → Option (List ℕ) → ℕ → ℕ → ℕ → List Entry → Type 0
+Ending = CallEnd → Type 0
 
 -- want of memory: the sink was not touched, and there is no history
 abbrev pub GivesUp : Ending
-GivesUp old new before now status h = (status ≡ 5) × (new ≡ old) × (now ≡ before) × (h ≡ [])
+GivesUp c = (c.status ≡ 5) × (c.after ≡ c.before) × (c.history ≡ [])
 
 -- without a run a text goes with the status, and there is no history
 abbrev pub PrintsText : List ℕ → ℕ → Ending
-PrintsText text said old new before now status h = (IsWritten old new before now text said status × (h ≡ [])) ⊎ GivesUp old new before now status h
+PrintsText text said c = (IsWritten c.before c.after text said c.status × (c.history ≡ [])) ⊎ GivesUp c
 
 -- there is a text that goes with a status and the history, and it was told
 abbrev pub PrintsSome : (List Entry → List ℕ → ℕ → Type 0) → Ending
-PrintsSome Goes old new before now status h = ((text : List ℕ) × (said : ℕ) × Goes h text said × IsWritten old new before now text said status) ⊎ GivesUp old new before now status h
+PrintsSome Goes c = ((text : List ℕ) × (said : ℕ) × Goes c.history text said × IsWritten c.before c.after text said c.status) ⊎ GivesUp c
 
 -- an accepted input is run
 abbrev pub Reports : Histories → InputValue → Ending
@@ -45,8 +46,7 @@ Reports Is i = PrintsSome (IsReported Is i)
 
 -- a refusal of a file is said, by one of the refusals' numbers
 abbrev pub PrintsRefusal : List ℕ → Refusal → Ending
-PrintsRefusal file refusal old new before now status h =
-    (IsRefusal refusal × IsWritten old new before now (refusal_text (Some file) refusal) 2 status × (h ≡ [])) ⊎ GivesUp old new before now status h
+PrintsRefusal file refusal c = (IsRefusal refusal × IsWritten c.before c.after (refusal_text (Some file) refusal) 2 c.status × (c.history ≡ [])) ⊎ GivesUp c
 
 -- by what the words and files come to: what is accepted ends in its own way, and else the refusal or the missing file is said
 abbrev pub Ends : {Y : Type 0} → (Y → Ending) → Outcome Y → Ending

@@ -1,3 +1,4 @@
+pub mod Calls
 pub mod Changes
 pub mod Checks
 pub mod Faults
@@ -9,6 +10,7 @@ pub mod JournalPieces
 pub mod Journals
 pub mod LaneReports
 pub mod Loaded
+pub mod Commands
 pub mod CountsFit
 pub mod Output
 pub mod Pieces

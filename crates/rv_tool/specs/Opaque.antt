@@ -5,6 +5,7 @@ use Rattle.rv_text.specs.declared.refusals.Refusal.{Refusal}
 use Rattle.rv_io.specs.Files.{Rose}
 use Rattle.rv_bind.specs.Outcomes.{IsRefusal}
 use Rattle.rv_model.specs.Histories.{IsLegal}
+use Rattle.rv_tool.specs.Calls.{Call}
 use Rattle.rv_tool.specs.Checks.{Checks}
 use Rattle.rv_tool.specs.HeaderFiles.{header_of_text}
 use Rattle.rv_tool.specs.Headline.{Ending, PrintsText, Reports, Ends}
@@ -20,26 +21,26 @@ use Rattle.rv_tool.specs.WatchReports.{Watches}
 use Rattle.rv_tool.specs.Words.{CommandValue, replay, feed, feed_beside, journal, check, watch, table, header, control, load}
 
 -- something was accepted and ends in its own way, or a refusal of a file is said, by one of the refusals' numbers; or the store's count of faults rose, and a file is said to be unread
-abbrev pub EndsOnSomeInput : {Y : Type 0} → (Y → Ending) → ℕ → ℕ → Ending
-EndsOnSomeInput {Y} Accepted first last old new before now status h =
-    ((y : Y) × Accepted y old new before now status h)
-    ⊎ ((file : List ℕ) × (refusal : Refusal) × IsRefusal refusal × PrintsText (refusal_text (Some file) refusal) 2 old new before now status h)
-    ⊎ (Rose first last × (file : List ℕ) × PrintsText (missing_text file) 3 old new before now status h)
+abbrev pub EndsOnSomeInput : {Y : Type 0} → (Y → Ending) → Call → Type 0
+EndsOnSomeInput {Y} Accepted c =
+    ((y : Y) × Accepted y c.end)
+    ⊎ ((file : List ℕ) × (refusal : Refusal) × IsRefusal refusal × PrintsText (refusal_text (Some file) refusal) 2 c.end)
+    ⊎ (Rose c.faults_before c.faults_after × (file : List ℕ) × PrintsText (missing_text file) 3 c.end)
 
 -- it is one of these, and ends in its own way
 abbrev pub EndsAsOneOf : {Y : Type 0} → (Y → Type 0) → (Y → Ending) → Y → Ending
-EndsAsOneOf Is Accepted y old new before now status h = Is y × Accepted y old new before now status h
+EndsAsOneOf Is Accepted y c = Is y × Accepted y c
 
 -- by what the words ask for: a report is one of some input, a verdict of some journal, a table of some text, and a session of some bindings and script; words that are no command and the generated input are answered as on any store
-abbrev pub AnswersOpaque : Option CommandValue → ℕ → ℕ → Ending
-AnswersOpaque None first last = PrintsText (refusal_text None (record { number = USAGE; line = 0 })) 2
-AnswersOpaque (Some (replay bindings trace)) first last = EndsOnSomeInput ReportsOne first last
-AnswersOpaque (Some (feed bindings trace)) first last = EndsOnSomeInput ReportsVerdicts first last
-AnswersOpaque (Some (feed_beside bindings trace script)) first last = EndsOnSomeInput (Reports IsLegal) first last
-AnswersOpaque (Some (watch bindings trace monitor instance)) first last = EndsOnSomeInput Watches first last
-AnswersOpaque (Some (journal bindings trace)) first last = EndsOnSomeInput Journals first last
-AnswersOpaque (Some (check bindings trace judged)) first last = EndsOnSomeInput Checks first last
-AnswersOpaque (Some (load blocks)) first last = Ends ReportsVerdicts (load_input blocks)
-AnswersOpaque (Some (table kind file)) first last = EndsOnSomeInput (EndsAsOneOf (IsOfSomeText (table_text kind)) Prints) first last
-AnswersOpaque (Some (header name file)) first last = EndsOnSomeInput (EndsAsOneOf (IsOfSomeText (header_of_text name)) Prints) first last
-AnswersOpaque (Some (control bindings script)) first last = EndsOnSomeInput (EndsAsOneOf (IsSession script) PrintsSession) first last
+abbrev pub AnswersOpaque : Option CommandValue → Call → Type 0
+AnswersOpaque None c = PrintsText (refusal_text None (record { number = USAGE; line = 0 })) 2 c.end
+AnswersOpaque (Some (replay bindings trace)) c = EndsOnSomeInput ReportsOne c
+AnswersOpaque (Some (feed bindings trace)) c = EndsOnSomeInput ReportsVerdicts c
+AnswersOpaque (Some (feed_beside bindings trace script)) c = EndsOnSomeInput (Reports IsLegal) c
+AnswersOpaque (Some (watch bindings trace monitor instance)) c = EndsOnSomeInput Watches c
+AnswersOpaque (Some (journal bindings trace)) c = EndsOnSomeInput Journals c
+AnswersOpaque (Some (check bindings trace judged)) c = EndsOnSomeInput Checks c
+AnswersOpaque (Some (load blocks)) c = Ends ReportsVerdicts (load_input blocks) c.end
+AnswersOpaque (Some (table kind file)) c = EndsOnSomeInput (EndsAsOneOf (IsOfSomeText (table_text kind)) Prints) c
+AnswersOpaque (Some (header name file)) c = EndsOnSomeInput (EndsAsOneOf (IsOfSomeText (header_of_text name)) Prints) c
+AnswersOpaque (Some (control bindings script)) c = EndsOnSomeInput (EndsAsOneOf (IsSession script) PrintsSession) c

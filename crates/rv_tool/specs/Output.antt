@@ -3,6 +3,7 @@ use Rattle.std.specs.Prelude.{◌≡◌, ◌⊎◌, ℕ, ◌==◌, List, [], ◌
 use Rattle.rv_text.specs.declared.refusals.Refusal.{Refusal}
 use Rattle.rv_io.specs.Files.{Rose}
 use Rattle.rv_io.specs.Taken.{Takes}
+use Rattle.rv_tool.specs.Calls.{SinkState}
 
 -- which file it is
 abbrev pub in_file_text : Option (List ℕ) → List ℕ
@@ -22,7 +23,7 @@ abbrev pub missing_text : List ℕ → List ℕ
 missing_text file = codes "rv: cannot read " ++ file ++ codes "\n"
 
 -- the sink took the whole text; or its count of faults rose, a front of the text was taken, and the status is 4
-abbrev pub IsWritten : Option (List ℕ) → Option (List ℕ) → ℕ → ℕ → List ℕ → ℕ → ℕ → Type 0
-IsWritten old new before now text said status =
-    ((status ≡ said) × Takes old new text)
-    ⊎ ((status ≡ 4) × Rose before now × (front : List ℕ) × (back : List ℕ) × (text ≡ front ++ back) × Takes old new front)
+abbrev pub IsWritten : SinkState → SinkState → List ℕ → ℕ → ℕ → Type 0
+IsWritten before after text said status =
+    ((status ≡ said) × Takes before.taken after.taken text)
+    ⊎ ((status ≡ 4) × Rose before.faults after.faults × (front : List ℕ) × (back : List ℕ) × (text ≡ front ++ back) × Takes before.taken after.taken front)

@@ -1,5 +1,5 @@
 -- What is told of a history: on one thread that the input determines it, and of a run at once what one thread tells of slots that only one CPU has deliveries for.
-use Rattle.std.specs.Prelude.{◌≡◌, ◌≢◌, ◌⊎◌, ◌<◌, ℕ, List, Option, Some, All}
+use Rattle.std.specs.Prelude.{◌≡◌, ◌≢◌, ◌<◌, ℕ, List, Option, Some, All}
 use Rattle.rv_io.specs.Files.{Files}
 use Rattle.rv_model.specs.declared.entry.Act.TheVariants.{Stop}
 use Rattle.rv_model.specs.declared.entry.Entry.{Entry}
@@ -13,10 +13,10 @@ use Rattle.rv_model.specs.Setups.{slot_of}
 use Rattle.rv_slots.specs.declared.shape.TheConstants.{CPUS}
 use Rattle.rv_laws.specs.SingleWriter.{HasOneWriter, IsByCpu}
 use Rattle.rv_laws.specs.Verdicts.{AgreeOnSingleWriter, records_on}
-use Rattle.rv_tool.specs.Headline.{Ending, GivesUp, IsReported, PrintsSome, Ends}
+use Rattle.rv_tool.specs.Calls.{Call}
+use Rattle.rv_tool.specs.Headline.{Ending, IsReported, PrintsSome, Ends}
 use Rattle.rv_tool.specs.Inputs.{InputValue, run_input, run_of, HasCpus}
 use Rattle.rv_tool.specs.Loaded.{load_input}
-use Rattle.rv_tool.specs.Output.{IsWritten}
 use Rattle.rv_tool.specs.Runs.{AnswersBy}
 use Rattle.rv_tool.specs.Words.{CommandValue, replay, feed, load}
 
@@ -67,11 +67,11 @@ pub record HasVerdicts (i : InputValue) (h : List Entry) (text : List ℕ) (stat
 
 -- a run at once is reported, and has these verdicts
 abbrev pub ReportsVerdicts : InputValue → Ending
-ReportsVerdicts i old new before now status h = ((text : List ℕ) × (said : ℕ) × IsReported IsLegal i h text said × HasVerdicts i h text said × IsWritten old new before now text said status) ⊎ GivesUp old new before now status h
+ReportsVerdicts i = PrintsSome (λ h text status. IsReported IsLegal i h text status × HasVerdicts i h text status)
 
 -- what the commands that report a run answer
-abbrev pub Verdicts : Option CommandValue → Files → ℕ → ℕ → Ending
-Verdicts (Some (replay bindings trace)) files first last old new before now status h = AnswersBy ReportsOne (λ files. run_input files bindings trace) files first last old new before now status h
-Verdicts (Some (feed bindings trace)) files first last old new before now status h = AnswersBy ReportsVerdicts (λ files. run_input files bindings trace) files first last old new before now status h
-Verdicts (Some (load blocks)) files first last old new before now status h = Ends ReportsVerdicts (load_input blocks) old new before now status h
-Verdicts _ files first last old new before now status h = Unit {0}
+abbrev pub Verdicts : Option CommandValue → Files → Call → Type 0
+Verdicts (Some (replay bindings trace)) files c = AnswersBy ReportsOne (λ files. run_input files bindings trace) files c
+Verdicts (Some (feed bindings trace)) files c = AnswersBy ReportsVerdicts (λ files. run_input files bindings trace) files c
+Verdicts (Some (load blocks)) files c = Ends ReportsVerdicts (load_input blocks) c.end
+Verdicts _ files c = Unit {0}

@@ -1,5 +1,6 @@
 //! The texts of refusals and missing files, and how a text is put out.
 ghost use Rattle.std.specs.Prelude.{◌≡◌, ◌++◌, OnOk, IfOk, option_copied};
+ghost use Rattle.rv_tool.specs.Calls.{sink_state};
 ghost use Rattle.rv_tool.specs.Output.{refusal_text, missing_text, in_file_text, in_line_text, IsWritten};
 
 use rv_io::{PutFault, Sink, put_all};
@@ -61,7 +62,7 @@ pub(crate) fn missing_line(alloc: Global, file: &[u8]) -> Result<Vec<u8>, AllocE
 
 /// Puts the text of a status; 4 stands in its place where a put failed.
 pub(crate) fn put_text<K: Sink>(out: &mut K, text: &[u8], status: u8) -> u8
-    ensures { IsWritten (K.taken out.old) (K.taken out.new) (K.faults out.old) (K.faults out.new) text.now status result }
+    ensures { IsWritten (sink_state K.Sink out.old) (sink_state K.Sink out.new) text.now status result }
 {
     match put_all(out, text) {
         Ok(()) => status,
