@@ -6,7 +6,7 @@ ghost use Rattle.rv_board.specs.declared.seat.TheConstants.{SEATS};
 
 use crate::view::View;
 use atomic_table::Seat as Token;
-use rv_model::{Act, Keeps};
+use rv_model::{Act, Entry, Keeps};
 use std::marker::Model;
 
 /// All seats of a board have numbers below this one.
@@ -34,8 +34,8 @@ impl Model for Seat {
     ghost invariant = { λ s. IsUsable s.number s.end s.token.me };
 }
 
-impl Keeps for Seat {
-    ghost history = { λ s. s.part.seen };
+impl Keeps<Entry> for Seat {
+    ghost list = { λ s. s.part.seen };
 }
 
 impl Seat {

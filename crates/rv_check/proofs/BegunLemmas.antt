@@ -23,11 +23,11 @@ use Rattle.rv_check.specs.declared.next.Next.{Next}
 use Rattle.rv_check.specs.declared.next.Next.TheVariants as next
 use Rattle.rv_check.specs.Beginnings.{HasBegun, IsBeginning}
 use Rattle.rv_check.specs.Nexts.{Allows, lost_of, CountsTo, CountsLostTries}
-use Rattle.rv_check.specs.Run.{Stands, IsRun}
+use Rattle.rv_check.specs.Standing.{IsRun}
 use Rattle.rv_check.proofs.BeginningLemmas.{played-more}
 use Rattle.rv_check.proofs.LostLemmas.{thrice-counted}
 use Rattle.rv_check.proofs.MoveLemmas.{may-allowed}
-use Rattle.rv_check.proofs.RunLemmas.{stand-at}
+use Rattle.rv_check.proofs.RunLemmas.{IsAt, stand-at}
 
 -- the word of an act is told by the acts of the past
 word-same : (s : Setup) (js : List Judge) (past : List Entry) (e f : Entry) → e.act ≡ f.act → (act : Act) → word_on s js (e ∷ past) act ≡ word_on s js (f ∷ past) act
@@ -54,64 +54,37 @@ at-least lost n c three = on (nat_lt lost 3) refl
         omega arith
     on false y = grind arith
 
-module _ (s : Setup) (panics : ℕ) (works : List Work) (words : List ℕ) (nexts : List Next) (h : List Entry) (run : IsRun s panics works words nexts h)
-    (e : Entry) (k : ℕ) (lt : k < length works) (w : Work) (w_is : w ≡ get_or works k w) (n : Next) (n_is : n ≡ get_or nexts k n) (mine : 2 + w.cpu ≡ e.seat) where
-  -- the judges by the setup's tables
-  abbrev js : List Judge
-  js = judges_of s
-
-  -- which monitors' reactor is panic
-  abbrev halts : ℕ → Bool
-  halts = has_bit panics
-
-  -- the entries of the history, the newest first
-  abbrev past : List Entry
-  past = reverse h
-
-  -- a history is a beginning of the works
-  abbrev Begins : List Entry → Type 0
-  Begins = IsBeginning s js halts works
-
-  -- the answer of the entry's act behind the history
-  abbrev a : Answer
-  a = answer_at s js past e e.act
-
-  -- the seat of the work's CPU
-  abbrev seat : ℕ
-  seat = 2 + w.cpu
-
-  -- the work's script stands where what is next for it says
-  abbrev stand : Stands s js halts h w n
-  stand = stand-at s panics works words nexts h run k lt w w_is n n_is
-
+module _ {s : Setup} {panics : ℕ} {works : List Work} {words : List ℕ} {nexts : List Next} {h : List Entry} (run : IsRun s panics works words nexts h)
+    (e : Entry) {k : ℕ} {w : Work} {n : Next} (at : IsAt works nexts k w n) (mine : 2 + w.cpu ≡ e.seat) where
   -- the tries that a stop needs
-  begun-lost : Begins (h ++ e ∷ []) → (due : Due) → n ≡ next.Deliver due → e.act ≡ Stop due.slot → 3 ≤ due.lost
+  begun-lost : IsBeginning s (judges_of s) (has_bit panics) works (h ++ e ∷ []) → (due : Due) → n ≡ next.Deliver due → e.act ≡ Stop due.slot → 3 ≤ due.lost
   begun-lost b due is act =
       let justified : IsJustifiedBy e.act e.seat h = at_each-last (λ before e. IsJustifiedBy e.act e.seat before) h e b.sound.justified in
       let lost : LostThrice due.slot e.seat h = subst (λ (x : Act). IsJustifiedBy x e.seat h) act justified in
-      let three : 3 ≤ lost_of due.slot seat past = subst (λ (m : ℕ). 3 ≤ lost_of due.slot m past) (sym mine) (thrice-counted due.slot e.seat h lost) in
-      let counts : CountsTo due.lost (lost_of due.slot seat past) = subst (CountsLostTries seat past) is stand.counted in
-      at-least due.lost (lost_of due.slot seat past) counts three
+      let three : 3 ≤ lost_of due.slot (2 + w.cpu) (reverse h) = subst (λ (m : ℕ). 3 ≤ lost_of due.slot m (reverse h)) (sym mine) (thrice-counted due.slot e.seat h lost) in
+      let counts : CountsTo due.lost (lost_of due.slot (2 + w.cpu) (reverse h)) = subst (CountsLostTries (2 + w.cpu) (reverse h)) is (stand-at run at).counted in
+      at-least due.lost (lost_of due.slot (2 + w.cpu) (reverse h)) counts three
 
   -- the act of a longer beginning is allowed
-  pub begun-allowed : Begins (h ++ e ∷ []) → Allows w n e.act
+  pub begun-allowed : IsBeginning s (judges_of s) (has_bit panics) works (h ++ e ∷ []) → Allows w n e.act
   begun-allowed b =
-      let P : Work → Type 0 = λ w. HasBegun s halts w (played s js (2 + w.cpu) (reverse (h ++ e ∷ []))) in
-      let begun : P w = subst P (sym w_is) (All-get_or P works k w lt b.cpus) in
-      let may = stand.may ((e, a) ∷ begun.0) (subst (Plays s halts w) (played-more s js seat h e mine begun.0) begun.1) in
-      may-allowed s halts w n e a begun.0 stand.is_next (begun-lost b) may
+      let a : Answer = answer_at s (judges_of s) (reverse h) e e.act in
+      let P : Work → Type 0 = λ w. HasBegun s (has_bit panics) w (played s (judges_of s) (2 + w.cpu) (reverse (h ++ e ∷ []))) in
+      let begun : P w = subst P (sym at.work) (All-get_or P works k w at.inside b.cpus) in
+      let may = (stand-at run at).may ((e, a) ∷ begun.0) (subst (Plays s (has_bit panics) w) (played-more s (judges_of s) (2 + w.cpu) h e mine begun.0) begun.1) in
+      may-allowed s (has_bit panics) w n e a begun.0 (stand-at run at).is_next (begun-lost b) may
 
   -- the word before it is the machine's
-  pub begun-before : Begins (h ++ e ∷ []) → FitsAct s e.act → e.before ≡ get_or words (word_index e.act) 0
+  pub begun-before : IsBeginning s (judges_of s) (has_bit panics) works (h ++ e ∷ []) → FitsAct s e.act → e.before ≡ get_or words (word_index e.act) 0
   begun-before b fits =
-      let told : FitsWords s js h e = at_each-last (FitsWords s js) h e b.sound.replays in
-      told.found ∙ sym (word_on-is s run.core.is_setup words past run.core.switches_are run.core.words_are e.act fits)
+      let told : FitsWords s (judges_of s) h e = at_each-last (FitsWords s (judges_of s)) h e b.sound.replays in
+      told.found ∙ sym (word_on-is s run.core.is_setup words (reverse h) run.core.switches_are run.core.words_are e.act fits)
 
   -- and so is the word after it
-  pub begun-after : Begins (h ++ e ∷ []) → (after : ℕ) → FitsAct s e.act → ActFits s e.act → e.before ≡ get_or words (word_index e.act) e.before
+  pub begun-after : IsBeginning s (judges_of s) (has_bit panics) works (h ++ e ∷ []) → (after : ℕ) → FitsAct s e.act → ActFits s e.act → e.before ≡ get_or words (word_index e.act) e.before
       → after ≡ (acted (table_of_act s e.act) (start_of_act s e.act) e.before e.act).1 → after < 2 ^ 64 → e.after ≡ after
   begun-after b after fits bits read is range =
-      let told : FitsWords s js h e = at_each-last (FitsWords s js) h e b.sound.replays in
+      let told : FitsWords s (judges_of s) h e = at_each-last (FitsWords s (judges_of s)) h e b.sound.replays in
       let f : Entry = record { seat = e.seat; act = e.act; before = e.before; after = after } in
-      let made : FitsWords s js h f = fits-words s words h run.core e.seat e.act e.before after fits bits read is range in
-      told.left ∙ word-same s js past e f refl e.act ∙ sym made.left
+      let made : FitsWords s (judges_of s) h f = fits-words s words h run.core e.seat e.act e.before after fits bits read is range in
+      told.left ∙ word-same s (judges_of s) (reverse h) e f refl e.act ∙ sym made.left

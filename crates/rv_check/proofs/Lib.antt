@@ -15,5 +15,4 @@ pub mod TakenLemmas
 pub mod TextLemmas
 pub mod TurnLemmas
 pub mod VerdictLemmas
-pub mod Walks
 pub mod WatchedLemmas

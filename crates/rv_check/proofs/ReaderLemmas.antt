@@ -7,8 +7,9 @@ use Rattle.rv_model.specs.declared.entry.Entry.{Entry}
 use Rattle.rv_model.specs.declared.formula.Spec.{Spec}
 use Rattle.rv_journal.specs.EntryTexts.{entry_text, journal_of}
 use Rattle.rv_check.specs.Checker.{IsJournalOf, CheckerValue, IsBegun, IsWhole}
-use Rattle.rv_check.specs.Readings.{journal_by, with_more_text, has_no_end, with_line_ends, IsStopped, IsOpen, one_more}
-use Rattle.rv_check.specs.Verdicts.{Journal, Begins, IsYes, IsStuck, IsNo}
+use Rattle.rv_check.specs.Readings.{journal_by, with_more_text, has_no_end, with_line_ends, IsStopped, IsOpen}
+use Rattle.rv_check.specs.Taking.{one_more}
+use Rattle.rv_check.specs.Verdicts.{Journal, Begins, BeginsUpTo, IsYes, IsStuck, IsNo}
 use Rattle.rv_check.proofs.JournalLemmas.{journal-more}
 use Rattle.rv_check.proofs.LineEndLemmas.{no_end-append, end-in, one-line, long-line}
 use Rattle.rv_check.proofs.TextLemmas.{entry-unended, entry-short}
@@ -34,15 +35,21 @@ end-some : (a b : List ℕ) → a ++ 10 ∷ b ≢ []
 end-some [] b is = absurd (let same : 10 ∷ b ≡ [] = is in cc)
 end-some (c ∷ a) b is = absurd (let same : c ∷ (a ++ 10 ∷ b) ≡ [] = is in cc)
 
+-- more text stands behind a beginning
+up_to-more : (j : Journal) (line : ℕ) (front : List Entry) (back more : List ℕ) → BeginsUpTo j line front back → BeginsUpTo (with_more_text j more) line front (back ++ more)
+up_to-more j line front back more u = record {
+  entries = u.entries;
+  text = ap (λ (t : List ℕ). t ++ more) u.text ∙ append_assoc (journal_of front) back more;
+  begins = u.begins;
+  count = u.count;
+}
+
 -- one that has stopped stays so
 pub stop-more : (j : Journal) (line : ℕ) (more : List ℕ) → IsStopped j line → IsStopped (with_more_text j more) line
 stop-more j line more s = record {
   front = s.front;
   back = s.back ++ more;
-  entries = s.entries;
-  text = ap (λ (t : List ℕ). t ++ more) s.text ∙ append_assoc (journal_of s.front) s.back more;
-  begins = s.begins;
-  count = s.count;
+  up_to = up_to-more j line s.front s.back more s.up_to;
   some = λ none. s.some (left-none s.back none);
   stuck = λ after e rest is_e is. s.stuck (more ++ after) e rest is_e (sym (append_assoc s.back more after) ∙ is);
 }
@@ -52,22 +59,27 @@ stop-more j line more s = record {
     left-none (c ∷ a) is = absurd (let same : c ∷ (a ++ more) ≡ [] = is in cc)
 
 module _ (c : CheckerValue) (tail : List ℕ) (line : ℕ) (text : List ℕ) (open_here : IsOpen c tail line text) where
-  -- it has stopped where what follows is stuck
-  stops : (more : List ℕ) → tail ++ more ≢ [] → ((h : List Entry) → IsJournalOf c.lines h → Begins (journal_by c text) h → (after : List ℕ) → IsStuck (journal_by c text) h ((tail ++ more) ++ after)) → IsStopped (journal_by c (text ++ more)) line
-  stops more some stuck =
+  -- its lines are a beginning
+  up_to : BeginsUpTo (journal_by c text) line open_here.begun.0 tail
+  up_to =
       let h = open_here.begun.0 in
       let j = open_here.begun.1 in
-      let b = open_here.begun.2 in
       record {
-        front = h;
-        back = tail ++ more;
         entries = j.entries;
-        text = ap (λ (t : List ℕ). t ++ more) open_here.text_is ∙ append_assoc (with_line_ends c.lines) tail more ∙ ap (λ (t : List ℕ). t ++ (tail ++ more)) (with_line_ends-journal c.lines h j);
-        begins = b;
+        text = open_here.text_is ∙ ap (λ (t : List ℕ). t ++ tail) (with_line_ends-journal c.lines h j);
+        begins = open_here.begun.2;
         count = open_here.count ∙ ap suc (lines-count c.lines h j);
-        some = some;
-        stuck = stuck h j b;
       }
+
+  -- it has stopped where what follows is stuck
+  stops : (more : List ℕ) → tail ++ more ≢ [] → ((h : List Entry) → IsJournalOf c.lines h → Begins (journal_by c text) h → (after : List ℕ) → IsStuck (journal_by c text) h ((tail ++ more) ++ after)) → IsStopped (journal_by c (text ++ more)) line
+  stops more some stuck = record {
+    front = open_here.begun.0;
+    back = tail ++ more;
+    up_to = up_to-more (journal_by c text) line open_here.begun.0 tail more up_to;
+    some = some;
+    stuck = stuck open_here.begun.0 open_here.begun.1 open_here.begun.2;
+  }
 
   -- no entry has so long a line
   pub stop-long : (part : List ℕ) → has_no_end part ≡ true → 200 < length tail + length part → IsStopped (journal_by c (text ++ part)) line
@@ -115,35 +127,21 @@ module _ (c : CheckerValue) (tail : List ℕ) (line : ℕ) (text : List ℕ) (op
 
   -- a last line without its line end is bad
   pub no-tail : (specs : List Spec) → tail ≢ [] → IsNo (journal_by c text) specs line
-  no-tail specs some =
-      let h = open_here.begun.0 in
-      let j = open_here.begun.1 in
-      let b = open_here.begun.2 in
-      record {
-        front = h;
-        back = tail;
-        entries = j.entries;
-        text = open_here.text_is ∙ ap (λ (t : List ℕ). t ++ tail) (with_line_ends-journal c.lines h j);
-        begins = b;
-        count = open_here.count ∙ ap suc (lines-count c.lines h j);
-        why = inr (some, λ e rest is_e is begins. end-in (entry_text e) rest (subst (λ (t : List ℕ). has_no_end t ≡ true) is open_here.unended));
-      }
+  no-tail specs some = record {
+    front = open_here.begun.0;
+    back = tail;
+    up_to = up_to;
+    why = inr (some, λ e rest is_e is begins. end-in (entry_text e) rest (subst (λ (t : List ℕ). has_no_end t ≡ true) is open_here.unended));
+  }
 
   -- the lines are over, and not whole
   pub no-over : (specs : List Spec) → tail ≡ [] → (IsWhole c specs → ⊥) → IsNo (journal_by c text) specs line
-  no-over specs none bad =
-      let h = open_here.begun.0 in
-      let j = open_here.begun.1 in
-      let b = open_here.begun.2 in
-      record {
-        front = h;
-        back = tail;
-        entries = j.entries;
-        text = open_here.text_is ∙ ap (λ (t : List ℕ). t ++ tail) (with_line_ends-journal c.lines h j);
-        begins = b;
-        count = open_here.count ∙ ap suc (lines-count c.lines h j);
-        why = inl (none, λ legal. bad (h, j, legal));
-      }
+  no-over specs none bad = record {
+    front = open_here.begun.0;
+    back = tail;
+    up_to = up_to;
+    why = inl (none, λ legal. bad (open_here.begun.0, open_here.begun.1, legal));
+  }
 
   -- they are whole
   pub yes-whole : (specs : List Spec) → tail ≡ [] → IsWhole c specs → IsYes (journal_by c text) specs
@@ -159,9 +157,6 @@ pub no-stopped : (j : Journal) (line : ℕ) (specs : List Spec) → IsStopped j 
 no-stopped j line specs s = record {
   front = s.front;
   back = s.back;
-  entries = s.entries;
-  text = s.text;
-  begins = s.begins;
-  count = s.count;
+  up_to = s.up_to;
   why = inr (s.some, λ e rest is_e is begins. s.stuck [] e rest is_e (append-nil s.back ∙ is) begins);
 }

@@ -76,7 +76,7 @@ module _ (j : Journal) where
 
   -- a text that is stuck is no legal history's
   not-both : (specs : List Spec) (line : ℕ) → IsYes j specs → IsNo j specs line → ⊥
-  not-both specs line good bad = elim (fronts bad.front good.history bad.back [] bad.entries good.entries (sym bad.text ∙ good.text ∙ sym (append-nil (journal_of good.history)))) [
+  not-both specs line good bad = elim (fronts bad.front good.history bad.back [] bad.up_to.entries good.entries (sym bad.up_to.text ∙ good.text ∙ sym (append-nil (journal_of good.history)))) [
     | inl l ↦ wrong (same-front specs bad.front bad.back bad.why good.history [] begins l)
     | inr r ↦ wrong (ends r)
   ]
@@ -100,11 +100,11 @@ module _ (j : Journal) where
   -- it is stuck at one line
   one-place : (specs : List Spec) (v w : ℕ) → IsNo j specs v → IsNo j specs w → v ≡ w
   one-place specs v w a b =
-      let same : a.front ≡ b.front = elim (fronts a.front b.front a.back b.back a.entries b.entries (sym a.text ∙ b.text)) [
-        | inl l ↦ sym (same-front specs a.front a.back a.why b.front b.back b.begins l).0
-        | inr r ↦ (same-front specs b.front b.back b.why a.front a.back a.begins r).0
+      let same : a.front ≡ b.front = elim (fronts a.front b.front a.back b.back a.up_to.entries b.up_to.entries (sym a.up_to.text ∙ b.up_to.text)) [
+        | inl l ↦ sym (same-front specs a.front a.back a.why b.front b.back b.up_to.begins l).0
+        | inr r ↦ (same-front specs b.front b.back b.why a.front a.back a.up_to.begins r).0
       ] in
-      a.count ∙ ap (λ (h : List Entry). suc (length h)) same ∙ sym b.count
+      a.up_to.count ∙ ap (λ (h : List Entry). suc (length h)) same ∙ sym b.up_to.count
 
 -- no text has two verdicts
 pub one-verdict : OneVerdict

@@ -1,13 +1,12 @@
 -- A journal's reader as contracts see it, and what it keeps.
-use Rattle.std.specs.Prelude.{◌≡◌, ◌≢◌, ◌⊎◌, ℕ, suc, ◌<◌, ◌≤◌, Bool, true, not, ◌&&◌, ◌==◌, List, [], ◌∷◌, ◌++◌, length, flat_map, All, MatchBool}
+use Rattle.std.specs.Prelude.{◌≡◌, ◌≢◌, ℕ, suc, ◌≤◌, Bool, true, not, ◌&&◌, ◌==◌, List, [], ◌∷◌, ◌++◌, length, flat_map, MatchBool}
 use Rattle.std.specs.Coded.{Coded, code_by, coded×, coded_ℕ, coded_list, coded_bool}
 use Rattle.std.proofs.Common.{refl}
 use Rattle.rv_model.specs.declared.entry.Entry.{Entry}
 use Rattle.rv_model.specs.Setups.{Setup, coded_setup}
 use Rattle.rv_model.specs.Works.{Work}
-use Rattle.rv_journal.specs.EntryTexts.{journal_of, IsEntry}
 use Rattle.rv_check.specs.Checker.{CheckerValue, IsBegun}
-use Rattle.rv_check.specs.Verdicts.{Journal, Begins, IsStuck}
+use Rattle.rv_check.specs.Verdicts.{Journal, BeginsUpTo, IsStuck}
 
 -- what it judges, so far, and whether it has stopped
 pub record ReaderValue : Type 0 where
@@ -54,10 +53,7 @@ with_line_ends lines = flat_map (λ line. line ++ 10 ∷ []) lines
 pub record IsStopped (j : Journal) (line : ℕ) : Type 0 where
   pub front : List Entry
   pub back : List ℕ
-  pub entries : All IsEntry front
-  pub text : j.text ≡ journal_of front ++ back
-  pub begins : Begins j front
-  pub count : line ≡ suc (length front)
+  pub up_to : BeginsUpTo j line front back
   pub some : back ≢ []
   pub stuck : (more : List ℕ) → IsStuck j front (back ++ more)
 
@@ -72,19 +68,3 @@ pub record IsOpen (c : CheckerValue) (tail : List ℕ) (line : ℕ) (text : List
 -- the one or the other
 abbrev pub IsReader : CheckerValue → List ℕ → ℕ → Bool → List ℕ → Type 0
 IsReader c tail line stopped text = MatchBool stopped (IsStopped (journal_by c text) line) (IsOpen c tail line text)
-
--- ---- one line
-
--- the checker with one more line
-abbrev pub one_more : CheckerValue → List ℕ → CheckerValue
-one_more c line = record c { lines = c.lines ++ line ∷ [] }
-
--- what the checker was made with is kept
-abbrev pub SameMaking : CheckerValue → CheckerValue → Type 0
-SameMaking c new = new ≡ record c { lines = new.lines }
-
--- the line is good, and taken; or it is too long for an entry, or goes on with no beginning
-abbrev pub TakesJournalLine : CheckerValue → List ℕ → Bool → CheckerValue → List ℕ → Type 0
-TakesJournalLine c line good new tail =
-    SameMaking c new
-    × MatchBool good ((new ≡ one_more c line) × IsBegun new × (tail ≡ [])) ((200 < length line) ⊎ (IsBegun (one_more c line) → ⊥))

@@ -38,14 +38,18 @@ pub record IsYes (j : Journal) (specs : List Spec) : Type 0 where
 abbrev pub IsStuck : Journal → List Entry → List ℕ → Type 0
 IsStuck j front back = (e : Entry) (rest : List ℕ) → IsEntry e → back ≡ entry_text e ++ 10 ∷ rest → Begins j (front ++ e ∷ []) → ⊥
 
--- it begins with the lines before this one; here it is stuck, or it is over and not legal
-pub record IsNo (j : Journal) (specs : List Spec) (line : ℕ) : Type 0 where
-  pub front : List Entry
-  pub back : List ℕ
+-- up to this line it is the journal of a history that has begun, and these bytes stand behind that
+pub record BeginsUpTo (j : Journal) (line : ℕ) (front : List Entry) (back : List ℕ) : Type 0 where
   pub entries : All IsEntry front
   pub text : j.text ≡ journal_of front ++ back
   pub begins : Begins j front
   pub count : line ≡ suc (length front)
+
+-- it begins with the lines before this one; here it is stuck, or it is over and not legal
+pub record IsNo (j : Journal) (specs : List Spec) (line : ℕ) : Type 0 where
+  pub front : List Entry
+  pub back : List ℕ
+  pub up_to : BeginsUpTo j line front back
   pub why : ((back ≡ []) × (Legal j specs front → ⊥)) ⊎ ((back ≢ []) × IsStuck j front back)
 
 -- the verdict holds of the text

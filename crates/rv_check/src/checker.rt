@@ -5,7 +5,7 @@ ghost use Rattle.rv_core.specs.Judged.{JudgesBySpecs};
 ghost use Rattle.rv_check.specs.Beginnings.{FitWorks};
 ghost use Rattle.rv_check.specs.Checker.{CheckerValue, IsBegun, IsWhole, IsChecker};
 
-use crate::given::Given;
+use crate::given::{Given, push};
 use crate::run::Run;
 use rv_core::Setup;
 use rv_journal::read_entry;
@@ -97,7 +97,7 @@ impl Checker {
     {
         let good = judge(&mut self.run, self.good, line);
         self.good = good;
-        self.given.push(line);
+        push(&mut self.given, line);
         good
     }
 

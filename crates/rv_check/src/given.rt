@@ -1,59 +1,27 @@
 //! Lines that only contracts see. They take no memory, and their calls do nothing at run time.
-ghost use Rattle.std.specs.Prelude.{◌≡◌, ℕ, List, [], ◌∷◌, ◌++◌};
-ghost use Rattle.std.specs.Borrow.{ftrue};
+ghost use Rattle.std.specs.Prelude.{◌≡◌, [], ◌∷◌, ◌++◌};
 
-use std::marker::Model;
+use rv_model::{GhostList, Keeps};
+use rv_text::Line;
 
-/// Contracts see it as the list of the lines that were given, the first one first.
-#[derive(Drop)]
-pub struct Given {
-    ghost lines: { List (List ℕ) },
-}
-
-impl Model for Given {
-    ghost Value = { List (List ℕ) };
-
-    ghost view = { λ g. g.lines };
-
-    ghost also_owns = { λ _. ftrue };
-}
-
-/// What has lines.
-trait Keeps {
-    ghost lines: { Self → List (List ℕ) };
-}
+/// The lines that were given, the first one first.
+pub(crate) type Given = GhostList<Line>;
 
 /// Lines, and one more.
 #[derive(Drop)]
-struct Longer<'a> {
+struct OneMore<'a> {
     given: &'a Given,
     line: &'a [u8],
 }
 
-impl<'a> Keeps for Longer<'a> {
-    ghost lines = { λ l. l.given.now ++ l.line.now ∷ [] };
+impl<'a> Keeps<Line> for OneMore<'a> {
+    ghost list = { λ l. l.given.now ++ l.line.now ∷ [] };
 }
 
-impl Given {
-    /// No line.
-    pub fn new() -> Given
-        ensures { result ≡ [] }
-    {
-        Given {}
-    }
-
-    /// The lines of `from`.
-    fn of<K: Keeps>(_from: &K) -> Given
-        ensures { result ≡ K.lines _from.now }
-    {
-        Given {}
-    }
-
-    /// The list grows by this line.
-    pub fn push(&mut self, line: &[u8])
-        ensures { self.new ≡ self.old ++ line.now ∷ [] }
-    {
-        let longer = Given::of(&Longer { given: self, line });
-        *self = longer;
-    }
+/// The list grows by this line.
+pub(crate) fn push(given: &mut Given, line: &[u8])
+    ensures { given.new ≡ given.old ++ line.now ∷ [] }
+{
+    let longer = Given::of(&OneMore { given, line });
+    *given = longer;
 }

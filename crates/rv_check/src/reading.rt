@@ -2,11 +2,12 @@
 ghost use Rattle.std.specs.Prelude.{◌≡◌, ◌≢◌, ℕ, ◌≤◌, List, [], ◌∷◌, ◌++◌, true, length, take, drop, ◌<◌, ◌+◌, IfSome, IfNone, IfOk, OnOk, OnErr, Bool, false, not, if◌then◌else◌};
 ghost use Rattle.rv_model.specs.declared.formula.Spec.{Spec};
 ghost use Rattle.rv_check.specs.Checker.{CheckerValue};
-ghost use Rattle.rv_check.specs.Readings.{ReaderValue, coded_reader, pieces_joined, journal_by, with_more_text, grown, has_no_end, IsFed, TakesJournalLine};
+ghost use Rattle.rv_check.specs.Readings.{ReaderValue, coded_reader, pieces_joined, journal_by, with_more_text, grown, has_no_end, IsFed};
+ghost use Rattle.rv_check.specs.Taking.{TakesJournalLine};
 ghost use Rattle.rv_check.specs.Verdicts.{Journal, VerdictHolds, OneVerdict};
 
 use crate::checker::Checker;
-use crate::given::Given;
+use crate::given::{Given, push};
 use memchr::memchr;
 use std::alloc::{AllocError, Global};
 use std::marker::Model;
@@ -131,8 +132,8 @@ impl JournalReader {
         let good = take_line(&mut self.checker, &mut self.tail, part)?;
         self.line = number_behind(good, self.line, next);
         self.stopped = !good;
-        self.pieces.push(part);
-        self.pieces.push(b"\n");
+        push(&mut self.pieces, part);
+        push(&mut self.pieces, b"\n");
         Ok(())
     }
 
@@ -145,11 +146,11 @@ impl JournalReader {
     {
         if part.len() > MAX_LINE - self.tail.len() {
             self.stopped = true;
-            self.pieces.push(part);
+            push(&mut self.pieces, part);
             return Ok(());
         }
         self.tail.extend_from_slice(part)?;
-        self.pieces.push(part);
+        push(&mut self.pieces, part);
         Ok(())
     }
 
@@ -158,7 +159,7 @@ impl JournalReader {
         requires { self.old.stopped ≡ true }
         ensures { self.new ≡ grown self.old bytes.now true }
     {
-        self.pieces.push(bytes);
+        push(&mut self.pieces, bytes);
     }
 
     /// The text grows by the piece, unless memory is wanting: then by a front of it. Whether a caller may read on; if

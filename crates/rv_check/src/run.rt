@@ -4,7 +4,8 @@ ghost use Rattle.rv_core.specs.Core.{IsCore};
 ghost use Rattle.rv_core.specs.Judged.{JudgesBySpecs};
 ghost use Rattle.rv_check.specs.declared.next.Next.TheVariants.{Look};
 ghost use Rattle.rv_check.specs.Beginnings.{FitWorks};
-ghost use Rattle.rv_check.specs.Run.{RunValue, BeginsRun, AllPlayed};
+ghost use Rattle.rv_check.specs.Run.{RunValue, BeginsRun};
+ghost use Rattle.rv_check.specs.Standing.{AllPlayed};
 
 use crate::next::Next;
 use crate::script::{after, allows, may_end, watch_all};
@@ -30,7 +31,8 @@ pub struct Run {
 impl Model for Run {
     ghost use Rattle.rv_model.specs.contracts.entry.Entry as entry;
     ghost use Rattle.rv_model.specs.contracts.work.CpuWork as work;
-    ghost use Rattle.rv_check.specs.Run.{RunValue, coded_run, IsRun};
+    ghost use Rattle.rv_check.specs.Run.{RunValue};
+    ghost use Rattle.rv_check.specs.Standing.{coded_run, IsRun};
 
     ghost Value = { RunValue };
 
@@ -41,7 +43,6 @@ impl Model for Run {
     ghost invariant = { λ r. IsRun r.setup r.panics r.works.items r.words.items r.nexts.items r.history };
 }
 
-/// The opening words.
 fn opening_words(alloc: Global, setup: &Setup) -> Result<Vec<u64>, AllocError>
     ensures { IfOk result (λ words. IsCore setup.now words.items []) }
 {

@@ -70,7 +70,6 @@ fn serves(work: &CpuWork, due: &Due, act: &Act) -> bool
     }
 }
 
-/// Whether the act may be the next one.
 pub fn allows(work: &CpuWork, next: &Next, act: &Act) -> bool
     requires { HasPlace work.now next.now }
     ensures yes { result ≡ true → Allows work.now next.now act.now }
@@ -152,7 +151,6 @@ pub fn watch_all(nexts: &mut Vec<Next>, entry: &Entry)
     }
 }
 
-/// Whether the script may end here.
 pub fn may_end(work: &CpuWork, next: &Next) -> bool
     ensures yes { result ≡ true → MayEnd work.now next.now }
     ensures no { result ≡ false → ¬ MayEnd work.now next.now }

@@ -6,7 +6,6 @@ ghost use Rattle.rv_model.specs.Works.{Work};
 
 use rv_model::{CpuWork, Delivery, Turn};
 
-/// The number of a CPU's seat.
 fn seat_of(work: &CpuWork) -> u32
     ensures { result ≡ 2 + work.now.cpu }
 {
@@ -27,7 +26,6 @@ pub fn work_of(works: &[CpuWork], seat: u32) -> Option<usize>
     None
 }
 
-/// The delivery at this place.
 pub fn delivery_at(work: &CpuWork, place: u32) -> Delivery
     requires { place < length work.now.deliveries }
     ensures { (d : Delivery) → result ≡ slice_index_or work.now.deliveries place d }
@@ -35,7 +33,6 @@ pub fn delivery_at(work: &CpuWork, place: u32) -> Delivery
     work.deliveries[place as usize]
 }
 
-/// How many turns there are.
 pub fn turn_count(work: &CpuWork) -> usize
     ensures { result ≡ length work.now.turns }
 {

@@ -1,7 +1,6 @@
 pub mod EffectLemmas
 pub mod JoinedLemmas
 pub mod OrderLemmas
-pub mod PieceLemmas
 pub mod ScriptLemmas
 pub mod SetLemmas
 pub mod TextLemmas

@@ -1,22 +1,12 @@
 -- From one line of a script to the next.
-use Rattle.std.proofs.Common.{◌≡◌, List, [], ◌∷◌, ◌++◌, Result, Ok, Err, refl, ap, ◌∙◌, append_assoc, append-nil, sym}
-use Rattle.rv_text.specs.Readings.{Refuses, and_then}
+use Rattle.std.proofs.Common.{◌≡◌, List, [], ◌∷◌, ◌++◌, Ok, ap, ◌∙◌, append-nil}
+use Rattle.rv_text.specs.Readings.{Refuses, and_then, onto}
 use Rattle.rv_text.specs.TextLines.{LineText}
-use Rattle.rv_text.specs.declared.refusals.Refusal.{Refusal}
 use Rattle.rv_text.specs.declared.refusals.Refused.{Refused}
 use Rattle.rv_text.specs.declared.refusals.Refused.TheVariants as refuseds
+use Rattle.rv_text.proofs.ReadingLaws.{onto-onto}
 use Rattle.rv_control.specs.declared.script.Numbered.{Numbered}
-use Rattle.rv_control.specs.Scripts.{line_said, onto, commands_of_lines}
-
--- what a line adds comes to the commands so far
-pub onto-onto : (commands more : List Numbered) (later : Result (List Numbered) Refusal) → onto commands (onto more later) ≡ onto (commands ++ more) later
-onto-onto commands more (Err refusal) = refl
-onto-onto commands more (Ok later) = ap Ok (sym (append_assoc commands more later))
-
--- nothing in front changes nothing
-pub onto-none : (later : Result (List Numbered) Refusal) → later ≡ onto [] later
-onto-none (Err refusal) = refl
-onto-none (Ok later) = refl
+use Rattle.rv_control.specs.Scripts.{line_said, commands_of_lines}
 
 -- nothing behind changes nothing
 pub commands_of_lines-none : (commands : List Numbered) → onto commands (commands_of_lines []) ≡ Ok commands

@@ -1,26 +1,12 @@
 -- The paths of the control files (this project's choice after Linux, Documentation/trace/rv: docs/FORMATS.md, "Control files").
 use Rattle.std.specs.Prelude.{ℕ, Bool, true, false, ◌&&◌, ◌==◌, bytes_eq, position, List, [], ◌∷◌, Option, Some, None, option_map, option_and_then, if◌then◌else◌, codes}
+use Rattle.rv_text.specs.Pieces.{pieces_by}
 use Rattle.rv_bind.specs.declared.bindings.Item.{Item}
 use Rattle.rv_bind.specs.declared.bindings.Item.TheVariants as items
 use Rattle.rv_control.specs.declared.watched.MonitorInfo.{MonitorInfo}
 use Rattle.rv_control.specs.declared.paths.Path.{Path}
 use Rattle.rv_control.specs.declared.paths.Path.TheVariants.{AvailableMonitors, AvailableReactors, EnabledMonitors, MonitoringOn, ReactingOn, Desc, Enable, Reactors}
 use Rattle.rv_control.specs.Trees.{ControlValue, display_name}
-
--- a byte in front of the first piece
-abbrev pub begin_with : ℕ → List (List ℕ) → List (List ℕ)
-begin_with byte [] = (byte ∷ []) ∷ []
-begin_with byte (piece ∷ pieces) = (byte ∷ piece) ∷ pieces
-
--- the pieces of a path between its slashes
-unfoldable pub path_pieces : List ℕ → List (List ℕ)
-path_pieces [] = [] ∷ []
-path_pieces (byte ∷ bytes) = if byte == 47 then [] ∷ path_pieces bytes else begin_with byte (path_pieces bytes)
-
--- the pieces of what is left of a path
-abbrev pub pieces_left : Option (List ℕ) → List (List ℕ)
-pieces_left None = []
-pieces_left (Some text) = path_pieces text
 
 -- ---- names
 
@@ -100,9 +86,9 @@ file_by tree (top ∷ item ∷ name ∷ []) = file_below top (outer_named tree i
 file_by tree (top ∷ container ∷ monitor ∷ name ∷ []) = file_below top (inner_named tree container monitor) name
 file_by tree (top ∷ container ∷ monitor ∷ name ∷ more ∷ pieces) = None
 
--- the file of a path
+-- the file of a path, by its pieces between slashes
 abbrev pub path_of : ControlValue → List ℕ → Option Path
-path_of tree path = file_by tree (path_pieces path)
+path_of tree path = file_by tree (pieces_by 47 path)
 
 -- there is a file, and it is a monitor's reactors
 abbrev pub is_reactors_file : Option Path → Bool

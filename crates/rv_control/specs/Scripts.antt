@@ -1,8 +1,8 @@
 -- What a control script says (this project's choice: docs/FORMATS.md, "Control files").
-use Rattle.std.specs.Prelude.{ℕ, Bool, true, false, nat_lt, nat_eq, bytes_eq, List, [], ◌∷◌, ◌++◌, Option, Some, None, option_map, Result, Ok, Err, if◌then◌else◌, codes}
+use Rattle.std.specs.Prelude.{ℕ, true, false, nat_lt, nat_eq, bytes_eq, List, [], ◌∷◌, Option, Some, None, Result, Ok, if◌then◌else◌, codes}
 use Rattle.std.specs.List.{starts_with}
 use Rattle.std.specs.Option.{ok_or}
-use Rattle.rv_text.specs.Readings.{and_then, refused_at}
+use Rattle.rv_text.specs.Readings.{and_then, onto, refused_at}
 use Rattle.rv_text.specs.TextLines.{LineText, lines_of}
 use Rattle.rv_text.specs.Words.{words_of}
 use Rattle.rv_text.specs.declared.numbers.TheConstants.{CONTROL_SYNTAX}
@@ -40,10 +40,6 @@ commands_of_line line (word ∷ words) =
 -- what a line adds; one that ends past the limit is of no form, whatever it says
 abbrev pub line_said : LineText → Result (List Numbered) Refusal
 line_said line = if nat_lt SCRIPT_LIMIT line.end then refused_at CONTROL_SYNTAX line.number else commands_of_line line.number (words_of line.bytes)
-
--- these commands, and then those of the later lines
-abbrev pub onto : List Numbered → Result (List Numbered) Refusal → Result (List Numbered) Refusal
-onto commands later = and_then later (λ more. Ok (commands ++ more))
 
 -- what lines say, one after the other: the first fault decides
 unfoldable pub commands_of_lines : List LineText → Result (List Numbered) Refusal

@@ -5,7 +5,6 @@ mod control;
 mod opening;
 mod orders;
 mod paths;
-mod pieces;
 mod script;
 mod sets;
 mod texts;

@@ -4,10 +4,10 @@ ghost use Rattle.rv_control.specs.Trees.{display_name};
 ghost use Rattle.rv_control.specs.Paths.{container_named, is_same_container, is_called_in, monitor_item, outer_named, inner_named, has_display_name, item_named, item_or, top_file, reactors_file, item_file, file_below, path_of, is_reactors};
 
 use crate::control::Control;
-use crate::pieces::Pieces;
 use crate::watched::MonitorInfo;
 use rv_bind::Item;
 use rv_model::Name;
+use rv_text::Pieces;
 
 /// A control file.
 #[derive(Clone, Copy, Debug, Drop, PartialEq, Eq)]
@@ -36,7 +36,6 @@ fn is_same_container(place: Option<u8>, other: Option<u8>) -> bool
     }
 }
 
-/// Whether the name is this one.
 fn is_named(other: &Name, name: &[u8]) -> bool
     ensures { result ≡ bytes_eq other.now name.now }
 {
@@ -111,7 +110,6 @@ fn top_file(name: &[u8]) -> Option<Path>
     }
 }
 
-/// The file of a monitor's reactors.
 fn reactors_file(item: Item) -> Option<Path>
     ensures { result ≡ reactors_file item }
 {
@@ -147,7 +145,6 @@ fn file_below(top: &[u8], item: Option<Item>, name: &[u8]) -> Option<Path>
 }
 
 impl Control {
-    /// The place of the container of this name.
     fn container_place(&self, name: &[u8]) -> Option<usize>
         ensures value { result ≡ container_named self.now name.now }
         ensures within { IfSome result (λ place. place < 32) }
@@ -157,7 +154,7 @@ impl Control {
             .position(|container| is_named(container, name))
     }
 
-    /// The same, as items have it.
+    /// The place of the container of this name, as items have it.
     fn container_named(&self, name: &[u8]) -> Option<u8>
         ensures { result ≡ container_named self.now name.now }
     {
@@ -253,11 +250,10 @@ impl Control {
         }
     }
 
-    /// The file at this path.
     pub(crate) fn file_at(&self, path: &[u8]) -> Option<Path>
         ensures { result ≡ path_of self.now path.now }
     {
-        let mut pieces = Pieces::new(path);
+        let mut pieces = Pieces::new(b'/', path);
         let top = pieces.next_piece()?;
         let Some(item) = pieces.next_piece() else {
             return top_file(top);

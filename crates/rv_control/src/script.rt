@@ -1,11 +1,11 @@
 //! Scripts of control commands, a line each.
-ghost use Rattle.std.specs.Prelude.{◌≡◌, ◌∷◌, ◌++◌, [], Option, List, option_copied, option_to_list, IfOk, OnOk, OnErr};
+ghost use Rattle.std.specs.Prelude.{◌≡◌, ◌∷◌, Option, List, option_copied, option_to_list, IfOk};
 ghost use Rattle.rv_text.specs.Readings.{Gives};
 ghost use Rattle.rv_text.specs.TextLines.{line_text};
 ghost use Rattle.rv_control.specs.Scripts.{script_command_with, script_command_of, line_said, commands_of_line, script_of};
 
 use rv_model::Name;
-use rv_text::{CONTROL_SYNTAX, Cursor, Refusal, Refused, TextLine, Words};
+use rv_text::{CONTROL_SYNTAX, Cursor, Refusal, Refused, TextLine, Words, push_some};
 use std::alloc::{AllocError, Global};
 
 /// The last byte at which a line of a script may end.
@@ -114,16 +114,6 @@ fn read_line(alloc: Global, line: &TextLine<'_>) -> Result<Option<Numbered>, Ref
     }
 }
 
-/// Appends the command, where there is one.
-fn keep(commands: &mut Vec<Numbered>, read: Option<Numbered>) -> Result<(), AllocError>
-    ensures { OnOk result (commands.new.items ≡ commands.old.items ++ option_to_list read) }
-{
-    if let Some(command) = read {
-        commands.push(command)?;
-    }
-    Ok(())
-}
-
 /// The commands of a script in order, or the first line that has none of the forms.
 pub fn read_script(alloc: Global, bytes: &[u8]) -> Result<Vec<Numbered>, Refused>
     ensures { Gives (λ commands. commands.items) result (script_of bytes.now) }
@@ -132,7 +122,7 @@ pub fn read_script(alloc: Global, bytes: &[u8]) -> Result<Vec<Numbered>, Refused
     let mut lines = Cursor::new(bytes);
     while let Some(line) = lines.next_line() {
         let read = read_line(alloc, &line)?;
-        keep(&mut commands, read)?;
+        push_some(&mut commands, read)?;
     }
     Ok(commands)
 }

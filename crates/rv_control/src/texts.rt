@@ -169,7 +169,6 @@ impl Control {
         }
     }
 
-    /// Appends the text of a file.
     fn file_text(&self, alloc: Global, out: &mut Line, file: Path) -> Result<(), AllocError>
         ensures { OnOk result (out.new ≡ out.old ++ text_of self.now file) }
     {
@@ -185,7 +184,7 @@ impl Control {
         }
     }
 
-    /// The text of the file at a path.
+    /// What a read of this path gives. A path that names no file is refused.
     pub fn read(&self, alloc: Global, path: &[u8]) -> Result<Vec<u8>, Refused>
         ensures { Gives (λ text. text.items) result (file_text self.now path.now) }
     {

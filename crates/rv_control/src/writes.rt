@@ -31,7 +31,6 @@ fn flag_of(text: &[u8]) -> Option<bool>
     }
 }
 
-/// The reactor of this name.
 fn reactor_named(text: &[u8]) -> Option<Reactor>
     ensures { result ≡ reactor_named text.now }
 {
@@ -78,14 +77,12 @@ impl Control {
         }
     }
 
-    /// Changes the switches.
     fn apply(&mut self, change: Change)
         ensures { self.new ≡ with_switches self.old change }
     {
         self.switches = self.switches & !change.lower | change.raise;
     }
 
-    /// Chooses a monitor's reactor.
     fn choose(&mut self, place: u8, text: &[u8]) -> Option<Change>
         ensures some { IfSome result (λ change. option_map (with_reactor self.old place) (reactor_named text.now) ≡ Some (self.new, change)) }
         ensures none { IfNone result ((reactor_named text.now ≡ None) × (self.new ≡ self.old)) }

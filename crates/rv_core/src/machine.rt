@@ -34,8 +34,8 @@ impl Model for Core {
     ghost invariant = { λ c. IsCore c.setup c.words.items c.history };
 }
 
-impl Keeps for Core {
-    ghost history = { λ c. c.history };
+impl Keeps<Entry> for Core {
+    ghost list = { λ c. c.history };
 }
 
 impl Core {

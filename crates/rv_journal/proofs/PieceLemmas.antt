@@ -1,36 +1,10 @@
--- From one piece of a line to the next, and from pieces to their text.
-use Rattle.std.proofs.Common.{◌≡◌, ◌≢◌, ℕ, zero, suc, ◌+◌, ◌-◌, ◌<◌, Bool, true, false, not, ◌&&◌, ◌==◌, cond, List, [], ◌∷◌, ◌++◌, length, get_or, take, drop, refl, sym, ap, ◌∙◌, arith, add-one}
+-- From the pieces of a line to their text, and back.
+use Rattle.std.proofs.Common.{◌≡◌, ◌≢◌, ℕ, suc, ◌+◌, ◌-◌, ◌<◌, Bool, true, false, not, ◌&&◌, ◌==◌, cond, List, [], ◌∷◌, ◌++◌, length, get_or, refl, sym, ap, ◌∙◌, arith}
 use Rattle.std.proofs.lemmas.Bool.{ne_eqb, eq-eqb, eqb-true, and_parts, and_from}
-use Rattle.std.proofs.lemmas.List.{take_rest, append-nil}
+use Rattle.std.proofs.lemmas.List.{append-nil}
+use Rattle.rv_text.specs.Pieces.{begin_with, pieces_by}
+use Rattle.rv_text.proofs.PieceLemmas.{byte-begins}
 use Rattle.rv_journal.specs.EntryTexts.{behind_blanks, one_apart}
-use Rattle.rv_journal.specs.PieceReadings.{begin_with, pieces_of}
-
--- a first byte that is no blank begins the first piece
-byte-begins : (byte : ℕ) (bytes : List ℕ) → byte ≢ 32 → pieces_of (byte ∷ bytes) ≡ begin_with byte (pieces_of bytes)
-unfolding pieces_of
-byte-begins byte bytes other = ap (λ b. cond b ([] ∷ pieces_of bytes) (begin_with byte (pieces_of bytes))) (ne_eqb byte 32 other)
-
--- a text without a blank is one piece
-pub piece-last : (text : List ℕ) → ((k : ℕ) → k < length text → get_or text k 0 ≢ 32) → pieces_of text ≡ text ∷ []
-unfolding pieces_of
-piece-last [] other = refl
-piece-last (byte ∷ bytes) other =
-    byte-begins byte bytes (other 0 (omega arith)) ∙ ap (begin_with byte) (piece-last bytes (λ k l. other (suc k) (omega arith)))
-
--- the first blank ends the first piece
-blank-ends : (text : List ℕ) (blank : ℕ) → blank < length text → get_or text blank 0 ≡ 32 → ((k : ℕ) → k < blank → get_or text k 0 ≢ 32) → pieces_of text ≡ take blank text ∷ pieces_of (drop (suc blank) text)
-unfolding pieces_of
-blank-ends [] blank inside here other = absurd (omega arith)
-blank-ends (byte ∷ bytes) zero inside here other = ap (λ b. cond b ([] ∷ pieces_of bytes) (begin_with byte (pieces_of bytes))) (eq-eqb byte 32 here)
-blank-ends (byte ∷ bytes) (suc blank) inside here other =
-    byte-begins byte bytes (other 0 (omega arith)) ∙ ap (begin_with byte) (blank-ends bytes blank (omega arith) here (λ k l. other (suc k) (omega arith)))
-
--- the same by the bytes behind the blank
-pub piece-next : (text : List ℕ) (blank : ℕ) → blank < length text → get_or text blank 0 ≡ 32 → ((k : ℕ) → k < blank → get_or text k 0 ≢ 32) → pieces_of text ≡ take blank text ∷ pieces_of (take (length text - (blank + 1)) (drop (blank + 1) text))
-piece-next text blank inside here other =
-    blank-ends text blank inside here other
-    ∙ ap (λ n. take blank text ∷ pieces_of (drop n text)) (sym (add-one blank))
-    ∙ ap (λ (rest : List ℕ). take blank text ∷ pieces_of rest) (sym (take_rest text (blank + 1)))
 
 -- ---- the pieces of a text are its words, one blank apart
 
@@ -42,18 +16,18 @@ begin-behind byte text (piece ∷ pieces) is =
     ap (λ (t : List ℕ). 32 ∷ byte ∷ t) tail
 
 -- behind a blank each, the pieces are the text behind a blank
-pieces-behind : (text : List ℕ) → behind_blanks (pieces_of text) ≡ 32 ∷ text
-unfolding pieces_of
+pieces-behind : (text : List ℕ) → behind_blanks (pieces_by 32 text) ≡ 32 ∷ text
+unfolding pieces_by
 pieces-behind [] = refl
 pieces-behind (byte ∷ bytes) = on (byte == 32) refl (pieces-behind bytes)
   where
-    on : (b : Bool) → (byte == 32) ≡ b → behind_blanks (pieces_of bytes) ≡ 32 ∷ bytes → behind_blanks (cond b ([] ∷ pieces_of bytes) (begin_with byte (pieces_of bytes))) ≡ 32 ∷ byte ∷ bytes
+    on : (b : Bool) → (byte == 32) ≡ b → behind_blanks (pieces_by 32 bytes) ≡ 32 ∷ bytes → behind_blanks (cond b ([] ∷ pieces_by 32 bytes) (begin_with byte (pieces_by 32 bytes))) ≡ 32 ∷ byte ∷ bytes
     on true is later = ap (λ (t : List ℕ). 32 ∷ t) later ∙ ap (λ (b : ℕ). 32 ∷ b ∷ bytes) (sym (eqb-true byte 32 is))
-    on false is later = begin-behind byte bytes (pieces_of bytes) later
+    on false is later = begin-behind byte bytes (pieces_by 32 bytes) later
 
 -- one blank apart, the pieces are the text
-pub pieces-text : (text : List ℕ) → one_apart (pieces_of text) ≡ text
-pieces-text text = on (pieces_of text) (pieces-behind text)
+pub pieces-text : (text : List ℕ) → one_apart (pieces_by 32 text) ≡ text
+pieces-text text = on (pieces_by 32 text) (pieces-behind text)
   where
     on : (pieces : List (List ℕ)) → behind_blanks pieces ≡ 32 ∷ text → one_apart pieces ≡ text
     on [] is = absurd (cc)
@@ -86,20 +60,20 @@ byte-of : (byte : ℕ) (b : Bool) → (not (byte == 32) && b) ≡ true → byte 
 byte-of byte b is = λ same. let there : (byte == 32) ≡ true = eq-eqb byte 32 same in cc (rw there at is)
 
 -- a word behind which a blank stands
-piece-word : (word text : List ℕ) → has_no_blank word ≡ true → pieces_of (word ++ 32 ∷ text) ≡ word ∷ pieces_of text
-unfolding pieces_of
+piece-word : (word text : List ℕ) → has_no_blank word ≡ true → pieces_by 32 (word ++ 32 ∷ text) ≡ word ∷ pieces_by 32 text
+unfolding pieces_by
 piece-word [] text is = refl
 piece-word (byte ∷ bytes) text is =
-    byte-begins byte (bytes ++ 32 ∷ text) (byte-of byte (has_no_blank bytes) is) ∙ ap (begin_with byte) (piece-word bytes text ((and_parts _ _ is).1))
+    byte-begins 32 byte (bytes ++ 32 ∷ text) (byte-of byte (has_no_blank bytes) is) ∙ ap (begin_with byte) (piece-word bytes text ((and_parts _ _ is).1))
 
 -- a word that is the whole text
-piece-whole : (word : List ℕ) → has_no_blank word ≡ true → pieces_of word ≡ word ∷ []
-unfolding pieces_of
+piece-whole : (word : List ℕ) → has_no_blank word ≡ true → pieces_by 32 word ≡ word ∷ []
+unfolding pieces_by
 piece-whole [] is = refl
-piece-whole (byte ∷ bytes) is = byte-begins byte bytes (byte-of byte (has_no_blank bytes) is) ∙ ap (begin_with byte) (piece-whole bytes ((and_parts _ _ is).1))
+piece-whole (byte ∷ bytes) is = byte-begins 32 byte bytes (byte-of byte (has_no_blank bytes) is) ∙ ap (begin_with byte) (piece-whole bytes ((and_parts _ _ is).1))
 
 -- one or more words
-pub pieces-words : (word : List ℕ) (words : List (List ℕ)) → has_no_blank word ≡ true → AreWords words → pieces_of (one_apart (word ∷ words)) ≡ word ∷ words
-pieces-words word [] first others = ap pieces_of (append-nil word) ∙ piece-whole word first
+pub pieces-words : (word : List ℕ) (words : List (List ℕ)) → has_no_blank word ≡ true → AreWords words → pieces_by 32 (one_apart (word ∷ words)) ≡ word ∷ words
+pieces-words word [] first others = ap (pieces_by 32) (append-nil word) ∙ piece-whole word first
 pieces-words word (next ∷ words) first others =
     piece-word word (next ++ behind_blanks words) first ∙ ap (λ (later : List (List ℕ)). word ∷ later) (pieces-words next words others.0 others.1)

@@ -9,7 +9,7 @@ use Rattle.rv_model.specs.declared.hit.Mode.TheVariants as modes
 use Rattle.rv_model.specs.declared.hit.What.{What}
 use Rattle.rv_model.specs.declared.hit.What.TheVariants.{Da, Ltl, Nothing}
 use Rattle.rv_journal.specs.EntryTexts.{mode_word, what_words, act_words, entry_words, one_apart, entry_text, IsWhat, IsAct, IsEntry}
-use Rattle.rv_journal.specs.PieceReadings.{pieces_of}
+use Rattle.rv_text.specs.Pieces.{pieces_by}
 use Rattle.rv_journal.specs.EntryReadings.{entry_from}
 use Rattle.rv_journal.proofs.PieceLemmas.{has_no_blank, AreWords, words-append, pieces-text, pieces-words}
 use Rattle.rv_journal.proofs.NumberLemmas.{decimal-word}
@@ -45,22 +45,22 @@ act-are-words (Clear slot) is = (refl, (decimal-word slot (omega arith), tt))
 act-are-words (End slot) is = (refl, (decimal-word slot (omega arith), tt))
 
 -- the pieces of an entry's text are its words
-entry-pieces : (e : Entry) → IsEntry e → pieces_of (entry_text e) ≡ entry_words e
+entry-pieces : (e : Entry) → IsEntry e → pieces_by 32 (entry_text e) ≡ entry_words e
 entry-pieces e is =
     let low = is.seat in
     pieces-words (decimal e.seat) (act_words e.act ++ decimal e.before ∷ decimal e.after ∷ []) (decimal-word e.seat (omega arith))
     (words-append (act_words e.act) (decimal e.before ∷ decimal e.after ∷ []) (act-are-words e.act is.act) (decimal-word e.before is.before, (decimal-word e.after is.after, tt)))
 
 -- what is read of a line has it as its text
-pub line-is : (line : List ℕ) (result : Option Entry) → result ≡ entry_from (pieces_of line) → IfSome result (λ e. entry_text e ≡ line)
+pub line-is : (line : List ℕ) (result : Option Entry) → result ≡ entry_from (pieces_by 32 line) → IfSome result (λ e. entry_text e ≡ line)
 line-is line None is = tt
-line-is line (Some e) is = ap one_apart (sym (entry-spelled (pieces_of line) e (sym is))) ∙ pieces-text line
+line-is line (Some e) is = ap one_apart (sym (entry-spelled (pieces_by 32 line) e (sym is))) ∙ pieces-text line
 
 -- what is read of a line is an entry
-pub line-fits : (line : List ℕ) (result : Option Entry) → result ≡ entry_from (pieces_of line) → IfSome result IsEntry
+pub line-fits : (line : List ℕ) (result : Option Entry) → result ≡ entry_from (pieces_by 32 line) → IfSome result IsEntry
 line-fits line None is = tt
-line-fits line (Some e) is = entry-fits (pieces_of line) e (sym is)
+line-fits line (Some e) is = entry-fits (pieces_by 32 line) e (sym is)
 
 -- the line of an entry is read as it
-pub line-reads : (line : List ℕ) (e : Entry) → IsEntry e → entry_text e ≡ line → entry_from (pieces_of line) ≡ Some e
-line-reads line e is same = ap (λ (l : List ℕ). entry_from (pieces_of l)) (sym same) ∙ ap entry_from (entry-pieces e is) ∙ entry-read e is
+pub line-reads : (line : List ℕ) (e : Entry) → IsEntry e → entry_text e ≡ line → entry_from (pieces_by 32 line) ≡ Some e
+line-reads line e is same = ap (λ (l : List ℕ). entry_from (pieces_by 32 l)) (sym same) ∙ ap entry_from (entry-pieces e is) ∙ entry-read e is

@@ -1,5 +1,5 @@
--- Private: the pieces of a text, which stand between its blanks, and what one of them is: a number or a name.
-use Rattle.std.specs.Prelude.{◌≡◌, ℕ, ◌&&◌, ◌==◌, nat_le, bytes_eq, List, [], ◌∷◌, Option, Some, None, if◌then◌else◌, codes, decimal}
+-- Private: what one of the pieces of a line is, which stand between its blanks: a number or a name.
+use Rattle.std.specs.Prelude.{◌≡◌, ℕ, ◌&&◌, nat_le, bytes_eq, List, [], ◌∷◌, Option, Some, None, if◌then◌else◌, codes, decimal}
 use Rattle.std.specs.Option.{option_and_then, option_map}
 use Rattle.rv_text.specs.Decimal.{decimal_of}
 use Rattle.rv_model.specs.declared.hit.Mode.{Mode}
@@ -8,21 +8,6 @@ use Rattle.rv_journal.specs.declared.names.LetterKind.{LetterKind}
 use Rattle.rv_journal.specs.declared.names.LetterKind.TheVariants as kinds
 use Rattle.rv_journal.specs.declared.names.ActVerb.{ActVerb}
 use Rattle.rv_journal.specs.declared.names.ActVerb.TheVariants as verbs
-
--- a byte in front of the first piece
-abbrev pub begin_with : ℕ → List (List ℕ) → List (List ℕ)
-begin_with byte [] = (byte ∷ []) ∷ []
-begin_with byte (piece ∷ pieces) = (byte ∷ piece) ∷ pieces
-
--- the pieces of a text between its blanks
-unfoldable pub pieces_of : List ℕ → List (List ℕ)
-pieces_of [] = [] ∷ []
-pieces_of (byte ∷ bytes) = if byte == 32 then [] ∷ pieces_of bytes else begin_with byte (pieces_of bytes)
-
--- the pieces of what is left of a text
-abbrev pub pieces_left : Option (List ℕ) → List (List ℕ)
-pieces_left None = []
-pieces_left (Some text) = pieces_of text
 
 -- what words begin with, and the words behind it
 abbrev pub Reading : Type 0 → Type 0

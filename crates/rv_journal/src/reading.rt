@@ -6,14 +6,15 @@ ghost use Rattle.rv_journal.specs.PieceReadings.{most_32, number_from, ReadsWord
 ghost use Rattle.rv_journal.specs.EntryReadings.{event_from, sets_from, what_from, deliver_from, act_from, entry_from};
 
 use crate::names::{ActVerb, LetterKind};
-use crate::pieces::Pieces;
+use crate::pieces::{next_kind, next_mode, next_number, next_verb};
 use rv_model::{Act, Entry, Hit, What};
+use rv_text::Pieces;
 
 /// A number of 32 bits.
 fn small(words: &mut Pieces<'_>) -> Option<u32>
     ensures { ReadsWords (number_from most_32) words.old words.new result }
 {
-    let n = words.next_number(u32::MAX as u64)?;
+    let n = next_number(words, u32::MAX as u64)?;
     Some(n as u32)
 }
 
@@ -21,7 +22,7 @@ fn small(words: &mut Pieces<'_>) -> Option<u32>
 fn event(words: &mut Pieces<'_>) -> Option<What>
     ensures { ReadsWords event_from words.old words.new result }
 {
-    let event = words.next_number(u8::MAX as u64)?;
+    let event = next_number(words, u8::MAX as u64)?;
     Some(What::Da { event: event as u8 })
 }
 
@@ -39,7 +40,7 @@ fn sets(words: &mut Pieces<'_>) -> Option<What>
 fn what(words: &mut Pieces<'_>) -> Option<What>
     ensures { ReadsWords what_from words.old words.new result }
 {
-    let kind = words.next_kind()?;
+    let kind = next_kind(words)?;
     match kind {
         LetterKind::Da => event(words),
         LetterKind::Ltl => sets(words),
@@ -51,7 +52,7 @@ fn deliver(words: &mut Pieces<'_>) -> Option<Act>
     ensures { ReadsWords deliver_from words.old words.new result }
 {
     let slot = small(words)?;
-    let mode = words.next_mode()?;
+    let mode = next_mode(words)?;
     let what = what(words)?;
     Some(Act::Deliver {
         slot,
@@ -63,7 +64,7 @@ fn deliver(words: &mut Pieces<'_>) -> Option<Act>
 fn act(words: &mut Pieces<'_>) -> Option<Act>
     ensures { ReadsWords act_from words.old words.new result }
 {
-    let verb = words.next_verb()?;
+    let verb = next_verb(words)?;
     match verb {
         ActVerb::Deliver => deliver(words),
         ActVerb::Stop => {
@@ -72,11 +73,11 @@ fn act(words: &mut Pieces<'_>) -> Option<Act>
         }
         ActVerb::Look => Some(Act::Look),
         ActVerb::Raise => {
-            let raised = words.next_number(u64::MAX)?;
+            let raised = next_number(words, u64::MAX)?;
             Some(Act::Raise { bits: raised })
         }
         ActVerb::Lower => {
-            let lowered = words.next_number(u64::MAX)?;
+            let lowered = next_number(words, u64::MAX)?;
             Some(Act::Lower { bits: lowered })
         }
         ActVerb::Clear => {
@@ -96,8 +97,8 @@ fn entry(words: &mut Pieces<'_>) -> Option<Entry>
 {
     let seat = small(words)?;
     let act = act(words)?;
-    let before = words.next_number(u64::MAX)?;
-    let after = words.next_number(u64::MAX)?;
+    let before = next_number(words, u64::MAX)?;
+    let after = next_number(words, u64::MAX)?;
     match words.next_piece() {
         Some(_) => None,
         None => Some(Entry {
@@ -115,6 +116,6 @@ pub fn read_entry(line: &[u8]) -> Option<Entry>
     ensures fits { IfSome result IsEntry }
     ensures every { (e : Told) → IsEntry e → entry_text e ≡ line.now → result ≡ Some e }
 {
-    let mut words = Pieces::new(line);
+    let mut words = Pieces::new(b' ', line);
     entry(&mut words)
 }

@@ -5,7 +5,7 @@ ghost use Rattle.rv_core.specs.Setup.{judges_of};
 
 use atomic_table::Seat as Token;
 use rv_board::{SEATS, View};
-use rv_model::{Act, Keeps};
+use rv_model::{Act, Entry, Keeps};
 use std::marker::Model;
 
 /// How many entries a number may make.
@@ -34,8 +34,8 @@ impl Model for CountedSeat {
     ghost invariant = { λ s. IsCountedSeat s.number s.end s.left s.token.me };
 }
 
-impl Keeps for CountedSeat {
-    ghost history = { λ s. s.seat.part.seen };
+impl Keeps<Entry> for CountedSeat {
+    ghost list = { λ s. s.seat.part.seen };
 }
 
 impl CountedSeat {

@@ -17,4 +17,3 @@ pub mod SortLemmas
 pub mod TableJudgeLemmas
 pub mod TruthLemmas
 pub mod UniqueLemmas
-pub mod Walks

@@ -1,5 +1,6 @@
 //! The entries of a history: one atomic action on one shared word each.
 
+use crate::ghost_list::GhostList;
 use crate::hit::Hit;
 
 /// What a seat does to a word: word 0 for `Look`, `Raise` and `Lower`, a slot's word for the others.
@@ -29,6 +30,9 @@ pub struct Entry {
     pub before: u64,
     pub after: u64,
 }
+
+/// A history, which only contracts see.
+pub type Closed = GhostList<Entry>;
 
 /// What an act tells its seat.
 #[derive(Clone, Copy, Debug, Drop, PartialEq, Eq)]

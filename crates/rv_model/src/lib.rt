@@ -2,9 +2,9 @@
 #![tactic(auto)]
 
 mod automaton;
-mod closed;
 mod entry;
 mod formula;
+mod ghost_list;
 mod hit;
 mod laws;
 mod name;
@@ -14,9 +14,9 @@ mod switches;
 mod work;
 
 pub use automaton::{Automaton, Edge};
-pub use closed::{Closed, Keeps};
-pub use entry::{Act, Answer, Entry};
+pub use entry::{Act, Answer, Closed, Entry};
 pub use formula::{Formula, Rule, Spec};
+pub use ghost_list::{GhostList, Keeps};
 pub use hit::{Hit, Letter, Mode, What};
 pub use laws::{
     letters_may_be_cut, one_history, satisfaction_is_tested, slots_apart, tables_are_judged,

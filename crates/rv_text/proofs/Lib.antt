@@ -5,3 +5,4 @@ pub mod SelectLemmas
 pub mod TextLineLemmas
 pub mod WordLemmas
 pub mod LinesStand
+pub mod PieceLemmas

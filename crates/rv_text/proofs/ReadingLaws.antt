@@ -1,10 +1,10 @@
 -- How readings join, and which way a test in one went.
-use Rattle.std.proofs.Common.{◌≡◌, Bool, true, false, cond, Option, Some, None, Result, Ok, Err, refl, ap, ◌⊎◌, inl, inr}
+use Rattle.std.proofs.Common.{◌≡◌, Bool, true, false, cond, List, [], ◌++◌, append_assoc, Option, Some, None, Result, Ok, Err, refl, sym, ap, ◌⊎◌, inl, inr}
 use Rattle.std.specs.Option.{option_map, option_and_then}
 use Rattle.rv_text.specs.declared.refusals.Refusal.{Refusal}
 use Rattle.rv_text.specs.declared.refusals.Refused.{Refused}
 use Rattle.rv_text.specs.declared.refusals.Refused.TheVariants as refuseds
-use Rattle.rv_text.specs.Readings.{Refuses, and_then}
+use Rattle.rv_text.specs.Readings.{Refuses, and_then, onto}
 
 -- a refusal stays the refusal, whatever would be read next
 pub Refuses-and_then : {X Y : Type 0} (refused : Refused) (read : Result X Refusal) (next : X → Result Y Refusal) → Refuses refused read → Refuses refused (and_then read next)
@@ -24,6 +24,16 @@ and_then-ok read x next is = ap (λ r. and_then r next) is
 pub and_then-and_then : {X Y Z : Type 0} (read : Result X Refusal) (f : X → Result Y Refusal) (g : Y → Result Z Refusal) → and_then (and_then read f) g ≡ and_then read (λ x. and_then (f x) g)
 and_then-and_then (Ok x) f g = refl
 and_then-and_then (Err refusal) f g = refl
+
+-- items behind items are one list of them
+pub onto-onto : {X : Type 0} (items more : List X) (later : Result (List X) Refusal) → onto items (onto more later) ≡ onto (items ++ more) later
+onto-onto items more (Err refusal) = refl
+onto-onto items more (Ok later) = ap Ok (sym (append_assoc items more later))
+
+-- nothing in front changes nothing
+pub onto-none : {X : Type 0} (later : Result (List X) Refusal) → later ≡ onto [] later
+onto-none (Err refusal) = refl
+onto-none (Ok later) = refl
 
 -- what gave a value in two steps gave one in the first
 pub bind_some : {A B : Type 0} (o : Option A) (f : A → Option B) (y : B) → option_and_then f o ≡ Some y → (x : A) × (o ≡ Some x) × (f x ≡ Some y)

@@ -1,5 +1,5 @@
 -- What a reader answers: the definition's value or refusal, unless memory ran out.
-use Rattle.std.specs.Prelude.{◌≡◌, ℕ, Result, Ok, Err}
+use Rattle.std.specs.Prelude.{◌≡◌, ℕ, List, ◌++◌, Result, Ok, Err}
 use Rattle.rv_text.specs.declared.refusals.Refusal.{Refusal}
 use Rattle.rv_text.specs.declared.refusals.Refused.{Refused}
 use Rattle.rv_text.specs.declared.refusals.Refused.TheVariants as refuseds
@@ -26,3 +26,7 @@ refused_at number line = Err (record { number = number; line = line })
 abbrev pub and_then : {X Y : Type 0} → Result X Refusal → (X → Result Y Refusal) → Result Y Refusal
 and_then (Ok x) next = next x
 and_then (Err refusal) next = Err refusal
+
+-- these items, and then those that are read later
+abbrev pub onto : {X : Type 0} → List X → Result (List X) Refusal → Result (List X) Refusal
+onto items later = and_then later (λ more. Ok (items ++ more))

@@ -1,5 +1,5 @@
 -- The lines of a text, by the places where they start, and the words of a line.
-use Rattle.std.specs.Prelude.{◌≡◌, ◌≤◌, ℕ, zero, suc, ◌+◌, ◌-◌, Bool, ◌||◌, ◌==◌, nat_lt, min, List, [], ◌∷◌, length, slice_index, if◌then◌else◌}
+use Rattle.std.specs.Prelude.{ℕ, zero, suc, ◌+◌, ◌-◌, Bool, ◌||◌, ◌==◌, nat_lt, min, List, [], ◌∷◌, length, slice_index, if◌then◌else◌}
 use Rattle.rv_text.specs.Places.{least, between}
 use Rattle.rv_text.specs.declared.cursor.TextLine.{TextLine}
 
@@ -52,9 +52,3 @@ lines_from text number from = lines_at text number (select (is_line_start text) 
 -- all lines of a text, numbered from 1 on
 unfoldable pub lines_of : List ℕ → List LineText
 lines_of text = lines_from text 1 0
-
--- the line's pieces lie in the text
-pub record StandsIn (text : List ℕ) (line : LineText) : Type 0 where
-  pub bytes : line.bytes ≡ between text line.from (line.from + length line.bytes)
-  pub ended : line.from + length line.bytes ≤ line.end
-  pub within : line.end ≤ length text

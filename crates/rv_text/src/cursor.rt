@@ -60,7 +60,7 @@ impl<'a> Cursor<'a> {
             return None;
         }
         let to = line_end(text, from);
-        let end = behind(text, to);
+        let end = past_line_end(text, to);
         self.place = end;
         self.number = next_number(number);
         Some(TextLine {
@@ -72,8 +72,8 @@ impl<'a> Cursor<'a> {
     }
 }
 
-/// Where the line ends that starts here.
-fn line_end(text: &[u8], from: usize) -> usize
+/// The first line end from a place on, or the end of the text.
+pub fn line_end(text: &[u8], from: usize) -> usize
     requires { from ≤ length text.now }
     ensures value { result ≡ line_end text.now from }
     ensures low { from ≤ result }
@@ -87,7 +87,7 @@ fn line_end(text: &[u8], from: usize) -> usize
 
 /// The place behind the line end that stands here, if one does.
 #[inline(always)]
-fn behind(text: &[u8], to: usize) -> usize
+pub fn past_line_end(text: &[u8], to: usize) -> usize
     requires { to ≤ length text.now }
     ensures { result ≡ min (to + 1) (length text.now) }
 {
@@ -96,7 +96,7 @@ fn behind(text: &[u8], to: usize) -> usize
 
 /// The next line's number.
 #[inline(always)]
-fn next_number(number: u32) -> u32
+pub fn next_number(number: u32) -> u32
     ensures { result ≡ next_number number }
 {
     if number < u32::MAX {

@@ -4,14 +4,17 @@
 mod cursor;
 mod decimals;
 mod line;
+mod lists;
 mod numbers;
+mod pieces;
 mod refusals;
 mod runs;
 mod words;
 
-pub use cursor::{Cursor, TextLine};
+pub use cursor::{Cursor, TextLine, line_end, next_number, past_line_end};
 pub use decimals::decimal;
 pub use line::Line;
+pub use lists::push_some;
 pub use numbers::{
     BIND_SYNTAX, CONTROL_SYNTAX, CYCLE, DEFINED_TWICE, DOT_SYNTAX, HEADER_SYNTAX, INVALID,
     LOST_EVENTS, LTL_SYNTAX, NAME_TWICE, NO_HEADER, NO_INITIAL, NO_INSTANCE, NO_PID, NO_RULE,
@@ -20,6 +23,7 @@ pub use numbers::{
     TOO_MANY_PARTS, TOO_MANY_RULES, TOO_MANY_STATES, TOO_MANY_TASKS, TOO_WIDE, TRACE_SYNTAX,
     TWO_INITIALS, UNDECLARED_STATE, UNKNOWN_ATOM, UNKNOWN_EVENT, USAGE,
 };
+pub use pieces::Pieces;
 pub use refusals::{Refusal, Refused};
 pub use runs::{ByteClass, run_end};
 pub use words::Words;

@@ -8,7 +8,8 @@ use Rattle.rv_text.specs.declared.refusals.Refused.{Refused}
 use Rattle.rv_text.specs.declared.refusals.Refused.TheVariants as refuseds
 use Rattle.rv_text.specs.Places.{between}
 use Rattle.rv_text.specs.Readings.{Refuses, and_then}
-use Rattle.rv_text.specs.TextLines.{StandsIn, lines_of, lines_from, lines_at, select}
+use Rattle.rv_text.specs.TextLines.{lines_of, lines_from, lines_at, select}
+use Rattle.rv_text.specs.LinePlaces.{StandsIn}
 use Rattle.rv_text.proofs.LinesStand.{lines_of-stand}
 use Rattle.rv_text.proofs.ReadingLaws.{Refuses-and_then, Refuses-same, and_then-ok}
 use Rattle.rv_trace.specs.declared.line.TraceLine.{TraceLine}

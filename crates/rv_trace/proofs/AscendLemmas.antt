@@ -1,18 +1,18 @@
 -- The lines of a trace are numbered upwards.
 use Rattle.std.proofs.Common.{◌≡◌, ℕ, ◌+◌, ◌-◌, ◌<◌, ◌≤◌, Bool, true, false, ◌||◌, List, [], ◌∷◌, length, refl, sym, ap, ◌∙◌, subst, arith}
-use Rattle.std.specs.Prelude.{All, AllPairs, Option, Some, None, Result, Ok, Err, nat_lt, if◌then◌else◌}
+use Rattle.std.specs.Prelude.{All, AllPairs, Option, Some, None, Result, Ok, Err, nat_lt, if◌then◌else◌, option_to_list}
 use Rattle.std.specs.Option.{ok_or}
 use Rattle.std.proofs.lemmas.List.Elements.{All-nil, All-cons, All-weaker}
 use Rattle.std.proofs.lemmas.List.Kept.{AllPairs-cons}
 use Rattle.rv_text.specs.declared.refusals.Refusal.{Refusal}
 use Rattle.rv_text.specs.declared.numbers.TheConstants.{TOO_LONG, TRACE_SYNTAX, LOST_EVENTS, TOO_MANY_CPUS}
-use Rattle.rv_text.specs.Readings.{and_then, refused_at}
+use Rattle.rv_text.specs.Readings.{and_then, refused_at, onto}
 use Rattle.rv_text.specs.TextLines.{line_here, next_number, lines_at, lines_from, lines_of, select, is_line_start}
 use Rattle.rv_trace.specs.declared.parts.Parts.{Parts}
 use Rattle.rv_trace.specs.declared.line.TraceLine.{TraceLine}
 use Rattle.rv_trace.specs.declared.trace.TheConstants.{MAX_LINES, MAX_BYTES}
 use Rattle.rv_trace.specs.Lines.{is_skipped, is_lost, parts_of, head_pid, cpu_of, line_with, said, line_of}
-use Rattle.rv_trace.specs.Traces.{reading_of, line_added, onto, all_read, trace_of}
+use Rattle.rv_trace.specs.Traces.{reading_of, all_read, trace_of}
 
 -- a line that is read has its number
 said_number : (text : List ℕ) (from number : ℕ) (parts : Parts) (line : TraceLine) → said text from number parts ≡ Ok line → line.number ≡ number
@@ -76,18 +76,18 @@ module _ (text : List ℕ) where
       rest : Result (List TraceLine) Refusal
       rest = all_read (lines_at text (next_number n) places)
 
-      later : (r : Option TraceLine) (more : Result (List TraceLine) Refusal) → ((l : TraceLine) → r ≡ Some l → l.number ≡ n) → ((xs : List TraceLine) → more ≡ Ok xs → Up (n + 1) xs) → onto (line_added r) more ≡ Ok lines → Up n lines
+      later : (r : Option TraceLine) (more : Result (List TraceLine) Refusal) → ((l : TraceLine) → r ≡ Some l → l.number ≡ n) → ((xs : List TraceLine) → more ≡ Ok xs → Up (n + 1) xs) → onto (option_to_list r) more ≡ Ok lines → Up n lines
       later r (Err refusal) number up e = cc
       later None (Ok xs) number up e = let same : xs ≡ lines = cc in subst (Up n) same (up_lower n xs (up xs refl))
       later (Some l) (Ok xs) number up e = let same : l ∷ xs ≡ lines = cc in subst (Up n) same (up_cons n l xs (number l refl) (up xs refl))
 
       line : (r : Result (Option TraceLine) Refusal) → line_of (line_here text n place).bytes place n ≡ r → ((xs : List TraceLine) → all_read (lines_at text (next_number n) places) ≡ Ok xs → Up (n + 1) xs)
-          → and_then r (λ read. onto (line_added read) (all_read (lines_at text (next_number n) places))) ≡ Ok lines → Up n lines
+          → and_then r (λ read. onto (option_to_list read) (all_read (lines_at text (next_number n) places))) ≡ Ok lines → Up n lines
       line (Err refusal) is up e = cc
       line (Ok r) is up e = later r (all_read (lines_at text (next_number n) places)) (λ l some. line_number (line_here text n place).bytes place n l (is ∙ ap (λ (o : Option TraceLine). Ok o) some)) up e
 
       go : (many : Bool) → nat_lt MAX_LINES n ≡ many → (late : Bool) → (n ≤ MAX_LINES → (xs : List TraceLine) → all_read (lines_at text (n + 1) places) ≡ Ok xs → Up (n + 1) xs)
-          → and_then (if many || late then refused_at TOO_LONG n else line_of (line_here text n place).bytes place n) (λ read. onto (line_added read) (all_read (lines_at text (next_number n) places))) ≡ Ok lines → Up n lines
+          → and_then (if many || late then refused_at TOO_LONG n else line_of (line_here text n place).bytes place n) (λ read. onto (option_to_list read) (all_read (lines_at text (next_number n) places))) ≡ Ok lines → Up n lines
       go true is late up e = cc
       go false is true up e = cc
       go false is false up e =

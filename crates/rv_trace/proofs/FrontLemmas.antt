@@ -2,8 +2,9 @@
 use Rattle.std.proofs.Common.{◌≡◌, ◌≢◌, ℕ, ◌+◌, ◌-◌, ◌<◌, ◌≤◌, inl, inr, true, false, eqb, ltb, min, List, [], ◌∷◌, ◌++◌, length, get_or, Result, Ok, Err, refl, sym, ◌∙◌, ap, subst, arith, append_assoc, append-nil, length-append}
 use Rattle.std.proofs.lemmas.Bool.{cases_lt, eqb-true, eqb-false, or_right, lt-ltb, ltb-true}
 use Rattle.std.proofs.lemmas.List.{get_or_append_left, get_or-append-add}
+use Rattle.std.specs.Prelude.{option_to_list}
 use Rattle.rv_text.specs.TextLines.{LineText, line_end, line_here, lines_from, lines_of, next_number}
-use Rattle.rv_text.specs.Readings.{and_then, refused_at}
+use Rattle.rv_text.specs.Readings.{and_then, refused_at, onto}
 use Rattle.rv_text.specs.declared.numbers.TheConstants.{TOO_LONG}
 use Rattle.rv_text.specs.declared.refusals.Refusal.{Refusal}
 use Rattle.rv_text.proofs.TextLineLemmas.{line_end-low, line_end-byte, lines_from-next}
@@ -11,7 +12,7 @@ use Rattle.rv_text.proofs.ReadingLaws.{chosen-true}
 use Rattle.rv_trace.specs.declared.line.TraceLine.{TraceLine}
 use Rattle.rv_trace.specs.declared.trace.TheConstants.{MAX_LINES, MAX_BYTES}
 use Rattle.rv_trace.specs.Lines.{line_of}
-use Rattle.rv_trace.specs.Traces.{is_too_long, reading_of, line_added, onto, all_read, trace_of}
+use Rattle.rv_trace.specs.Traces.{is_too_long, reading_of, all_read, trace_of}
 use Rattle.rv_trace.specs.Streams.{ended_front, is_whole, part_read, StandsAt}
 use Rattle.rv_trace.proofs.StreamLemmas.{NoEnd, ended_front-none, ended_front-on, behind_line, choice, stands-first, stands-next}
 use Rattle.rv_trace.proofs.TakenLemmas.{all_read-append}
@@ -88,7 +89,7 @@ front-refused fed more refusal is =
 late-refused : (line : LineText) (later : List LineText) → MAX_BYTES < line.end → all_read (line ∷ later) ≡ refused_at TOO_LONG line.number
 unfolding all_read reading_of
 late-refused line later past =
-    ap (λ read. and_then read (λ r. onto (line_added r) (all_read later)))
+    ap (λ read. and_then read (λ r. onto (option_to_list r) (all_read later)))
     (chosen-true (is_too_long line) (refused_at TOO_LONG line.number) (line_of line.bytes line.from line.number) (or_right (ltb MAX_LINES line.number) (ltb MAX_BYTES line.end) (lt-ltb _ _ past)))
 
 module _ (front rest more : List ℕ) (number : ℕ) (stands : StandsAt front number) (none : NoEnd rest) (some : 0 < length rest) where

@@ -1,7 +1,7 @@
 -- From the mask of a load to the run of bytes that pass a test.
 use Rattle.std.proofs.Common.{◌≡◌, ℕ, ◌+◌, ◌-◌, ◌%◌, ◌^◌, ◌<◌, ◌≤◌, Bool, true, false, not, cond, List, [], ◌∷◌, map, length, get_or, replicate, Fits, w8, refl, sym, ap, ap₂, ◌∙◌, subst, arith, inl, inr}
 use Rattle.std.proofs.lemmas.Bool.{agree_below, agree_below_at, not-true, not-false, cases_eq, eq-eqb, ne_eqb, cond-true, cond-false}
-use Rattle.std.proofs.lemmas.Simd.{map-map, zip2-map, splat_is_map, mask_l-mod, length-chunk, get_or-chunk, bit_mask_l, leading_from_mask_l, trailing_mask_l}
+use Rattle.std.proofs.lemmas.Simd.{zip2_splat, map-map, zip2-map, splat_is_map, mask_l-mod, length-chunk, get_or-chunk, bit_mask_l, leading_from_mask_l, trailing_mask_l}
 use Rattle.std.proofs.lemmas.List.{length-map, get_or-map, get_or_past}
 use Rattle.std.specs.Int.{bit_at}
 use Rattle.std.proofs.lemmas.List.Sums.{prefix_len-le-length, prefix_len_passes, prefix_len_stops}
@@ -21,6 +21,14 @@ splat_is v n y long = splat_is_map v n y long
 pub itself : (v : List ℕ) → v ≡ map (λ x. x) v
 itself [] = refl
 itself (x ∷ xs) = ap (λ r. x ∷ r) (itself xs)
+
+-- the lanes of a load, compared with two bytes
+pub two_splats : (h p q : ℕ → ℕ → ℕ) (text : List ℕ) (from n a b : ℕ) → from + n ≤ length text
+    → zip2 h (zip2 p (chunk from n text) (replicate n a)) (zip2 q (chunk from n text) (replicate n b)) ≡ map (λ x. h (p x a) (q x b)) (chunk from n text)
+two_splats h p q text from n a b room =
+    let v = chunk from n text in
+    let long = length-chunk from n text room in
+    joined h _ _ v (zip2_splat p v n a long) (zip2_splat q v n b long)
 
 -- the lowest bit stands for the first lane that stops
 run_is : (p : ℕ → Bool) (v : List ℕ) (n : ℕ) → length v ≡ n → n ≤ 64 → first_set (mask_l (map p v)) n ≡ prefix_len (λ x. not (p x)) v

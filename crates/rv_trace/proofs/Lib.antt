@@ -16,4 +16,3 @@ pub mod StampLemmas
 pub mod StreamLemmas
 pub mod TakenLemmas
 pub mod TraceLemmas
-pub mod Walks

@@ -1,5 +1,5 @@
 -- From the places in the bytes that are held to the lines of the stream.
-use Rattle.std.proofs.Common.{◌≡◌, ◌≢◌, ℕ, suc, ◌+◌, ◌-◌, ◌<◌, ◌≤◌, inl, inr, Bool, true, false, ◌||◌, cond, ltb, min, List, [], ◌∷◌, ◌++◌, length, get_or, take, drop, Option, Some, None, Result, Ok, Err, refl, sym, ◌∙◌, ap, ap₂, subst, arith, append_assoc, append-nil, length-append, length-drop, drop-cons}
+use Rattle.std.proofs.Common.{◌≡◌, ℕ, suc, ◌+◌, ◌-◌, ◌<◌, ◌≤◌, inl, inr, Bool, true, false, ◌||◌, cond, ltb, min, List, [], ◌∷◌, ◌++◌, length, get_or, take, drop, Option, Some, None, Result, Ok, Err, refl, sym, ◌∙◌, ap, ap₂, subst, arith, append_assoc, append-nil, length-append, length-drop, drop-cons}
 use Rattle.std.proofs.lemmas.Bool.{cases_lt, false≢true, or_cases, or_left, ltb-true}
 use Rattle.std.proofs.lemmas.List.{length-take-le, drop-drop, take_at, take_all, take-append-drop, get_or-take, get_or-drop}
 use Rattle.std.proofs.lemmas.List.Edits.{split_between, length-between}
@@ -11,10 +11,18 @@ use Rattle.rv_trace.specs.declared.line.TraceLine.{TraceLine}
 use Rattle.rv_trace.specs.declared.trace.TheConstants.{MAX_BYTES}
 use Rattle.rv_trace.specs.Lines.{moved, moved_line}
 use Rattle.rv_trace.specs.Traces.{reading_of}
-use Rattle.rv_trace.specs.Held.{IsPieceOf, EndsAt, HasNoLineEnd}
+use Rattle.rv_trace.specs.Held.{IsPieceOf}
+use Rattle.rv_trace.specs.Seeking.{EndsAt, HasNoLineEnd}
 use Rattle.rv_trace.specs.Streams.{ended_front, is_whole, part_read, Adds, TakesLine, AnswersLine, StandsAt, IsPassed}
 use Rattle.rv_trace.proofs.StreamLemmas.{NoEnd, ended_front-none, line_before, behind_line, Steps, steps-ended, steps-last, stands-next}
 use Rattle.rv_trace.proofs.AddLemmas.{Moves, adds-line, adds-skip, reading-fits, reading-moved}
+
+-- what a line says of the stream that was read up to its end
+pub record Tells (fed held : List ℕ) (passed from to : ℕ) (closed : Bool) (before : List ℕ) (end next : ℕ) (read : Result (Option TraceLine) Refusal) : Type 0 where
+  pub passes : (found : Option TraceLine) → read ≡ Ok found → IsPassed fed closed (passed + end) next
+  pub skips : read ≡ Ok None → Adds before (take (passed + end) fed) []
+  pub takes : (line : TraceLine) → read ≡ Ok (Some line) → AnswersLine before (take (passed + end) fed) (part_read closed fed) (between held from to) read
+  pub refuses : (refusal : Refusal) (text : List ℕ) → read ≡ Err refusal → AnswersLine before (take (passed + from) fed) (part_read closed fed) text read
 
 module _ (fed held : List ℕ) (passed from number : ℕ) (closed : Bool) (piece : IsPieceOf fed held passed) (within : from ≤ length held) where
   -- the bytes that were fed before the next line
@@ -182,19 +190,15 @@ module _ (fed held : List ℕ) (passed from number : ℕ) (closed : Bool) (piece
         here : read_here ≡ read
         here = ap (λ n. reading_of (record { number = number; from = 0; bytes = bytes; end = passed + n })) (sym behind) ∙ sym reads_it
 
-        pub behind-passed : (found : Option TraceLine) → read ≡ Ok found → IsPassed fed closed (passed + end) next
-        behind-passed found is =
-            subst (λ (n : ℕ). IsPassed fed closed (passed + n) next) (sym behind)
-            (subst (λ (n : ℕ). IsPassed fed closed (passed + min (to + 1) (length held)) n) (sym following) (passes-behind found (here ∙ is) stands))
-
-        pub behind-skipped : read ≡ Ok None → Adds before (take (passed + end) fed) []
-        behind-skipped is = subst (λ (n : ℕ). Adds before (take (passed + n) fed) []) (sym behind) (skip-line (here ∙ is))
-
-        pub behind-taken : (line : TraceLine) → read ≡ Ok (Some line) → AnswersLine before (take (passed + end) fed) (part_read closed fed) bytes read
-        behind-taken line is =
-            subst (λ (r : Result (Option TraceLine) Refusal). AnswersLine before (take (passed + end) fed) (part_read closed fed) bytes r) (sym is)
-            (subst (λ (n : ℕ). TakesLine before (take (passed + n) fed) (part_read closed fed) bytes line) (sym behind) (take-line line (here ∙ is)))
-
-        pub behind-refused : (refusal : Refusal) (text : List ℕ) → read ≡ Err refusal → AnswersLine before done (part_read closed fed) text read
-        behind-refused refusal text is =
-            subst (λ (r : Result (Option TraceLine) Refusal). AnswersLine before done (part_read closed fed) text r) (sym is) (refuse-line refusal (here ∙ is))
+        pub tells : Tells fed held passed from to closed before end next read
+        tells = record {
+          passes = λ found is.
+              subst (λ (n : ℕ). IsPassed fed closed (passed + n) next) (sym behind)
+              (subst (λ (n : ℕ). IsPassed fed closed (passed + min (to + 1) (length held)) n) (sym following) (passes-behind found (here ∙ is) stands));
+          skips = λ is. subst (λ (n : ℕ). Adds before (take (passed + n) fed) []) (sym behind) (skip-line (here ∙ is));
+          takes = λ line is.
+              subst (λ (r : Result (Option TraceLine) Refusal). AnswersLine before (take (passed + end) fed) (part_read closed fed) bytes r) (sym is)
+              (subst (λ (n : ℕ). TakesLine before (take (passed + n) fed) (part_read closed fed) bytes line) (sym behind) (take-line line (here ∙ is)));
+          refuses = λ refusal text is.
+              subst (λ (r : Result (Option TraceLine) Refusal). AnswersLine before done (part_read closed fed) text r) (sym is) (refuse-line refusal (here ∙ is));
+        }

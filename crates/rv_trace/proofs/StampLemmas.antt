@@ -6,7 +6,8 @@ use Rattle.rv_text.specs.Places.{is_digit, is_blank, has_class, run_end}
 use Rattle.rv_text.specs.declared.runs.ByteClass.TheVariants as kinds
 use Rattle.rv_text.proofs.LeastLemmas.{run_end-is, run_end-each, run_end-stop}
 use Rattle.rv_trace.specs.declared.parts.LinePart.{LinePart}
-use Rattle.rv_trace.specs.Lines.{is_stamp, word_part, word_at, end_from, stamp_end}
+use Rattle.rv_trace.specs.Lines.{is_stamp, word_at, stamp_end}
+use Rattle.rv_trace.specs.LineParts.{word_part, end_from}
 use Rattle.rv_trace.specs.Stamps.{AreDigits, IsStampTo, IsStamp}
 
 -- a run of digits that has one is digits

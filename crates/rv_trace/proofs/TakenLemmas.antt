@@ -2,28 +2,30 @@
 use Rattle.std.proofs.Common.{◌≡◌, ℕ, List, [], ◌∷◌, ◌++◌, Option, Some, None, Result, Ok, Err, refl, sym, ◌∙◌, ap}
 use Rattle.std.specs.List.{All}
 use Rattle.std.proofs.lemmas.List.Elements.{All-head, All-tail}
+use Rattle.std.specs.Prelude.{option_to_list}
 use Rattle.rv_text.specs.TextLines.{LineText, lines_of}
 use Rattle.rv_text.specs.declared.refusals.Refusal.{Refusal}
-use Rattle.rv_text.specs.Readings.{and_then}
+use Rattle.rv_text.specs.Readings.{and_then, onto}
 use Rattle.rv_trace.specs.declared.line.TraceLine.{TraceLine}
 use Rattle.rv_trace.specs.Lines.{moved_line}
-use Rattle.rv_trace.specs.Traces.{reading_of, line_added, onto, all_read, trace_of}
+use Rattle.rv_trace.specs.Traces.{reading_of, all_read, trace_of}
 use Rattle.rv_trace.specs.Streams.{IsSkipped, Adds, TakesLine, IsRefused}
-use Rattle.rv_trace.proofs.TraceLemmas.{onto-onto, onto-none, all_read-none, all_read-ok, all_read-err}
+use Rattle.rv_trace.proofs.TraceLemmas.{all_read-none, all_read-ok, all_read-err}
+use Rattle.rv_text.proofs.ReadingLaws.{onto-none, onto-onto}
 
 -- a reading before two others
 joined : (read : Result (Option TraceLine) Refusal) (first second : Result (List TraceLine) Refusal) →
-    and_then read (λ r. onto (line_added r) (and_then first (λ lines. onto lines second))) ≡ and_then (and_then read (λ r. onto (line_added r) first)) (λ lines. onto lines second)
+    and_then read (λ r. onto (option_to_list r) (and_then first (λ lines. onto lines second))) ≡ and_then (and_then read (λ r. onto (option_to_list r) first)) (λ lines. onto lines second)
 joined (Err refusal) first second = refl
 joined (Ok r) (Err refusal) second = refl
-joined (Ok r) (Ok lines) second = onto-onto (line_added r) lines second
+joined (Ok r) (Ok lines) second = onto-onto (option_to_list r) lines second
 
 -- lines that are read one after the other
 pub all_read-append : (front back : List LineText) → all_read (front ++ back) ≡ and_then (all_read front) (λ lines. onto lines (all_read back))
 unfolding all_read
 all_read-append [] back = onto-none (all_read back)
 all_read-append (line ∷ front) back =
-    ap (λ later. and_then (reading_of line) (λ read. onto (line_added read) later)) (all_read-append front back) ∙ joined (reading_of line) (all_read front) (all_read back)
+    ap (λ later. and_then (reading_of line) (λ read. onto (option_to_list read) later)) (all_read-append front back) ∙ joined (reading_of line) (all_read front) (all_read back)
 
 -- lines that are skipped add nothing
 skipped-nothing : (skipped back : List LineText) → All IsSkipped skipped → all_read (skipped ++ back) ≡ all_read back

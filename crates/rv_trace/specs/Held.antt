@@ -1,5 +1,5 @@
 -- The bytes of a stream that are held, and where the next line is looked for in them.
-use Rattle.std.specs.Prelude.{◌≡◌, ◌≢◌, ◌≤◌, ◌<◌, ℕ, ◌+◌, Bool, true, List, length, drop, slice_index}
+use Rattle.std.specs.Prelude.{◌≡◌, ◌≢◌, ◌≤◌, ◌<◌, ℕ, ◌+◌, Bool, List, length, drop, slice_index}
 use Rattle.rv_trace.specs.declared.trace.TheConstants.{MAX_BYTES}
 use Rattle.rv_trace.specs.Streams.{IsPassed}
 
@@ -13,19 +13,6 @@ pub record LooksAt (held : List ℕ) (from searched : ℕ) : Type 0 where
   pub order : from ≤ searched
   pub within : searched ≤ length held
   pub none : (k : ℕ) → from ≤ k → k < searched → slice_index held k ≢ 10
-
--- the line that begins at a place ends at another one: at a line end, or where the bytes end and nothing can follow
-pub record EndsAt (held : List ℕ) (from : ℕ) (whole : Bool) (to : ℕ) : Type 0 where
-  pub order : from ≤ to
-  pub within : to ≤ length held
-  pub none : (k : ℕ) → from ≤ k → k < to → slice_index held k ≢ 10
-  pub ended : to < length held → slice_index held to ≡ 10
-  pub last : to ≡ length held → (from < to) × (whole ≡ true)
-
--- no line ends behind a place
-pub record HasNoLineEnd (held : List ℕ) (from : ℕ) (whole : Bool) : Type 0 where
-  pub none : (k : ℕ) → from ≤ k → k < length held → slice_index held k ≢ 10
-  pub last : whole ≡ true → from ≡ length held
 
 -- what holds of the bytes that are held, of the places of the next line, and of those of the last line that was taken
 pub record IsHeldPart (fed held : List ℕ) (passed from searched number first last : ℕ) (ended : Bool) : Type 0 where

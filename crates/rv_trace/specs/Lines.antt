@@ -1,6 +1,6 @@
 -- What a trace line says: a head, a timestamp as the first or second word after it, an event, and the fields
 -- (the text of Linux, Documentation/trace/ftrace.rst; which lines are accepted is this project's choice: docs/FORMATS.md, "Trace text").
-use Rattle.std.specs.Prelude.{◌≤◌, ℕ, ◌+◌, ◌-◌, Bool, false, ◌&&◌, ◌||◌, ◌==◌, nat_lt, nat_le, nat_eq, List, length, Option, Some, None, option_map, option_and_then, Result, Ok, Err, slice_index, if◌then◌else◌, codes}
+use Rattle.std.specs.Prelude.{◌≤◌, ℕ, ◌+◌, ◌-◌, Bool, ◌&&◌, ◌||◌, ◌==◌, nat_lt, nat_le, nat_eq, List, length, Option, Some, None, option_map, option_and_then, Result, Ok, Err, slice_index, if◌then◌else◌, codes}
 use Rattle.std.specs.List.{starts_with, ends_with}
 use Rattle.std.specs.Option.{ok_or}
 use Rattle.rv_text.specs.Places.{run_end, between}
@@ -16,20 +16,10 @@ use Rattle.rv_trace.specs.declared.line.TheConstants.{LAST_PID, LAST_CPU}
 use Rattle.rv_trace.specs.declared.line.Span.{Span}
 use Rattle.rv_trace.specs.declared.line.TraceLine.{TraceLine}
 use Rattle.rv_trace.specs.Heads.{head_of}
-use Rattle.rv_trace.specs.Runs.{CountsAs}
 
 -- the first word from a place on
 unfoldable pub word_at : List ℕ → ℕ → LinePart
 word_at text place = let from = run_end kinds.Blank text place in record { from = from; to = run_end kinds.Word text from }
-
--- the word that begins at a place
-abbrev pub word_part : List ℕ → ℕ → LinePart
-word_part text from = record { from = from; to = run_end kinds.Word text from }
-
--- whether this is the end, where there is one
-abbrev pub is_end : Option ℕ → ℕ → Bool
-is_end None to = false
-is_end (Some end) to = end == to
 
 -- digits, then nothing or a point and digits, then a colon, which ends it
 unfoldable pub is_stamp : List ℕ → LinePart → Bool
@@ -39,10 +29,6 @@ is_stamp text word =
     nat_lt word.from whole
     && (slice_index text whole == 58 && whole + 1 == word.to
     || slice_index text whole == 46 && nat_lt (whole + 1) part && slice_index text part == 58 && part + 1 == word.to)
-
--- the end of the word that begins at a place, where it is a timestamp
-abbrev pub end_from : List ℕ → ℕ → Option ℕ
-end_from text from = if is_stamp text (word_part text from) then Some (run_end kinds.Word text from) else None
 
 -- the end of the timestamp: the first word from a place on, or else the second
 unfoldable pub stamp_end : List ℕ → ℕ → Option ℕ
@@ -85,11 +71,6 @@ head_pid text head = number_up_to (between text (head.dash + 1) head.digits) LAS
 -- the CPU that stands in a head
 abbrev pub cpu_of : List ℕ → Head → Option ℕ
 cpu_of text head = number_up_to (between text (head.bracket + 1) head.close) LAST_CPU
-
--- these stand for the numbers of a head
-pub record HasHeadNumbers (text : List ℕ) (head : Head) (pid cpu : ℕ) : Type 0 where
-  pub tells_pid : CountsAs pid (number_of (between text (head.dash + 1) head.digits))
-  pub tells_cpu : CountsAs cpu (number_of (between text (head.bracket + 1) head.close))
 
 -- a line's number, its two numbers and the places of its pieces, counted from the line's own place in the text
 abbrev pub line_with : List ℕ → ℕ → ℕ → LinePart → ℕ → ℕ → TraceLine

@@ -1,6 +1,6 @@
 -- A whole trace: its lines in order, or the first fault.
-use Rattle.std.specs.Prelude.{ℕ, Bool, ◌||◌, nat_lt, List, [], ◌∷◌, ◌++◌, Option, Some, None, Result, Ok, if◌then◌else◌}
-use Rattle.rv_text.specs.Readings.{and_then, refused_at}
+use Rattle.std.specs.Prelude.{ℕ, Bool, ◌||◌, nat_lt, List, [], ◌∷◌, Option, option_to_list, Result, Ok, if◌then◌else◌}
+use Rattle.rv_text.specs.Readings.{and_then, onto, refused_at}
 use Rattle.rv_text.specs.TextLines.{LineText, lines_of}
 use Rattle.rv_text.specs.declared.numbers.TheConstants.{TOO_LONG}
 use Rattle.rv_text.specs.declared.refusals.Refusal.{Refusal}
@@ -16,19 +16,10 @@ is_too_long line = nat_lt MAX_LINES line.number || nat_lt MAX_BYTES line.end
 unfoldable pub reading_of : LineText → Result (Option TraceLine) Refusal
 reading_of line = if is_too_long line then refused_at TOO_LONG line.number else line_of line.bytes line.from line.number
 
--- what a line adds: nothing where it is skipped
-abbrev pub line_added : Option TraceLine → List TraceLine
-line_added None = []
-line_added (Some line) = line ∷ []
-
--- lines in front of those that are read later
-abbrev pub onto : List TraceLine → Result (List TraceLine) Refusal → Result (List TraceLine) Refusal
-onto lines later = and_then later (λ more. Ok (lines ++ more))
-
--- what lines say, one after the other: the first fault decides
+-- what lines say, one after the other, but for those that are skipped: the first fault decides
 unfoldable pub all_read : List LineText → Result (List TraceLine) Refusal
 all_read [] = Ok []
-all_read (line ∷ later) = and_then (reading_of line) (λ read. onto (line_added read) (all_read later))
+all_read (line ∷ later) = and_then (reading_of line) (λ read. onto (option_to_list read) (all_read later))
 
 -- the lines of the text that are not skipped, or the first fault
 unfoldable pub trace_of : List ℕ → Result (List TraceLine) Refusal

@@ -1,7 +1,6 @@
 //! The kernel's trace text, line by line.
 #![tactic(auto)]
 
-mod fed;
 mod fields;
 mod head;
 mod laws;

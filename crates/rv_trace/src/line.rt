@@ -1,7 +1,8 @@
 //! One line of trace text.
 ghost use Rattle.std.specs.Prelude.{◌≡◌, ◌<◌, ◌≤◌, ◌+◌, ◌^◌, length, slice_index, slice_range, EachIndex, ◌≢◌, Ok, Some};
 ghost use Rattle.rv_text.specs.Readings.{and_then};
-ghost use Rattle.rv_trace.specs.Lines.{HasHeadNumbers, is_skipped, is_lost, said, line_of};
+ghost use Rattle.rv_trace.specs.Lines.{is_skipped, is_lost, said, line_of};
+ghost use Rattle.rv_trace.specs.LineParts.{HasHeadNumbers};
 
 use crate::parts::{ReadParts, parts_of};
 use crate::runs::{blanks_end, byte_at};
@@ -34,7 +35,6 @@ pub struct TraceLine {
     pub fields: Span,
 }
 
-/// Whether the line is skipped.
 #[tactic(auto, unfolding(crate::specs::Lines::is_skipped))]
 fn is_skipped(text: &[u8]) -> bool
     ensures { result ≡ is_skipped text.now }

@@ -3,10 +3,10 @@ ghost use Rattle.std.specs.Prelude.{◌≡◌, ◌≤◌, ◌++◌, ◌&&◌, []
 ghost use Rattle.rv_trace.specs.Lines.{LiesIn};
 ghost use Rattle.rv_trace.specs.Streams.{TakesNextLine};
 
-use crate::fed::Fed;
 use crate::line::TraceLine;
 use crate::seek::{At, seek};
 use crate::trace::MAX_BYTES;
+use rv_model::GhostList;
 use rv_text::Refusal;
 use std::alloc::{AllocError, Global};
 use std::marker::Model;
@@ -14,7 +14,7 @@ use std::marker::Model;
 /// The lines of a stream. It holds the last piece and what the line has before it that was not yet ended.
 #[derive(Drop)]
 pub struct Lines {
-    stream: Fed,
+    stream: GhostList<u8>,
     held: Vec<u8>,
     /// How many bytes of the stream stand before those that are held.
     passed: usize,
@@ -58,7 +58,7 @@ impl Lines {
         ensures { result ≡ record { fed = []; taken = 0; text = []; ended = false; idle = true } }
     {
         Lines {
-            stream: Fed::new(),
+            stream: GhostList::new(),
             held: Vec::new(alloc),
             passed: 0,
             at: At {
@@ -83,7 +83,7 @@ impl Lines {
     {
         self.held.extend_from_slice(piece)?;
         let_go(&mut self.held, self.at.from);
-        self.stream.push(piece);
+        self.stream.append(piece);
         self.passed += self.at.from;
         self.at = At {
             from: 0,

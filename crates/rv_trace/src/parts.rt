@@ -2,7 +2,8 @@
 ghost use Rattle.std.specs.Prelude.{◌≡◌, ◌<◌, ◌≤◌, ◌+◌, ◌||◌, ◌==◌, ℕ, length, slice_index, IfSome, option_map};
 ghost use Rattle.rv_text.specs.Places.{is_blank, run_end};
 ghost use Rattle.rv_text.specs.declared.runs.ByteClass.TheVariants as kinds;
-ghost use Rattle.rv_trace.specs.Lines.{HasHeadNumbers, is_end, end_from, word_at, is_stamp, stamp_end, event_part, parts_of};
+ghost use Rattle.rv_trace.specs.Lines.{word_at, is_stamp, stamp_end, event_part, parts_of};
+ghost use Rattle.rv_trace.specs.LineParts.{HasHeadNumbers, is_that_end, end_from};
 
 use crate::head::{Head, find_head};
 use crate::runs::{blanks_end, byte_at, digits_end, word_end};
@@ -52,7 +53,7 @@ fn word_at(text: &[u8], place: usize) -> LinePart
 #[tactic(auto, unfolding(crate::specs::Lines::is_stamp))]
 fn behind_stamp(text: &[u8], from: usize) -> Option<usize>
     requires { from ≤ length text.now }
-    ensures value { (to : ℕ) → is_stamp text.now (record { from = from; to = to }) ≡ is_end result to }
+    ensures value { (to : ℕ) → is_stamp text.now (record { from = from; to = to }) ≡ is_that_end result to }
     ensures high { IfSome result (λ end. end ≤ length text.now) }
 {
     let whole = digits_end(text, from);
@@ -96,7 +97,6 @@ fn stamp_from(text: &[u8], from: usize) -> Option<usize>
     }
 }
 
-/// Where the timestamp ends.
 #[inline(always)]
 #[tactic(auto, unfolding(crate::specs::Lines::stamp_end))]
 fn stamp_end(text: &[u8], place: usize) -> Option<usize>
@@ -122,7 +122,6 @@ fn second_stamp(text: &[u8], first: usize) -> Option<usize>
     stamp_from(text, second)
 }
 
-/// The name of the event.
 #[inline(always)]
 #[tactic(auto, unfolding(crate::specs::Lines::event_part))]
 fn event_part(text: &[u8], place: usize) -> Option<LinePart>
@@ -142,7 +141,6 @@ fn event_part(text: &[u8], place: usize) -> Option<LinePart>
     }
 }
 
-/// The parts of the line.
 #[inline(always)]
 #[tactic(auto, unfolding(crate::specs::Lines::parts_of))]
 pub fn parts_of(text: &[u8]) -> Option<ReadParts>

@@ -135,25 +135,6 @@ fn undashed_in(text: &[u8], place: usize) -> usize
     first_set(stops.to_bitmask())
 }
 
-/// The first byte from `from` on that is not of the kind, or the end.
-#[inline(always)]
-fn wide_end(kind: ByteClass, text: &[u8], from: usize) -> usize
-    requires { from ≤ length text.now }
-    ensures value { result ≡ run_end kind text.now from }
-    ensures low { from ≤ result }
-    ensures high { result ≤ length text.now }
-{
-    let mut place = from;
-    while text.len() - place >= WIDTH {
-        let run = run_in(kind, text, place);
-        place += run;
-        if run < WIDTH {
-            return place;
-        }
-    }
-    run_end(kind, text, place)
-}
-
 /// The first blank from a place on, from which less than a load is left, or the end.
 #[inline(never)]
 fn last_word_end(text: &[u8], place: usize) -> usize
@@ -175,6 +156,40 @@ fn last_word_end(text: &[u8], place: usize) -> usize
     }
 }
 
+/// The first byte from a place on that is not of the kind, from which less than a load is left, or the end.
+#[inline(always)]
+fn tail_end(kind: ByteClass, text: &[u8], place: usize) -> usize
+    requires low { place ≤ length text.now }
+    requires high { length text.now < place + WIDTH }
+    ensures value { result ≡ run_end kind text.now place }
+    ensures low { place ≤ result }
+    ensures high { result ≤ length text.now }
+{
+    match kind {
+        ByteClass::Word => last_word_end(text, place),
+        _ => run_end(kind, text, place),
+    }
+}
+
+/// The first byte from `from` on that is not of the kind, or the end.
+#[inline(always)]
+fn wide_end(kind: ByteClass, text: &[u8], from: usize) -> usize
+    requires { from ≤ length text.now }
+    ensures value { result ≡ run_end kind text.now from }
+    ensures low { from ≤ result }
+    ensures high { result ≤ length text.now }
+{
+    let mut place = from;
+    while text.len() - place >= WIDTH {
+        let run = run_in(kind, text, place);
+        place += run;
+        if run < WIDTH {
+            return place;
+        }
+    }
+    tail_end(kind, text, place)
+}
+
 /// The first blank from `from` on, or the end.
 #[inline(always)]
 pub(crate) fn word_end(text: &[u8], from: usize) -> usize
@@ -183,15 +198,7 @@ pub(crate) fn word_end(text: &[u8], from: usize) -> usize
     ensures low { from ≤ result }
     ensures high { result ≤ length text.now }
 {
-    let mut place = from;
-    while text.len() - place >= WIDTH {
-        let run = word_in(text, place);
-        place += run;
-        if run < WIDTH {
-            return place;
-        }
-    }
-    last_word_end(text, place)
+    wide_end(ByteClass::Word, text, from)
 }
 
 /// The first byte from `from` on that is no digit, or the end.

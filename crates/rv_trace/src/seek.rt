@@ -1,16 +1,13 @@
 //! Looks for the next line in the bytes that are held of a stream.
-ghost use Rattle.std.specs.Prelude.{◌≡◌, ◌≤◌, ◌+◌, ◌||◌, ℕ, List, length, take, min, nat_lt, IfOk, IfSome, IfNone};
+ghost use Rattle.std.specs.Prelude.{◌≡◌, ◌≤◌, ◌+◌, ◌||◌, length, nat_lt, IfSome, IfNone};
 ghost use Rattle.rv_text.specs.Places.{between};
-ghost use Rattle.rv_text.specs.TextLines.{line_end, next_number};
-ghost use Rattle.rv_trace.specs.Held.{EndsAt, HasNoLineEnd, IsPieceOf, LooksAt};
-ghost use Rattle.rv_trace.specs.Lines.{LiesIn};
-ghost use Rattle.rv_trace.specs.Streams.{AnswersLine, IsPassed, part_read};
+ghost use Rattle.rv_trace.specs.Held.{LooksAt};
+ghost use Rattle.rv_trace.specs.Seeking.{EndsAt, HasNoLineEnd, Seeks};
 ghost use Rattle.rv_trace.specs.Traces.{reading_of};
 
 use crate::line::TraceLine;
 use crate::trace::{MAX_BYTES, reading_of};
-use memchr::memchr;
-use rv_text::{Refusal, TextLine};
+use rv_text::{Refusal, TextLine, line_end, next_number, past_line_end};
 
 /// Where the next line is looked for.
 #[derive(Clone, Copy, Debug, Drop, PartialEq, Eq)]
@@ -31,19 +28,6 @@ pub struct Sought {
     pub from: usize,
     pub to: usize,
     pub read: Result<Option<TraceLine>, Refusal>,
-}
-
-/// The first line end from a place on, or the end.
-fn line_end(held: &[u8], from: usize) -> usize
-    requires { from ≤ length held.now }
-    ensures value { result ≡ line_end held.now from }
-    ensures low { from ≤ result }
-    ensures high { result ≤ length held.now }
-{
-    match memchr(b'\n', &held[from..]) {
-        Some(offset) => from + offset,
-        None => held.len(),
-    }
 }
 
 /// Where the line ends that begins here: at its line end, or at the end where nothing can follow.
@@ -67,25 +51,6 @@ fn is_whole(ended: bool, length: usize) -> bool
     ensures { result ≡ (ended || nat_lt MAX_BYTES length) }
 {
     ended || length > MAX_BYTES
-}
-
-/// The place behind the line end that stands here, if one does.
-fn behind(held: &[u8], to: usize) -> usize
-    requires { to ≤ length held.now }
-    ensures value { result ≡ min (to + 1) (length held.now) }
-{
-    if to < held.len() { to + 1 } else { to }
-}
-
-/// The next line's number.
-fn next_number(number: u32) -> u32
-    ensures { result ≡ next_number number }
-{
-    if number < u32::MAX {
-        number + 1
-    } else {
-        number
-    }
 }
 
 /// Reads a line, whose spans are counted from its own first byte, and which ends here in the stream.
@@ -114,21 +79,12 @@ fn read_at(
 pub fn seek(held: &[u8], passed: usize, start: At, ended: bool) -> Sought
     requires looks { LooksAt held.now start.from start.searched }
     requires fits { passed + start.from ≤ MAX_BYTES }
-    ensures looks { LooksAt held.now result.at.from result.at.searched }
-    ensures fits { passed + result.at.from ≤ MAX_BYTES }
-    ensures order { result.from ≤ result.to }
-    ensures within { result.to ≤ length held.now }
-    ensures small { result.to ≤ MAX_BYTES }
-    ensures lies { IfOk result.read (λ found. IfSome found (LiesIn (between held.now result.from result.to))) }
-    ensures found { (fed : List ℕ) → IsPieceOf fed held.now passed → IsPassed fed ended (passed + start.from) start.number →
-        AnswersLine (take (passed + start.from) fed) (take (passed + result.at.from) fed) (part_read ended fed) (between held.now result.from result.to) result.read }
-    ensures passes { (fed : List ℕ) → IsPieceOf fed held.now passed → IsPassed fed ended (passed + start.from) start.number →
-        IsPassed fed ended (passed + result.at.from) result.at.number }
+    ensures { Seeks held.now passed start ended result }
 {
     let whole = is_whole(ended, passed + held.len());
     let mut at = start;
     while let Some(to) = line_to(held, at, whole) {
-        let end = behind(held, to);
+        let end = past_line_end(held, to);
         let read = read_at(held, at.from, to, at.number, passed + end);
         let next = At {
             from: end,

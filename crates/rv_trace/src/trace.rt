@@ -1,21 +1,20 @@
 //! All lines of a trace.
-ghost use Rattle.std.specs.Prelude.{◌≡◌, ◌≤◌, ◌+◌, ◌++◌, length, OnOk, IfOk};
+ghost use Rattle.std.specs.Prelude.{◌≡◌, ◌≤◌, ◌+◌, length, IfOk};
 ghost use Rattle.std.specs.List.{All};
 ghost use Rattle.rv_text.specs.Readings.{Gives};
 ghost use Rattle.rv_text.specs.TextLines.{line_text};
 ghost use Rattle.rv_trace.specs.Lines.{LiesIn};
-ghost use Rattle.rv_trace.specs.Traces.{reading_of, line_added, trace_of};
+ghost use Rattle.rv_trace.specs.Traces.{reading_of, trace_of};
 
 use crate::line::{TraceLine, read_text};
-use rv_text::{Cursor, Refusal, Refused, TOO_LONG, TextLine};
-use std::alloc::{AllocError, Global};
+use rv_text::{Cursor, Refusal, Refused, TOO_LONG, TextLine, push_some};
+use std::alloc::Global;
 
 /// How many lines a trace may have.
 pub const MAX_LINES: u32 = 1_000_000;
 /// How many bytes a trace may have.
 pub const MAX_BYTES: usize = 134_217_728;
 
-/// Reads one line of a trace.
 #[tactic(auto, unfolding(crate::specs::Traces::reading_of))]
 pub(crate) fn reading_of(line: TextLine) -> Result<Option<TraceLine>, Refusal>
     requires { line.from + length line.bytes.now ≤ line.end }
@@ -25,16 +24,6 @@ pub(crate) fn reading_of(line: TextLine) -> Result<Option<TraceLine>, Refusal>
         return Err(Refusal::at(TOO_LONG, line.number));
     }
     read_text(line.bytes, line.from as u32, line.number)
-}
-
-/// Appends the line, where there is one.
-fn keep(lines: &mut Vec<TraceLine>, read: Option<TraceLine>) -> Result<(), AllocError>
-    ensures { OnOk result (lines.new.items ≡ lines.old.items ++ line_added read) }
-{
-    if let Some(line) = read {
-        lines.push(line)?;
-    }
-    Ok(())
 }
 
 /// All lines that are not skipped, in order.
@@ -47,7 +36,7 @@ pub fn read_trace(alloc: Global, bytes: &[u8]) -> Result<Vec<TraceLine>, Refused
     let mut cursor = Cursor::new(bytes);
     while let Some(line) = cursor.next_line() {
         let read = reading_of(line)?;
-        keep(&mut lines, read)?;
+        push_some(&mut lines, read)?;
     }
     Ok(lines)
 }

@@ -1,5 +1,6 @@
 use Rattle.std.proofs.Common.{◌≡◌, length}
-use Rattle.rv_control.specs.Scripts.{onto, commands_of_lines, script_of}
+use Rattle.rv_control.specs.Scripts.{commands_of_lines, script_of}
+use Rattle.rv_text.specs.Readings.{onto}
 use Rattle.rv_control.proofs.script.read_script.Given as goal
 
 abbrev pub invariant-loop-line : goal.invariant-loop-line

@@ -11,47 +11,47 @@ pub returns-in_err-verb : goal.returns-in_err-verb
 returns-in_err-verb c = let none : c.from_residual.result ≡ None = search rules in gives-none act_from _ _ _ none (then-none act_of c.in_err-verb.ensures)
 
 pub returns-in-Deliver : goal.returns-in-Deliver
-returns-in-Deliver c = reads-then (first_by verb_in) act_of _ c.next_verb.new.self _ verbs.Deliver _ (c.in_ok-verb.ensures ∙ ap (λ (v : ActVerb). Some (v, c.next_verb.new.self)) c.in-Deliver.is) c.deliver.ensures
+returns-in-Deliver c = reads-then (first_by verb_in) act_of _ c.next_verb.new.words _ verbs.Deliver _ (c.in_ok-verb.ensures ∙ ap (λ (v : ActVerb). Some (v, c.next_verb.new.words)) c.in-Deliver.is) c.deliver.ensures
 
 pub returns-in-Look : goal.returns-in-Look
-returns-in-Look c = then-some act_of (c.in_ok-verb.ensures ∙ ap (λ (v : ActVerb). Some (v, c.next_verb.new.self)) c.in-Look.is)
+returns-in-Look c = then-some act_of (c.in_ok-verb.ensures ∙ ap (λ (v : ActVerb). Some (v, c.next_verb.new.words)) c.in-Look.is)
 
 pub returns-in_err-stopped-in-Stop : goal.returns-in_err-stopped-in-Stop
 returns-in_err-stopped-in-Stop c =
     let none : c.from_residual-in_err-stopped-in-Stop.result ≡ None = search rules in
-    gives-none act_from _ _ _ none (then-some act_of (c.in_ok-verb.ensures ∙ ap (λ (v : ActVerb). Some (v, c.next_verb.new.self)) c.in-Stop.is) ∙ then-none (λ n rest. Some (Stop n, rest)) c.in_err-stopped-in-Stop.ensures)
+    gives-none act_from _ _ _ none (then-some act_of (c.in_ok-verb.ensures ∙ ap (λ (v : ActVerb). Some (v, c.next_verb.new.words)) c.in-Stop.is) ∙ then-none (λ n rest. Some (Stop n, rest)) c.in_err-stopped-in-Stop.ensures)
 
 pub returns-in_ok-stopped-in-Stop : goal.returns-in_ok-stopped-in-Stop
-returns-in_ok-stopped-in-Stop c = then-some act_of (c.in_ok-verb.ensures ∙ ap (λ (v : ActVerb). Some (v, c.next_verb.new.self)) c.in-Stop.is) ∙ then-some (λ n rest. Some (Stop n, rest)) c.in_ok-stopped-in-Stop.ensures
+returns-in_ok-stopped-in-Stop c = then-some act_of (c.in_ok-verb.ensures ∙ ap (λ (v : ActVerb). Some (v, c.next_verb.new.words)) c.in-Stop.is) ∙ then-some (λ n rest. Some (Stop n, rest)) c.in_ok-stopped-in-Stop.ensures
 
 pub returns-in_err-raised-in-Raise : goal.returns-in_err-raised-in-Raise
 returns-in_err-raised-in-Raise c =
     let none : c.from_residual-in_err-raised-in-Raise.result ≡ None = search rules in
-    gives-none act_from _ _ _ none (then-some act_of (c.in_ok-verb.ensures ∙ ap (λ (v : ActVerb). Some (v, c.next_verb.new.self)) c.in-Raise.is) ∙ then-none (λ n rest. Some (Raise n, rest)) c.in_err-raised-in-Raise.ensures.number)
+    gives-none act_from _ _ _ none (then-some act_of (c.in_ok-verb.ensures ∙ ap (λ (v : ActVerb). Some (v, c.next_verb.new.words)) c.in-Raise.is) ∙ then-none (λ n rest. Some (Raise n, rest)) c.in_err-raised-in-Raise.ensures.number)
 
 pub returns-in_ok-raised-in-Raise : goal.returns-in_ok-raised-in-Raise
-returns-in_ok-raised-in-Raise c = then-some act_of (c.in_ok-verb.ensures ∙ ap (λ (v : ActVerb). Some (v, c.next_verb.new.self)) c.in-Raise.is) ∙ then-some (λ n rest. Some (Raise n, rest)) c.in_ok-raised-in-Raise.ensures.number
+returns-in_ok-raised-in-Raise c = then-some act_of (c.in_ok-verb.ensures ∙ ap (λ (v : ActVerb). Some (v, c.next_verb.new.words)) c.in-Raise.is) ∙ then-some (λ n rest. Some (Raise n, rest)) c.in_ok-raised-in-Raise.ensures.number
 
 pub returns-in_err-lowered-in-Lower : goal.returns-in_err-lowered-in-Lower
 returns-in_err-lowered-in-Lower c =
     let none : c.from_residual-in_err-lowered-in-Lower.result ≡ None = search rules in
-    gives-none act_from _ _ _ none (then-some act_of (c.in_ok-verb.ensures ∙ ap (λ (v : ActVerb). Some (v, c.next_verb.new.self)) c.in-Lower.is) ∙ then-none (λ n rest. Some (Lower n, rest)) c.in_err-lowered-in-Lower.ensures.number)
+    gives-none act_from _ _ _ none (then-some act_of (c.in_ok-verb.ensures ∙ ap (λ (v : ActVerb). Some (v, c.next_verb.new.words)) c.in-Lower.is) ∙ then-none (λ n rest. Some (Lower n, rest)) c.in_err-lowered-in-Lower.ensures.number)
 
 pub returns-in_ok-lowered-in-Lower : goal.returns-in_ok-lowered-in-Lower
-returns-in_ok-lowered-in-Lower c = then-some act_of (c.in_ok-verb.ensures ∙ ap (λ (v : ActVerb). Some (v, c.next_verb.new.self)) c.in-Lower.is) ∙ then-some (λ n rest. Some (Lower n, rest)) c.in_ok-lowered-in-Lower.ensures.number
+returns-in_ok-lowered-in-Lower c = then-some act_of (c.in_ok-verb.ensures ∙ ap (λ (v : ActVerb). Some (v, c.next_verb.new.words)) c.in-Lower.is) ∙ then-some (λ n rest. Some (Lower n, rest)) c.in_ok-lowered-in-Lower.ensures.number
 
 pub returns-in_err-cleared-in-Clear : goal.returns-in_err-cleared-in-Clear
 returns-in_err-cleared-in-Clear c =
     let none : c.from_residual-in_err-cleared-in-Clear.result ≡ None = search rules in
-    gives-none act_from _ _ _ none (then-some act_of (c.in_ok-verb.ensures ∙ ap (λ (v : ActVerb). Some (v, c.next_verb.new.self)) c.in-Clear.is) ∙ then-none (λ n rest. Some (Clear n, rest)) c.in_err-cleared-in-Clear.ensures)
+    gives-none act_from _ _ _ none (then-some act_of (c.in_ok-verb.ensures ∙ ap (λ (v : ActVerb). Some (v, c.next_verb.new.words)) c.in-Clear.is) ∙ then-none (λ n rest. Some (Clear n, rest)) c.in_err-cleared-in-Clear.ensures)
 
 pub returns-in_ok-cleared-in-Clear : goal.returns-in_ok-cleared-in-Clear
-returns-in_ok-cleared-in-Clear c = then-some act_of (c.in_ok-verb.ensures ∙ ap (λ (v : ActVerb). Some (v, c.next_verb.new.self)) c.in-Clear.is) ∙ then-some (λ n rest. Some (Clear n, rest)) c.in_ok-cleared-in-Clear.ensures
+returns-in_ok-cleared-in-Clear c = then-some act_of (c.in_ok-verb.ensures ∙ ap (λ (v : ActVerb). Some (v, c.next_verb.new.words)) c.in-Clear.is) ∙ then-some (λ n rest. Some (Clear n, rest)) c.in_ok-cleared-in-Clear.ensures
 
 pub returns-in_err-ended-in-End : goal.returns-in_err-ended-in-End
 returns-in_err-ended-in-End c =
     let none : c.from_residual-in_err-ended-in-End.result ≡ None = search rules in
-    gives-none act_from _ _ _ none (then-some act_of (c.in_ok-verb.ensures ∙ ap (λ (v : ActVerb). Some (v, c.next_verb.new.self)) c.in-End.is) ∙ then-none (λ n rest. Some (End n, rest)) c.in_err-ended-in-End.ensures)
+    gives-none act_from _ _ _ none (then-some act_of (c.in_ok-verb.ensures ∙ ap (λ (v : ActVerb). Some (v, c.next_verb.new.words)) c.in-End.is) ∙ then-none (λ n rest. Some (End n, rest)) c.in_err-ended-in-End.ensures)
 
 pub returns-in_ok-ended-in-End : goal.returns-in_ok-ended-in-End
-returns-in_ok-ended-in-End c = then-some act_of (c.in_ok-verb.ensures ∙ ap (λ (v : ActVerb). Some (v, c.next_verb.new.self)) c.in-End.is) ∙ then-some (λ n rest. Some (End n, rest)) c.in_ok-ended-in-End.ensures
+returns-in_ok-ended-in-End c = then-some act_of (c.in_ok-verb.ensures ∙ ap (λ (v : ActVerb). Some (v, c.next_verb.new.words)) c.in-End.is) ∙ then-some (λ n rest. Some (End n, rest)) c.in_ok-ended-in-End.ensures

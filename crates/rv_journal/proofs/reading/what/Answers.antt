@@ -10,7 +10,7 @@ pub returns-in_err-kind : goal.returns-in_err-kind
 returns-in_err-kind c = let none : c.from_residual.result ≡ None = search rules in gives-none what_from _ _ _ none (then-none what_of c.in_err-kind.ensures)
 
 pub returns-in-Da : goal.returns-in-Da
-returns-in-Da c = reads-then (first_by kind_in) what_of _ c.next_kind.new.self _ kinds.Da _ (c.in_ok-kind.ensures ∙ ap (λ (k : LetterKind). Some (k, c.next_kind.new.self)) c.in-Da.is) c.event.ensures
+returns-in-Da c = reads-then (first_by kind_in) what_of _ c.next_kind.new.words _ kinds.Da _ (c.in_ok-kind.ensures ∙ ap (λ (k : LetterKind). Some (k, c.next_kind.new.words)) c.in-Da.is) c.event.ensures
 
 pub returns-in-Ltl : goal.returns-in-Ltl
-returns-in-Ltl c = reads-then (first_by kind_in) what_of _ c.next_kind.new.self _ kinds.Ltl _ (c.in_ok-kind.ensures ∙ ap (λ (k : LetterKind). Some (k, c.next_kind.new.self)) c.in-Ltl.is) c.sets.ensures
+returns-in-Ltl c = reads-then (first_by kind_in) what_of _ c.next_kind.new.words _ kinds.Ltl _ (c.in_ok-kind.ensures ∙ ap (λ (k : LetterKind). Some (k, c.next_kind.new.words)) c.in-Ltl.is) c.sets.ensures

@@ -23,4 +23,4 @@ returns-then-run-lt-WIDTH-clause-value c =
 pub returns-clause-value : goal.returns-clause-value
 returns-clause-value c =
     let kept = c.loop-place.invariant in
-    c.run_end.ensures.value ∙ sym (run_end-on c.args.kind c.args.text.now c.args.from c.loop-place.place kept.0 kept.1 kept.2)
+    c.tail_end.ensures.value ∙ sym (run_end-on c.args.kind c.args.text.now c.args.from c.loop-place.place kept.0 kept.1 kept.2)

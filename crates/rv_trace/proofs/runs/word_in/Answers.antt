@@ -1,14 +1,10 @@
 use Rattle.std.proofs.Common.{refl, arith}
-use Rattle.std.proofs.lemmas.Simd.{zip2_splat, length-chunk}
-use lib.Lanes.{chunk}
 use Rattle.rv_text.specs.Places.{has_class}
 use Rattle.rv_text.specs.declared.runs.ByteClass.TheVariants as kinds
-use Rattle.rv_trace.proofs.LaneLemmas.{joined, run_in}
+use Rattle.rv_trace.proofs.LaneLemmas.{two_splats, run_in}
 use Rattle.rv_trace.proofs.runs.word_in.Goals as goal
 
 pub returns : goal.returns
 returns c =
-    let v = chunk c.args.place 16 c.args.text.now in
-    let long = length-chunk c.args.place 16 c.args.text.now c.requires in
     run_in (has_class kinds.Word) c.args.text.now c.args.place 16 _ _ c.requires (omega arith) c.type_inv.text c.first_set.ensures _
-    (joined _ _ _ v (zip2_splat _ v 16 32 long) (zip2_splat _ v 16 9 long)) refl
+    (two_splats _ _ _ c.args.text.now c.args.place 16 32 9 c.requires) refl

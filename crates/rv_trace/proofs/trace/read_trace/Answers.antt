@@ -1,10 +1,14 @@
 use Rattle.std.proofs.Common.{◌≡◌, Err, sym, ◌∙◌, ap}
 use Rattle.std.proofs.lemmas.Result.{err_from_is_err_and}
 use Rattle.std.proofs.lemmas.List.Elements.{All-rest}
-use Rattle.rv_text.specs.TextLines.{line_text, StandsIn}
+use Rattle.std.specs.Prelude.{option_to_list}
+use Rattle.rv_text.specs.TextLines.{line_text}
+use Rattle.rv_text.specs.LinePlaces.{StandsIn}
 use Rattle.rv_text.proofs.LinesStand.{lines_of-stand}
-use Rattle.rv_trace.specs.Traces.{line_added, onto, all_read, trace_of}
-use Rattle.rv_trace.proofs.TraceLemmas.{onto-onto, onto-none, all_read-none, all_read-ok, all_read-err, trace_of-lies}
+use Rattle.rv_trace.specs.Traces.{all_read, trace_of}
+use Rattle.rv_text.specs.Readings.{onto}
+use Rattle.rv_trace.proofs.TraceLemmas.{all_read-none, all_read-ok, all_read-err, trace_of-lies}
+use Rattle.rv_text.proofs.ReadingLaws.{onto-none, onto-onto}
 use Rattle.rv_trace.proofs.trace.read_trace.Goals as goal
 
 pub loop-line-init : goal.loop-line-init
@@ -18,8 +22,8 @@ loop-line-preserved c =
       c.loop-line.invariant.0
           ∙ ap (λ lines. onto c.loop-line.lines.items (all_read lines)) c.in-Some.ensures.some
           ∙ ap (onto c.loop-line.lines.items) (all_read-ok line later c.in_ok-read.read (sym c.reading_of.ensures ∙ c.in_ok-read.was))
-          ∙ onto-onto c.loop-line.lines.items (line_added c.in_ok-read.read) (all_read later)
-          ∙ ap (λ items. onto items (all_read later)) (sym c.in_ok-keep.ensures),
+          ∙ onto-onto c.loop-line.lines.items (option_to_list c.in_ok-read.read) (all_read later)
+          ∙ ap (λ items. onto items (all_read later)) (sym c.in_ok-push_some.ensures),
       All-rest (StandsIn c.args.bytes.now) line later c.loop-line.cursor c.in-Some.ensures.some c.loop-line.invariant.1,
     )
 

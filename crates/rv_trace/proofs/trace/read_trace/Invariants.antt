@@ -1,7 +1,8 @@
 use Rattle.std.proofs.Common.{◌≡◌, length}
 use Rattle.std.specs.List.{All}
-use Rattle.rv_text.specs.TextLines.{StandsIn}
-use Rattle.rv_trace.specs.Traces.{onto, all_read, trace_of}
+use Rattle.rv_text.specs.LinePlaces.{StandsIn}
+use Rattle.rv_trace.specs.Traces.{all_read, trace_of}
+use Rattle.rv_text.specs.Readings.{onto}
 use Rattle.rv_trace.proofs.trace.read_trace.Given as goal
 
 abbrev pub invariant-loop-line : goal.invariant-loop-line

@@ -22,6 +22,6 @@ invariant_of-self-2 c =
     let going : i.stopped ≡ false = ap (λ (r : ReaderValue). r.stopped) c.self.view_is ∙ c.requires.goes_on in
     let o = open-of i.checker i.tail.items i.line i.stopped (pieces_joined i.pieces) going c.self.invariant in
     let short : length i.tail.items + length part ≤ 200 = (let was = o.short in omega (arith, c.if-part-len.false, c.len.ensures)) in
-    reader-open i.checker i.checker (i.tail.items ++ part) c.extend_from_slice.new.self.items i.line i.stopped (pieces_joined i.pieces ++ part) (pieces_joined c.push-2.new.self)
+    reader-open i.checker i.checker (i.tail.items ++ part) c.extend_from_slice.new.self.items i.line i.stopped (pieces_joined i.pieces ++ part) (pieces_joined c.push-2.new.given)
     refl c.in_ok-extend_from_slice.ensures.items going (ap pieces_joined c.push-2.ensures ∙ pieces_joined-more i.pieces part)
     (open-keep i.checker i.tail.items i.line (pieces_joined i.pieces) o part c.requires.unended short)

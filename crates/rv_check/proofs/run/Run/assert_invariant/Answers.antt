@@ -5,6 +5,4 @@ use Rattle.rv_check.proofs.RunLemmas.{run-begins}
 use Rattle.rv_check.proofs.run.Run.assert_invariant.Goals as goal
 
 pub returns : goal.returns
-returns c =
-    let i = c.self.inside in
-    subst (λ (v : RunValue). BeginsRun v v.history) c.self.view_is (run-begins i.setup i.panics i.works.items i.words.items i.nexts.items i.history c.self.invariant)
+returns c = subst (λ (v : RunValue). BeginsRun v v.history) c.self.view_is (run-begins c.self.invariant)

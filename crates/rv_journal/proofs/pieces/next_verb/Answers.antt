@@ -1,0 +1,10 @@
+use Rattle.std.proofs.Common.{◌≡◌, None, rules}
+use Rattle.rv_journal.specs.PieceReadings.{verb_in}
+use Rattle.rv_journal.proofs.ThenLemmas.{first-none, first-reads}
+use Rattle.rv_journal.proofs.pieces.next_verb.Goals as goal
+
+pub returns-in_err-word : goal.returns-in_err-word
+returns-in_err-word c = let none : c.from_residual.result ≡ None = search rules in first-none verb_in _ _ _ none c.in_err-word.ensures.none.0
+
+pub returns : goal.returns
+returns c = first-reads verb_in _ _ _ _ c.in_ok-word.ensures.some c.verb_in.ensures
