@@ -15,7 +15,7 @@ use Rattle.rv_tool.specs.Changes.{input_beside}
 use Rattle.rv_tool.specs.Checks.{IsCheckReport, checked_input}
 use Rattle.rv_tool.specs.Commands.{IsOneReport, IsVerdictReport, IsText, IsSomeText, IsSessionText, ComesTo, CommandComes, IsPut}
 use Rattle.rv_tool.specs.HeaderFiles.{header_of_text, header_in}
-use Rattle.rv_tool.specs.Headline.{IsReported, Ending, GivesUp, PrintsText, PrintsRefusal, PrintsSome, Reports, Ends}
+use Rattle.rv_tool.specs.Headline.{IsReported, Ending, GivesUp, PrintsText, PrintsRefusal, PrintsSome, Ends}
 use Rattle.rv_tool.specs.Inputs.{InputValue, run_input}
 use Rattle.rv_tool.specs.Journals.{IsJournalReport, recordable_input}
 use Rattle.rv_tool.specs.Loaded.{generated_files}

@@ -1,5 +1,5 @@
 -- How much of a journal has to be read, and what its verdict answers.
-use Rattle.std.proofs.Common.{◌≡◌, ◌⊎◌, ℕ, ◌+◌, ◌<◌, ◌≤◌, true, List, [], ◌++◌, length, drop, refl, sym, ap, ◌∙◌, subst, inl, inr, arith, take-append-drop}
+use Rattle.std.proofs.Common.{◌≡◌, ◌⊎◌, ℕ, ◌+◌, ◌<◌, ◌≤◌, true, List, [], ◌++◌, length, drop, refl, sym, ap, ◌∙◌, inl, inr, arith, take-append-drop}
 use Rattle.std.specs.Prelude.{Option, Some, None, option_map, Err}
 use Rattle.std.proofs.lemmas.List.{drop_all}
 use Rattle.rv_io.specs.Files.{Files, Rose, front_read}

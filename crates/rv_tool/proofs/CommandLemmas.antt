@@ -1,6 +1,6 @@
 -- What a command comes to, by what was read and what was done of it.
-use Rattle.std.proofs.Common.{◌≡◌, ℕ, List, subst}
-use Rattle.std.specs.Prelude.{Option, Some, codes, Result, Ok, Err, IfOk}
+use Rattle.std.proofs.Common.{ℕ, List}
+use Rattle.std.specs.Prelude.{Option, Result, Ok, Err, IfOk}
 use Rattle.std.specs.declared.alloc.AllocError.{AllocError}
 use Rattle.rv_io.specs.Files.{Files}
 use Rattle.rv_model.specs.declared.entry.Entry.{Entry}

@@ -8,7 +8,6 @@ use Rattle.rv_bind.specs.declared.fault.BindFault.{BindFault}
 use Rattle.rv_bind.specs.declared.fault.BindFault.TheVariants as faults
 use Rattle.rv_bind.specs.Outcomes.{Outcome, accepted}
 use Rattle.rv_tool.specs.declared.replaying.FinishedRun.{FinishedRun}
-use Rattle.rv_tool.specs.Calls.{CallEnd}
 use Rattle.rv_tool.specs.Changes.{input_beside}
 use Rattle.rv_tool.specs.Checks.{IsCheckReport, checked_input}
 use Rattle.rv_tool.specs.Faults.{FaultRefines, FaultBlamesReached}

@@ -60,7 +60,7 @@ pub(crate) fn missing_line(alloc: Global, file: &[u8]) -> Result<Vec<u8>, AllocE
     Ok(line.into_bytes())
 }
 
-/// Puts the text of a status; 4 stands in its place where a put failed.
+/// Puts a text, and answers the status that goes with it, or `PUT_FAILED` where a put failed.
 pub(crate) fn put_text<K: Sink>(out: &mut K, text: &[u8], status: u8) -> u8
     ensures { IsWritten (sink_state K.Sink out.old) (sink_state K.Sink out.new) text.now status result }
 {

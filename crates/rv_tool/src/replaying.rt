@@ -14,7 +14,7 @@ use rv_report::{lanes_status, report_lanes};
 use rv_slots::Tasks;
 use std::alloc::{AllocError, Global};
 
-/// A run that has ended, before anything is put out.
+/// What a command came to, before anything is put.
 #[derive(Drop)]
 pub(crate) struct FinishedRun {
     pub(crate) status: u8,

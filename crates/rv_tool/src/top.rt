@@ -35,7 +35,7 @@ use std::thread::Threads;
 /// A text was put.
 const PRINTED: u8 = 0;
 
-/// Refused.
+/// The words or a file are refused.
 const REFUSED: u8 = 2;
 
 /// A file is missing, or a read failed.
@@ -44,12 +44,12 @@ const UNREAD: u8 = 3;
 /// Want of memory.
 const NO_MEMORY: u8 = 5;
 
-/// How a run ended.
+/// What a call came to.
 #[derive(Drop)]
 pub struct Finished {
     /// 0 clean, 1 a failure, 2 refused, 3 a file that cannot be read, 4 a put that failed, 5 no memory, 6 an instance was stopped.
     pub status: u8,
-    /// The history, which contracts see.
+    /// The history of the run, which only contracts see. It is empty where nothing ran.
     pub closed: Closed,
 }
 
@@ -192,7 +192,7 @@ fn judged(alloc: Global, verdict: Verdict) -> Result<FinishedRun, AllocError>
     Ok(without_run(text, verdict_status(verdict)))
 }
 
-/// Puts what was done, or says why there is nothing to put.
+/// Puts the text of what was done, or a line that says why there is none.
 fn put<K: Sink>(alloc: Global, out: &mut K, done: Result<FinishedRun, BindFault>) -> Finished
     ensures { IsPut done (call_end K.Sink out.old out.new result) }
 {
@@ -244,7 +244,7 @@ fn unread<K: Sink>(alloc: Global, out: &mut K, file: &[u8]) -> Finished
     }
 }
 
-/// Puts nothing.
+/// Ends for want of memory, with nothing put.
 fn give_up() -> Finished
     ensures status { result.status ≡ 5 }
     ensures closed { result.closed ≡ [] }

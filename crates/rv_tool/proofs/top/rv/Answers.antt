@@ -1,4 +1,3 @@
-use Rattle.std.proofs.Common.{subst}
 use Rattle.rv_tool.specs.Calls.{Call, call}
 use Rattle.rv_tool.specs.Words.{command_value}
 use Rattle.rv_tool.proofs.AnswerLemmas.{usage_answered, command_answered, words_answered}
