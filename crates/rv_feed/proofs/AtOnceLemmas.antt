@@ -146,8 +146,8 @@ ran-on {G} board panics fs fs' seated ran =
     On f f' = f'.seat.board ≡ board
 
 -- their lanes have room where theirs stood
-pub ran-room : {G : Type 0} (panics : ℕ → Bool) (lanes left : List LaneValue) (fs fs' : List (Feeder G)) (cap : ℕ) → lanes ≡ lanes_of fs → AllZip (RunsFeeder panics) fs fs' → left ≡ [] → length lanes ≤ cap → length left + length fs' ≤ cap
-ran-room {G} panics lanes left fs fs' cap is ran empty room =
+pub ran-room : {G : Type 0} (panics : ℕ → Bool) {lanes left : List LaneValue} (fs fs' : List (Feeder G)) (cap : ℕ) → lanes ≡ lanes_of fs → AllZip (RunsFeeder panics) fs fs' → left ≡ [] → length lanes ≤ cap → length left + length fs' ≤ cap
+ran-room {G} panics {lanes} {left} fs fs' cap is ran empty room =
     let many : length fs' ≡ length lanes = sym (length_all_zip (RunsFeeder panics) fs fs' ran) ∙ sym (ap length is ∙ length-reverse (map (λ (f : Feeder G). f.lane) fs) ∙ length-map fs (λ (f : Feeder G). f.lane)) in
     let none : length left ≡ 0 = ap length empty in
     omega arith

@@ -16,7 +16,7 @@ join_all-requires-clause-seats g c =
 pub join_all-requires-clause-room : goal.join_all-requires-clause-room
 join_all-requires-clause-room g c =
     let ran = lent (RunsFeeder (panics_of c.args.reactors.now)) c.run_all.new.feeders c.in_ok-feeders.feeders.ok.0 c.as_mut_slice.ensures.value c.run_all.ensures.feeders in
-    ran-room _ _ _ _ _ _ c.in_ok-feeders.ensures.feeders.lanes_are ran c.in_ok-feeders.ensures.empty c.in_ok-feeders.ensures.room
+    ran-room _ _ _ _ c.in_ok-feeders.ensures.feeders.lanes_are ran c.in_ok-feeders.ensures.empty c.in_ok-feeders.ensures.room
 
 pub returns-clause-legal : goal.returns-clause-legal
 returns-clause-legal g c = λ specs mean.

@@ -15,7 +15,7 @@ join_all-requires-clause-seats g c =
 pub join_all-requires-clause-room : goal.join_all-requires-clause-room
 join_all-requires-clause-room g c =
     let ran = lent (RunsFeeder (panics_of c.args.reactors.now)) c.run_watched.new.feeders c.in_ok-feeders.feeders.ok.0 c.as_mut_slice.ensures.value c.run_watched.ensures.feeders in
-    ran-room _ _ _ _ _ _ c.in_ok-feeders.ensures.feeders.lanes_are ran c.in_ok-feeders.ensures.empty c.in_ok-feeders.ensures.room
+    ran-room _ _ _ _ c.in_ok-feeders.ensures.feeders.lanes_are ran c.in_ok-feeders.ensures.empty c.in_ok-feeders.ensures.room
 
 pub returns-clause-words : goal.returns-clause-words
 returns-clause-words g c = λ specs mean.
