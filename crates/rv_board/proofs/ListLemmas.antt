@@ -108,8 +108,8 @@ module _ {X : Type 0} (R : X → X → Type 0) where
   zip-map f same (x ∷ xs) (y ∷ ys) zip = λ i. same x y zip.0 i ∷ zip-map f same xs ys zip.1 i
 
 -- what a list is after it was lent as a slice
-pub lent : {X : Type 0} (R : X → X → Type 0) {n : ℕ} {xs slice : List X} (ys : List X) → n ≡ length xs → slice ≡ xs → AllZip R slice ys → AllZip R xs (take n (ys ++ drop (length ys) xs))
-lent {X} R {n} {xs} {slice} ys count is zip =
+pub lent : {X : Type 0} (R : X → X → Type 0) (n : ℕ) (xs slice ys : List X) → n ≡ length xs → slice ≡ xs → AllZip R slice ys → AllZip R xs (take n (ys ++ drop (length ys) xs))
+lent R n xs slice ys count is zip =
     let zip' : AllZip R xs ys = subst (λ (z : List _). AllZip R z ys) is zip in
     let same : length ys ≡ n = sym (length_all_zip R xs ys zip') ∙ sym count in
     subst (AllZip R xs) (sym (take_at ys (drop (length ys) xs) n same)) zip'

@@ -73,7 +73,7 @@ module _ {G : Type 0} (board : BoardId) (panics : ℕ → Bool) (h : List Entry)
     pub first_in : ExtendsSeen h first.part
     pub cover : (n : ℕ) → n < 67 → (known_of first.part n ≡ true) ⊎ ((known_of actor.part n ≡ true) ⊎ Any (λ f. known_of f.seat.part n ≡ true) fs)
 
-  module _ {first actor actor' : SeatValue} {changes : List Change} {fs fs' : List (Feeder G)} (fed : IsFed first actor actor' changes fs fs') where
+  module _ (first actor actor' : SeatValue) (changes : List Change) (fs fs' : List (Feeder G)) (fed : IsFed first actor actor' changes fs fs') where
     -- each feeder's script is in the history
     all-in : AllZip IsIn fs fs'
     all-in = zip-with (RunsFeeder panics) (IsSeated board) (λ f. ExtendsSeen h f.seat.part) IsIn is-in fs fs' fed.ran fed.seated fed.feeders_in
@@ -119,20 +119,21 @@ module _ {G : Type 0} (board : BoardId) (panics : ℕ → Bool) (h : List Entry)
         run-of board.setup panics h (lanes_of fs) (lanes_of fs') specs changes fed-works whole Says are
         (says (legal-of-run board.setup panics h (lanes_of fs) (lanes_of fs') specs changes fed-works whole fed.sound acts nobody))
 
+  module _ {first actor actor' : SeatValue} {changes : List Change} {fs fs' : List (Feeder G)} (fed : IsFed first actor actor' changes fs fs') where
     -- the lanes come back where there are none
     pub lanes-back : {back left : List LaneValue} → back ≡ left ++ lanes_of fs' → left ≡ [] → back ≡ lanes_of fs'
     lanes-back is empty = is ∙ ap (λ (z : List LaneValue). z ++ lanes_of fs') empty
 
     -- with the works of the lanes of the call
     pub works-back : {lanes back left : List LaneValue} → lanes ≡ lanes_of fs → back ≡ left ++ lanes_of fs' → left ≡ [] → works_of back ≡ works_of lanes
-    works-back lanes_are is empty = ap works_of (lanes-back is empty) ∙ fed-works ∙ ap works_of (sym lanes_are)
+    works-back lanes_are is empty = ap works_of (lanes-back is empty) ∙ fed-works first actor actor' changes fs fs' fed ∙ ap works_of (sym lanes_are)
 
     -- nothing else is said, of the setup and the lanes of the call
     pub fed-legal : {setup : Setup} {lanes back left : List LaneValue} (specs : List Spec) → board.setup ≡ setup → lanes ≡ lanes_of fs → back ≡ left ++ lanes_of fs' → left ≡ [] → AreJudges specs setup.tables (judges_of setup)
         → IsLegalOf (input_with setup specs panics lanes changes) (lane_records back) h
     fed-legal {setup} {lanes} {back} {left} specs setup_is lanes_are is empty are =
         let judges : AreJudges specs board.setup.tables (judges_of board.setup) = subst (λ (s : Setup). AreJudges specs s.tables (judges_of s)) (sym setup_is) are in
-        subst (λ (z : Setup × (List LaneValue × List LaneValue)). IsLegalOf (input_with z.0 specs panics z.1.0 changes) (lane_records z.1.1) h) (λ i. (setup_is i, (sym lanes_are i, sym (lanes-back is empty) i))) (fed-says specs IsLegal (λ legal. legal) judges)
+        subst (λ (z : Setup × (List LaneValue × List LaneValue)). IsLegalOf (input_with z.0 specs panics z.1.0 changes) (lane_records z.1.1) h) (λ i. (setup_is i, (sym lanes_are i, sym (lanes-back is empty) i))) (fed-says first actor actor' changes fs fs' fed specs IsLegal (λ legal. legal) judges)
 
 -- ---- from the calls of a run
 
@@ -145,10 +146,15 @@ ran-on {G} board panics fs fs' seated ran =
     On : Feeder G → Feeder G → Type 0
     On f f' = f'.seat.board ≡ board
 
+-- and as many as there were lanes
+pub ran-many : {G : Type 0} (panics : ℕ → Bool) (lanes : List LaneValue) (fs fs' : List (Feeder G)) → lanes ≡ lanes_of fs → AllZip (RunsFeeder panics) fs fs' → length fs' ≡ length lanes
+ran-many {G} panics lanes fs fs' is ran =
+    sym (length_all_zip (RunsFeeder panics) fs fs' ran) ∙ sym (ap length is ∙ length-reverse (map (λ (f : Feeder G). f.lane) fs) ∙ length-map fs (λ (f : Feeder G). f.lane))
+
 -- their lanes have room where theirs stood
-pub ran-room : {G : Type 0} (panics : ℕ → Bool) (lanes left : List LaneValue) (fs fs' : List (Feeder G)) (cap : ℕ) → lanes ≡ lanes_of fs → AllZip (RunsFeeder panics) fs fs' → left ≡ [] → length lanes ≤ cap → length left + length fs' ≤ cap
-ran-room {G} panics lanes left fs fs' cap is ran empty room =
-    let many : length fs' ≡ length lanes = sym (length_all_zip (RunsFeeder panics) fs fs' ran) ∙ sym (ap length is ∙ length-reverse (map (λ (f : Feeder G). f.lane) fs) ∙ length-map fs (λ (f : Feeder G). f.lane)) in
+pub ran-room : {G : Type 0} (panics : ℕ → Bool) {lanes left : List LaneValue} (fs fs' : List (Feeder G)) (cap : ℕ) → lanes ≡ lanes_of fs → AllZip (RunsFeeder panics) fs fs' → left ≡ [] → length lanes ≤ cap → length left + length fs' ≤ cap
+ran-room {G} panics {lanes} {left} fs fs' cap is ran empty room =
+    let many = ran-many panics lanes fs fs' is ran in
     let none : length left ≡ 0 = ap length empty in
     omega arith
 

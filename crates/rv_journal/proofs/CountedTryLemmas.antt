@@ -15,7 +15,7 @@ use Rattle.rv_board.specs.Rule.{width}
 use Rattle.rv_board.specs.Steps.{Ours}
 use Rattle.rv_board.proofs.CallLemmas.{may}
 use Rattle.rv_board.proofs.RaceLemmas.{raced}
-use Rattle.rv_journal.specs.CountedWords.{FitsCountedWord, IsBelow, word_in, count_in, rows_at, counted_at, FitsCounts, KeptCounted}
+use Rattle.rv_journal.specs.CountedWords.{FitsCountedWord, IsBelow, count_in, rows_at, counted_at, FitsCounts, KeptCounted}
 use Rattle.rv_journal.specs.CountedSteps.{IsCountedLoad, IsCountedExchange, IsCountedStop, next_word, next_counted}
 use Rattle.rv_journal.specs.CountedSeats.{IsCountedSeat}
 use Rattle.rv_journal.proofs.CountLemmas.{count-fits}

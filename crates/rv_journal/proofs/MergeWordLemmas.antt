@@ -1,22 +1,19 @@
 -- The word of a slot is told by the entries that changed it, and the switches stay the opening ones.
-use Rattle.std.proofs.Common.{◌≡◌, ◌≢◌, ℕ, ◌+◌, ◌==◌, Bool, true, false, ◌&&◌, not, List, [], ◌∷◌, ◌++◌, reverse, refl, sym, ap, ◌∙◌, subst, arith, append_assoc}
+use Rattle.std.proofs.Common.{◌≡◌, ℕ, ◌+◌, ◌==◌, Bool, true, false, not, List, [], ◌∷◌, ◌++◌, reverse, refl, sym, ap, ◌∙◌, subst, arith, append_assoc}
 use Rattle.std.specs.Prelude.{filter}
 use Rattle.std.proofs.lemmas.Bool.{and_parts}
-use Rattle.std.proofs.lemmas.Bool.Decides.{nat_tests}
 use Rattle.std.proofs.lemmas.List.{append-nil, reverse-append, reverse-reverse}
 use Rattle.rv_model.specs.declared.entry.Act.{Act}
 use Rattle.rv_model.specs.declared.entry.Act.TheVariants.{Deliver, Stop, Look, Raise, Lower, Clear, End}
 use Rattle.rv_model.specs.declared.entry.Entry.{Entry}
 use Rattle.rv_model.specs.Cuts.{AtEach}
 use Rattle.rv_model.specs.Numbers.{has_bit}
-use Rattle.rv_model.specs.Setups.{Setup, judge_of, start_of}
-use Rattle.rv_model.specs.Phases.{level, phase_of}
-use Rattle.rv_model.specs.SharedWords.{switch, switches_of, word_of, word_on}
+use Rattle.rv_model.specs.Setups.{Setup}
+use Rattle.rv_model.specs.SharedWords.{switch, switches_of, word_of}
 use Rattle.rv_model.specs.Histories.{FitsWords, Replays, is_on, changed}
 use Rattle.rv_model.proofs.CutLemmas.{reverse-cut}
 use Rattle.rv_model.proofs.NumberLemmas.{number_of-same, number_of-bits}
-use Rattle.rv_core.specs.Setup.{IsSetup, word_index, judges_of}
-use Rattle.rv_core.proofs.WordLemmas.{packed-other}
+use Rattle.rv_core.specs.Setup.{IsSetup, judges_of}
 use Rattle.rv_board.proofs.SoundLemmas.{on-slot, still}
 use Rattle.rv_journal.specs.MergeStates.{IsMergedAct}
 

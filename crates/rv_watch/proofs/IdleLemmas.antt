@@ -1,6 +1,7 @@
 -- Seats of a watched run that make no entry, and numbers that nobody uses.
 use Rattle.std.proofs.Common.{◌≡◌, ◌⊎◌, inl, inr, ℕ, ◌==◌, Bool, true, false, List, [], ◌∷◌, ◌++◌, arith, refl, ap, ◌∙◌}
 use Rattle.std.proofs.lemmas.Bool.Decides.{nat_tests}
+use Rattle.rv_model.specs.declared.entry.Entry.{Entry}
 use Rattle.rv_model.specs.Seats.{Seat, is_within, is_among, known_of, entries_of}
 use Rattle.rv_board.specs.Known.{known_by}
 use Rattle.rv_board.specs.RunSeats.{HasTakenIn}
@@ -20,6 +21,10 @@ grows-holds old new g = record {
 -- what a seat holds that is held
 pub holds-through : (a b c : SeatValue) → HasTakenIn a b → HasTakenIn b c → HasTakenIn a c
 holds-through a b c ab bc = record { follows = follows-then b c a.part.seen bc ab.follows; within = λ n t. ab.within n (bc.within n t) }
+
+-- a later list has no entry of a seat that had seen nothing
+pub none-of-fresh : (p : Seat) (h : List Entry) → p.seen ≡ [] → ExtendsSeen h p → entries_of (known_of p) h ≡ []
+none-of-fresh p h fresh later = ap (entries_of (known_of p)) (later.list ∙ ap (λ (l : List Entry). l ++ later.rest) fresh) ∙ later.none
 
 -- ---- numbers
 

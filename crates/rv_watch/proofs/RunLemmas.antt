@@ -1,5 +1,5 @@
 -- A watched run: its history is legal, and the words are the slot's along it.
-use Rattle.std.proofs.Common.{◌≡◌, inl, inr, ℕ, ◌<◌, Bool, true, List, [], ◌∷◌, ◌++◌, length, reverse, arith, refl, sym, ap, ◌∙◌, subst}
+use Rattle.std.proofs.Common.{◌≡◌, inl, inr, ℕ, ◌<◌, Bool, true, List, [], ◌∷◌, length, reverse, arith, refl, sym, ap, ◌∙◌, subst}
 use Rattle.std.specs.Prelude.{All}
 use Rattle.std.specs.List.{AllZip}
 use Rattle.std.proofs.lemmas.List.{take_all}
@@ -20,19 +20,19 @@ use Rattle.rv_board.proofs.GrowLemmas.{same_known}
 use Rattle.rv_board.proofs.Knowing.{known_is, knows_own, none_of, none_either}
 use Rattle.rv_board.proofs.SoundLemmas.{sound-empty}
 use Rattle.rv_board.proofs.ListLemmas.{Any-implied, zip-with, zip-left}
-use Rattle.rv_board.proofs.RunSeatLemmas.{follows-then, holds-itself, holds-still, holds-joined, none-of-fresh}
+use Rattle.rv_board.proofs.RunSeatLemmas.{follows-then, holds-itself, holds-still, holds-joined}
 use Rattle.rv_feed.specs.declared.feeder.Feeder.{Feeder}
 use Rattle.rv_feed.specs.AtOnce.{input_with, IsLegalOf, IsSeated, lanes_of, AreSeated}
 use Rattle.rv_feed.specs.Feeders.{RunsFeeder}
 use Rattle.rv_feed.specs.Lane.{LaneValue, works_of}
 use Rattle.rv_feed.specs.One.{lane_records}
-use Rattle.rv_feed.proofs.AtOnceLemmas.{IsFed, fed-says, lanes-back, works-back}
+use Rattle.rv_feed.proofs.AtOnceLemmas.{IsFed, fed-says, fed-works}
 use Rattle.rv_feed.proofs.ChangeLemmas.{does-none}
 use Rattle.rv_watch.specs.declared.watcher.Watcher.{Watcher}
 use Rattle.rv_watch.specs.Runs.{IsWatched, IsWatchedOf}
-use Rattle.rv_watch.specs.Watching.{IsWatcher, WatchesSlot}
+use Rattle.rv_watch.specs.Watching.{WatchesSlot}
 use Rattle.rv_watch.specs.Words.{AreWords, word_after}
-use Rattle.rv_watch.proofs.IdleLemmas.{grows-holds, holds-through, two-known, zero-known, other-known, from-one, from-one-within}
+use Rattle.rv_watch.proofs.IdleLemmas.{grows-holds, holds-through, none-of-fresh, two-known, zero-known, other-known, from-one, from-one-within}
 use Rattle.rv_watch.proofs.WordLemmas.{words-later, words-anywhere}
 
 module _ {G : Type 0} (board : BoardId) (panics : ℕ → Bool) (h : List Entry) where
@@ -41,7 +41,8 @@ module _ {G : Type 0} (board : BoardId) (panics : ℕ → Bool) (h : List Entry)
     pub start_is : start ≡ seat_value (part 0 67 [] []) board
     pub first_is : first ≡ seat_value (part start.part.number 66 start.part.joined_in start.part.seen) start.board
     pub own_is : own ≡ seat_value (part 66 start.part.end [] start.part.seen) start.board
-    pub watcher_is : IsWatcher own slot w
+    pub watcher_is : w.seat ≡ own
+    pub slot_is : w.slot ≡ slot
     pub seated : AreSeated board first.part.end before lanes [] fs
     pub ran : AllZip (RunsFeeder panics) fs fs'
     pub watched : WatchesSlot w w'
@@ -51,32 +52,9 @@ module _ {G : Type 0} (board : BoardId) (panics : ℕ → Bool) (h : List Entry)
     pub reads : SeatGrows read final []
     pub last_is : last ≡ word_of board.setup (judges_of board.setup) (reverse final.part.seen) slot
     pub closes : Closes final h
-    pub on : mid.board ≡ board
+    pub on : final.board ≡ board
 
-module _ {G : Type 0} {board : BoardId} {panics : ℕ → Bool} {h : List Entry} where
-  -- these calls are those of one
-  pub is-run : {slot last : ℕ} {start first own before mid read final : SeatValue} {lanes : List LaneValue} {fs fs' : List (Feeder G)} {w w' : Watcher G} → start ≡ seat_value (part 0 67 [] []) board
-      → first ≡ seat_value (part start.part.number 66 start.part.joined_in start.part.seen) start.board → own ≡ seat_value (part 66 start.part.end [] start.part.seen) start.board → IsWatcher own slot w → AreSeated board first.part.end before lanes [] fs
-      → AllZip (RunsFeeder panics) fs fs' → WatchesSlot w w' → HasTakenIn mid before → All (λ (f : Feeder G). HasTakenIn mid f.seat) fs' → mid.board ≡ board → Joins mid w'.seat read → SeatGrows read final [] → last ≡ word_of board.setup (judges_of board.setup) (reverse final.part.seen) slot
-      → Closes final h → IsRun board panics h slot last start first own before mid read final lanes fs fs' w w'
-  is-run start_is first_is own_is watcher_is seated ran watched permitted feeders on joins reads last_is closes = record {
-    start_is = start_is;
-    first_is = first_is;
-    own_is = own_is;
-    watcher_is = watcher_is;
-    seated = seated;
-    ran = ran;
-    watched = watched;
-    permitted = permitted;
-    feeders = feeders;
-    joins = joins;
-    reads = reads;
-    last_is = last_is;
-    closes = closes;
-    on = on;
-  }
-
-  module _ {slot last : ℕ} {start first own before mid read final : SeatValue} {lanes : List LaneValue} {fs fs' : List (Feeder G)} {w w' : Watcher G} (run : IsRun board panics h slot last start first own before mid read final lanes fs fs' w w') where
+  module _ (slot last : ℕ) (start first own before mid read final : SeatValue) (lanes : List LaneValue) (fs fs' : List (Feeder G)) (w w' : Watcher G) (run : IsRun slot last start first own before mid read final lanes fs fs' w w') where
     -- ---- what the last seat holds
 
     read-held : HasTakenIn final read
@@ -101,7 +79,7 @@ module _ {G : Type 0} {board : BoardId} {panics : ℕ → Bool} {h : List Entry}
 
     -- the watcher's seat
     own-value : w.seat ≡ seat_value (part 66 67 [] []) board
-    own-value = run.watcher_is.seat_is ∙ run.own_is ∙ (λ i. seat_value (part 66 (run.start_is i).part.end [] (run.start_is i).part.seen) (run.start_is i).board)
+    own-value = run.watcher_is ∙ run.own_is ∙ (λ i. seat_value (part 66 (run.start_is i).part.end [] (run.start_is i).part.seen) (run.start_is i).board)
 
     -- it knows its number
     watcher-known : known_of w.seat.part 66 ≡ true
@@ -175,9 +153,9 @@ module _ {G : Type 0} {board : BoardId} {panics : ℕ → Bool} {h : List Entry}
     }
 
     -- the run is one of all scripts at once, without changes
-    run-fed : IsFed board panics h idle actor actor [] fs fs'
+    pub run-fed : IsFed board panics h idle actor actor [] fs fs'
     run-fed = record {
-      sound = subst (λ (b : BoardId). IsSound b.setup (judges_of b.setup) h) (run.reads.board ∙ run.joins.board ∙ run.on) run.closes.sound;
+      sound = subst (λ (b : BoardId). IsSound b.setup (judges_of b.setup) h) run.on run.closes.sound;
       seated = run.seated.seated;
       ran = run.ran;
       feeders_in = All-weaker (λ (f : Feeder G). HasTakenIn final f.seat) (λ (f : Feeder G). ExtendsSeen h f.seat.part) (λ f holds. in-history f.seat holds) fs' feeders-held;
@@ -208,7 +186,7 @@ module _ {G : Type 0} {board : BoardId} {panics : ℕ → Bool} {h : List Entry}
         let same : w'.seat.board ≡ board = run.watched.grows.board ∙ ap (λ (s : SeatValue). s.board) own-value in
         let least : ℕ = length w.seat.part.seen in
         let own : AreWords board.setup (judges_of board.setup) w'.seat.part.seen slot least w'.words.items =
-        subst (λ (b : BoardId). AreWords b.setup (judges_of b.setup) w'.seat.part.seen slot least w'.words.items) same (subst (λ (n : ℕ). AreWords w'.seat.board.setup (judges_of w'.seat.board.setup) w'.seat.part.seen n least w'.words.items) run.watcher_is.slot_is run.watched.words) in
+        subst (λ (b : BoardId). AreWords b.setup (judges_of b.setup) w'.seat.part.seen slot least w'.words.items) same (subst (λ (n : ℕ). AreWords w'.seat.board.setup (judges_of w'.seat.board.setup) w'.seat.part.seen n least w'.words.items) run.slot_is run.watched.words) in
         words-anywhere board.setup (judges_of board.setup) slot least h w'.words.items
         (subst (λ (l : List Entry). AreWords board.setup (judges_of board.setup) l slot least w'.words.items) (sym later.list) (words-later board.setup (judges_of board.setup) slot least w'.seat.part.seen later.rest w'.words.items own))
 
@@ -218,18 +196,18 @@ module _ {G : Type 0} {board : BoardId} {panics : ℕ → Bool} {h : List Entry}
 
     -- so it is a watched run
     pub run-watched : (specs : List Spec) → AreJudges specs board.setup.tables (judges_of board.setup) → IsWatchedOf slot w'.words.items last (input_with board.setup specs panics (lanes_of fs) []) (lane_records (lanes_of fs')) h
-    run-watched specs are = fed-says board panics h run-fed specs (IsWatched slot w'.words.items last) (λ legal. record { legal = legal; kept_are = run-words; last_is = run-last }) are
+    run-watched specs are = fed-says board panics h idle actor actor [] fs fs' run-fed specs (IsWatched slot w'.words.items last) (λ legal. record { legal = legal; kept_are = run-words; last_is = run-last }) are
 
     -- the works are as before
-    pub run-works : {back left : List LaneValue} → back ≡ left ++ lanes_of fs' → left ≡ [] → works_of back ≡ works_of lanes
-    run-works is empty = works-back board panics h run-fed run.seated.lanes_are is empty
+    pub run-works : works_of (lanes_of fs') ≡ works_of lanes
+    run-works = fed-works board panics h idle actor actor [] fs fs' run-fed ∙ ap works_of (sym run.seated.lanes_are)
 
     -- as it is told of the setup and the lanes of the call
-    pub run-promised : {setup : Setup} {back left : List LaneValue} (specs : List Spec) → board.setup ≡ setup → back ≡ left ++ lanes_of fs' → left ≡ [] → AreJudges specs setup.tables (judges_of setup)
+    pub run-promised : (setup : Setup) (back : List LaneValue) (specs : List Spec) → board.setup ≡ setup → back ≡ lanes_of fs' → AreJudges specs setup.tables (judges_of setup)
         → IsWatchedOf slot w'.words.items last (input_with setup specs panics lanes []) (lane_records back) h
-    run-promised {setup} {back} {left} specs setup_is is empty are =
+    run-promised setup back specs setup_is back_is are =
         let judges : AreJudges specs board.setup.tables (judges_of board.setup) = subst (λ (s : Setup). AreJudges specs s.tables (judges_of s)) (sym setup_is) are in
-        subst (λ (z : Setup × (List LaneValue × List LaneValue)). IsWatchedOf slot w'.words.items last (input_with z.0 specs panics z.1.0 []) (lane_records z.1.1) h) (λ i. (setup_is i, (sym run.seated.lanes_are i, sym (lanes-back board panics h run-fed is empty) i))) (run-watched specs judges)
+        subst (λ (z : Setup × (List LaneValue × List LaneValue)). IsWatchedOf slot w'.words.items last (input_with z.0 specs panics z.1.0 []) (lane_records z.1.1) h) (λ i. (setup_is i, (sym run.seated.lanes_are i, sym back_is i))) (run-watched specs judges)
 
 -- a watched run is legal
 pub legal-of-watched : (slot : ℕ) (words : List ℕ) (last : ℕ) (input : Input) (rs : List Record) (h : List Entry) → IsWatchedOf slot words last input rs h → IsLegalOf input rs h

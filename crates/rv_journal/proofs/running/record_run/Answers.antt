@@ -25,7 +25,7 @@ pub join_all-requires-clause-seats : goal.join_all-requires-clause-seats
 join_all-requires-clause-seats g c =
     let board = c.in_ok-board.field-0.board in
     let fs : List (CountedFeeder g.row.G.Denot) = c.in_ok-feeders.feeders.items in
-    let ran = lent RunsCounted c.run_counted.new.feeders c.in_ok-feeders.feeders.ok.0 c.as_mut_slice.ensures.value c.run_counted.ensures in
+    let ran = lent RunsCounted _ _ _ c.run_counted.new.feeders c.in_ok-feeders.feeders.ok.0 c.as_mut_slice.ensures.value c.run_counted.ensures in
     all-on board fs _ c.in_ok-feeders.ensures.seated ran
 
 pub merge-requires : goal.merge-requires
@@ -33,7 +33,7 @@ merge-requires g c =
     let board = c.in_ok-board.field-0.board in
     let fs : List (CountedFeeder g.row.G.Denot) = c.in_ok-feeders.feeders.items in
     let fs' : List (CountedFeeder g.row.G.Denot) = take c.in_ok-feeders.feeders.len (c.run_counted.new.feeders ++ drop (length c.run_counted.new.feeders) fs) in
-    let ran = lent RunsCounted c.run_counted.new.feeders c.in_ok-feeders.feeders.ok.0 c.as_mut_slice.ensures.value c.run_counted.ensures in
+    let ran = lent RunsCounted _ _ _ c.run_counted.new.feeders c.in_ok-feeders.feeders.ok.0 c.as_mut_slice.ensures.value c.run_counted.ensures in
     let first = c.seat_works.new.seat.seat in
     let last = c.join_all.new.into.seat in
     let joined = c.in_ok-lanes.ensures in
@@ -51,7 +51,7 @@ returns-clause-legal g c =
     let board = c.in_ok-board.field-0.board in
     let fs : List (CountedFeeder g.row.G.Denot) = c.in_ok-feeders.feeders.items in
     let fs' : List (CountedFeeder g.row.G.Denot) = take c.in_ok-feeders.feeders.len (c.run_counted.new.feeders ++ drop (length c.run_counted.new.feeders) fs) in
-    let ran = lent RunsCounted c.run_counted.new.feeders c.in_ok-feeders.feeders.ok.0 c.as_mut_slice.ensures.value c.run_counted.ensures in
+    let ran = lent RunsCounted _ _ _ c.run_counted.new.feeders c.in_ok-feeders.feeders.ok.0 c.as_mut_slice.ensures.value c.run_counted.ensures in
     whole-run board c.args.setup c.seat_works.new.seat.seat c.join_all.new.into.seat c.args.works.items fs fs' c.in_ok-lanes.lanes.items c.in_ok-feeders.ensures ran c.in_ok-lanes.ensures c.number.ensures.sound c.in_ok-board.ensures.board
     c.setup.result.now c.as_slice.result.now c.in_ok-entries.entries.items c.closed_of-closed.result c.setup.ensures c.as_slice.ensures.value c.in_ok-entries.ensures (c.closed_of-closed.ensures.closed ∙ c.as_slice-2.ensures.value) []
 
@@ -60,7 +60,7 @@ returns-clause-specs g c = λ specs mean.
     let board = c.in_ok-board.field-0.board in
     let fs : List (CountedFeeder g.row.G.Denot) = c.in_ok-feeders.feeders.items in
     let fs' : List (CountedFeeder g.row.G.Denot) = take c.in_ok-feeders.feeders.len (c.run_counted.new.feeders ++ drop (length c.run_counted.new.feeders) fs) in
-    let ran = lent RunsCounted c.run_counted.new.feeders c.in_ok-feeders.feeders.ok.0 c.as_mut_slice.ensures.value c.run_counted.ensures in
+    let ran = lent RunsCounted _ _ _ c.run_counted.new.feeders c.in_ok-feeders.feeders.ok.0 c.as_mut_slice.ensures.value c.run_counted.ensures in
     record {
       are_judges = are-judges specs c.args.setup.tables c.assert_invariant.ensures.are_tables mean;
       legal =

@@ -1,6 +1,6 @@
 -- Each try is allowed, and counts one change by others where it is lost.
 use Rattle.std.proofs.Common.{◌≡◌, ◌+◌, ◌-◌, ◌<◌, ℕ, refl, sym, ap, ◌∙◌, subst, arith, sum}
-use Rattle.rv_model.specs.declared.entry.Act.TheVariants.{Deliver, Stop}
+use Rattle.rv_model.specs.declared.entry.Act.TheVariants.{Stop}
 use Rattle.rv_model.specs.declared.record.Delivered.TheVariants.{Done, Racing}
 use Rattle.rv_model.specs.Setups.{Setup}
 use Rattle.rv_core.specs.Advance.{FitsTable}
