@@ -1,15 +1,14 @@
 -- What the status of records says of them.
-use Rattle.std.proofs.Common.{◌≡◌, ℕ, Bool, true, false, List, ◌++◌, ◌≤◌, length, take, refl, sym, ap, ◌∙◌, arith}
-use Rattle.std.proofs.lemmas.List.{take_all}
+use Rattle.std.proofs.Common.{◌≡◌, ℕ, Bool, true, false, List, refl, sym, subst, arith}
 use Rattle.std.specs.Prelude.{Any, ◌↔◌, if◌then◌else◌}
 use Rattle.std.specs.List.{list_any}
-use Rattle.std.proofs.lemmas.List.Folds.{Any-from_list_any, list_any-from_Any, list_any-append}
+use Rattle.std.proofs.lemmas.List.Folds.{Any-from_list_any, list_any-from_Any}
 use Rattle.rv_model.specs.declared.entry.Answer.TheVariants.{Passed, Started, Kept, Failed, Stopped, Cleared, Ended, Looked, Switched}
 use Rattle.rv_model.specs.declared.record.Delivered.{Delivered}
 use Rattle.rv_model.specs.declared.record.Delivered.TheVariants.{Done, Racing}
 use Rattle.rv_model.specs.declared.record.Record.{Record}
 use Rattle.rv_model.specs.Records.{failed_outcome, racing_outcome, is_failure, is_stopped, status_of}
-use Rattle.rv_report.specs.Exit.{HasFailed, WasStopped}
+use Rattle.rv_report.specs.Exit.{HasFailed, WasStopped, IsStatus}
 
 -- ---- one record
 -- a failure's outcome
@@ -36,14 +35,14 @@ any-map : (P Q : Record → Type 0) → ((r : Record) → P r → Q r) → (rs :
 any-map P Q f rs (k, r, lt, is, p) = (k, r, lt, is, f r p)
 
 -- the test for a failure
-pub some-failed : (rs : List Record) → (list_any is_failure rs ≡ true) ↔ Any HasFailed rs
+some-failed : (rs : List Record) → (list_any is_failure rs ≡ true) ↔ Any HasFailed rs
 some-failed rs = (
   λ yes. any-map (λ r. is_failure r ≡ true) HasFailed (λ r p. failed-from r.outcome p) rs (Any-from_list_any is_failure rs yes),
   λ any. list_any-from_Any is_failure rs (any-map HasFailed (λ r. is_failure r ≡ true) (λ r p. rw p.1 refl) rs any),
 )
 
 -- the test for a stop
-pub some-stopped : (rs : List Record) → (list_any is_stopped rs ≡ true) ↔ Any WasStopped rs
+some-stopped : (rs : List Record) → (list_any is_stopped rs ≡ true) ↔ Any WasStopped rs
 some-stopped rs = (
   λ yes. any-map (λ r. is_stopped r ≡ true) WasStopped (λ r p. stopped-from r.outcome p) rs (Any-from_list_any is_stopped rs yes),
   λ any. list_any-from_Any is_stopped rs (any-map WasStopped (λ r. is_stopped r ≡ true) (λ r p. rw p refl) rs any),
@@ -73,28 +72,23 @@ module _ (P Q : Type 0) where
   stop false true p q = (λ e. (λ x. let no : false ≡ true = p.1 x in cc, q.0 refl), λ n. refl)
   stop false false p q = (λ e. absurd (let no : 0 ≡ 6 = e in omega arith), λ n. absurd (let no : false ≡ true = q.1 n.1 in cc))
 
--- no failure so far and a stop so far, at the end
-pub status-end : (rs : List Record) (n : ℕ) (b : Bool) → length rs ≤ n → list_any is_failure (take n rs) ≡ false → b ≡ list_any is_stopped (take n rs) → status_of rs ≡ (if b then 6 else 0)
-status-end rs n b all none some =
-    let f : list_any is_failure rs ≡ false = ap (list_any is_failure) (sym (take_all n rs all)) ∙ none in
-    let s : list_any is_stopped rs ≡ b = ap (list_any is_stopped) (sym (take_all n rs all)) ∙ sym some in
-    rw (f, s) refl
-
 -- neither a failure nor a stop
-pub status-clean : (rs : List Record) → (status_of rs ≡ 0) ↔ ((¬ Any HasFailed rs) × (¬ Any WasStopped rs))
+status-clean : (rs : List Record) → (status_of rs ≡ 0) ↔ ((¬ Any HasFailed rs) × (¬ Any WasStopped rs))
 status-clean rs = clean (Any HasFailed rs) (Any WasStopped rs) (list_any is_failure rs) (list_any is_stopped rs) (some-failed rs) (some-stopped rs)
 
 -- a failure
-pub status-failure : (rs : List Record) → (status_of rs ≡ 1) ↔ Any HasFailed rs
+status-failure : (rs : List Record) → (status_of rs ≡ 1) ↔ Any HasFailed rs
 status-failure rs = failure (Any HasFailed rs) (Any WasStopped rs) (list_any is_failure rs) (list_any is_stopped rs) (some-failed rs) (some-stopped rs)
 
 -- no failure and a stop
-pub status-stopped : (rs : List Record) → (status_of rs ≡ 6) ↔ ((¬ Any HasFailed rs) × Any WasStopped rs)
+status-stopped : (rs : List Record) → (status_of rs ≡ 6) ↔ ((¬ Any HasFailed rs) × Any WasStopped rs)
 status-stopped rs = stop (Any HasFailed rs) (Any WasStopped rs) (list_any is_failure rs) (list_any is_stopped rs) (some-failed rs) (some-stopped rs)
 
--- a failure stays one, whatever follows
-pub status-stays : (rs us : List Record) → status_of rs ≡ 1 → status_of (rs ++ us) ≡ 1
-status-stays rs us is =
-    let failed : list_any is_failure rs ≡ true = (some-failed rs).1 ((status-failure rs).0 is) in
-    let some : list_any is_failure (rs ++ us) ≡ true = list_any-append is_failure rs us ∙ rw failed refl in
-    rw some refl
+-- the status is each of the three exactly where it should be
+pub status-is : (rs : List Record) (n : ℕ) → n ≡ status_of rs → IsStatus rs n
+status-is rs n is = record {
+  value = is;
+  clean = subst (λ (m : ℕ). (m ≡ 0) ↔ ((¬ Any HasFailed rs) × (¬ Any WasStopped rs))) (sym is) (status-clean rs);
+  failure = subst (λ (m : ℕ). (m ≡ 1) ↔ Any HasFailed rs) (sym is) (status-failure rs);
+  stopped = subst (λ (m : ℕ). (m ≡ 6) ↔ ((¬ Any HasFailed rs) × Any WasStopped rs)) (sym is) (status-stopped rs);
+}

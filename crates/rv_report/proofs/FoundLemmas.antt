@@ -6,42 +6,46 @@ use Rattle.std.proofs.lemmas.List.{take_more}
 use Rattle.std.proofs.lemmas.List.Elements.{filter-append}
 use Rattle.rv_model.specs.declared.record.Record.{Record}
 use Rattle.rv_model.specs.declared.record.Task.{Task}
-use Rattle.rv_model.specs.Records.{sort_records}
+use Rattle.rv_model.specs.Records.{sort_records, status_of}
 use Rattle.rv_model.specs.Reports.{Reported}
 use Rattle.rv_feed.specs.Lane.{LaneValue}
 use Rattle.rv_feed.specs.One.{lane_records}
 use Rattle.rv_report.specs.declared.found.Found.{Found}
-use Rattle.rv_report.specs.Reported.{is_printed}
+use Rattle.rv_report.specs.Printed.{is_printed}
 use Rattle.rv_report.specs.Tallies.{AreTallies, IsFound}
+use Rattle.rv_feed.proofs.OneLemmas.{status-sorted}
 use Rattle.rv_feed.proofs.SortedLemmas.{filter-sort}
 use Rattle.rv_report.proofs.TallyLemmas.{tallies-sort}
 
 module _ (monitors : List Reported) (tasks : List Task) (rs : List Record) (f f' : Found) where
   -- a record whose reaction is printed
   pub found-printed : (r : Record) → is_printed monitors r ≡ true → f'.printed.items ≡ f.printed.items ++ r ∷ [] → (AreTallies monitors tasks rs f.tallies.items → AreTallies monitors tasks (rs ++ r ∷ []) f'.tallies.items)
-      → IsFound monitors tasks rs f → IsFound monitors tasks (rs ++ r ∷ []) f'
-  found-printed r printed more tallies was =
+      → (f.status ≡ status_of rs → f'.status ≡ status_of (rs ++ r ∷ [])) → IsFound monitors tasks rs f → IsFound monitors tasks (rs ++ r ∷ []) f'
+  found-printed r printed more tallies status was =
       let one : filter (is_printed monitors) (r ∷ []) ≡ r ∷ [] = rw printed refl in
       record {
         tallies = tallies was.tallies;
         printed = more ∙ ap (λ (us : List Record). us ++ r ∷ []) was.printed ∙ ap (λ (us : List Record). filter (is_printed monitors) rs ++ us) (sym one) ∙ sym (filter-append (is_printed monitors) rs (r ∷ []));
+        status = status was.status;
       }
 
   -- a record whose reaction is not printed
   pub found-quiet : (r : Record) → is_printed monitors r ≡ false → f'.printed.items ≡ f.printed.items → (AreTallies monitors tasks rs f.tallies.items → AreTallies monitors tasks (rs ++ r ∷ []) f'.tallies.items)
-      → IsFound monitors tasks rs f → IsFound monitors tasks (rs ++ r ∷ []) f'
-  found-quiet r quiet same tallies was =
+      → (f.status ≡ status_of rs → f'.status ≡ status_of (rs ++ r ∷ [])) → IsFound monitors tasks rs f → IsFound monitors tasks (rs ++ r ∷ []) f'
+  found-quiet r quiet same tallies status was =
       let none : filter (is_printed monitors) (r ∷ []) ≡ [] = rw quiet refl in
       record {
         tallies = tallies was.tallies;
         printed = same ∙ was.printed ∙ sym (append-nil (filter (is_printed monitors) rs)) ∙ ap (λ (us : List Record). filter (is_printed monitors) rs ++ us) (sym none) ∙ sym (filter-append (is_printed monitors) rs (r ∷ []));
+        status = status was.status;
       }
 
   -- the records in their order
-  pub found-sort : f'.printed.items ≡ sort_records f.printed.items → f'.tallies.items ≡ f.tallies.items → IsFound monitors tasks rs f → IsFound monitors tasks (sort_records rs) f'
-  found-sort sorted same was = record {
+  pub found-sort : f'.printed.items ≡ sort_records f.printed.items → f'.tallies.items ≡ f.tallies.items → f'.status ≡ f.status → IsFound monitors tasks rs f → IsFound monitors tasks (sort_records rs) f'
+  found-sort sorted same kept was = record {
     tallies = subst (AreTallies monitors tasks (sort_records rs)) (sym same) (tallies-sort monitors tasks rs f.tallies.items was.tallies);
     printed = sorted ∙ ap sort_records was.printed ∙ sym (filter-sort (is_printed monitors) rs);
+    status = kept ∙ was.status ∙ sym (status-sorted rs);
   }
 
 -- the records of one lane more

@@ -12,7 +12,7 @@ use Rattle.rv_model.specs.Numbers.{list_of}
 use Rattle.rv_model.specs.Records.{is_failure, is_stopped, is_ended, sort_records}
 use Rattle.rv_model.specs.Reports.{Reported, instances_in, is_of_monitor, is_at, count_text, summary_text}
 use Rattle.rv_report.specs.declared.tally.Tally.{Tally}
-use Rattle.rv_report.specs.Tallies.{IsTally, AreTallies}
+use Rattle.rv_report.specs.Tallies.{IsTally, AreTallies, tally_text}
 use Rattle.rv_report.proofs.CountLemmas.{count-none, count-yes, count-no}
 use Rattle.rv_feed.proofs.SortedLemmas.{count-sort, any-sort}
 
@@ -165,7 +165,7 @@ count-marks p bs are (suc n) le =
 
 -- the line of a tally is the monitor's
 pub line-is : (tasks : List Task) (rs : List Record) (monitor : ℕ) (m : Reported) (t : Tally) → IsTally monitor (instances_in tasks m.scope) rs t
-    → count_text m.display_name (count_by (λ b. b) t.seen.items) t.deliveries t.failures t.stopped ≡ summary_text tasks rs monitor m
+    → tally_text m.display_name t ≡ summary_text tasks rs monitor m
 line-is tasks rs monitor m t is =
     let n = instances_in tasks m.scope in
     let all : count_by (λ b. b) t.seen.items ≡ count_by (λ k. list_any (is_at monitor k) rs) (list_of (λ k. k) n) =

@@ -53,17 +53,17 @@ abbrev pub formula_text : List (List ℕ) → Ltl → List ℕ
 formula_text atoms True = codes "true"
 formula_text atoms False = codes "false"
 formula_text atoms (Atom a) = slice_index_or atoms a []
-formula_text atoms (Not f) = unary_text (codes "not ") f (formula_text atoms f)
-formula_text atoms (Next f) = unary_text (codes "next ") f (formula_text atoms f)
-formula_text atoms (Always f) = unary_text (codes "always ") f (formula_text atoms f)
-formula_text atoms (Eventually f) = unary_text (codes "eventually ") f (formula_text atoms f)
-formula_text atoms (And f g) = binary_text (codes " and ") f (formula_text atoms f) g (formula_text atoms g)
-formula_text atoms (Or f g) = binary_text (codes " or ") f (formula_text atoms f) g (formula_text atoms g)
-formula_text atoms (Imply f g) = binary_text (codes " imply ") f (formula_text atoms f) g (formula_text atoms g)
-formula_text atoms (Equivalent f g) = binary_text (codes " equivalent ") f (formula_text atoms f) g (formula_text atoms g)
-formula_text atoms (Until f g) = binary_text (codes " until ") f (formula_text atoms f) g (formula_text atoms g)
-formula_text atoms (Release f g) = binary_text (codes " release ") f (formula_text atoms f) g (formula_text atoms g)
-formula_text atoms (WeakUntil f g) = binary_text (codes " weak_until ") f (formula_text atoms f) g (formula_text atoms g)
+formula_text atoms (Not f) = unary_text (operator_text (Not f)) f (formula_text atoms f)
+formula_text atoms (Next f) = unary_text (operator_text (Next f)) f (formula_text atoms f)
+formula_text atoms (Always f) = unary_text (operator_text (Always f)) f (formula_text atoms f)
+formula_text atoms (Eventually f) = unary_text (operator_text (Eventually f)) f (formula_text atoms f)
+formula_text atoms (And f g) = binary_text (operator_text (And f g)) f (formula_text atoms f) g (formula_text atoms g)
+formula_text atoms (Or f g) = binary_text (operator_text (Or f g)) f (formula_text atoms f) g (formula_text atoms g)
+formula_text atoms (Imply f g) = binary_text (operator_text (Imply f g)) f (formula_text atoms f) g (formula_text atoms g)
+formula_text atoms (Equivalent f g) = binary_text (operator_text (Equivalent f g)) f (formula_text atoms f) g (formula_text atoms g)
+formula_text atoms (Until f g) = binary_text (operator_text (Until f g)) f (formula_text atoms f) g (formula_text atoms g)
+formula_text atoms (Release f g) = binary_text (operator_text (Release f g)) f (formula_text atoms f) g (formula_text atoms g)
+formula_text atoms (WeakUntil f g) = binary_text (operator_text (WeakUntil f g)) f (formula_text atoms f) g (formula_text atoms g)
 
 -- ---- rows
 

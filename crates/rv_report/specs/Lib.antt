@@ -1,5 +1,6 @@
 pub mod AutomatonTexts
 pub mod Exit
 pub mod FormulaTexts
+pub mod Printed
 pub mod Reported
 pub mod Tallies

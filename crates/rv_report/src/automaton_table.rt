@@ -29,7 +29,7 @@ fn put_mark(out: &mut Line, is_marked: bool) -> Result<(), AllocError>
     }
 }
 
-/// The line of a state.
+/// A line: the state's row, its name, and whether it is marked.
 fn put_state_line(out: &mut Line, automaton: &Automaton, state: usize) -> Result<(), AllocError>
     requires { state < 31 }
     ensures { OnOk result (out.new ≡ out.old ++ state_heading automaton.now state) }
@@ -41,7 +41,7 @@ fn put_state_line(out: &mut Line, automaton: &Automaton, state: usize) -> Result
     out.text(b"\n")
 }
 
-/// The line of an edge.
+/// A line: the event, and the row of the target.
 fn put_edge_line(out: &mut Line, events: &Names, edge: Edge) -> Result<(), AllocError>
     ensures { OnOk result (out.new ≡ out.old ++ edge_line events.now edge) }
 {
@@ -52,28 +52,14 @@ fn put_edge_line(out: &mut Line, events: &Names, edge: Edge) -> Result<(), Alloc
     out.text(b"\n")
 }
 
-/// The same of an edge that leaves the state.
-fn put_leaving_line(
-    out: &mut Line,
-    events: &Names,
-    state: usize,
-    edge: Edge,
-) -> Result<(), AllocError>
-    ensures { OnOk result (out.new ≡ out.old ++ leaving_line events.now state edge) }
-{
-    if edge.from as usize == state {
-        put_edge_line(out, events, edge)
-    } else {
-        Ok(())
-    }
-}
-
 /// The lines of the edges that leave the state.
 fn put_edges(out: &mut Line, events: &Names, state: usize, edges: &[Edge]) -> Result<(), AllocError>
     ensures { OnOk result (out.new ≡ out.old ++ flat_map (leaving_line events.now state) edges.now) }
 {
     'edges: for edge in edges {
-        put_leaving_line(out, events, state, *edge)?;
+        if edge.from as usize == state {
+            put_edge_line(out, events, *edge)?;
+        }
     }
     Ok(())
 }

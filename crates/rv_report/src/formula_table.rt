@@ -28,7 +28,7 @@ fn put_parenthesis(out: &mut Line, mark: &[u8], formula: &Formula) -> Result<(),
     }
 }
 
-/// Its operator.
+/// Its operator, with the blanks that it has around it.
 fn operator(formula: &Formula) -> &'static [u8]
     ensures { result.now ≡ operator_text (ltl formula.now) }
 {
@@ -117,7 +117,7 @@ fn put_member(out: &mut Line, set: u32, row: u32) -> Result<(), AllocError>
     }
 }
 
-/// The rows of the set.
+/// Each row of the set, ascending, behind a blank.
 #[tactic(auto, using(crate::proofs::GrowingTexts::none_numbered, crate::proofs::GrowingTexts::more_numbered))]
 fn put_rows(out: &mut Line, set: u32) -> Result<(), AllocError>
     ensures { OnOk result (out.new ≡ out.old ++ rows_text set) }
@@ -141,7 +141,7 @@ fn put_row_labels(out: &mut Line, atoms: &Names, table: &Table, row: u32) -> Res
     Ok(())
 }
 
-/// The line of a row.
+/// A line: the row, its labels, and the rows that may come next.
 fn put_row(out: &mut Line, atoms: &Names, table: &Table, row: u32) -> Result<(), AllocError>
     requires { HasNode table.now row }
     ensures { OnOk result (out.new ≡ out.old ++ formula_row_text atoms.now table.now row) }

@@ -28,7 +28,7 @@ pub(crate) fn display_name(
     out.text(name.bytes())
 }
 
-/// The task of this number.
+/// The task of this number, and the idle task of CPU 0 where there is none.
 fn task_at(tasks: &Tasks, number: u32) -> Task
     ensures { result ≡ task_at tasks.now number }
 {
@@ -39,7 +39,7 @@ fn task_at(tasks: &Tasks, number: u32) -> Task
     }
 }
 
-/// Appends a task.
+/// Appends a task's pid, and behind that of an idle task its CPU.
 fn task(out: &mut Line, task: Task) -> Result<(), AllocError>
     ensures { OnOk result (out.new ≡ out.old ++ task_text task) }
 {

@@ -13,6 +13,5 @@ mod summary;
 mod tally;
 
 pub use automaton_table::automaton_text;
-pub use exit::{lanes_status, status};
 pub use formula_table::nodes_text;
-pub use lines::{report, report_lanes};
+pub use lines::{Report, report_lanes, report_records};

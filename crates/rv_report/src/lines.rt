@@ -4,6 +4,7 @@ ghost use Rattle.rv_model.specs.declared.record.Record.{Record};
 ghost use Rattle.rv_model.specs.Records.{sort_records};
 ghost use Rattle.rv_model.specs.Reports.{report_text};
 ghost use Rattle.rv_feed.specs.One.{lane_records};
+ghost use Rattle.rv_report.specs.Exit.{IsStatus};
 ghost use Rattle.rv_report.specs.Reported.{reported_of};
 ghost use Rattle.rv_report.specs.Tallies.{IsFound};
 
@@ -17,36 +18,50 @@ use rv_slots::Tasks;
 use rv_text::Line;
 use std::alloc::{AllocError, Global};
 
-/// A line for each reaction, in the order of the records, and then a line for each monitor.
-fn text_of(
+/// What is told of a run's records.
+#[derive(Drop)]
+pub struct Report {
+    /// A line for each reaction that is printed, in the order of the records, and then a line for each monitor.
+    pub text: Vec<u8>,
+    /// 1 where a delivery failed, 6 where none did and an instance was stopped, and else 0.
+    pub status: u8,
+}
+
+/// The report of what was found.
+fn report_found(
     alloc: Global,
     bindings: &Bindings,
     tasks: &Tasks,
     found: &Found,
-) -> Result<Vec<u8>, AllocError>
+) -> Result<Report, AllocError>
     requires { length found.now.tallies.items ≡ length bindings.now.monitors.items }
-    ensures { IfOk result (λ text. (rs : List Record) → IsFound (reported_of bindings.now) tasks.now rs found.now → text.items ≡ report_text (reported_of bindings.now) tasks.now rs) }
+    ensures text { IfOk result (λ report. (rs : List Record) → IsFound (reported_of bindings.now) tasks.now rs found.now → report.text.items ≡ report_text (reported_of bindings.now) tasks.now rs) }
+    ensures status { IfOk result (λ report. report.status ≡ found.now.status) }
 {
     let mut out = Line::new(alloc);
     for record in &found.printed {
         react_to(alloc, &mut out, bindings, tasks, record)?;
     }
     summaries(&mut out, bindings, found.tallies.as_slice())?;
-    Ok(out.into_bytes())
+    Ok(Report {
+        text: out.into_bytes(),
+        status: found.status,
+    })
 }
 
 /// The report of records that stand in their order.
-pub fn report(
+pub fn report_records(
     alloc: Global,
     bindings: &Bindings,
     tasks: &Tasks,
     records: &[Record],
-) -> Result<Vec<u8>, AllocError>
-    ensures { IfOk result (λ text. text.items ≡ report_text (reported_of bindings.now) tasks.now records.now) }
+) -> Result<Report, AllocError>
+    ensures text { IfOk result (λ report. report.text.items ≡ report_text (reported_of bindings.now) tasks.now records.now) }
+    ensures status { IfOk result (λ report. IsStatus records.now report.status) }
 {
     let mut found = Found::new(alloc, bindings, tasks)?;
     found.add_all(bindings, records)?;
-    text_of(alloc, bindings, tasks, &found)
+    report_found(alloc, bindings, tasks, &found)
 }
 
 /// The report of all lanes' records, in the order of the trace.
@@ -55,13 +70,14 @@ pub fn report_lanes(
     bindings: &Bindings,
     tasks: &Tasks,
     lanes: &[Lane],
-) -> Result<Vec<u8>, AllocError>
-    ensures { IfOk result (λ text. text.items ≡ report_text (reported_of bindings.now) tasks.now (sort_records (lane_records lanes.now))) }
+) -> Result<Report, AllocError>
+    ensures text { IfOk result (λ report. report.text.items ≡ report_text (reported_of bindings.now) tasks.now (sort_records (lane_records lanes.now))) }
+    ensures status { IfOk result (λ report. IsStatus (lane_records lanes.now) report.status) }
 {
     let mut found = Found::new(alloc, bindings, tasks)?;
     for lane in lanes {
         found.add_lane(bindings, lane)?;
     }
     found.sort()?;
-    text_of(alloc, bindings, tasks, &found)
+    report_found(alloc, bindings, tasks, &found)
 }

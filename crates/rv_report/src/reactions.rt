@@ -1,8 +1,9 @@
 //! The lines of reactions.
 ghost use Rattle.std.specs.Prelude.{◌≡◌, ◌++◌, [], OnOk, IfOk, slice_get, slice_index_or};
-ghost use Rattle.rv_model.specs.Reports.{event_text, state_text, fault_text, instance_text, reaction_text, record_text};
+ghost use Rattle.rv_model.specs.Reports.{event_text, state_text, fault_text, record_text};
 ghost use Rattle.rv_react.specs.Reactions.{shown_fault};
-ghost use Rattle.rv_report.specs.Reported.{failed_set, is_loud, is_printed, reported, reported_of};
+ghost use Rattle.rv_report.specs.Printed.{failed_set, is_loud, is_printed, reaction_to};
+ghost use Rattle.rv_report.specs.Reported.{reported, reported_of};
 
 use crate::instances::{display_name, place};
 use rv_bind::{Bindings, Monitor};
@@ -36,7 +37,7 @@ fn event(alloc: Global, events: &Names, what: What) -> Result<Name, AllocError>
     }
 }
 
-/// What is wrong.
+/// What is told of a failure: of an automaton the event and the state, of a rule neither.
 fn fault(alloc: Global, spec: &Spec, what: What, set: u32) -> Result<Fault, AllocError>
     ensures { IfOk result (λ fault. shown_fault fault ≡ fault_text spec.now what set) }
 {
@@ -60,7 +61,7 @@ fn react(
     made: &Record,
     set: u32,
 ) -> Result<(), AllocError>
-    ensures { OnOk result (out.new ≡ out.old ++ reaction_text monitor.now.reactor (instance_text tasks.now (reported containers.now monitor.now) made.now.instance) (fault_text monitor.now.spec made.now.hit.what set) made.now.line) }
+    ensures { OnOk result (out.new ≡ out.old ++ reaction_to (reported containers.now monitor.now) tasks.now made.now set) }
 {
     let mut instance = Line::new(alloc);
     display_name(&mut instance, containers, monitor.container, &monitor.name)?;

@@ -1,10 +1,10 @@
 //! The lines of the summary.
-ghost use Rattle.std.specs.Prelude.{◌≡◌, ◌++◌, ℕ, List, count_by, length, OnOk};
+ghost use Rattle.std.specs.Prelude.{◌≡◌, ◌++◌, List, length, OnOk};
 ghost use Rattle.rv_model.specs.declared.record.Record.{Record};
 ghost use Rattle.rv_model.specs.declared.record.Task.{Task};
-ghost use Rattle.rv_model.specs.Reports.{instances_in, count_text, summaries_text};
-ghost use Rattle.rv_report.specs.Reported.{reported_of, shown_by};
-ghost use Rattle.rv_report.specs.Tallies.{AreTallies};
+ghost use Rattle.rv_model.specs.Reports.{instances_in, summaries_text};
+ghost use Rattle.rv_report.specs.Reported.{reported, reported_of};
+ghost use Rattle.rv_report.specs.Tallies.{AreTallies, tally_text};
 
 use crate::instances::display_name;
 use crate::tally::Tally;
@@ -32,7 +32,7 @@ fn count_line(
     monitor: &Monitor,
     tally: &Tally,
 ) -> Result<(), AllocError>
-    ensures { OnOk result (out.new ≡ out.old ++ count_text (shown_by containers.now monitor.now.container monitor.now.name) (count_by (λ b. b) tally.now.seen.items) tally.now.deliveries tally.now.failures tally.now.stopped) }
+    ensures { OnOk result (out.new ≡ out.old ++ tally_text (reported containers.now monitor.now).display_name tally.now) }
 {
     display_name(out, containers, monitor.container, &monitor.name)?;
     out.text(b": instances ")?;

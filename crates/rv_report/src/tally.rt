@@ -16,21 +16,18 @@ pub(crate) struct Tally {
     pub stopped: u64,
 }
 
-/// Whether the delivery failed.
 fn is_failure(made: &Record) -> bool
     ensures { result ≡ is_failure made.now }
 {
     matches!(made.outcome, Delivered::Done(Answer::Failed(_)))
 }
 
-/// Whether the delivery stopped its instance.
 fn is_stopped(made: &Record) -> bool
     ensures { result ≡ is_stopped made.now }
 {
     matches!(made.outcome, Delivered::Racing)
 }
 
-/// Whether the delivery ended its instance.
 fn is_ended(made: &Record) -> bool
     ensures { result ≡ is_ended made.now }
 {

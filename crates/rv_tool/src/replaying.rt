@@ -10,7 +10,7 @@ use crate::input::Prepared;
 use rv_bind::Bindings;
 use rv_feed::{Lane, replay};
 use rv_model::Closed;
-use rv_report::{lanes_status, report_lanes};
+use rv_report::{Report, report_lanes};
 use rv_slots::Tasks;
 use std::alloc::{AllocError, Global};
 
@@ -32,8 +32,7 @@ pub(crate) fn report(
 ) -> Result<FinishedRun, AllocError>
     ensures { IfOk result (ReportsLanes bindings.now tasks.now (lane_records lanes.now) closed) }
 {
-    let text = report_lanes(alloc, bindings, tasks, lanes)?;
-    let status = lanes_status(lanes);
+    let Report { text, status } = report_lanes(alloc, bindings, tasks, lanes)?;
     Ok(FinishedRun {
         status,
         text,
@@ -42,20 +41,22 @@ pub(crate) fn report(
 }
 
 /// The whole run, its scripts in the order of the trace, and its report.
-pub(crate) fn replayed(alloc: Global, ready: Prepared) -> Result<FinishedRun, AllocError>
+pub(crate) fn replayed(alloc: Global, mut ready: Prepared) -> Result<FinishedRun, AllocError>
     requires ready { IsPrepared ready }
     requires unchanged { ready.changes.items ≡ [] }
     ensures { IfOk result (λ done. IsReported IsOneHistory (prepared_value ready) done.closed done.text.items done.status) }
 {
-    let Prepared {
-        bindings,
-        tasks,
-        setup,
-        reactors,
-        mut lanes,
-        changes,
-    } = ready;
-    drop(changes);
-    let closed = replay(alloc, setup, reactors.as_slice(), lanes.as_mut_slice())?;
-    report(alloc, &bindings, &tasks, lanes.as_slice(), closed)
+    let closed = replay(
+        alloc,
+        ready.setup,
+        ready.reactors.as_slice(),
+        ready.lanes.as_mut_slice(),
+    )?;
+    report(
+        alloc,
+        &ready.bindings,
+        &ready.tasks,
+        ready.lanes.as_slice(),
+        closed,
+    )
 }

@@ -2,17 +2,16 @@
 ghost use Rattle.std.specs.Prelude.{◌≡◌, ◌≤◌, [], IfOk};
 ghost use Rattle.rv_bind.specs.Outcomes.{Refines, BlamesReached, of_file};
 ghost use Rattle.rv_tool.specs.Faults.{IsOutcome};
-ghost use Rattle.rv_tool.specs.LaneReports.{watch_report_text, ReportsWatched};
+ghost use Rattle.rv_tool.specs.LaneReports.{ReportsWatched};
 ghost use Rattle.rv_tool.specs.Prepared.{prepared_value, IsPrepared};
 ghost use Rattle.rv_tool.specs.Watched.{watched_slot, watched_by, watched_input};
 ghost use Rattle.rv_tool.specs.WatchReports.{IsWatchReport, watch_value, IsPreparedWatch};
 
 use crate::input::{Prepared, read_input};
-use crate::replaying::FinishedRun;
+use crate::replaying::{FinishedRun, report};
 use crate::trace_text::refused;
 use rv_bind::{BindFault, Bindings};
 use rv_io::{Gate, Store};
-use rv_report::{lanes_status, report_lanes};
 use rv_slots::Tasks;
 use rv_text::{NO_INSTANCE, Refusal, Refused};
 use rv_watch::{Watched, feed_watched, watch_lines, watched_slot};
@@ -75,23 +74,8 @@ pub(crate) fn read_watched<S: Store>(
     find_slot(alloc, trace, ready, monitor, instance)
 }
 
-/// The report of a watched run, with a line for each word of the slot behind it.
+/// The report of a watched run, with a line for each word of the slot behind it, and its history.
 fn report_watched(
-    alloc: Global,
-    bindings: &Bindings,
-    tasks: &Tasks,
-    run: &Watched,
-) -> Result<Vec<u8>, AllocError>
-    ensures { IfOk result (λ text. text.items ≡ watch_report_text bindings.now tasks.now run.now) }
-{
-    let mut text = report_lanes(alloc, bindings, tasks, run.lanes.as_slice())?;
-    let lines = watch_lines(alloc, run.words.as_slice(), run.last)?;
-    text.extend_from_slice(lines.as_slice())?;
-    Ok(text)
-}
-
-/// What is told of a watched run, and its history.
-fn end_watched(
     alloc: Global,
     bindings: &Bindings,
     tasks: &Tasks,
@@ -99,13 +83,11 @@ fn end_watched(
 ) -> Result<FinishedRun, AllocError>
     ensures { IfOk result (ReportsWatched bindings.now tasks.now run) }
 {
-    let text = report_watched(alloc, bindings, tasks, &run)?;
-    let status = lanes_status(run.lanes.as_slice());
-    Ok(FinishedRun {
-        status,
-        text,
-        closed: run.closed,
-    })
+    let closed = run.closed;
+    let mut done = report(alloc, bindings, tasks, run.lanes.as_slice(), closed)?;
+    let lines = watch_lines(alloc, run.words.as_slice(), run.last)?;
+    done.text.extend_from_slice(lines.as_slice())?;
+    Ok(done)
 }
 
 /// The whole run, a thread for each CPU and one for the reader of the slot, its report, and the words that were read.
@@ -119,15 +101,15 @@ pub(crate) fn watched<R: Threads + Sync, G: Gate + Send>(
     ensures { IfOk result (λ done. IsWatchReport (watch_value to_watch) done.closed done.text.items done.status) }
 {
     let PreparedWatch { ready, slot } = to_watch;
-    let Prepared {
-        bindings,
-        tasks,
-        setup,
-        reactors,
+    let lanes = ready.lanes;
+    let run = feed_watched(
+        rt,
+        alloc,
+        ready.setup,
+        ready.reactors.as_slice(),
         lanes,
-        changes,
-    } = ready;
-    drop(changes);
-    let run = feed_watched(rt, alloc, setup, reactors.as_slice(), lanes, slot, gate)?;
-    end_watched(alloc, &bindings, &tasks, run)
+        slot,
+        gate,
+    )?;
+    report_watched(alloc, &ready.bindings, &ready.tasks, run)
 }

@@ -7,8 +7,11 @@ use Rattle.rv_model.specs.Records.{sort_records}
 use Rattle.rv_model.specs.Reports.{report_text}
 use Rattle.rv_feed.specs.Lane.{LaneValue}
 use Rattle.rv_feed.specs.One.{lane_records}
+use Rattle.rv_report.specs.Exit.{IsStatus}
 use Rattle.rv_report.specs.Reported.{reported, reported_of}
 use Rattle.rv_report.specs.Tallies.{IsFound}
+use Rattle.rv_feed.proofs.OneLemmas.{status-sorted}
+use Rattle.rv_report.proofs.ExitLemmas.{status-is}
 use Rattle.rv_report.proofs.FoundLemmas.{lanes-more}
 use Rattle.rv_report.proofs.lines.report_lanes.Goals as goal
 
@@ -21,18 +24,28 @@ loop-lane-preserved c =
     let more = c.in_ok-add_lane.ensures c.args.tasks.now (lane_records (take i lanes)) c.loop-lane.invariant in
     subst (λ (rs : List Record). IsFound (reported_of b) c.args.tasks.now rs c.add_lane.new.self) (sym (lanes-more lanes i lane c.loop-lane-test.true c.lane-item.is)) more
 
-pub text_of-requires : goal.text_of-requires
-text_of-requires c =
+pub report_found-requires : goal.report_found-requires
+report_found-requires c =
     let b = c.args.bindings.now in
     (c.in_ok-sort.ensures (reported_of b) c.args.tasks.now _ c.loop-lane.invariant).tallies.many ∙ length-map b.monitors.items (reported b.containers)
 
-pub returns : goal.returns
-returns c =
+pub returns-clause-text : goal.returns-clause-text
+returns-clause-text c =
     let b = c.args.bindings.now in
     let lanes : List LaneValue = c.args.lanes.now in
     let rs : List Record = sort_records (lane_records lanes) in
     let found : IsFound (reported_of b) c.args.tasks.now rs c.sort.new.self =
     c.in_ok-sort.ensures (reported_of b) c.args.tasks.now (lane_records lanes)
     (subst (λ (ls : List LaneValue). IsFound (reported_of b) c.args.tasks.now (lane_records ls) c.loop-lane.found) (take_all c.loop-lane.lane-index lanes c.loop-lane-test.false) c.loop-lane.invariant) in
-    IfOk-weaker c.text_of.result (λ text. (us : List Record) → IsFound (reported_of b) c.args.tasks.now us c.sort.new.self → text.items ≡ report_text (reported_of b) c.args.tasks.now us)
-    (λ text. text.items ≡ report_text (reported_of b) c.args.tasks.now rs) (λ text is. is rs found) c.text_of.ensures
+    IfOk-weaker c.report_found.result (λ report. (us : List Record) → IsFound (reported_of b) c.args.tasks.now us c.sort.new.self → report.text.items ≡ report_text (reported_of b) c.args.tasks.now us)
+    (λ report. report.text.items ≡ report_text (reported_of b) c.args.tasks.now rs) (λ report is. is rs found) c.report_found.ensures.text
+
+pub returns-clause-status : goal.returns-clause-status
+returns-clause-status c =
+    let b = c.args.bindings.now in
+    let lanes : List LaneValue = c.args.lanes.now in
+    let rs : List Record = lane_records lanes in
+    let found : IsFound (reported_of b) c.args.tasks.now (sort_records rs) c.sort.new.self =
+    c.in_ok-sort.ensures (reported_of b) c.args.tasks.now rs
+    (subst (λ (ls : List LaneValue). IsFound (reported_of b) c.args.tasks.now (lane_records ls) c.loop-lane.found) (take_all c.loop-lane.lane-index lanes c.loop-lane-test.false) c.loop-lane.invariant) in
+    IfOk-weaker c.report_found.result (λ report. report.status ≡ c.sort.new.self.status) (λ report. IsStatus rs report.status) (λ report is. status-is rs report.status (is ∙ found.status ∙ status-sorted rs)) c.report_found.ensures.status

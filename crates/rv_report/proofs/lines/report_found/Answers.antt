@@ -7,10 +7,10 @@ use Rattle.rv_model.specs.Reports.{Reported, record_text, summaries_text}
 use Rattle.rv_report.specs.Reported.{reported_of}
 use Rattle.rv_report.specs.Tallies.{AreTallies}
 use Rattle.rv_report.proofs.PrintedLemmas.{printed-text}
-use Rattle.rv_report.proofs.lines.text_of.Goals as goal
+use Rattle.rv_report.proofs.lines.report_found.Goals as goal
 
-pub returns : goal.returns
-returns c = λ rs is.
+pub returns-clause-text : goal.returns-clause-text
+returns-clause-text c = λ rs is.
     let all : List Reported = reported_of c.args.bindings.now in
     let tasks = c.args.tasks.now in
     let text : Record → List ℕ = λ r. record_text (slice_get all r.monitor) tasks r in
