@@ -1,5 +1,5 @@
 -- A call's seat and its board meet: they have one table and one setup.
-use Rattle.std.proofs.Common.{◌≡◌, ℕ, suc, ◌+◌, ◌*◌, ◌^◌, ◌<◌, sum, ap, sym, ◌∙◌, subst, arith}
+use Rattle.std.proofs.Common.{◌≡◌, ℕ, ◌+◌, ◌*◌, ◌^◌, ◌<◌, sum, ap, sym, ◌∙◌, subst, arith}
 use Rattle.atomic_table.specs.Seated.{TableId}
 use Rattle.rv_model.specs.Seats.{Seat}
 use Rattle.rv_model.specs.Setups.{Setup, start_of}

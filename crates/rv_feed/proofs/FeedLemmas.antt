@@ -3,7 +3,6 @@ use Rattle.std.proofs.Common.{◌≡◌, ℕ, ◌+◌, ◌-◌, ◌^◌, Bool, t
 use Rattle.rv_model.specs.declared.entry.Act.TheVariants.{Raise}
 use Rattle.rv_model.specs.declared.entry.Answer.TheVariants.{Looked, Switched}
 use Rattle.rv_model.specs.declared.record.Delivered.{Delivered}
-use Rattle.rv_model.specs.declared.record.Record.{Record}
 use Rattle.rv_model.specs.declared.work.Delivery.{Delivery}
 use Rattle.rv_model.specs.declared.work.Turn.{Turn}
 use Rattle.rv_model.specs.Numbers.{has_bit}

@@ -1,7 +1,7 @@
 -- A place of a turn: the delivery there, and what a look shows on of those before it.
 use Rattle.std.proofs.Common.{◌≡◌, ℕ, ◌+◌, ◌-◌, ◌<◌, ◌≤◌, Bool, true, false, List, [], ◌∷◌, ◌++◌, length, arith, refl, sym, ap, ◌∙◌, subst, append_assoc, append-nil, take, drop, get_or, length-drop, length-append}
 use Rattle.std.specs.Prelude.{All, filter, slice_range}
-use Rattle.std.proofs.lemmas.List.{take_more, take-take, take-append-drop, get_or-drop, get_or_default}
+use Rattle.std.proofs.lemmas.List.{take_more, take-take, take-append-drop, get_or-drop}
 use Rattle.std.proofs.lemmas.List.Elements.{filter-append, All-get_or}
 use Rattle.rv_model.specs.declared.record.Delivered.{Delivered}
 use Rattle.rv_model.specs.declared.record.Record.{Record}

@@ -1,5 +1,5 @@
 -- A turn after turns.
-use Rattle.std.proofs.Common.{◌≡◌, ◌≤◌, length, sym, subst, arith}
+use Rattle.std.proofs.Common.{◌≤◌, length, sym, subst, arith}
 use Rattle.rv_board.specs.Seats.{BoardId}
 use Rattle.rv_feed.specs.Feeding.{CanFeed}
 use Rattle.rv_feed.specs.Lane.{panics_of}

@@ -4,7 +4,6 @@ use Rattle.rv_model.specs.Setups.{Setup}
 use Rattle.rv_model.specs.Table.{Table}
 use Rattle.rv_core.specs.Advance.{FitsTable, advanced}
 use Rattle.rv_core.specs.Setup.{table_at}
-use Rattle.rv_board.specs.declared.view.View.{View}
 use Rattle.rv_board.specs.Seats.{BoardId, SeatValue}
 use Rattle.rv_board.proofs.AllowedLemmas.{loads, exchanges, stops}
 use Rattle.rv_board.proofs.MeetLemmas.{meets}
