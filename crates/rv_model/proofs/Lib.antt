@@ -9,6 +9,7 @@ pub mod MeansLemmas
 pub mod NumberLemmas
 pub mod OneJudgeLemmas
 pub mod ReachLemmas
+pub mod ReactorLemmas
 pub mod ScriptLemmas
 pub mod ScriptPartLemmas
 pub mod SeatLemmas

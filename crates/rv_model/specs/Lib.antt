@@ -12,6 +12,7 @@ pub mod Meaning
 pub mod Meant
 pub mod Numbers
 pub mod Phases
+pub mod Reactors
 pub mod Records
 pub mod Reports
 pub mod ScriptParts
@@ -20,8 +21,10 @@ pub mod Seats
 pub mod Setups
 pub mod SharedWords
 pub mod Slots
+pub mod Sorting
 pub mod Stepping
 pub mod Table
 pub mod Truth
 pub mod WellFormed
+pub mod Words
 pub mod Works

@@ -1,13 +1,13 @@
 -- The report of a run: a line for each reaction (Linux, Documentation/trace/rv, "Reactors"), and then a line for each monitor.
 use Rattle.std.specs.Prelude.{ℕ, ◌+◌, ◌==◌, ◌&&◌, not, Bool, List, [], ◌∷◌, ◌++◌, length, flat_map, count_by, Option, Some, None, slice_get, slice_index_or, if◌then◌else◌, codes, decimal}
 use Rattle.std.specs.List.{list_any}
+use Rattle.std.specs.Option.{option_map_or}
 use Rattle.rv_model.specs.declared.entry.Answer.TheVariants.{Failed}
 use Rattle.rv_model.specs.declared.formula.Spec.{Spec}
 use Rattle.rv_model.specs.declared.formula.Spec.TheVariants as spec
 use Rattle.rv_model.specs.declared.hit.What.{What}
 use Rattle.rv_model.specs.declared.hit.What.TheVariants.{Da, Ltl, Nothing}
 use Rattle.rv_model.specs.declared.reactor.Reactor.{Reactor}
-use Rattle.rv_model.specs.declared.reactor.Reactor.TheVariants.{Nop, Printk, Panic}
 use Rattle.rv_model.specs.declared.record.Delivered.{Delivered}
 use Rattle.rv_model.specs.declared.record.Delivered.TheVariants.{Done}
 use Rattle.rv_model.specs.declared.record.Record.{Record}
@@ -16,6 +16,7 @@ use Rattle.rv_model.specs.declared.work.Scope.{Scope}
 use Rattle.rv_model.specs.declared.work.Scope.TheVariants as scope
 use Rattle.rv_model.specs.Numbers.{list_of, has_bit}
 use Rattle.rv_model.specs.Machine.{Machine}
+use Rattle.rv_model.specs.Reactors.{reaction_front}
 use Rattle.rv_model.specs.Records.{is_failure, is_stopped, is_ended}
 
 -- what a report tells of a monitor besides its records
@@ -24,6 +25,11 @@ pub record Reported : Type 0 where
   pub scope : Scope
   pub spec : Spec
   pub reactor : Reactor
+
+-- the shown name: a container's name stands before that of a monitor in it
+abbrev pub display_name : List (List ℕ) → Option ℕ → List ℕ → List ℕ
+display_name containers None name = name
+display_name containers (Some container) name = slice_index_or containers container [] ++ codes ":" ++ name
 
 -- every line ends so
 abbrev pub line_end : List ℕ
@@ -75,11 +81,9 @@ fault_text (spec.Ltl rule) what set = codes ": violation detected"
 abbrev pub said_text : List ℕ → List ℕ → ℕ → List ℕ
 said_text instance fault line = codes "monitor " ++ instance ++ fault ++ codes " (line " ++ decimal line ++ codes ")" ++ line_end
 
--- what a reactor prints
+-- what a reactor prints: nothing, or one line
 abbrev pub reaction_text : Reactor → List ℕ → List ℕ → ℕ → List ℕ
-reaction_text Nop instance fault line = []
-reaction_text Printk instance fault line = codes "rv: " ++ said_text instance fault line
-reaction_text Panic instance fault line = codes "rv: panic: " ++ said_text instance fault line
+reaction_text reactor instance fault line = option_map_or (λ front. front ++ said_text instance fault line) (reaction_front reactor) []
 
 -- a delivery that failed, whose turn's look showed reacting on
 abbrev pub failed_text : Reported → List Task → Record → Delivered → List ℕ

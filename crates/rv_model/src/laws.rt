@@ -6,6 +6,7 @@ ghost use Rattle.rv_model.specs.Ltl.{Ltl};
 ghost use Rattle.rv_model.specs.Meaning.{meaning};
 ghost use Rattle.rv_model.specs.Meant.{TablesMean, TablesJudge};
 ghost use Rattle.rv_model.specs.Slots.{SlotsApart};
+ghost use Rattle.rv_model.specs.Sorting.{RecordsAscend};
 ghost use Rattle.rv_model.specs.Stepping.{EveryTableIsJudged, JudgesAreOne};
 ghost use Rattle.rv_model.specs.Truth.{View, Satisfies};
 
@@ -40,4 +41,9 @@ pub fn one_history()
 /// What a slot is doing is told by the entries on it alone.
 pub fn slots_apart()
     ensures { SlotsApart }
+{}
+
+/// Sorted records are told by their orders.
+pub fn records_ascend()
+    ensures { RecordsAscend }
 {}

@@ -6,6 +6,7 @@ mod closed;
 mod entry;
 mod formula;
 mod hit;
+mod kind;
 mod laws;
 mod name;
 mod reactor;
@@ -18,9 +19,10 @@ pub use closed::{Closed, Keeps};
 pub use entry::{Act, Answer, Entry};
 pub use formula::{Formula, Rule, Spec};
 pub use hit::{Hit, Letter, Mode, What};
+pub use kind::SpecKind;
 pub use laws::{
-    letters_may_be_cut, one_history, satisfaction_is_tested, slots_apart, tables_are_judged,
-    tables_mean,
+    letters_may_be_cut, one_history, records_ascend, satisfaction_is_tested, slots_apart,
+    tables_are_judged, tables_mean,
 };
 pub use name::{Name, Names};
 pub use reactor::Reactor;

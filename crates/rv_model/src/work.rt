@@ -1,4 +1,7 @@
 //! What each CPU has to do, and what the control actor changes.
+ghost use Rattle.std.specs.Prelude.{◌≡◌, ◌↔◌, Some};
+ghost use Rattle.rv_model.specs.declared.work.Scope.{Scope};
+ghost use Rattle.rv_model.specs.Words.{scope_name, scope_named};
 
 use crate::hit::Hit;
 use std::marker::Model;
@@ -12,6 +15,30 @@ pub enum Scope {
     Cpu,
     /// One for each task.
     Task,
+}
+
+impl Scope {
+    /// All three.
+    pub const ALL: [Scope; 3] = [Scope::Global, Scope::Cpu, Scope::Task];
+
+    /// As it is written.
+    pub fn name(self) -> &'static [u8]
+        ensures { result.now ≡ scope_name self }
+    {
+        match self {
+            Scope::Global => b"global",
+            Scope::Cpu => b"cpu",
+            Scope::Task => b"task",
+        }
+    }
+
+    /// The scope that is written so.
+    pub fn from_name(name: &[u8]) -> Option<Scope>
+        ensures value { result ≡ scope_named name.now }
+        ensures each { (scope : Scope) → (result ≡ Some scope) ↔ (name.now ≡ scope_name scope) }
+    {
+        Scope::ALL.into_iter().find(|scope| scope.name() == name)
+    }
 }
 
 /// The deliveries `from` to `to`, without the last, that a line of the trace makes on its CPU.

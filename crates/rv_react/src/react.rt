@@ -83,9 +83,8 @@ pub fn reaction(
 ) -> Result<(), AllocError>
     ensures { Appends out.old out.new (reaction_text reactor instance.now (shown_fault fault.now) line) result }
 {
-    match reactor {
-        Reactor::Nop => Ok(()),
-        Reactor::Printk => said(out, b"rv: ", instance, fault, line),
-        Reactor::Panic => said(out, b"rv: panic: ", instance, fault, line),
+    match reactor.front() {
+        None => Ok(()),
+        Some(front) => said(out, front, instance, fault, line),
     }
 }
