@@ -1,7 +1,6 @@
 //! What is done about a failure (Linux, Documentation/trace/rv, "Reactors").
-ghost use Rattle.std.specs.Prelude.{◌≡◌, ◌↔◌, Some, codes, find, bytes_eq, option_copied};
+ghost use Rattle.std.specs.Prelude.{◌≡◌, ◌↔◌, Some, find, bytes_eq, option_copied};
 ghost use Rattle.rv_model.specs.declared.reactor.Reactor.{Reactor};
-ghost use Rattle.rv_model.specs.declared.reactor.Reactor.TheVariants.{Nop, Printk, Panic};
 ghost use Rattle.rv_model.specs.Reactors.{reactor_name, reactor_named, reaction_front, is_panic};
 
 /// Chosen for each monitor.
@@ -51,9 +50,6 @@ impl Reactor {
     /// The reactor of this name.
     pub fn from_name(name: &[u8]) -> Option<Reactor>
         ensures value { result ≡ reactor_named name.now }
-        ensures nop { (result ≡ Some Nop) ↔ (name.now ≡ codes "nop") }
-        ensures printk { (result ≡ Some Printk) ↔ (name.now ≡ codes "printk") }
-        ensures panic { (result ≡ Some Panic) ↔ (name.now ≡ codes "panic") }
         ensures each { (reactor : Reactor) → (result ≡ Some reactor) ↔ (name.now ≡ reactor_name reactor) }
     {
         named(&Reactor::ALL, name).copied()
