@@ -1,12 +1,15 @@
 -- Every refusal of a specification and of a line of bindings has one of the refusals' numbers.
 use Rattle.std.proofs.Common.{◌≡◌, ℕ, zero, suc, List, [], ◌∷◌, subst, ap, ◌∙◌, arith}
 use Rattle.std.specs.Prelude.{Bool, true, false, not, bytes_eq, codes, Option, Some, None, Result, Ok, Err, IfErr, if◌then◌else◌}
+use Rattle.std.specs.Str.{is_utf8}
 use Rattle.rv_text.specs.declared.refusals.Refusal.{Refusal}
 use Rattle.rv_text.specs.Readings.{and_then}
 use Rattle.rv_text.specs.TextLines.{LineText}
 use Rattle.rv_io.specs.Files.{Files}
 use Rattle.rv_model.specs.Ltl.{Ltl}
 use Rattle.rv_model.specs.declared.hit.Mode.{Mode}
+use Rattle.rv_model.specs.Reactors.{reactor_named}
+use Rattle.rv_model.specs.Words.{kind_named, scope_named}
 use Rattle.rv_dot.specs.Statements.{Claim}
 use Rattle.rv_dot.specs.Gathered.{targets_in}
 use Rattle.rv_dot.specs.Text.{said_by}
@@ -23,11 +26,11 @@ use Rattle.rv_bind.specs.declared.bindings.Test.{Test}
 use Rattle.rv_bind.specs.declared.compile.Compiled.{Compiled}
 use Rattle.rv_bind.specs.declared.fault.BindFault.{BindFault}
 use Rattle.rv_bind.specs.declared.fault.BindFault.TheVariants as faults
-use Rattle.rv_bind.specs.declared.forms.SpecKind.{SpecKind}
-use Rattle.rv_bind.specs.declared.forms.SpecKind.TheVariants as kinds
+use Rattle.rv_model.specs.declared.kind.SpecKind.{SpecKind}
+use Rattle.rv_model.specs.declared.kind.SpecKind.TheVariants as kinds
 use Rattle.rv_bind.specs.Values.{BoundValue}
-use Rattle.rv_bind.specs.LineWords.{Words, when}
-use Rattle.rv_bind.specs.Forms.{FormValue, on, container_form, monitor_form, react_form, off_form, begin_form, by_at, tests_at, hit_form, on_form, form_of}
+use Rattle.rv_bind.specs.LineWords.{Words, when, or_syntax, word_at, no_word_left, is_name}
+use Rattle.rv_bind.specs.Forms.{FormValue, on, holder_at, container_form, monitor_form, react_form, off_form, begin_form, by_at, tests_at, hit_form, on_form, form_of}
 use Rattle.rv_bind.specs.MonitorLines.{rule_bound, change_bound, begin_bound}
 use Rattle.rv_bind.specs.Compiling.{compiled_of}
 use Rattle.rv_bind.specs.Bound.{compiled_in, form_in, place_for, container_bound}
@@ -124,9 +127,50 @@ either_numbered : {X : Type 0} (test : Bool) (x y : Result X ℕ) → IfErr x Is
 either_numbered true x y first second = first
 either_numbered false x y first second = second
 
+-- what is chosen by a word, where it chooses something
+or_syntax_numbered : {X : Type 0} (o : Option X) → IfErr (or_syntax o) IsNumber
+or_syntax_numbered (Some x) = tt
+or_syntax_numbered None = grind arith
+
+-- what is read where a test passes
+when_numbered : {X : Type 0} (test : Bool) (x : X) → IfErr (when test x) IsNumber
+when_numbered true x = tt
+when_numbered false x = grind arith
+
+-- the next word
+word_numbered : (words : Words) → IfErr (word_at words) IsNumber
+word_numbered [] = grind arith
+word_numbered (word ∷ words) = tt
+
+-- the end of the words
+end_numbered : (words : Words) → IfErr (no_word_left words) IsNumber
+end_numbered [] = tt
+end_numbered (word ∷ words) = grind arith
+
+-- the container
+holder_numbered : (words : Words) → IfErr (holder_at words) IsNumber
+holder_numbered words = grind arith
+
 -- the form of a monitor's line
 monitor_numbered : (words : Words) → IfErr (monitor_form words) IsNumber
-monitor_numbered words = grind arith
+monitor_numbered words =
+    after_numbered (word_at words) _ (word_numbered words) (λ name.
+    after_numbered (when (is_name name.0) name.0) _ (when_numbered (is_name name.0) name.0) (λ called.
+    after_numbered (word_at name.1) _ (word_numbered name.1) (λ scope.
+    after_numbered (or_syntax (scope_named scope.0)) _ (or_syntax_numbered (scope_named scope.0)) (λ reach.
+    after_numbered (word_at scope.1) _ (word_numbered scope.1) (λ kind.
+    after_numbered (or_syntax (kind_named kind.0)) _ (or_syntax_numbered (kind_named kind.0)) (λ language.
+    after_numbered (word_at kind.1) _ (word_numbered kind.1) (λ file.
+    after_numbered (when (is_utf8 file.0) file.0) _ (when_numbered (is_utf8 file.0) file.0) (λ text.
+    after_numbered (holder_at file.1) _ (holder_numbered file.1) (λ holder. tt)))))))))
+
+-- the form of a reactor's line
+react_numbered : (words : Words) → IfErr (react_form words) IsNumber
+react_numbered words =
+    after_numbered (word_at words) _ (word_numbered words) (λ name.
+    after_numbered (word_at name.1) _ (word_numbered name.1) (λ reactor.
+    after_numbered (or_syntax (reactor_named reactor.0)) _ (or_syntax_numbered (reactor_named reactor.0)) (λ chosen.
+    after_numbered (no_word_left reactor.1) _ (end_numbered reactor.1) (λ done. tt))))
 
 -- the field that has the pid
 by_numbered : (words : Words) → IfErr (by_at words) IsNumber
@@ -154,7 +198,7 @@ on_numbered (name ∷ event ∷ words) = after_numbered (when (not (bytes_eq eve
 
 -- the forms of the shorter lines
 short_numbered : (words : Words) → IfErr (container_form words) IsNumber × IfErr (react_form words) IsNumber × IfErr (off_form words) IsNumber × IfErr (begin_form words) IsNumber
-short_numbered words = (grind arith, grind arith, grind arith, grind arith)
+short_numbered words = (grind arith, react_numbered words, grind arith, grind arith)
 
 -- the form of a line
 form_numbered : (words : Words) → IfErr (form_of words) IsNumber

@@ -6,7 +6,7 @@ use Rattle.rv_text.specs.declared.refusals.Refusal.{Refusal}
 use Rattle.rv_text.specs.TextLines.{LineText, lines_of}
 use Rattle.rv_io.specs.Files.{Files, front_read}
 use Rattle.rv_model.specs.declared.work.Scope.{Scope}
-use Rattle.rv_bind.specs.declared.forms.SpecKind.{SpecKind}
+use Rattle.rv_model.specs.declared.kind.SpecKind.{SpecKind}
 use Rattle.rv_bind.specs.declared.fault.LineFault.{LineFault}
 use Rattle.rv_bind.specs.declared.fault.LineFault.TheVariants as lines
 use Rattle.rv_bind.specs.declared.fault.BindFault.{BindFault}

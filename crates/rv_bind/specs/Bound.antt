@@ -11,7 +11,7 @@ use Rattle.rv_bind.specs.declared.bindings.Monitor.{Monitor}
 use Rattle.rv_bind.specs.declared.bindings.Item.{Item}
 use Rattle.rv_bind.specs.declared.bindings.Item.TheVariants as items
 use Rattle.rv_bind.specs.declared.compile.Compiled.{Compiled}
-use Rattle.rv_bind.specs.declared.forms.SpecKind.{SpecKind}
+use Rattle.rv_model.specs.declared.kind.SpecKind.{SpecKind}
 use Rattle.rv_bind.specs.declared.limits.TheConstants.{TEXT_LIMIT, MAX_CONTAINERS, MAX_MONITORS}
 use Rattle.rv_bind.specs.LineReads.{after}
 use Rattle.rv_bind.specs.Values.{BoundValue}

@@ -11,8 +11,8 @@ use Rattle.rv_dot.specs.Dot.{dot_of}
 use Rattle.rv_ltl.specs.RuleFile.{ltl_of}
 use Rattle.rv_nnf.specs.NormalForm.{normal_of}
 use Rattle.rv_tableau.specs.Rows.{tableau_of}
-use Rattle.rv_bind.specs.declared.forms.SpecKind.{SpecKind}
-use Rattle.rv_bind.specs.declared.forms.SpecKind.TheVariants as kinds
+use Rattle.rv_model.specs.declared.kind.SpecKind.{SpecKind}
+use Rattle.rv_model.specs.declared.kind.SpecKind.TheVariants as kinds
 use Rattle.rv_bind.specs.declared.compile.Compiled.{Compiled}
 
 -- the table of a formula, by its normal form

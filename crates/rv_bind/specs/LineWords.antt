@@ -2,16 +2,10 @@
 use Rattle.std.specs.Prelude.{ℕ, Bool, true, false, not, ◌&&◌, ◌||◌, ◌==◌, nat_le, nat_lt, List, [], ◌∷◌, length, take, drop, codes, bytes_eq, position, Option, Some, None, Result, Ok, Err, if◌then◌else◌}
 use Rattle.std.specs.List.{list_all}
 use Rattle.rv_text.specs.declared.numbers.TheConstants.{BIND_SYNTAX}
-use Rattle.rv_model.specs.declared.work.Scope.{Scope}
-use Rattle.rv_model.specs.declared.work.Scope.TheVariants as scopes
 use Rattle.rv_model.specs.declared.hit.Mode.{Mode}
 use Rattle.rv_model.specs.declared.hit.Mode.TheVariants as modes
-use Rattle.rv_model.specs.declared.reactor.Reactor.{Reactor}
-use Rattle.rv_model.specs.declared.reactor.Reactor.TheVariants as reactors
 use Rattle.rv_bind.specs.declared.bindings.Test.{Test}
 use Rattle.rv_bind.specs.declared.bindings.Test.TheVariants.{Is, IsNot}
-use Rattle.rv_bind.specs.declared.forms.SpecKind.{SpecKind}
-use Rattle.rv_bind.specs.declared.forms.SpecKind.TheVariants as kinds
 
 -- the words of a line that are left
 abbrev pub Words : Type 0
@@ -59,21 +53,9 @@ is_name word = nat_le (length word) 32 && list_all is_name_byte word
 abbrev pub is_field : List ℕ → Bool
 is_field word = list_all is_field_byte word
 
--- the scope that the word names
-abbrev pub scope_named : List ℕ → Option Scope
-scope_named word = if bytes_eq word (codes "global") then Some scopes.Global else if bytes_eq word (codes "cpu") then Some scopes.Cpu else if bytes_eq word (codes "task") then Some scopes.Task else None
-
--- the kind of specification that the word names
-abbrev pub kind_named : List ℕ → Option SpecKind
-kind_named word = if bytes_eq word (codes "da") then Some kinds.Da else if bytes_eq word (codes "ltl") then Some kinds.Ltl else None
-
 -- the mode that the word names
 abbrev pub mode_named : List ℕ → Option Mode
 mode_named word = if bytes_eq word (codes "event") then Some modes.Event else if bytes_eq word (codes "start") then Some modes.Start else if bytes_eq word (codes "start_run") then Some modes.StartRun else if bytes_eq word (codes "end") then Some modes.End else None
-
--- the reactor that the word names
-abbrev pub reactor_named : List ℕ → Option Reactor
-reactor_named word = if bytes_eq word (codes "nop") then Some reactors.Nop else if bytes_eq word (codes "printk") then Some reactors.Printk else if bytes_eq word (codes "panic") then Some reactors.Panic else None
 
 -- `=` and a value, or `!=` and a value, behind a field's name
 abbrev pub test_behind : List ℕ → List ℕ → Option Test

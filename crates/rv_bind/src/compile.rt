@@ -4,12 +4,11 @@ ghost use Rattle.rv_text.specs.Readings.{Gives};
 ghost use Rattle.rv_model.specs.declared.formula.Spec.TheVariants.{Ltl};
 ghost use Rattle.rv_model.specs.Judging.{Means};
 ghost use Rattle.rv_bind.specs.Compiling.{formula_table, compiled_of, Compiles};
-ghost use Rattle.rv_bind.specs.declared.forms.SpecKind.TheVariants as kinds;
+ghost use Rattle.rv_model.specs.declared.kind.SpecKind.TheVariants as kinds;
 
-use crate::forms::SpecKind;
 use rv_dot::read_dot;
 use rv_ltl::read_ltl;
-use rv_model::{Rule, Spec};
+use rv_model::{Rule, Spec, SpecKind};
 use rv_nnf::normal;
 use rv_table::Table;
 use rv_tableau::{table_means_rule, tableau};

@@ -7,9 +7,8 @@ ghost use Rattle.rv_bind.specs.declared.fault.BindFault.TheVariants as faults;
 
 use crate::compile::{Compiled, compile};
 use crate::fault::{BindFault, LineFault};
-use crate::forms::SpecKind;
 use rv_io::{ReadError, Store};
-use rv_model::Name;
+use rv_model::{Name, SpecKind};
 use rv_text::{Refusal, Refused};
 use std::alloc::Global;
 

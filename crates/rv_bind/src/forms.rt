@@ -12,18 +12,9 @@ use crate::fault::LineFault;
 use crate::words::{
     SYNTAX, allowed, end, is, is_field, is_name, kind, mode, reactor, scope, test, text, word,
 };
-use rv_model::{Mode, Reactor, Scope};
+use rv_model::{Mode, Reactor, Scope, SpecKind};
 use rv_text::Words;
 use std::alloc::{AllocError, Global};
-
-/// How a specification is written.
-#[derive(Clone, Copy, Debug, Drop, PartialEq, Eq)]
-pub(crate) enum SpecKind {
-    /// An automaton.
-    Da,
-    /// A rule of linear temporal logic.
-    Ltl,
-}
 
 #[derive(Drop)]
 pub(crate) enum Form<'a> {

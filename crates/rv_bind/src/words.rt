@@ -1,14 +1,15 @@
 //! The words of a bindings line, taken from the left.
 ghost use Rattle.std.specs.Prelude.{◌≡◌, ◌≤◌, ℕ, List, Option, Some, None, not, bytes_eq, position, codes, length, IfSome, IfOk, MatchOption, IsTrue};
 ghost use Rattle.std.specs.List.{list_all};
+ghost use Rattle.rv_model.specs.Reactors.{reactor_named};
+ghost use Rattle.rv_model.specs.Words.{kind_named, scope_named};
 ghost use Rattle.rv_bind.specs.LineReads.{Faults, ReadsValue, ReadsOn};
-ghost use Rattle.rv_bind.specs.LineWords.{word_at, no_word_left, is_name, is_name_byte, is_field, is_field_byte, scope_named, kind_named, mode_named, reactor_named, test_of, test_behind, or_syntax, when};
+ghost use Rattle.rv_bind.specs.LineWords.{word_at, no_word_left, is_name, is_name_byte, is_field, is_field_byte, mode_named, test_of, test_behind, or_syntax, when};
 ghost use Rattle.std.specs.Str.{is_utf8};
 
 use crate::bindings::Test;
 use crate::fault::LineFault;
-use crate::forms::SpecKind;
-use rv_model::{Mode, Name, Reactor, Scope};
+use rv_model::{Mode, Name, Reactor, Scope, SpecKind};
 use rv_text::{BIND_SYNTAX, Words};
 use std::alloc::Global;
 
@@ -84,27 +85,13 @@ pub(crate) fn allowed(word: &[u8], passes: bool) -> Result<&[u8], LineFault>
 pub(crate) fn scope(word: &[u8]) -> Result<Scope, LineFault>
     ensures { ReadsValue (λ scope. scope) result (or_syntax (scope_named word.now)) }
 {
-    if is(word, "global") {
-        Ok(Scope::Global)
-    } else if is(word, "cpu") {
-        Ok(Scope::Cpu)
-    } else if is(word, "task") {
-        Ok(Scope::Task)
-    } else {
-        Err(SYNTAX)
-    }
+    Scope::from_name(word).ok_or(SYNTAX)
 }
 
 pub(crate) fn kind(word: &[u8]) -> Result<SpecKind, LineFault>
     ensures { ReadsValue (λ kind. kind) result (or_syntax (kind_named word.now)) }
 {
-    if is(word, "da") {
-        Ok(SpecKind::Da)
-    } else if is(word, "ltl") {
-        Ok(SpecKind::Ltl)
-    } else {
-        Err(SYNTAX)
-    }
+    SpecKind::from_name(word).ok_or(SYNTAX)
 }
 
 pub(crate) fn mode(word: &[u8]) -> Result<Mode, LineFault>
@@ -126,15 +113,7 @@ pub(crate) fn mode(word: &[u8]) -> Result<Mode, LineFault>
 pub(crate) fn reactor(word: &[u8]) -> Result<Reactor, LineFault>
     ensures { ReadsValue (λ reactor. reactor) result (or_syntax (reactor_named word.now)) }
 {
-    if is(word, "nop") {
-        Ok(Reactor::Nop)
-    } else if is(word, "printk") {
-        Ok(Reactor::Printk)
-    } else if is(word, "panic") {
-        Ok(Reactor::Panic)
-    } else {
-        Err(SYNTAX)
-    }
+    Reactor::from_name(word).ok_or(SYNTAX)
 }
 
 /// The word as text.

@@ -11,7 +11,7 @@ use Rattle.rv_model.specs.declared.work.Change.{Change}
 use Rattle.rv_model.specs.Numbers.{has_bit}
 use Rattle.rv_model.proofs.NumberLemmas.{number_of-lt}
 use Rattle.rv_bind.specs.declared.bindings.Item.{Item}
-use Rattle.rv_bind.specs.LineWords.{reactor_named}
+use Rattle.rv_model.specs.Reactors.{reactor_named}
 use Rattle.rv_control.specs.declared.sets.Those.{Those}
 use Rattle.rv_control.specs.declared.sets.Those.TheVariants as those
 use Rattle.rv_control.specs.declared.paths.Path.{Path}

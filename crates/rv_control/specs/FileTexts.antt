@@ -1,19 +1,16 @@
 -- What the control files say (this project's choice after Linux, Documentation/trace/rv: docs/FORMATS.md, "Control files").
-use Rattle.std.specs.Prelude.{ℕ, zero, suc, Bool, true, false, List, [], ◌∷◌, ◌++◌, length, flat_map, Option, Some, None, slice_get, Result, Ok, if◌then◌else◌, codes}
+use Rattle.std.specs.Prelude.{ℕ, zero, suc, Bool, true, false, List, [], ◌∷◌, ◌++◌, length, flat_map, bytes_eq, Option, Some, None, slice_get, Result, Ok, if◌then◌else◌, codes}
 use Rattle.std.specs.Option.{ok_or}
 use Rattle.rv_text.specs.Readings.{and_then}
 use Rattle.rv_text.specs.declared.numbers.TheConstants.{NO_SUCH_FILE}
 use Rattle.rv_text.specs.declared.refusals.Refusal.{Refusal}
 use Rattle.rv_model.specs.declared.reactor.Reactor.{Reactor}
-use Rattle.rv_model.specs.declared.reactor.Reactor.TheVariants.{Nop, Panic, Printk}
-use Rattle.rv_model.specs.declared.work.Scope.{Scope}
-use Rattle.rv_model.specs.declared.work.Scope.TheVariants.{Global, Cpu, Task}
 use Rattle.rv_model.specs.Numbers.{has_bit}
+use Rattle.rv_model.specs.Reactors.{all_reactors, reactor_name}
 use Rattle.rv_model.specs.Reports.{line_end}
+use Rattle.rv_model.specs.Words.{kind_name, scope_name}
 use Rattle.rv_bind.specs.declared.bindings.Item.{Item}
 use Rattle.rv_bind.specs.declared.bindings.Item.TheVariants as items
-use Rattle.rv_control.specs.declared.watched.Kind.{Kind}
-use Rattle.rv_control.specs.declared.watched.Kind.TheVariants.{Da, Ltl}
 use Rattle.rv_control.specs.declared.watched.MonitorInfo.{MonitorInfo}
 use Rattle.rv_control.specs.declared.paths.Path.{Path}
 use Rattle.rv_control.specs.declared.paths.Path.TheVariants.{AvailableMonitors, AvailableReactors, EnabledMonitors, MonitoringOn, ReactingOn, Desc, Enable, Reactors}
@@ -56,33 +53,28 @@ names_text tree enabled = flat_map (name_line tree enabled) (listed tree)
 abbrev pub flag_text : Bool → List ℕ
 flag_text on = (if on then codes "1" else codes "0") ++ line_end
 
--- how a kind of specification is written
-abbrev pub kind_text : Kind → List ℕ
-kind_text Da = codes "da"
-kind_text Ltl = codes "ltl"
-
--- how a scope is written
-abbrev pub scope_text : Scope → List ℕ
-scope_text Global = codes "global"
-scope_text Cpu = codes "cpu"
-scope_text Task = codes "task"
-
 -- how a monitor is specified
 abbrev pub watched_text : Option MonitorInfo → List ℕ
 watched_text None = []
-watched_text (Some m) = kind_text m.kind ++ codes " " ++ scope_text m.scope ++ codes " " ++ m.file ++ line_end
+watched_text (Some m) = kind_name m.kind ++ codes " " ++ scope_name m.scope ++ codes " " ++ m.file ++ line_end
 
 -- a container says that it is one, and a monitor how it is specified
 abbrev pub desc_text : ControlValue → Item → List ℕ
 desc_text tree (items.Container place) = codes "container" ++ line_end
 desc_text tree (items.Monitor place) = watched_text (slice_get tree.monitors place)
 
--- the reactors, of which the chosen one is marked
+-- the reactor stands in brackets: it is the chosen one
+abbrev pub is_bracketed : Option Reactor → Reactor → Bool
+is_bracketed None reactor = false
+is_bracketed (Some chosen) reactor = bytes_eq (reactor_name chosen) (reactor_name reactor)
+
+-- the line of a reactor, which is marked where it is the chosen one
+abbrev pub reactor_line : Option Reactor → Reactor → List ℕ
+reactor_line chosen reactor = (if is_bracketed chosen reactor then codes "[" ++ reactor_name reactor ++ codes "]" else reactor_name reactor) ++ line_end
+
+-- a line for each reactor
 abbrev pub reactors_text : Option Reactor → List ℕ
-reactors_text None = codes "nop\npanic\nprintk\n"
-reactors_text (Some Nop) = codes "[nop]\npanic\nprintk\n"
-reactors_text (Some Panic) = codes "nop\n[panic]\nprintk\n"
-reactors_text (Some Printk) = codes "nop\npanic\n[printk]\n"
+reactors_text chosen = flat_map (reactor_line chosen) all_reactors
 
 -- the text of a file
 abbrev pub text_of : ControlValue → Path → List ℕ

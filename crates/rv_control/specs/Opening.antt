@@ -1,19 +1,11 @@
 -- The control files of a run that begins.
 use Rattle.std.specs.Prelude.{ℕ, ◌+◌, ◌^◌, Bool, false, List, map, Option, Some, None, slice_get}
-use Rattle.rv_model.specs.declared.formula.Spec.{Spec}
-use Rattle.rv_model.specs.declared.formula.Spec.TheVariants as specs
 use Rattle.rv_model.specs.Numbers.{number_of}
+use Rattle.rv_model.specs.Words.{spec_kind}
 use Rattle.rv_bind.specs.declared.bindings.Bindings.{Bindings}
 use Rattle.rv_bind.specs.declared.bindings.Monitor.{Monitor}
-use Rattle.rv_control.specs.declared.watched.Kind.{Kind}
-use Rattle.rv_control.specs.declared.watched.Kind.TheVariants as kinds
 use Rattle.rv_control.specs.declared.watched.MonitorInfo.{MonitorInfo}
 use Rattle.rv_control.specs.Trees.{ControlValue}
-
--- whether the specification is an automaton or a rule
-abbrev pub spec_kind : Spec → Kind
-spec_kind (specs.Da automaton) = kinds.Da
-spec_kind (specs.Ltl rule) = kinds.Ltl
 
 -- what the control files show of a monitor
 abbrev pub watched : Monitor → MonitorInfo

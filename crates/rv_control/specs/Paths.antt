@@ -1,12 +1,13 @@
 -- The paths of the control files (this project's choice after Linux, Documentation/trace/rv: docs/FORMATS.md, "Control files").
 use Rattle.std.specs.Prelude.{ℕ, Bool, true, false, ◌&&◌, ◌==◌, bytes_eq, position, List, [], ◌∷◌, Option, Some, None, option_map, option_and_then, if◌then◌else◌, codes}
 use Rattle.rv_text.specs.Pieces.{pieces_by}
+use Rattle.rv_model.specs.Reports.{display_name}
 use Rattle.rv_bind.specs.declared.bindings.Item.{Item}
 use Rattle.rv_bind.specs.declared.bindings.Item.TheVariants as items
 use Rattle.rv_control.specs.declared.watched.MonitorInfo.{MonitorInfo}
 use Rattle.rv_control.specs.declared.paths.Path.{Path}
 use Rattle.rv_control.specs.declared.paths.Path.TheVariants.{AvailableMonitors, AvailableReactors, EnabledMonitors, MonitoringOn, ReactingOn, Desc, Enable, Reactors}
-use Rattle.rv_control.specs.Trees.{ControlValue, display_name}
+use Rattle.rv_control.specs.Trees.{ControlValue}
 
 -- ---- names
 

@@ -1,6 +1,7 @@
 -- What the control files are about (Linux, Documentation/trace/rv, "User interface"; containers: kernels after 6.12).
 use Rattle.std.specs.Prelude.{◌≡◌, ◌≤◌, ℕ, Bool, false, ◌==◌, List, [], ◌++◌, length, Option, Some, None, slice_get, slice_index_or, codes}
 use Rattle.rv_model.specs.declared.reactor.Reactor.{Reactor}
+use Rattle.rv_model.specs.Reports.{display_name}
 use Rattle.rv_bind.specs.declared.bindings.Item.{Item}
 use Rattle.rv_bind.specs.declared.bindings.Item.TheVariants as items
 use Rattle.rv_control.specs.declared.watched.MonitorInfo.{MonitorInfo}
@@ -20,11 +21,6 @@ pub record IsControl (tree : ControlValue) : Type 0 where
   pub few_containers : length tree.containers ≤ 32
 
 -- ---- names
-
--- the shown name: a container's name stands before that of a monitor in it
-abbrev pub display_name : List (List ℕ) → Option ℕ → List ℕ → List ℕ
-display_name containers None name = name
-display_name containers (Some place) name = slice_index_or containers place [] ++ codes ":" ++ name
 
 -- the shown name of a monitor, and an empty one where there is no monitor
 abbrev pub monitor_display_name : ControlValue → Option MonitorInfo → List ℕ

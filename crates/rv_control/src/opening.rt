@@ -1,24 +1,15 @@
 //! The control files of a run that begins.
 ghost use Rattle.std.specs.Prelude.{◌≡◌, ◌≤◌, ◌<◌, ◌^◌, map, length, IfOk};
-ghost use Rattle.rv_control.specs.Opening.{spec_kind, watched, enables, opening_switches, opening_tree};
+ghost use Rattle.rv_control.specs.Opening.{watched, enables, opening_switches, opening_tree};
 
 use crate::control::Control;
-use crate::watched::{Kind, MonitorInfo};
+use crate::watched::MonitorInfo;
 use rv_bind::{Bindings, Monitor};
-use rv_model::{Name, Names, Reactor, Spec};
+use rv_model::{Name, Names, Reactor, SpecKind};
 use std::alloc::{AllocError, Global};
 
 /// Monitoring and reacting.
 const SWITCHED_ON: u64 = 12_884_901_888;
-
-fn spec_kind(spec: &Spec) -> Kind
-    ensures { result ≡ spec_kind spec.now }
-{
-    match spec {
-        Spec::Da(_) => Kind::Da,
-        Spec::Ltl(_) => Kind::Ltl,
-    }
-}
 
 /// What the control files show of a monitor.
 fn watched(alloc: Global, monitor: &Monitor) -> Result<MonitorInfo, AllocError>
@@ -27,7 +18,7 @@ fn watched(alloc: Global, monitor: &Monitor) -> Result<MonitorInfo, AllocError>
     Ok(MonitorInfo {
         name: Name::new(alloc, monitor.name.bytes())?,
         container: monitor.container,
-        kind: spec_kind(&monitor.spec),
+        kind: SpecKind::of(&monitor.spec),
         scope: monitor.scope,
         file: Name::new(alloc, monitor.file.bytes())?,
     })

@@ -1,6 +1,6 @@
 //! The control files by their paths.
 ghost use Rattle.std.specs.Prelude.{◌≡◌, ◌<◌, ◌≤◌, ◌++◌, [], length, position, bytes_eq, codes, option_map, option_copied, slice_index_or, IfSome};
-ghost use Rattle.rv_control.specs.Trees.{display_name};
+ghost use Rattle.rv_model.specs.Reports.{display_name};
 ghost use Rattle.rv_control.specs.Paths.{container_named, is_same_container, is_called_in, monitor_item, outer_named, inner_named, has_display_name, item_named, item_or, top_file, reactors_file, item_file, file_below, path_of, is_reactors};
 
 use crate::control::Control;

@@ -1,35 +1,16 @@
 //! What the control files say.
-ghost use Rattle.std.specs.Prelude.{◌≡◌, ◌++◌, ◌≤◌, length, slice_get, option_copied, OnOk, IfOk};
+ghost use Rattle.std.specs.Prelude.{◌≡◌, ◌++◌, ◌≤◌, length, flat_map, slice_get, option_copied, OnOk, IfOk};
 ghost use Rattle.rv_text.specs.Readings.{Gives};
 ghost use Rattle.rv_control.specs.Trees.{item_display_name, monitor_display_name};
-ghost use Rattle.rv_control.specs.FileTexts.{monitors_in, with_held, listed, has_line, name_line, names_text, flag_text, kind_text, scope_text, watched_text, desc_text, reactors_text, text_of, file_text};
+ghost use Rattle.rv_control.specs.FileTexts.{monitors_in, with_held, listed, has_line, name_line, names_text, flag_text, watched_text, desc_text, is_bracketed, reactor_line, text_of, file_text};
 
 use crate::control::Control;
 use crate::paths::Path;
-use crate::watched::{Kind, MonitorInfo};
+use crate::watched::MonitorInfo;
 use rv_bind::Item;
-use rv_model::{Reactor, Scope};
+use rv_model::Reactor;
 use rv_text::{Line, NO_SUCH_FILE, Refusal, Refused};
 use std::alloc::{AllocError, Global};
-
-fn kind_text(kind: Kind) -> &'static [u8]
-    ensures { result.now ≡ kind_text kind }
-{
-    match kind {
-        Kind::Da => b"da",
-        Kind::Ltl => b"ltl",
-    }
-}
-
-fn scope_text(scope: Scope) -> &'static [u8]
-    ensures { result.now ≡ scope_text scope }
-{
-    match scope {
-        Scope::Global => b"global",
-        Scope::Cpu => b"cpu",
-        Scope::Task => b"task",
-    }
-}
 
 /// Whether it is on.
 fn flag_text(on: bool) -> &'static [u8]
@@ -38,16 +19,42 @@ fn flag_text(on: bool) -> &'static [u8]
     if on { b"1\n" } else { b"0\n" }
 }
 
-/// The reactors, of which the chosen one is marked.
-fn reactors_text(chosen: Option<Reactor>) -> &'static [u8]
-    ensures { result.now ≡ reactors_text chosen }
+/// Whether a reactor is chosen, and is this one.
+fn is_bracketed(chosen: Option<Reactor>, reactor: Reactor) -> bool
+    ensures { result ≡ is_bracketed chosen reactor }
 {
     match chosen {
-        None => b"nop\npanic\nprintk\n",
-        Some(Reactor::Nop) => b"[nop]\npanic\nprintk\n",
-        Some(Reactor::Panic) => b"nop\n[panic]\nprintk\n",
-        Some(Reactor::Printk) => b"nop\npanic\n[printk]\n",
+        Some(chosen) => chosen.name() == reactor.name(),
+        None => false,
     }
+}
+
+/// Appends the line of a reactor.
+fn reactor_line(out: &mut Line, chosen: Option<Reactor>, reactor: Reactor) -> Result<(), AllocError>
+    ensures { OnOk result (out.new ≡ out.old ++ reactor_line chosen reactor) }
+{
+    if is_bracketed(chosen, reactor) {
+        out.text(b"[")?;
+        out.text(reactor.name())?;
+        out.text(b"]\n")
+    } else {
+        out.text(reactor.name())?;
+        out.text(b"\n")
+    }
+}
+
+/// Appends a line for each reactor, of which the chosen one is marked.
+fn list_reactors(
+    out: &mut Line,
+    reactors: &[Reactor],
+    chosen: Option<Reactor>,
+) -> Result<(), AllocError>
+    ensures { OnOk result (out.new ≡ out.old ++ flat_map (reactor_line chosen) reactors.now) }
+{
+    for reactor in reactors {
+        reactor_line(out, chosen, *reactor)?;
+    }
+    Ok(())
 }
 
 /// Appends how a monitor is specified.
@@ -57,9 +64,9 @@ fn describe(out: &mut Line, monitor: Option<&MonitorInfo>) -> Result<(), AllocEr
     let Some(monitor) = monitor else {
         return Ok(());
     };
-    out.text(kind_text(monitor.kind))?;
+    out.text(monitor.kind.name())?;
     out.text(b" ")?;
-    out.text(scope_text(monitor.scope))?;
+    out.text(monitor.scope.name())?;
     out.text(b" ")?;
     out.text(monitor.file.bytes())?;
     out.text(b"\n")
@@ -174,13 +181,13 @@ impl Control {
     {
         match file {
             Path::AvailableMonitors => self.names(alloc, out, false),
-            Path::AvailableReactors => out.text(reactors_text(None)),
+            Path::AvailableReactors => list_reactors(out, &Reactor::ALL, None),
             Path::EnabledMonitors => self.names(alloc, out, true),
             Path::MonitoringOn => out.text(flag_text(self.has_switch(32))),
             Path::ReactingOn => out.text(flag_text(self.has_switch(33))),
             Path::Desc(item) => self.desc(out, item),
             Path::Enable(item) => out.text(flag_text(self.is_enabled(item))),
-            Path::Reactors(place) => out.text(reactors_text(self.reactor_at(place))),
+            Path::Reactors(place) => list_reactors(out, &Reactor::ALL, self.reactor_at(place)),
         }
     }
 

@@ -1,6 +1,6 @@
 //! What a write to a control file does.
 ghost use Rattle.std.specs.Prelude.{◌≡◌, ◌≤◌, ◌<◌, ◌^◌, option_map, None, Some, Ok, Err, IfSome, IfNone, IfOk, IfErr, OnErr};
-ghost use Rattle.rv_bind.specs.LineWords.{reactor_named};
+ghost use Rattle.rv_model.specs.Reactors.{reactor_named};
 ghost use Rattle.rv_control.specs.Effects.{without_end, flag_of, no_change, switching, change_of, with_switches, with_reactor, effect};
 
 use crate::control::Control;
@@ -29,12 +29,6 @@ fn flag_of(text: &[u8]) -> Option<bool>
         b"1" => Some(true),
         _ => None,
     }
-}
-
-fn reactor_named(text: &[u8]) -> Option<Reactor>
-    ensures { result ≡ reactor_named text.now }
-{
-    Reactor::from_name(text)
 }
 
 /// The switch of monitoring.
@@ -87,7 +81,7 @@ impl Control {
         ensures some { IfSome result (λ change. option_map (with_reactor self.old place) (reactor_named text.now) ≡ Some (self.new, change)) }
         ensures none { IfNone result ((reactor_named text.now ≡ None) × (self.new ≡ self.old)) }
     {
-        let reactor = reactor_named(text)?;
+        let reactor = Reactor::from_name(text)?;
         let place = place as usize;
         if place < self.reactors.len() {
             self.reactors[place] = reactor;

@@ -4,12 +4,12 @@ use Rattle.std.specs.Option.{option_and_then}
 use Rattle.rv_model.specs.declared.record.Task.{Task}
 use Rattle.rv_model.specs.declared.work.Scope.{Scope}
 use Rattle.rv_model.specs.declared.work.Scope.TheVariants as scopes
+use Rattle.rv_model.specs.Reports.{display_name}
 use Rattle.rv_model.specs.Setups.{slot_of}
 use Rattle.rv_text.specs.Decimal.{decimal_of}
 use Rattle.rv_slots.specs.Shapes.{count_of}
 use Rattle.rv_slots.specs.Tasks.{task_of, same_task}
 use Rattle.rv_bind.specs.declared.bindings.Monitor.{Monitor}
-use Rattle.rv_control.specs.Trees.{display_name}
 
 -- the monitor's shown name is this one
 abbrev pub is_named : List (List ℕ) → List ℕ → Monitor → Bool
