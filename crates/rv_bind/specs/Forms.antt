@@ -8,8 +8,7 @@ use Rattle.rv_model.specs.declared.hit.Mode.{Mode}
 use Rattle.rv_model.specs.declared.reactor.Reactor.{Reactor}
 use Rattle.rv_bind.specs.declared.bindings.Test.{Test}
 use Rattle.rv_bind.specs.declared.forms.SpecKind.{SpecKind}
-use Rattle.rv_bind.specs.LineReads.{after}
-use Rattle.rv_bind.specs.LineWords.{Read, Words, no_word_left, is_field, is_name, kind_named, mode_named, or_syntax, reactor_named, scope_named, test_of, when, word_at}
+use Rattle.rv_bind.specs.LineWords.{Read, Words, no_word_left, is_field, is_name, kind_named, mode_named, or_syntax, reactor_named, scope_named, test_of, when, word_at, after}
 
 -- a line by its form
 pub data FormValue : Type 0 where

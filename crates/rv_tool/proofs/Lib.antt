@@ -20,7 +20,6 @@ pub mod ReportedLemmas
 pub mod SaysLemmas
 pub mod SessionLemmas
 pub mod SomeTextLemmas
-pub mod TableLemmas
 pub mod UntoldLemmas
 pub mod VerdictLemmas
 pub mod WatchLemmas

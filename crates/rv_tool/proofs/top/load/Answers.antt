@@ -20,7 +20,7 @@ returns-in-Ok-clause-answers g c =
     c.in-Ok.ensures
     (no_blame _ _ _ _ _ _ (Reports IsLegal) (λ files. run_input files (codes "gen.rv") (codes "gen.txt")) told
     (read_answers _ _ _ _ _ _ prepared_value (Reports IsLegal) (λ files. run_input files (codes "gen.rv") (codes "gen.txt")) (no_report _ _ _ _ _ _ IsLegal) (Some told) 0 0
-    c.read_input.result c.read_input.ensures.value c.read_input.ensures.named c.run_at_once.ensures told refl))
+    c.read_input.result c.read_input.ensures.reads.value c.read_input.ensures.reads.named c.run_at_once.ensures told refl))
 
 pub returns-in-Ok-clause-verdicts : goal.returns-in-Ok-clause-verdicts
 returns-in-Ok-clause-verdicts g c =
@@ -31,4 +31,4 @@ returns-in-Ok-clause-verdicts g c =
     c.in-Ok.ensures
     (no_blame _ _ _ _ _ _ ReportsVerdicts (λ files. run_input files (codes "gen.rv") (codes "gen.txt")) told
     (read_answers _ _ _ _ _ _ prepared_value ReportsVerdicts (λ files. run_input files (codes "gen.rv") (codes "gen.txt")) (no_verdicts _ _ _ _ _ _) (Some told) 0 0
-    c.read_input.result c.read_input.ensures.value c.read_input.ensures.named (runs_verdicts _ _ _ _ _ _ c.read_input.result c.read_input.ensures.ready c.read_input.ensures.unchanged c.run_at_once.ensures) told refl))
+    c.read_input.result c.read_input.ensures.reads.value c.read_input.ensures.reads.named (runs_verdicts _ _ _ _ _ _ c.read_input.result c.read_input.ensures.ready c.read_input.ensures.unchanged c.run_at_once.ensures) told refl))
