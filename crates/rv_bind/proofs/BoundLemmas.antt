@@ -2,16 +2,16 @@
 use Rattle.std.proofs.Common.{◌≡◌, ℕ, zero, suc, ◌<◌, ◌≤◌, true, false, ◌⊎◌, inl, inr, ◌+◌, List, [], ◌∷◌, ◌++◌, length, get_or, set, sym, ap, ◌∙◌, arith}
 use Rattle.std.specs.Prelude.{Option, Some, slice_get, slice_index_or, bytes_eq, nat_lt, Ok}
 use Rattle.std.specs.List.{position_or_len}
+use Rattle.std.specs.Option.{option_copied}
 use Rattle.std.proofs.lemmas.List.Sums.{position_or_len_is}
 use Rattle.std.proofs.lemmas.Option.{slice_get_within, get_or_from_slice_get}
-use Rattle.rv_model.specs.declared.hit.Mode.{Mode}
+use Rattle.rv_ltl.specs.Texts.{texts}
 use Rattle.rv_model.specs.declared.hit.What.{What}
 use Rattle.rv_bind.specs.declared.bindings.Monitor.{Monitor}
-use Rattle.rv_bind.specs.declared.bindings.Test.{Test}
+use Rattle.rv_bind.specs.declared.forms.OnForm.{OnForm}
 use Rattle.rv_bind.specs.declared.limits.TheConstants.{MAX_RULES}
 use Rattle.rv_bind.specs.Values.{OnValue, BoundValue}
-use Rattle.rv_bind.specs.LineReads.{after}
-use Rattle.rv_bind.specs.LineWords.{Words}
+use Rattle.rv_bind.specs.LineWords.{after}
 use Rattle.rv_bind.specs.Changes.{allows_hit, brought, atom_bit}
 use Rattle.rv_bind.specs.Bound.{monitor_named}
 use Rattle.rv_bind.specs.MonitorLines.{allows_by, rule_bound, monitors_with, change_bound, beginning, begin_bound}
@@ -70,10 +70,10 @@ module _ (b : BoundValue) (name : List ℕ) (place : ℕ) (named : monitor_named
       rw (named, there, found) (ap (λ (ms : List Monitor). Ok (record b { monitors = ms })) (monitors_with-set (beginning bit) b.monitors place m lt is ∙ sym added))
 
   -- a rule of the monitor of this name
-  pub rule_added : (m : Monitor) (event : List ℕ) (by : Option (List ℕ)) (tests : List Test) (mode : Mode) (words : Words) (what : What) (after : List OnValue)
-      → slice_get b.monitors place ≡ Some m → allows_by m.scope by ≡ true → allows_hit m.scope m.spec mode words ≡ true → length b.rules < MAX_RULES → brought m.spec mode words ≡ Ok what
-      → after ≡ b.rules ++ record { monitor = place; event = event; by = by; tests = tests; hit = record { mode = mode; what = what } } ∷ []
-      → rule_bound b (monitor_named b name) event by tests mode words ≡ Ok (record b { rules = after })
-  rule_added m event by tests mode words what after there allowed fits room found added =
+  pub rule_added : (m : Monitor) (o : OnForm) (what : What) (after : List OnValue)
+      → slice_get b.monitors place ≡ Some m → allows_by m.scope (option_copied o.by) ≡ true → allows_hit m.scope m.spec o.mode (texts o.words.items) ≡ true → length b.rules < MAX_RULES → brought m.spec o.mode (texts o.words.items) ≡ Ok what
+      → after ≡ b.rules ++ record { monitor = place; event = o.event.now; by = option_copied o.by; tests = o.tests.items; hit = record { mode = o.mode; what = what } } ∷ []
+      → rule_bound b (monitor_named b name) o.event.now (option_copied o.by) o.tests.items o.mode (texts o.words.items) ≡ Ok (record b { rules = after })
+  rule_added m o what after there allowed fits room found added =
       let few : nat_lt (length b.rules) MAX_RULES ≡ true = grind arith in
       rw (named, there, allowed, fits, few, found) (ap (λ (rs : List OnValue). Ok (record b { rules = rs })) (sym added))

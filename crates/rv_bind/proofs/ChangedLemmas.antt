@@ -6,8 +6,7 @@ use Rattle.rv_model.specs.declared.work.Scope.{Scope}
 use Rattle.rv_model.specs.declared.formula.Spec.{Spec}
 use Rattle.rv_model.specs.Table.{Table}
 use Rattle.rv_bind.specs.declared.bindings.Monitor.{Monitor}
-use Rattle.rv_bind.specs.declared.bindings.Item.TheVariants as items
-use Rattle.rv_bind.specs.LineReads.{after}
+use Rattle.rv_bind.specs.LineWords.{after}
 use Rattle.rv_bind.specs.Values.{OnValue, BoundValue}
 use Rattle.rv_bind.specs.Changes.{atom_bit}
 use Rattle.rv_bind.specs.MonitorLines.{allows_by, monitors_with, bindings_with, change_bound, beginning, begin_at, begin_bound}

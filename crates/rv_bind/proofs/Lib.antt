@@ -5,6 +5,7 @@ pub mod FormLemmas
 pub mod NumberLemmas
 pub mod OutcomeLemmas
 pub mod ReachedLemmas
+pub mod ReadsLemmas
 pub mod TableLemmas
 pub mod TestLemmas
 pub mod TwiceLemmas

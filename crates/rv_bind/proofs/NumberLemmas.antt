@@ -3,7 +3,9 @@ use Rattle.std.proofs.Common.{◌≡◌, ℕ, zero, suc, List, [], ◌∷◌, su
 use Rattle.std.specs.Prelude.{Bool, true, false, not, bytes_eq, codes, Option, Some, None, Result, Ok, Err, IfErr, if◌then◌else◌}
 use Rattle.std.specs.Str.{is_utf8}
 use Rattle.rv_text.specs.declared.refusals.Refusal.{Refusal}
-use Rattle.rv_text.specs.Readings.{and_then}
+use Rattle.rv_text.specs.declared.refusals.Refused.{Refused}
+use Rattle.rv_text.specs.declared.refusals.Refused.TheVariants as refuseds
+use Rattle.rv_text.specs.Readings.{Refuses, and_then}
 use Rattle.rv_text.specs.TextLines.{LineText}
 use Rattle.rv_io.specs.Files.{Files}
 use Rattle.rv_model.specs.Ltl.{Ltl}
@@ -29,13 +31,12 @@ use Rattle.rv_bind.specs.declared.fault.BindFault.TheVariants as faults
 use Rattle.rv_model.specs.declared.kind.SpecKind.{SpecKind}
 use Rattle.rv_model.specs.declared.kind.SpecKind.TheVariants as kinds
 use Rattle.rv_bind.specs.Values.{BoundValue}
-use Rattle.rv_bind.specs.LineWords.{Words, when, or_syntax, word_at, no_word_left, is_name}
+use Rattle.rv_bind.specs.LineWords.{Words, when, after, or_syntax, word_at, no_word_left, is_name}
 use Rattle.rv_bind.specs.Forms.{FormValue, on, holder_at, container_form, monitor_form, react_form, off_form, begin_form, by_at, tests_at, hit_form, on_form, form_of}
 use Rattle.rv_bind.specs.MonitorLines.{rule_bound, change_bound, begin_bound}
 use Rattle.rv_bind.specs.Compiling.{compiled_of}
 use Rattle.rv_bind.specs.Bound.{compiled_in, form_in, place_for, container_bound}
-use Rattle.rv_bind.specs.LineReads.{after}
-use Rattle.rv_bind.specs.Outcomes.{IsNumber, IsRefusal, IsFaultOf, Refines, accepted, reading, of_file, of_name}
+use Rattle.rv_bind.specs.Outcomes.{IsNumber, IsRefusal, IsFaultIn, Refines, accepted, reading, of_file, of_name}
 use Rattle.rv_bind.proofs.OutcomeLemmas.{of_name-reading}
 
 -- ---- specifications
@@ -106,13 +107,14 @@ compiled_numbered kinds.Da text = then_numbered (dot_of text) _ (dot_numbered te
 compiled_numbered kinds.Ltl text = then_numbered (ltl_of text) _ (ltl_numbered text) (λ rule. then_numbered (and_then (normal_of rule.formula) tableau_of) _ (then_numbered (normal_of rule.formula) tableau_of (normal_numbered rule.formula) tableau_numbered) (λ table. tt))
 
 -- what came of a file's specification that is refused
-pub spec_comes : (told : Option Files) (before now : ℕ) (kind : SpecKind) (file text : List ℕ) (refusal : Refusal) (fault : BindFault) → IsFaultOf fault file refusal → compiled_of kind text ≡ Err refusal
-    → ((files : Files) → told ≡ Some files → of_name files file accepted ≡ accepted text) → Refines (λ (compiled : Compiled). compiled) told before now (Err fault) (λ files. compiled_in files kind file)
-spec_comes told before now kind file text refusal faults.Memory is refused read = tt
-spec_comes told before now kind file text refusal (faults.Unread named) is refused read = absurd is
-spec_comes told before now kind file text refusal (faults.Refused named given) is refused read = (
-  rw is.1 (subst (λ (r : Result Compiled Refusal). IfErr r IsRefusal) refused (compiled_numbered kind text)),
-  λ files known. rw (is.0, is.1) (of_name-reading files file (λ text. of_file file (compiled_of kind text)) ∙ ap (λ o. reading o (λ text. of_file file (compiled_of kind text))) (read files known) ∙ ap (of_file file) refused),
+pub spec_comes : (told : Option Files) (before now : ℕ) (kind : SpecKind) (file text : List ℕ) (fault : Refused) (given : BindFault) → IsFaultIn file fault given → Refuses fault (compiled_of kind text)
+    → ((files : Files) → told ≡ Some files → of_name files file accepted ≡ accepted text) → Refines (λ (compiled : Compiled). compiled) told before now (Err given) (λ files. compiled_in files kind file)
+spec_comes told before now kind file text refuseds.Memory given is refuses read = rw is tt
+spec_comes told before now kind file text (refuseds.Because refusal) faults.Memory is refuses read = tt
+spec_comes told before now kind file text (refuseds.Because refusal) (faults.Unread named) is refuses read = absurd is
+spec_comes told before now kind file text (refuseds.Because refusal) (faults.Refused named given) is refuses read = (
+  rw is.1 (subst (λ (r : Result Compiled Refusal). IfErr r IsRefusal) refuses (compiled_numbered kind text)),
+  λ files known. rw (is.0, is.1) (of_name-reading files file (λ text. of_file file (compiled_of kind text)) ∙ ap (λ o. reading o (λ text. of_file file (compiled_of kind text))) (read files known) ∙ ap (of_file file) refuses),
 )
 
 -- ---- lines

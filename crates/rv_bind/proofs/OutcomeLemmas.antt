@@ -1,14 +1,14 @@
 -- What a reader's parts answer, joined to what the whole comes to.
-use Rattle.std.proofs.Common.{◌≡◌, ℕ, ◌≤◌, List, refl, ap, ◌∙◌, subst, inl, inr, arith}
+use Rattle.std.proofs.Common.{◌≡◌, ℕ, ◌≤◌, List, refl, sym, ap, ◌∙◌, subst, inl, inr, arith}
 use Rattle.std.specs.Prelude.{Option, Some, None, Result, Ok, Err, OnOk, IsOk, IsErrAnd, IfErr}
 use Rattle.rv_io.specs.Files.{Files, Rose, front_read}
 use Rattle.rv_bind.specs.declared.fault.LineFault.{LineFault}
 use Rattle.rv_bind.specs.declared.fault.LineFault.TheVariants as lines
 use Rattle.rv_bind.specs.declared.fault.BindFault.{BindFault}
 use Rattle.rv_bind.specs.declared.fault.BindFault.TheVariants as faults
-use Rattle.rv_bind.specs.LineReads.{Faults, ReadsValue}
+use Rattle.rv_bind.specs.LineReads.{Faults, ReadsValue, InLine}
 use Rattle.rv_bind.specs.Values.{BoundValue}
-use Rattle.rv_bind.specs.Outcomes.{Outcome, accepted, reading, of_line, of_text, of_name, IsNumber, Refines, IsFaultOf, InLine}
+use Rattle.rv_bind.specs.Outcomes.{Outcome, accepted, reading, of_line, of_text, of_name, IsNumber, Refines, IsFaultOf}
 
 -- the number of a reading that is refused
 in_range : {X : Type 0} (read : Result X ℕ) (number : ℕ) → read ≡ Err number → IfErr read IsNumber → IsNumber number
@@ -56,9 +56,26 @@ line_done file line P (Err (lines.Number number)) result is h = go result is
     go (Err fault) h = tt
 
 -- a count that rose later rose
-Rose-wider : (before mid now : ℕ) → before ≤ mid → Rose mid now → Rose before now
+pub Rose-wider : (before mid now : ℕ) → before ≤ mid → Rose mid now → Rose before now
 Rose-wider before mid now le (inl lt) = inl (omega arith)
 Rose-wider before mid now le (inr end) = inr end
+
+-- what was read later is what is read
+pub Refines-later : {X Y : Type 0} (view : X → Y) (told later : Option Files) (before mid now : ℕ) (result : Result X BindFault) (outcome : Files → Outcome Y) → later ≡ told → before ≤ mid → Refines view later mid now result outcome → Refines view told before now result outcome
+Refines-later view told later before mid now (Ok x) outcome same le comes = λ files known. comes files (same ∙ known)
+Refines-later view told later before mid now (Err faults.Memory) outcome same le comes = tt
+Refines-later view told later before mid now (Err (faults.Refused file refusal)) outcome same le comes = (comes.0, λ files known. comes.1 files (same ∙ known))
+Refines-later view told later before mid now (Err (faults.Unread file)) outcome same le (inl lacks) = inl (lacks.0, sym same ∙ lacks.1, lacks.2)
+Refines-later view told later before mid now (Err (faults.Unread file)) outcome same le (inr rose) = inr (Rose-wider before mid now le rose)
+
+-- where a step was read, what is read on from it is what both come to
+pub Refines-behind : {X Y W : Type 0} (view : X → W) (told : Option Files) (before now : ℕ) (result : Result X BindFault) (step : Files → Outcome Y) (y : Y) (next : Files → Y → Outcome W) → ((files : Files) → told ≡ Some files → step files ≡ accepted y)
+    → Refines view told before now result (λ files. next files y) → Refines view told before now result (λ files. reading (step files) (next files))
+Refines-behind view told before now (Ok x) step y next read comes = λ files known. ap (λ o. reading o (next files)) (read files known) ∙ comes files known
+Refines-behind view told before now (Err faults.Memory) step y next read comes = tt
+Refines-behind view told before now (Err (faults.Refused file refusal)) step y next read comes = (comes.0, λ files known. ap (λ o. reading o (next files)) (read files known) ∙ comes.1 files known)
+Refines-behind view told before now (Err (faults.Unread file)) step y next read (inl lacks) = inl (lacks.0, lacks.1, ap (λ o. reading o (next lacks.0)) (read lacks.0 lacks.1) ∙ lacks.2)
+Refines-behind view told before now (Err (faults.Unread file)) step y next read (inr rose) = inr rose
 
 -- a step's fault is the whole's
 pub step_fault : {X Y Z W : Type 0} (told : Option Files) (before mid now : ℕ) (fault : BindFault) (view : X → Y) (whole_view : Z → W) (step : Files → Outcome Y) (next : Files → Y → Outcome W) (whole : Files → Outcome W)

@@ -3,6 +3,8 @@ use Rattle.std.proofs.Common.{◌≡◌, ℕ, Bool, true, false, List, [], ◌�
 use Rattle.std.specs.Prelude.{Option, Some, None, Result, Ok, Err, bytes_eq, option_map, IsErrAnd, if◌then◌else◌}
 use Rattle.std.proofs.lemmas.Slice.Eq.{bytes_eq-Decides}
 use Rattle.rv_text.specs.declared.refusals.Refusal.{Refusal}
+use Rattle.rv_text.specs.declared.refusals.Refused.{Refused}
+use Rattle.rv_text.specs.declared.refusals.Refused.TheVariants as refuseds
 use Rattle.rv_text.specs.TextLines.{LineText, lines_of}
 use Rattle.rv_io.specs.Files.{Files, front_read}
 use Rattle.rv_model.specs.declared.work.Scope.{Scope}
@@ -15,7 +17,8 @@ use Rattle.rv_bind.specs.Values.{BoundValue}
 use Rattle.rv_bind.specs.Forms.{FormValue, skipped, container, monitor, on, react, off, begin}
 use Rattle.rv_bind.specs.Compiling.{compiled_of}
 use Rattle.rv_bind.specs.Bound.{nothing_bound, place_for, with_monitor, compiled_in, monitor_bound, form_bound, form_in, line_bound, lines_bound, bound_of}
-use Rattle.rv_bind.specs.Outcomes.{Outcome, accepted, refused, missing, reading, of_file, of_line, of_text, of_name, files_without, IsReached, BlamesReached, IsFaultOf, InLine}
+use Rattle.rv_bind.specs.LineReads.{InLine}
+use Rattle.rv_bind.specs.Outcomes.{Outcome, accepted, refused, missing, reading, of_file, of_line, of_text, of_name, files_without, IsReached, BlamesReached, IsFaultOf, IsFaultIn}
 use Rattle.rv_bind.proofs.OutcomeLemmas.{of_name-reading}
 
 -- ---- an outcome without a file is that it is missing, or what it is with the file
@@ -126,6 +129,11 @@ module _ (told : Option Files) where
   refused_named X file refusal faults.Memory outcome is = tt
   refused_named X file refusal (faults.Refused named given) outcome is = tt
   refused_named X file refusal (faults.Unread named) outcome is = absurd is
+
+  -- nor does a reader's
+  pub file_named : {Y : Type 0} (X : Type 0) (file : List ℕ) (fault : Refused) (given : BindFault) (outcome : Files → Outcome Y) → IsFaultIn file fault given → BlamesReached {X = X} told (Err given) outcome
+  file_named X file refuseds.Memory given outcome is = rw is tt
+  file_named X file (refuseds.Because refusal) given outcome is = refused_named X file refusal given outcome is
 
   -- nor does a line's fault
   pub line_named : {Y : Type 0} (file : List ℕ) (line : ℕ) (done : Result Unit LineFault) (result : Result Unit BindFault) (outcome : Files → Outcome Y) → InLine file line done result → BlamesReached told result outcome

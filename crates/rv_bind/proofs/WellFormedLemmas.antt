@@ -3,22 +3,26 @@ use Rattle.std.proofs.Common.{◌≡◌, ℕ, zero, suc, ◌+◌, ◌<◌, ◌�
 use Rattle.std.specs.Prelude.{All, Option, Some, None, Result, Ok, Err, ◌&&◌, slice_get, nat_lt, if◌then◌else◌}
 use Rattle.std.proofs.lemmas.List.{map-append, append-nil}
 use Rattle.std.proofs.lemmas.List.Elements.{All-nil, All-push, All-weaker}
+use Rattle.std.specs.Option.{option_copied}
 use Rattle.rv_text.specs.declared.numbers.TheConstants.{BIND_SYNTAX, NAME_TWICE, TOO_MANY_RULES}
 use Rattle.rv_model.specs.declared.hit.Mode.{Mode}
 use Rattle.rv_model.specs.declared.hit.What.{What}
 use Rattle.rv_model.specs.declared.work.Scope.{Scope}
 use Rattle.rv_model.specs.Table.{Table}
+use Rattle.rv_ltl.specs.Texts.{texts}
 use Rattle.rv_bind.specs.declared.bindings.Monitor.{Monitor}
 use Rattle.rv_bind.specs.declared.bindings.Item.{Item}
 use Rattle.rv_bind.specs.declared.bindings.Item.TheVariants as items
 use Rattle.rv_bind.specs.declared.bindings.Test.{Test}
 use Rattle.rv_bind.specs.declared.compile.Compiled.{Compiled}
+use Rattle.rv_bind.specs.declared.forms.OnForm.{OnForm}
 use Rattle.rv_bind.specs.declared.limits.TheConstants.{MAX_CONTAINERS, MAX_RULES}
 use Rattle.rv_bind.specs.Values.{OnValue, BoundValue}
 use Rattle.rv_bind.specs.LineWords.{Words}
 use Rattle.rv_bind.specs.Changes.{allows_hit, brought}
 use Rattle.rv_bind.specs.Compiling.{Compiles}
-use Rattle.rv_bind.specs.Bound.{nothing_bound, is_taken, container_bound, items_of, with_monitor}
+use Rattle.rv_bind.specs.Bound.{nothing_bound, is_taken, monitor_named, container_bound, items_of, with_monitor}
+use Rattle.rv_bind.specs.FormViews.{rule_said}
 use Rattle.rv_bind.specs.MonitorLines.{allows_by, with_rule, rule_at, rule_bound}
 use Rattle.rv_bind.specs.WellFormed.{MonitorKind, kind_of, kinds_of, HasTable, HaveTables, FitsKind, holders_of, IsHolder, IsItem, IsWellFormed}
 use Rattle.rv_bind.proofs.ChangeLemmas.{hit_fits, starts_at_first}
@@ -82,11 +86,15 @@ module _ (b done : BoundValue) (place : ℕ) (event : List ℕ) (by : Option (Li
       by_form false is true fits e = cc
       by_form false is false fits e = cc
 
--- a line with a rule keeps bindings well formed
-pub rule_formed : (b done : BoundValue) (place : Option ℕ) (event : List ℕ) (by : Option (List ℕ)) (tests : List Test) (mode : Mode) (words : Words)
+-- a rule of the monitor that was named keeps bindings well formed
+rule_bound_formed : (b done : BoundValue) (place : Option ℕ) (event : List ℕ) (by : Option (List ℕ)) (tests : List Test) (mode : Mode) (words : Words)
     → IsWellFormed b → rule_bound b place event by tests mode words ≡ Ok done → IsWellFormed done
-rule_formed b done None event by tests mode words w e = cc
-rule_formed b done (Some place) event by tests mode words w e = rule_at_formed b done place event by tests mode words w (slice_get b.monitors place) refl e
+rule_bound_formed b done None event by tests mode words w e = cc
+rule_bound_formed b done (Some place) event by tests mode words w e = rule_at_formed b done place event by tests mode words w (slice_get b.monitors place) refl e
+
+-- a line with a rule keeps bindings well formed
+pub rule_formed : (b done : BoundValue) (o : OnForm) → IsWellFormed b → rule_said b o ≡ Ok done → IsWellFormed done
+rule_formed b done o w e = rule_bound_formed b done (monitor_named b o.monitor.now) o.event.now (option_copied o.by) o.tests.items o.mode (texts o.words.items) w e
 
 -- ---- a container
 

@@ -13,10 +13,9 @@ use Rattle.rv_bind.specs.declared.bindings.Item.TheVariants as items
 use Rattle.rv_bind.specs.declared.compile.Compiled.{Compiled}
 use Rattle.rv_model.specs.declared.kind.SpecKind.{SpecKind}
 use Rattle.rv_bind.specs.declared.limits.TheConstants.{TEXT_LIMIT, MAX_CONTAINERS, MAX_MONITORS}
-use Rattle.rv_bind.specs.LineReads.{after}
 use Rattle.rv_bind.specs.Values.{BoundValue}
 use Rattle.rv_bind.specs.Forms.{FormValue, skipped, container, monitor, on, react, off, begin, form_of}
-use Rattle.rv_bind.specs.LineWords.{or_syntax}
+use Rattle.rv_bind.specs.LineWords.{or_syntax, after}
 use Rattle.rv_bind.specs.Compiling.{compiled_of}
 use Rattle.rv_bind.specs.Outcomes.{Outcome, accepted, reading, of_file, of_line, of_name}
 use Rattle.rv_bind.specs.MonitorLines.{begin_bound, change_bound, disabled, reacting, rule_bound}

@@ -8,10 +8,9 @@ use Rattle.rv_model.specs.declared.hit.Mode.{Mode}
 use Rattle.rv_model.specs.declared.reactor.Reactor.{Reactor}
 use Rattle.rv_bind.specs.declared.bindings.Test.{Test}
 use Rattle.rv_model.specs.declared.kind.SpecKind.{SpecKind}
-use Rattle.rv_bind.specs.LineReads.{after}
 use Rattle.rv_model.specs.Reactors.{reactor_named}
 use Rattle.rv_model.specs.Words.{kind_named, scope_named}
-use Rattle.rv_bind.specs.LineWords.{Read, Words, no_word_left, is_field, is_name, mode_named, or_syntax, test_of, when, word_at}
+use Rattle.rv_bind.specs.LineWords.{Read, Words, no_word_left, is_field, is_name, mode_named, or_syntax, test_of, when, word_at, after}
 
 -- a line by its form
 pub data FormValue : Type 0 where

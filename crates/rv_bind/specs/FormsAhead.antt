@@ -1,8 +1,7 @@
 -- Private: the forms of a line with one word read ahead, as the reader goes.
 use Rattle.std.specs.Prelude.{ℕ, not, List, ◌∷◌, ◌++◌, codes, bytes_eq, Result, Ok, Err}
 use Rattle.rv_bind.specs.declared.bindings.Test.{Test}
-use Rattle.rv_bind.specs.LineReads.{after}
-use Rattle.rv_bind.specs.LineWords.{Read, Words, mode_named, or_syntax, test_of, when, word_at}
+use Rattle.rv_bind.specs.LineWords.{Read, Words, mode_named, or_syntax, test_of, when, word_at, after}
 use Rattle.rv_bind.specs.Forms.{FormValue, on, by_at, tests_at}
 
 -- ---- the same with one word read ahead, as the reader goes

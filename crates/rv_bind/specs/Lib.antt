@@ -2,6 +2,7 @@ pub mod Bound
 pub mod BoundViews
 pub mod Changes
 pub mod Compiling
+pub mod FilePieces
 pub mod FormViews
 pub mod Forms
 pub mod FormsAhead

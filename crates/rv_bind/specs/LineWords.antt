@@ -25,6 +25,11 @@ abbrev pub when : {Y : Type 0} → Bool → Y → Result Y ℕ
 when true y = Ok y
 when false y = Err BIND_SYNTAX
 
+-- reads on from the value
+abbrev pub after : {X Y : Type 0} → Result X ℕ → (X → Result Y ℕ) → Result Y ℕ
+after (Ok x) next = next x
+after (Err number) next = Err number
+
 -- the first word, and the words behind it
 abbrev pub word_at : Words → Read (List ℕ)
 word_at [] = Err BIND_SYNTAX

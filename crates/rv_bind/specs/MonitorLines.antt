@@ -9,10 +9,8 @@ use Rattle.rv_model.specs.declared.reactor.Reactor.{Reactor}
 use Rattle.rv_bind.specs.declared.bindings.Monitor.{Monitor}
 use Rattle.rv_bind.specs.declared.bindings.Test.{Test}
 use Rattle.rv_bind.specs.declared.limits.TheConstants.{MAX_RULES}
-use Rattle.rv_bind.specs.LineReads.{after}
 use Rattle.rv_bind.specs.Values.{BoundValue}
-use Rattle.rv_bind.specs.Forms.{monitor}
-use Rattle.rv_bind.specs.LineWords.{Words}
+use Rattle.rv_bind.specs.LineWords.{Words, after}
 use Rattle.rv_bind.specs.Changes.{allows_hit, brought, atom_bit}
 
 -- `by` stands only at a task monitor

@@ -1,10 +1,10 @@
 -- What reading files comes to, in the stated order of the reading: a value, a refusal with its file, or a missing file.
-use Rattle.std.specs.Prelude.{◌≡◌, ◌≤◌, ◌⊎◌, ℕ, List, bytes_eq, Option, Some, None, Result, Ok, Err, IsErrAnd, option_map, if◌then◌else◌}
+use Rattle.std.specs.Prelude.{◌≡◌, ◌≤◌, ◌⊎◌, ℕ, List, bytes_eq, Option, Some, None, Result, Ok, Err, option_map, if◌then◌else◌}
 use Rattle.rv_text.specs.declared.numbers.TheConstants.{USAGE, NO_INSTANCE}
 use Rattle.rv_text.specs.declared.refusals.Refusal.{Refusal}
+use Rattle.rv_text.specs.declared.refusals.Refused.{Refused}
+use Rattle.rv_text.specs.declared.refusals.Refused.TheVariants as refuseds
 use Rattle.rv_io.specs.Files.{Files, Rose, front_read}
-use Rattle.rv_bind.specs.declared.fault.LineFault.{LineFault}
-use Rattle.rv_bind.specs.declared.fault.LineFault.TheVariants as lines
 use Rattle.rv_bind.specs.declared.fault.BindFault.{BindFault}
 use Rattle.rv_bind.specs.declared.fault.BindFault.TheVariants as faults
 
@@ -73,7 +73,14 @@ BlamesReached told (Err faults.Memory) outcome = Unit {0}
 BlamesReached told (Err (faults.Refused file refusal)) outcome = Unit {0}
 BlamesReached told (Err (faults.Unread file)) outcome = (files : Files) → told ≡ Some files → IsReached outcome files file
 
--- ---- the faults of a line
+-- what a reader of files answers: what is told of the files stays, the count of faults does not fall, the answer is the outcome, and a file that is said to be unread is reached
+pub record ReadsOutcome {X Y : Type 0} (view : X → Y) (told left : Option Files) (before now : ℕ) (result : Result X BindFault) (outcome : Files → Outcome Y) : Type 0 where
+  pub kept : left ≡ told
+  pub later : before ≤ now
+  pub value : Refines view told before now result outcome
+  pub named : BlamesReached told result outcome
+
+-- ---- the faults of a file
 
 -- a fault in the place of a refusal, unless memory ran out
 abbrev pub IsFaultOf : BindFault → List ℕ → Refusal → Type 0
@@ -81,8 +88,7 @@ IsFaultOf faults.Memory file refusal = Unit {0}
 IsFaultOf (faults.Refused named given) file refusal = (named ≡ file) × (given ≡ refusal)
 IsFaultOf (faults.Unread named) file refusal = ⊥
 
--- what came of a line, with the file and the line in its fault
-abbrev pub InLine : List ℕ → ℕ → Result Unit LineFault → Result Unit BindFault → Type 0
-InLine file line (Ok done) result = result ≡ Ok tt
-InLine file line (Err lines.Memory) result = result ≡ Err faults.Memory
-InLine file line (Err (lines.Number number)) result = IsErrAnd result (λ fault. IsFaultOf fault file (record { number = number; line = line }))
+-- a reader's refusal with its file, or want of memory
+abbrev pub IsFaultIn : List ℕ → Refused → BindFault → Type 0
+IsFaultIn file refuseds.Memory fault = fault ≡ faults.Memory
+IsFaultIn file (refuseds.Because refusal) fault = IsFaultOf fault file refusal

@@ -1,12 +1,12 @@
 //! What was bound so far, and what a line adds to it.
 ghost use Rattle.std.specs.Prelude.{◌≡◌, ◌≤◌, ◌<◌, ◌++◌, ℕ, List, Option, Some, None, Bool, length, position, bytes_eq, option_copied, IfOk, IfSome, OnOk};
 ghost use Rattle.std.specs.List.{position_or_len};
-ghost use Rattle.rv_ltl.specs.Texts.{texts};
 ghost use Rattle.rv_bind.specs.LineReads.{ReadsValue};
 ghost use Rattle.rv_bind.specs.Compiling.{Compiles};
 ghost use Rattle.rv_bind.specs.Bound.{nothing_bound, is_called, is_taken, monitor_named, holder_named, room_for, place_for, new_monitor, with_monitor, items_of, container_bound};
-ghost use Rattle.rv_bind.specs.MonitorLines.{allows_by, rule_bound, change_bound, reacting, disabled, begin_bound};
+ghost use Rattle.rv_bind.specs.MonitorLines.{allows_by, change_bound, reacting, disabled, begin_bound};
 ghost use Rattle.rv_bind.specs.BoundViews.{bound_value};
+ghost use Rattle.rv_bind.specs.FormViews.{rule_said};
 ghost use Rattle.rv_bind.specs.WellFormed.{IsWellFormed, IsHolder};
 ghost use Rattle.rv_bind.specs.declared.limits.TheConstants.{MAX_MONITORS};
 
@@ -234,7 +234,7 @@ impl Bound {
     pub(crate) fn add_rule(&mut self, alloc: Global, on: OnForm<'_>) -> Result<(), LineFault>
         requires { IsWellFormed (bound_value self.old) }
         ensures formed { OnOk result (IsWellFormed (bound_value self.new)) }
-        ensures rule { ReadsValue (λ done. bound_value self.new) result (rule_bound (bound_value self.old) (monitor_named (bound_value self.old) on.entry.monitor.now) on.entry.event.now (option_copied on.entry.by) on.entry.tests.items on.entry.mode (texts on.entry.words.items)) }
+        ensures rule { ReadsValue (λ done. bound_value self.new) result (rule_said (bound_value self.old) on.entry) }
     {
         let Some(place) = place_of(self.bindings.monitors.as_slice(), on.monitor) else {
             return Err(SYNTAX);

@@ -1,6 +1,8 @@
 //! The files that bindings name, and the faults that name a file.
-ghost use Rattle.std.specs.Prelude.{◌≡◌, ◌≤◌, ◌⊎◌, ℕ, Option, Result, IfOk};
-ghost use Rattle.rv_bind.specs.Outcomes.{Refines, BlamesReached, IsFaultOf, InLine, accepted, of_name};
+ghost use Rattle.std.specs.Prelude.{◌≡◌, ◌≤◌, ◌⊎◌, ℕ, Option, Result, IfOk, length};
+ghost use Rattle.rv_bind.specs.FilePieces.{FailsAs, IsFilePiece};
+ghost use Rattle.rv_bind.specs.LineReads.{InLine};
+ghost use Rattle.rv_bind.specs.Outcomes.{ReadsOutcome, IsFaultIn, accepted, of_name};
 ghost use Rattle.rv_bind.specs.Bound.{compiled_in};
 ghost use Rattle.rv_bind.specs.Compiling.{Compiles};
 ghost use Rattle.rv_bind.specs.declared.fault.BindFault.TheVariants as faults;
@@ -14,20 +16,34 @@ use std::alloc::Global;
 
 /// The bytes of a file, which is unread where it is missing or a read failed.
 #[tactic(auto, using(crate::proofs::ReachedLemmas::unread_named))]
-pub(crate) fn read_file<S: Store>(
-    alloc: Global,
-    store: &mut S,
-    name: &str,
-) -> Result<Vec<u8>, BindFault>
-    ensures kept { S.files store.new ≡ S.files store.old }
-    ensures later { S.faults store.old ≤ S.faults store.new }
-    ensures text { Refines (λ text. text.items) (S.files store.old) (S.faults store.old) (S.faults store.new) result (λ files. of_name files name.now accepted) }
-    ensures named { BlamesReached (S.files store.old) result (λ files. of_name files name.now accepted) }
+pub fn read_file<S: Store>(alloc: Global, store: &mut S, name: &str) -> Result<Vec<u8>, BindFault>
+    ensures { ReadsOutcome (λ text. text.items) (S.files store.old) (S.files store.new) (S.faults store.old) (S.faults store.new) result (λ files. of_name files name.now accepted) }
 {
     match store.read(alloc, name) {
         Ok(text) => Ok(text),
         Err(ReadError::Memory) => Err(BindFault::Memory),
         Err(_) => Err(unread(alloc, name)),
+    }
+}
+
+/// Puts the bytes of a file from a place on into the front of the buffer, and answers how many.
+#[tactic(auto, using(crate::proofs::ReachedLemmas::unread_named))]
+pub fn fetch<S: Store>(
+    alloc: Global,
+    store: &mut S,
+    file: &str,
+    place: u64,
+    buffer: &mut [u8],
+) -> Result<usize, BindFault>
+    ensures room { IfOk result (λ count. count ≤ length buffer.old) }
+    ensures len { length buffer.new ≡ length buffer.old }
+    ensures piece { IfOk result (λ count. IsFilePiece (S.files store.old) file.now place buffer.old buffer.new count) }
+    ensures fails { FailsAs (S.files store.old) (S.files store.new) (S.faults store.old) (S.faults store.new) result (λ files. of_name files file.now accepted) }
+{
+    match store.piece(alloc, file, place, buffer) {
+        Ok(count) => Ok(count),
+        Err(ReadError::Memory) => Err(BindFault::Memory),
+        Err(_) => Err(unread(alloc, file)),
     }
 }
 
@@ -41,13 +57,16 @@ fn unread(alloc: Global, name: &str) -> BindFault
     }
 }
 
-/// The fault that names a file and its refusal.
-pub(crate) fn refused(alloc: Global, name: &str, refusal: Refusal) -> BindFault
-    ensures { IsFaultOf result name.now refusal }
+/// A reader's refusal of this file.
+pub fn refused(alloc: Global, name: &str, fault: Refused) -> BindFault
+    ensures { IsFaultIn name.now fault result }
 {
-    match Name::new(alloc, name.as_bytes()) {
-        Ok(file) => BindFault::Refused { file, refusal },
-        Err(_) => BindFault::Memory,
+    match fault {
+        Refused::Memory => BindFault::Memory,
+        Refused::Because(refusal) => match Name::new(alloc, name.as_bytes()) {
+            Ok(file) => BindFault::Refused { file, refusal },
+            Err(_) => BindFault::Memory,
+        },
     }
 }
 
@@ -62,29 +81,29 @@ pub(crate) fn in_line(
 {
     match done {
         Ok(()) => Ok(()),
-        Err(LineFault::Number(number)) => Err(refused(alloc, name, Refusal { number, line })),
+        Err(LineFault::Number(number)) => Err(refused(
+            alloc,
+            name,
+            Refused::Because(Refusal { number, line }),
+        )),
         Err(LineFault::Memory) => Err(BindFault::Memory),
     }
 }
 
 /// The specification in a file, with its table.
-#[tactic(auto, using(crate::proofs::ReachedLemmas::spec_named, crate::proofs::ReachedLemmas::refused_named))]
+#[tactic(auto, using(crate::proofs::ReachedLemmas::spec_named, crate::proofs::ReachedLemmas::file_named))]
 pub(crate) fn read_spec<S: Store>(
     alloc: Global,
     store: &mut S,
     kind: SpecKind,
     file: &str,
 ) -> Result<Compiled, BindFault>
-    ensures kept { S.files store.new ≡ S.files store.old }
-    ensures later { S.faults store.old ≤ S.faults store.new }
-    ensures compiled { Refines (λ compiled. compiled) (S.files store.old) (S.faults store.old) (S.faults store.new) result (λ files. compiled_in files kind file.now) }
-    ensures named { BlamesReached (S.files store.old) result (λ files. compiled_in files kind file.now) }
+    ensures reads { ReadsOutcome (λ compiled. compiled) (S.files store.old) (S.files store.new) (S.faults store.old) (S.faults store.new) result (λ files. compiled_in files kind file.now) }
     ensures compiles { IfOk result (λ compiled. Compiles compiled.spec compiled.table) }
 {
     let text = read_file(alloc, store, file)?;
     match compile(alloc, kind, text.as_slice()) {
         Ok(compiled) => Ok(compiled),
-        Err(Refused::Because(refusal)) => Err(refused(alloc, file, refusal)),
-        Err(Refused::Memory) => Err(BindFault::Memory),
+        Err(fault) => Err(refused(alloc, file, fault)),
     }
 }

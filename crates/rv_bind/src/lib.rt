@@ -14,5 +14,6 @@ mod words;
 
 pub use bindings::{Bindings, Bound, Item, Monitor, On, Test};
 pub use fault::BindFault;
+pub use files::{fetch, read_file, refused};
 pub use limits::{MAX_CONTAINERS, MAX_MONITORS, MAX_RULES, TEXT_LIMIT};
 pub use reader::read_bindings;

@@ -1,11 +1,11 @@
 //! From a bindings file, and the files that it names, to bindings.
-ghost use Rattle.std.specs.Prelude.{◌≡◌, ◌≤◌, IfOk, OnOk, option_copied};
+ghost use Rattle.std.specs.Prelude.{IfOk, OnOk};
 ghost use Rattle.rv_text.specs.TextLines.{line_text};
 ghost use Rattle.rv_bind.specs.LineReads.{ReadsValue};
-ghost use Rattle.rv_bind.specs.Outcomes.{Refines, BlamesReached};
-ghost use Rattle.rv_bind.specs.Bound.{bound_of, line_bound, form_in, form_bound, monitor_bound};
+ghost use Rattle.rv_bind.specs.Outcomes.{ReadsOutcome};
+ghost use Rattle.rv_bind.specs.Bound.{bound_of, line_bound, form_in, form_bound};
 ghost use Rattle.rv_bind.specs.BoundViews.{bound_value};
-ghost use Rattle.rv_bind.specs.FormViews.{form_value};
+ghost use Rattle.rv_bind.specs.FormViews.{form_value, monitor_said};
 ghost use Rattle.rv_bind.specs.WellFormed.{IsWellFormed};
 
 use crate::bindings::Bound;
@@ -21,11 +21,8 @@ use std::alloc::{AllocError, Global};
 /// Reads the bindings, and each specification as its line is reached.
 #[tactic(auto, using(crate::proofs::ReachedLemmas::bindings_named, crate::proofs::ReachedLemmas::lines_begin, crate::proofs::ReachedLemmas::rest_named))]
 pub fn read_bindings<S: Store>(alloc: Global, store: &mut S, name: &str) -> Result<Bound, BindFault>
-    ensures kept { S.files store.new ≡ S.files store.old }
-    ensures later { S.faults store.old ≤ S.faults store.new }
     ensures formed { IfOk result (λ bound. IsWellFormed (bound_value bound)) }
-    ensures bound { Refines bound_value (S.files store.old) (S.faults store.old) (S.faults store.new) result (λ files. bound_of files name.now) }
-    ensures named { BlamesReached (S.files store.old) result (λ files. bound_of files name.now) }
+    ensures reads { ReadsOutcome bound_value (S.files store.old) (S.files store.new) (S.faults store.old) (S.faults store.new) result (λ files. bound_of files name.now) }
 {
     let text = read_file(alloc, store, name)?;
     let mut bound = Bound::new(alloc);
@@ -57,10 +54,7 @@ fn bind_line<S: Store>(
 ) -> Result<(), BindFault>
     requires { IsWellFormed (bound_value bound.old) }
     ensures formed { OnOk result (IsWellFormed (bound_value bound.new)) }
-    ensures kept { S.files store.new ≡ S.files store.old }
-    ensures later { S.faults store.old ≤ S.faults store.new }
-    ensures bound { Refines (λ done. bound_value bound.new) (S.files store.old) (S.faults store.old) (S.faults store.new) result (λ files. line_bound files here.now (bound_value bound.old) (line_text line.now)) }
-    ensures named { BlamesReached (S.files store.old) result (λ files. line_bound files here.now (bound_value bound.old) (line_text line.now)) }
+    ensures reads { ReadsOutcome (λ done. bound_value bound.new) (S.files store.old) (S.files store.new) (S.faults store.old) (S.faults store.new) result (λ files. line_bound files here.now (bound_value bound.old) (line_text line.now)) }
 {
     match form_in(alloc, line) {
         Ok(form) => bind_form(alloc, store, here, line.number, bound, form),
@@ -80,10 +74,7 @@ fn bind_form<S: Store>(
 ) -> Result<(), BindFault>
     requires { IsWellFormed (bound_value bound.old) }
     ensures formed { OnOk result (IsWellFormed (bound_value bound.new)) }
-    ensures kept { S.files store.new ≡ S.files store.old }
-    ensures later { S.faults store.old ≤ S.faults store.new }
-    ensures bound { Refines (λ done. bound_value bound.new) (S.files store.old) (S.faults store.old) (S.faults store.new) result (λ files. form_bound files here.now line (bound_value bound.old) (form_value form.entry)) }
-    ensures named { BlamesReached (S.files store.old) result (λ files. form_bound files here.now line (bound_value bound.old) (form_value form.entry)) }
+    ensures reads { ReadsOutcome (λ done. bound_value bound.new) (S.files store.old) (S.files store.new) (S.faults store.old) (S.faults store.new) result (λ files. form_bound files here.now line (bound_value bound.old) (form_value form.entry)) }
 {
     match form {
         Form::Skipped => Ok(()),
@@ -113,10 +104,7 @@ fn bind_monitor<S: Store>(
 ) -> Result<(), BindFault>
     requires { IsWellFormed (bound_value bound.old) }
     ensures formed { OnOk result (IsWellFormed (bound_value bound.new)) }
-    ensures kept { S.files store.new ≡ S.files store.old }
-    ensures later { S.faults store.old ≤ S.faults store.new }
-    ensures bound { Refines (λ done. bound_value bound.new) (S.files store.old) (S.faults store.old) (S.faults store.new) result (λ files. monitor_bound files here.now line (bound_value bound.old) form.entry.name.now form.entry.scope form.entry.kind form.entry.file.now (option_copied form.entry.holder)) }
-    ensures named { BlamesReached (S.files store.old) result (λ files. monitor_bound files here.now line (bound_value bound.old) form.entry.name.now form.entry.scope form.entry.kind form.entry.file.now (option_copied form.entry.holder)) }
+    ensures reads { ReadsOutcome (λ done. bound_value bound.new) (S.files store.old) (S.files store.new) (S.faults store.old) (S.faults store.new) result (λ files. monitor_said files here.now line (bound_value bound.old) form.entry) }
 {
     let container = match bound.place_for(form.name, form.holder) {
         Ok(container) => container,

@@ -1,13 +1,15 @@
 -- The unread file that a part of a reading with a control script names is reached in the whole.
-use Rattle.std.proofs.Common.{◌≡◌, List, ℕ, [], refl, inr}
+use Rattle.std.proofs.Common.{◌≡◌, ◌≤◌, List, ℕ, [], refl, inr}
 use Rattle.std.specs.Prelude.{Option, Some, Err}
 use Rattle.rv_io.specs.Files.{Files}
 use Rattle.rv_bind.specs.declared.fault.BindFault.{BindFault}
 use Rattle.rv_bind.specs.Values.{BoundValue}
 use Rattle.rv_bind.specs.Bound.{bound_of}
-use Rattle.rv_bind.specs.Outcomes.{Outcome, accepted, reading, of_name, BlamesReached}
+use Rattle.rv_bind.specs.Outcomes.{Outcome, accepted, reading, of_name, BlamesReached, ReadsOutcome}
 use Rattle.rv_bind.proofs.OutcomeLemmas.{of_name-reading}
-use Rattle.rv_bind.proofs.ReachedLemmas.{IsLocal, reading-local, of_name-local, bound-local, step_named, behind_named}
+use Rattle.rv_bind.proofs.ReachedLemmas.{IsLocal, reading-local, of_name-local, bound-local, step_named}
+use Rattle.rv_bind.proofs.ReadsLemmas.{step_reads, later_reads, behind_reads}
+use Rattle.rv_model.specs.declared.work.Change.{Change}
 use Rattle.rv_route.specs.Routing.{RoutedValue}
 use Rattle.rv_control.specs.Trees.{ControlValue}
 use Rattle.rv_tool.specs.Inputs.{InputValue, routed_text, routed_in, run_input}
@@ -39,10 +41,12 @@ module _ (told : Option Files) where
     unfolding next
     beside_named X Z fault = step_named X Z told fault (λ files. run_input files bindings trace) next (λ files. input_beside files bindings trace script) (λ files. refl)
 
-    -- where they were read, the whole names what the script names
-    pub beside_behind_named : (X Z : Type 0) (input : InputValue) (fault : BindFault) → ((files : Files) → told ≡ Some files → run_input files bindings trace ≡ accepted input)
-        → BlamesReached {X = X} told (Err fault) (λ files. changes_in files script (control_value input.bound)) → BlamesReached {X = Z} told (Err fault) (λ files. input_beside files bindings trace script)
-    unfolding next
-    beside_behind_named X Z input fault read named =
-        behind_named X Z told fault (λ files. run_input files bindings trace) input next (input-local bindings trace) read
-        (step_named X X told fault (λ files. changes_in files script (control_value input.bound)) (λ files changes. accepted (record input { changes = changes })) (λ files. next files input) (λ files. refl) named)
+-- where the bindings and the trace were read, the whole's fault is the script's
+pub beside_behind_reads : {X Z : Type 0} (view : X → List Change) (whole_view : Z → InputValue) (told mid left : Option Files) (before count now : ℕ) (bindings trace script : List ℕ) (input : InputValue) (fault : BindFault) → mid ≡ told → before ≤ count
+    → ((files : Files) → told ≡ Some files → run_input files bindings trace ≡ accepted input)
+    → ReadsOutcome view mid left count now (Err fault) (λ files. changes_in files script (control_value input.bound)) → ReadsOutcome whole_view told left before now (Err fault) (λ files. input_beside files bindings trace script)
+beside_behind_reads view whole_view told mid left before count now bindings trace script input fault same le read reads =
+    behind_reads whole_view told left before now (Err fault) (λ files. run_input files bindings trace) input
+    (λ files i. reading (changes_in files script (control_value i.bound)) (λ changes. accepted (record i { changes = changes }))) (input-local bindings trace) read
+    (step_reads view whole_view told left before now fault (λ files. changes_in files script (control_value input.bound)) (λ files changes. accepted (record input { changes = changes }))
+    (later_reads view told mid left before count now (Err fault) (λ files. changes_in files script (control_value input.bound)) same le reads))

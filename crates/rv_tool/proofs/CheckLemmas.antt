@@ -2,32 +2,18 @@
 use Rattle.std.proofs.Common.{◌≡◌, ◌⊎◌, ℕ, ◌+◌, ◌<◌, ◌≤◌, true, List, [], ◌++◌, length, drop, refl, sym, ap, ◌∙◌, inl, inr, arith, take-append-drop}
 use Rattle.std.specs.Prelude.{Option, Some, None, option_map, Err}
 use Rattle.std.proofs.lemmas.List.{drop_all}
-use Rattle.rv_io.specs.Files.{Files, Rose, front_read}
+use Rattle.rv_io.specs.Files.{Files, front_read}
 use Rattle.rv_check.specs.Readings.{ReaderValue}
 use Rattle.rv_bind.specs.declared.fault.BindFault.{BindFault}
 use Rattle.rv_bind.specs.declared.fault.BindFault.TheVariants as faults
+use Rattle.rv_bind.specs.FilePieces.{FaultRefines, FaultBlamesReached, PieceIn, IsFilePiece}
 use Rattle.rv_bind.specs.Outcomes.{Outcome, accepted, refused, missing, reading, of_text, of_name, files_without, BlamesReached}
 use Rattle.rv_bind.proofs.ReachedLemmas.{step_named, behind_named}
 use Rattle.rv_tool.specs.Checks.{CheckedValue, checked_input}
-use Rattle.rv_tool.specs.Faults.{FaultRefines, FaultBlamesReached}
-use Rattle.rv_tool.specs.Feeding.{FedOf, IsFileFed, PieceIn, IsFilePiece}
+use Rattle.rv_tool.specs.Feeding.{FedOf, IsFileFed}
 use Rattle.rv_tool.specs.Inputs.{InputValue, run_input}
 use Rattle.rv_tool.specs.JournalPieces.{EnoughOf, IsEnough}
 use Rattle.rv_tool.proofs.BesideLemmas.{input-local}
-
--- ---- faults
-
--- a count that rose later rose
-rose_wider : (before mid now : ℕ) → before ≤ mid → Rose mid now → Rose before now
-rose_wider before mid now le (inl lt) = inl (omega arith)
-rose_wider before mid now le (inr end) = inr end
-
--- a fault of a later moment
-pub shifted_comes : {Y : Type 0} (outcome : Files → Outcome Y) (told later : Option Files) (before mid now : ℕ) (fault : BindFault) → later ≡ told → before ≤ mid → FaultRefines later mid now fault outcome → FaultRefines told before now fault outcome
-shifted_comes outcome told later before mid now faults.Memory same le comes = tt
-shifted_comes outcome told later before mid now (faults.Refused file refusal) same le comes = (comes.0, λ files known. comes.1 files (same ∙ known))
-shifted_comes outcome told later before mid now (faults.Unread file) same le (inl lacks) = inl (lacks.0, sym same ∙ lacks.1, lacks.2)
-shifted_comes outcome told later before mid now (faults.Unread file) same le (inr rose) = inr (rose_wider before mid now le rose)
 
 -- ---- pieces
 

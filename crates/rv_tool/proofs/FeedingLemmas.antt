@@ -1,6 +1,6 @@
 -- A trace that is read from a store piece by piece comes to what its whole file comes to.
-use Rattle.std.proofs.Common.{◌≡◌, ℕ, ◌+◌, ◌-◌, ◌<◌, ◌≤◌, ◌⊎◌, inl, inr, List, [], ◌++◌, length, take, drop, refl, sym, ap, ◌∙◌, subst, arith}
-use Rattle.std.specs.Prelude.{Option, Some, None, option_map, Result, Ok, Err, false}
+use Rattle.std.proofs.Common.{◌≡◌, ℕ, ◌+◌, ◌-◌, ◌<◌, ◌≤◌, ◌⊎◌, inl, inr, List, [], ◌++◌, length, take, drop, refl, sym, ap, ◌∙◌, arith}
+use Rattle.std.specs.Prelude.{Option, Some, None, option_map, Result, Err, false}
 use Rattle.std.proofs.Math.Seq.{take-add}
 use Rattle.std.proofs.lemmas.List.{take_all, take-take, length-take-le, take-append-le, length-drop}
 use Rattle.rv_text.specs.declared.refusals.Refusal.{Refusal}
@@ -8,7 +8,7 @@ use Rattle.rv_text.specs.declared.refusals.Refused.{Refused}
 use Rattle.rv_text.specs.declared.refusals.Refused.TheVariants as refuseds
 use Rattle.rv_text.specs.Readings.{Refuses}
 use Rattle.rv_io.specs.Files.{Files, front_read}
-use Rattle.rv_io.specs.Pieces.{IsPiece, PiecesKnown, ReadsPiece}
+use Rattle.rv_io.specs.Pieces.{IsPiece}
 use Rattle.rv_io.specs.declared.store.TheConstants.{READ_LIMIT}
 use Rattle.rv_trace.specs.declared.line.TraceLine.{TraceLine}
 use Rattle.rv_trace.specs.Streams.{part_read}
@@ -16,11 +16,10 @@ use Rattle.rv_trace.specs.Traces.{trace_of}
 use Rattle.rv_bind.specs.declared.fault.BindFault.{BindFault}
 use Rattle.rv_bind.specs.declared.fault.BindFault.TheVariants as faults
 use Rattle.rv_bind.specs.Values.{BoundValue}
-use Rattle.rv_bind.specs.Outcomes.{Outcome, accepted, refused, missing, reading, of_file, of_text}
-use Rattle.rv_bind.proofs.OutcomeLemmas.{step_fault}
+use Rattle.rv_bind.specs.FilePieces.{FaultRefines, PieceIn, IsFilePiece}
+use Rattle.rv_bind.specs.Outcomes.{accepted, refused, reading, of_file, of_text, IsFaultIn}
 use Rattle.rv_route.specs.Routing.{route_of}
-use Rattle.rv_tool.specs.Faults.{IsFaultIn, FaultRefines, FaultBlamesReached}
-use Rattle.rv_tool.specs.Feeding.{FedOf, IsFileFed, IsAll, PieceIn, IsFilePiece}
+use Rattle.rv_tool.specs.Feeding.{FedOf, IsFileFed, IsAll}
 use Rattle.rv_tool.specs.Inputs.{routed_text, routed_in}
 use Rattle.rv_tool.proofs.FrontLemmas.{front_refused}
 use Rattle.rv_tool.proofs.NumberLemmas.{refusal_numbered, trace_numbered}
@@ -74,25 +73,9 @@ piece_refused trace bound (Some bytes) place count fed old new refusal low befor
     (front_refused (take READ_LIMIT bytes) (fed ++ take count new) false (place + count) refusal is refl refuses)
 
 module _ (told : Option Files) where
-  -- a store that answers with a piece has it of its file
-  pub told-piece : (name : List ℕ) (from : ℕ) (old new : List ℕ) (before now count : ℕ) → ReadsPiece told name from old new before now (Ok count) → IsFilePiece told name from old new count
-  told-piece name from old new before now count pieces files known = go (files name) (subst (λ (t : Option Files). ReadsPiece t name from old new before now (Ok count)) known pieces)
-    where
-      go : (held : Option (List ℕ)) → PiecesKnown held from old new before now (Ok count) → PieceIn held from old new count
-      go None pieces = pieces
-      go (Some bytes) pieces = pieces
-
   -- a piece more
   pub fed-more : (name : List ℕ) (place count : ℕ) (fed old new : List ℕ) → IsFileFed told name place fed → IsFilePiece told name place old new count → IsFileFed told name (place + count) (fed ++ take count new)
   fed-more name place count fed old new before piece files known = piece_adds (files name) place count fed old new (before files known) (piece files known)
-
-  -- nothing was fed of a file yet
-  pub fed-none : (name fed : List ℕ) → fed ≡ [] → IsFileFed told name 0 fed
-  fed-none name fed is files known = go (files name)
-    where
-      go : (held : Option (List ℕ)) → FedOf held 0 fed
-      go None = (refl, is)
-      go (Some bytes) = (is, omega arith)
 
   -- no byte came
   pub fed-end : (name : List ℕ) (place count : ℕ) (fed old new : List ℕ) → count ≡ 0 → place ≤ READ_LIMIT → 0 < length old → IsFileFed told name place fed → IsFilePiece told name place old new count → IsAll told name (fed ++ take count new)
@@ -112,22 +95,3 @@ module _ (told : Option Files) where
     λ files known. piece_refused trace bound (files trace) place count fed old new refusal low (is files known) (piece files known) refuses ∙ (λ i. refused (sym said.0 i) (sym said.1 i)),
   )
   refused-comes trace bound place count fed old new before now (refuseds.Because refusal) (faults.Unread named) low is piece refuses said = absurd said
-
-  -- a refusal names no unread file
-  pub refused-named : {Y : Type 0} (trace : List ℕ) (fault : Refused) (given : BindFault) (outcome : Files → Outcome Y) → IsFaultIn trace fault given → FaultBlamesReached told given outcome
-  refused-named trace refuseds.Memory given outcome said = rw said tt
-  refused-named trace (refuseds.Because refusal) faults.Memory outcome said = tt
-  refused-named trace (refuseds.Because refusal) (faults.Refused named told_refusal) outcome said = tt
-  refused-named trace (refuseds.Because refusal) (faults.Unread named) outcome said = absurd said
-
--- reading no further
-reading-accepted : {Y : Type 0} (o : Outcome Y) → o ≡ reading o (λ y. accepted y)
-reading-accepted (accepted y) = refl
-reading-accepted (refused file refusal) = refl
-reading-accepted (missing file) = refl
-
--- a fault of a later part is one of the whole
-pub later-comes : {Y : Type 0} (told told' : Option Files) (before mid now : ℕ) (fault : BindFault) (outcome : Files → Outcome Y) → told' ≡ told → before ≤ mid → FaultRefines told' mid now fault outcome → FaultRefines told before now fault outcome
-later-comes {Y} told told' before mid now fault outcome same le comes =
-    subst (λ (t : Option Files). FaultRefines t before now fault outcome) same
-    (step_fault told' before mid now fault (λ (y : Y). y) (λ (y : Y). y) outcome (λ files y. accepted y) outcome le (λ files known. reading-accepted (outcome files)) comes)

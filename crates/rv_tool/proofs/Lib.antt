@@ -20,7 +20,6 @@ pub mod RecordingLemmas
 pub mod ReportedLemmas
 pub mod SessionLemmas
 pub mod SomeTextLemmas
-pub mod TableLemmas
 pub mod VerdictLemmas
 pub mod WatchLemmas
 pub mod WidthLemmas

@@ -1,18 +1,20 @@
 -- The unread file that a part of a reading names is reached in the whole.
-use Rattle.std.proofs.Common.{◌≡◌, ℕ, List, [], refl}
+use Rattle.std.proofs.Common.{◌≡◌, ℕ, ◌≤◌, List, [], refl}
 use Rattle.std.specs.Prelude.{Option, Some, Result, Ok, Err}
 use Rattle.rv_io.specs.Files.{Files}
 use Rattle.rv_bind.specs.declared.fault.BindFault.{BindFault}
 use Rattle.rv_bind.specs.declared.fault.BindFault.TheVariants as faults
 use Rattle.rv_bind.specs.Values.{BoundValue}
 use Rattle.rv_bind.specs.Bound.{bound_of}
-use Rattle.rv_bind.specs.Outcomes.{Outcome, accepted, reading, of_file, of_name, BlamesReached}
+use Rattle.rv_bind.specs.Outcomes.{Outcome, accepted, reading, of_file, of_name, BlamesReached, ReadsOutcome}
 use Rattle.rv_bind.proofs.OutcomeLemmas.{of_name-reading}
-use Rattle.rv_bind.proofs.ReachedLemmas.{bound-local, step_named, behind_named}
+use Rattle.rv_bind.proofs.ReachedLemmas.{bound-local, step_named}
+use Rattle.rv_bind.proofs.ReadsLemmas.{step_reads, later_reads, behind_reads}
+use Rattle.rv_route.specs.Routing.{RoutedValue}
 use Rattle.rv_tool.specs.declared.words.Kind.{Kind}
 use Rattle.rv_tool.specs.Faults.{IsOutcome}
 use Rattle.rv_tool.specs.Inputs.{InputValue, routed_text, routed_in, run_input}
-use Rattle.rv_tool.specs.Sessions.{session_text, session_in, control_in}
+use Rattle.rv_tool.specs.Sessions.{Printed, session_text, session_in, control_in}
 use Rattle.rv_tool.specs.HeaderFiles.{header_of_text, header_in}
 use Rattle.rv_tool.specs.Tables.{table_text, table_in}
 
@@ -49,23 +51,23 @@ module _ (told : Option Files) where
   control_named X Z bindings script fault =
       step_named X Z told fault (λ files. bound_of files bindings) (λ files bound. session_in files script bound) (λ files. control_in files bindings script) (λ files. refl)
 
-  -- where the bindings were read, the commands name what the script names
-  pub control_behind_named : {X : Type 0} (bindings script : List ℕ) (bound : BoundValue) (result : Result X BindFault) → ((files : Files) → told ≡ Some files → bound_of files bindings ≡ accepted bound)
-      → BlamesReached told result (λ files. session_in files script bound) → BlamesReached told result (λ files. control_in files bindings script)
-  control_behind_named bindings script bound (Ok x) read named = tt
-  control_behind_named {X} bindings script bound (Err fault) read named = behind_named X X told fault (λ files. bound_of files bindings) bound (λ files b. session_in files script b) (bound-local bindings) read named
-
   -- what the bindings name, the run names
   pub input_named : (X Z : Type 0) (bindings trace : List ℕ) (fault : BindFault) → BlamesReached {X = X} told (Err fault) (λ files. bound_of files bindings) → BlamesReached {X = Z} told (Err fault) (λ files. run_input files bindings trace)
   input_named X Z bindings trace fault =
       step_named X Z told fault (λ files. bound_of files bindings) (λ files bound. reading (routed_in files trace bound) (λ routed. accepted (record { bound = bound; routed = routed; changes = [] }))) (λ files. run_input files bindings trace) (λ files. refl)
 
-  -- where the bindings were read, the run names what the trace names
-  pub input_behind_named : (X Z : Type 0) (bindings trace : List ℕ) (bound : BoundValue) (fault : BindFault) → ((files : Files) → told ≡ Some files → bound_of files bindings ≡ accepted bound)
-      → BlamesReached {X = X} told (Err fault) (λ files. routed_in files trace bound) → BlamesReached {X = Z} told (Err fault) (λ files. run_input files bindings trace)
-  input_behind_named X Z bindings trace bound fault read named =
-      behind_named X Z told fault (λ files. bound_of files bindings) bound next (bound-local bindings) read
-      (step_named X X told fault (λ files. routed_in files trace bound) (λ files routed. accepted (record { bound = bound; routed = routed; changes = [] })) (λ files. next files bound) (λ files. refl) named)
-    where
-      next : Files → BoundValue → Outcome InputValue
-      next files bound = reading (routed_in files trace bound) (λ routed. accepted (record { bound = bound; routed = routed; changes = [] }))
+module _ (told mid left : Option Files) (before count now : ℕ) (bindings : List ℕ) (bound : BoundValue) where
+  -- where the bindings were read, the commands are what the script is
+  pub control_behind_reads : {X : Type 0} (view : X → Printed) (script : List ℕ) (result : Result X BindFault) → mid ≡ told → before ≤ count → ((files : Files) → told ≡ Some files → bound_of files bindings ≡ accepted bound)
+      → ReadsOutcome view mid left count now result (λ files. session_in files script bound) → ReadsOutcome view told left before now result (λ files. control_in files bindings script)
+  control_behind_reads view script result same le read reads =
+      behind_reads view told left before now result (λ files. bound_of files bindings) bound (λ files b. session_in files script b) (bound-local bindings) read
+      (later_reads view told mid left before count now result (λ files. session_in files script bound) same le reads)
+
+  -- and the run's fault is the trace's
+  pub input_behind_reads : {X Z : Type 0} (view : X → RoutedValue) (whole_view : Z → InputValue) (trace : List ℕ) (fault : BindFault) → mid ≡ told → before ≤ count → ((files : Files) → told ≡ Some files → bound_of files bindings ≡ accepted bound)
+      → ReadsOutcome view mid left count now (Err fault) (λ files. routed_in files trace bound) → ReadsOutcome whole_view told left before now (Err fault) (λ files. run_input files bindings trace)
+  input_behind_reads view whole_view trace fault same le read reads =
+      behind_reads whole_view told left before now (Err fault) (λ files. bound_of files bindings) bound (λ files b. reading (routed_in files trace b) (λ routed. accepted (record { bound = b; routed = routed; changes = [] }))) (bound-local bindings) read
+      (step_reads view whole_view told left before now fault (λ files. routed_in files trace bound) (λ files routed. accepted (record { bound = bound; routed = routed; changes = [] }))
+      (later_reads view told mid left before count now (Err fault) (λ files. routed_in files trace bound) same le reads))

@@ -15,7 +15,7 @@ use Rattle.rv_bind.specs.declared.bindings.Monitor.{Monitor}
 use Rattle.rv_bind.specs.declared.fault.BindFault.{BindFault}
 use Rattle.rv_bind.specs.declared.fault.BindFault.TheVariants as faults
 use Rattle.rv_bind.specs.Values.{OnValue}
-use Rattle.rv_bind.specs.Outcomes.{IsRefusal, of_file}
+use Rattle.rv_bind.specs.Outcomes.{IsRefusal, IsFaultIn, of_file}
 use Rattle.rv_bind.proofs.NumberLemmas.{then_numbered, dot_numbered, ltl_numbered, normal_numbered, tableau_numbered}
 use Rattle.rv_route.specs.Asking.{ask_of}
 use Rattle.rv_route.specs.Routing.{Routes, answer, line_routes, routes_of, route_of, no_routes}
@@ -26,7 +26,7 @@ use Rattle.rv_header.specs.HeaderText.{header_of}
 use Rattle.rv_tool.specs.declared.words.Kind.{Kind}
 use Rattle.rv_tool.specs.declared.words.Kind.TheVariants as kinds
 use Rattle.rv_tool.specs.Changes.{asked, asked_in, in_line, changes_of}
-use Rattle.rv_tool.specs.Faults.{IsFaultIn, IsOutcome}
+use Rattle.rv_tool.specs.Faults.{IsOutcome}
 use Rattle.rv_tool.specs.HeaderFiles.{header_of_text}
 use Rattle.rv_tool.specs.Inputs.{InputValue}
 use Rattle.rv_tool.specs.Tables.{rule_text, table_text}

@@ -7,12 +7,12 @@ use Rattle.rv_model.specs.Numbers.{has_bit, number_of}
 use Rattle.rv_core.specs.Setup.{judges_of}
 use Rattle.rv_feed.specs.Lane.{panics_of}
 use Rattle.rv_bind.specs.declared.fault.BindFault.{BindFault}
+use Rattle.rv_bind.specs.FilePieces.{FaultRefines}
 use Rattle.rv_bind.specs.Outcomes.{Outcome, accepted, reading, of_text}
 use Rattle.rv_check.specs.declared.reading.Verdict.{Verdict}
 use Rattle.rv_check.specs.declared.reading.Verdict.TheVariants.{Yes, No}
 use Rattle.rv_check.specs.Beginnings.{input_of}
 use Rattle.rv_check.specs.Verdicts.{Journal, VerdictHolds}
-use Rattle.rv_tool.specs.Faults.{FaultRefines}
 use Rattle.rv_tool.specs.Headline.{Ending, PrintsSome}
 use Rattle.rv_tool.specs.Inputs.{InputValue, run_input, run_of}
 

@@ -6,11 +6,11 @@ use Rattle.rv_model.specs.declared.entry.Entry.{Entry}
 use Rattle.rv_model.specs.Histories.{IsOneHistory, IsLegal}
 use Rattle.rv_bind.specs.declared.fault.BindFault.{BindFault}
 use Rattle.rv_bind.specs.declared.fault.BindFault.TheVariants as faults
+use Rattle.rv_bind.specs.FilePieces.{FaultRefines, FaultBlamesReached}
 use Rattle.rv_bind.specs.Outcomes.{Outcome, accepted}
 use Rattle.rv_tool.specs.declared.replaying.FinishedRun.{FinishedRun}
 use Rattle.rv_tool.specs.Changes.{input_beside}
 use Rattle.rv_tool.specs.Checks.{IsCheckReport, checked_input}
-use Rattle.rv_tool.specs.Faults.{FaultRefines, FaultBlamesReached}
 use Rattle.rv_tool.specs.HeaderFiles.{header_of_text, header_in}
 use Rattle.rv_tool.specs.Headline.{Ending, GivesUp, PrintsText, IsReported}
 use Rattle.rv_tool.specs.Inputs.{InputValue, run_input}

@@ -1,7 +1,6 @@
 -- Private: a trace that is read from a store in pieces: how much of it was fed, and what stands ready for more.
 use Rattle.std.specs.Prelude.{◌≡◌, ◌≤◌, ℕ, List, [], length, take, true, false, Option, Some, None}
 use Rattle.rv_io.specs.Files.{Files}
-use Rattle.rv_io.specs.Pieces.{IsPiece}
 use Rattle.rv_bind.specs.declared.bindings.Bindings.{Bindings}
 use Rattle.rv_bind.specs.Outcomes.{of_name, accepted}
 use Rattle.rv_tool.specs.declared.routing.Routing.{Routing}
@@ -25,12 +24,3 @@ IsFileFed told name place fed = (files : Files) → told ≡ Some files → FedO
 -- what reading the name's file gives was fed, where the store tells its files
 abbrev pub IsAll : Option Files → List ℕ → List ℕ → Type 0
 IsAll told name fed = (files : Files) → told ≡ Some files → of_name files name accepted ≡ accepted fed
-
--- a piece of a file's bytes
-abbrev pub PieceIn : Option (List ℕ) → ℕ → List ℕ → List ℕ → ℕ → Type 0
-PieceIn (Some bytes) place old new count = IsPiece bytes place old new count
-PieceIn None place old new count = ⊥
-
--- a piece of the name's file, where the store tells its files
-abbrev pub IsFilePiece : Option Files → List ℕ → ℕ → List ℕ → List ℕ → ℕ → Type 0
-IsFilePiece told name place old new count = (files : Files) → told ≡ Some files → PieceIn (files name) place old new count

@@ -1,7 +1,7 @@
 //! A control script that runs beside the CPUs. All its changes are known before the run.
 ghost use Rattle.std.specs.Prelude.{◌≡◌, ◌≤◌, ◌<◌, ◌^◌, Ok, Err, length, All, IfOk, IfErr};
 ghost use Rattle.rv_text.specs.Readings.{Gives};
-ghost use Rattle.rv_bind.specs.Outcomes.{Refines, BlamesReached};
+ghost use Rattle.rv_bind.specs.Outcomes.{ReadsOutcome};
 ghost use Rattle.rv_control.specs.Opening.{opening_tree};
 ghost use Rattle.rv_feed.specs.Changes.{IsBelowHalt};
 ghost use Rattle.rv_tool.specs.Changes.{asked, asked_in, changes_of, changes_text, changes_in, input_beside};
@@ -10,8 +10,7 @@ ghost use Rattle.rv_tool.specs.Prepared.{prepared_value, IsPrepared};
 
 use crate::input::{Prepared, read_input};
 use crate::session::commands_in;
-use crate::trace_text::{read_text, refused};
-use rv_bind::{BindFault, Bindings};
+use rv_bind::{BindFault, Bindings, read_file, refused};
 use rv_control::{Command, Control, Numbered};
 use rv_io::Store;
 use rv_model::Change;
@@ -109,13 +108,10 @@ fn read_changes<S: Store>(
 ) -> Result<Vec<Change>, BindFault>
     requires monitors { length bindings.now.monitors.items ≤ 32 }
     requires containers { length bindings.now.containers ≤ 32 }
-    ensures kept { S.files store.new ≡ S.files store.old }
-    ensures later { S.faults store.old ≤ S.faults store.new }
-    ensures value { Refines (λ changes. changes.items) (S.files store.old) (S.faults store.old) (S.faults store.new) result (λ files. changes_in files script.now (opening_tree bindings.now)) }
-    ensures named { BlamesReached (S.files store.old) result (λ files. changes_in files script.now (opening_tree bindings.now)) }
+    ensures reads { ReadsOutcome (λ changes. changes.items) (S.files store.old) (S.files store.new) (S.faults store.old) (S.faults store.new) result (λ files. changes_in files script.now (opening_tree bindings.now)) }
     ensures below_halt { IfOk result (λ changes. All IsBelowHalt changes.items) }
 {
-    let text = read_text(alloc, store, script)?;
+    let text = read_file(alloc, store, script)?;
     changes_in_text(alloc, script, bindings, text.as_slice())
 }
 
@@ -128,11 +124,8 @@ pub(crate) fn read_beside<S: Store>(
     trace: &str,
     script: &str,
 ) -> Result<Prepared, BindFault>
-    ensures kept { S.files store.new ≡ S.files store.old }
-    ensures later { S.faults store.old ≤ S.faults store.new }
     ensures ready { IfOk result IsPrepared }
-    ensures value { Refines prepared_value (S.files store.old) (S.faults store.old) (S.faults store.new) result (λ files. input_beside files bindings.now trace.now script.now) }
-    ensures named { BlamesReached (S.files store.old) result (λ files. input_beside files bindings.now trace.now script.now) }
+    ensures reads { ReadsOutcome prepared_value (S.files store.old) (S.files store.new) (S.faults store.old) (S.faults store.new) result (λ files. input_beside files bindings.now trace.now script.now) }
 {
     let mut ready = read_input(alloc, store, bindings, trace)?;
     match read_changes(alloc, store, script, &ready.bindings) {

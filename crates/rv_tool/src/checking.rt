@@ -2,16 +2,15 @@
 ghost use Rattle.std.specs.Prelude.{◌≡◌, ◌≤◌, ◌<◌, [], length, false, IfOk, IfErr, OnOk};
 ghost use Rattle.rv_model.specs.Numbers.{number_of};
 ghost use Rattle.rv_core.specs.Judged.{JudgesBySpecs};
+ghost use Rattle.rv_bind.specs.FilePieces.{FailsAs};
 ghost use Rattle.rv_bind.specs.Outcomes.{BlamesReached, of_text, accepted};
 ghost use Rattle.rv_feed.specs.Lane.{FitLanes, panics_of, works_of};
 ghost use Rattle.rv_tool.specs.Checks.{judged, verdict_text, verdict_status, JudgesRead, IsVerdict, checked_input};
-ghost use Rattle.rv_tool.specs.Faults.{FaultRefines, FaultBlamesReached};
 ghost use Rattle.rv_tool.specs.JournalPieces.{IsSameRun, IsEnough};
 ghost use Rattle.rv_tool.specs.Prepared.{prepared_value, IsPrepared};
 
 use crate::input::{Prepared, read_input};
-use crate::trace_text::fetch;
-use rv_bind::BindFault;
+use rv_bind::{BindFault, fetch};
 use rv_check::{Checker, JournalReader, Verdict};
 use rv_core::Setup;
 use rv_feed::Lane;
@@ -119,12 +118,9 @@ fn take_pieces<S: Store>(
 ) -> Result<(), BindFault>
     requires room { 0 < length buffer.old }
     requires fed { reader.old.journal.text ≡ [] }
-    ensures kept { S.files store.new ≡ S.files store.old }
-    ensures later { S.faults store.old ≤ S.faults store.new }
     ensures same { IsSameRun reader.old.journal reader.new.journal }
     ensures all { OnOk result (IsEnough (S.files store.old) journal.now reader.new) }
-    ensures fault { IfErr result (λ fault. FaultRefines (S.files store.old) (S.faults store.old) (S.faults store.new) fault (λ files. of_text journal.now (files journal.now) accepted)) }
-    ensures named { IfErr result (λ fault. FaultBlamesReached (S.files store.old) fault (λ files. of_text journal.now (files journal.now) accepted)) }
+    ensures fails { FailsAs (S.files store.old) (S.files store.new) (S.faults store.old) (S.faults store.new) result (λ files. of_text journal.now (files journal.now) accepted) }
 {
     let mut place: u64 = 0;
     for piece in 0..u64::MAX {
@@ -154,12 +150,9 @@ fn take_journal<S: Store>(
     reader: &mut JournalReader,
 ) -> Result<(), BindFault>
     requires { reader.old.journal.text ≡ [] }
-    ensures kept { S.files store.new ≡ S.files store.old }
-    ensures later { S.faults store.old ≤ S.faults store.new }
     ensures same { OnOk result (IsSameRun reader.old.journal reader.new.journal) }
     ensures all { OnOk result (IsEnough (S.files store.old) journal.now reader.new) }
-    ensures fault { IfErr result (λ fault. FaultRefines (S.files store.old) (S.faults store.old) (S.faults store.new) fault (λ files. of_text journal.now (files journal.now) accepted)) }
-    ensures named { IfErr result (λ fault. FaultBlamesReached (S.files store.old) fault (λ files. of_text journal.now (files journal.now) accepted)) }
+    ensures fails { FailsAs (S.files store.old) (S.files store.new) (S.faults store.old) (S.faults store.new) result (λ files. of_text journal.now (files journal.now) accepted) }
 {
     let Ok(mut buffer) = vec![in alloc; 0u8; PIECE] else {
         return Err(BindFault::Memory);

@@ -1,14 +1,13 @@
 //! From an automaton's file to its C tables.
 ghost use Rattle.std.specs.Prelude.{◌≡◌, ◌≤◌, true, IfOk};
 ghost use Rattle.rv_text.specs.Readings.{Gives};
-ghost use Rattle.rv_bind.specs.Outcomes.{Refines, BlamesReached, of_file};
+ghost use Rattle.rv_bind.specs.Outcomes.{ReadsOutcome, of_file};
 ghost use Rattle.rv_header.specs.Naming.{is_header_name};
 ghost use Rattle.rv_tool.specs.Faults.{IsOutcome};
 ghost use Rattle.rv_tool.specs.HeaderFiles.{header_of_text, header_in};
 ghost use Rattle.rv_tool.specs.SomeTexts.{IsOfSomeText};
 
-use crate::trace_text::{read_text, refused};
-use rv_bind::BindFault;
+use rv_bind::{BindFault, read_file, refused};
 use rv_dot::read_dot;
 use rv_header::write_header;
 use rv_io::Store;
@@ -45,12 +44,9 @@ pub(crate) fn read_header<S: Store>(
     file: &str,
 ) -> Result<Vec<u8>, BindFault>
     requires { is_header_name name.now ≡ true }
-    ensures kept { S.files store.new ≡ S.files store.old }
-    ensures later { S.faults store.old ≤ S.faults store.new }
-    ensures value { Refines (λ text. text.items) (S.files store.old) (S.faults store.old) (S.faults store.new) result (λ files. header_in files name.now file.now) }
-    ensures named { BlamesReached (S.files store.old) result (λ files. header_in files name.now file.now) }
+    ensures reads { ReadsOutcome (λ text. text.items) (S.files store.old) (S.files store.new) (S.faults store.old) (S.faults store.new) result (λ files. header_in files name.now file.now) }
     ensures some { IfOk result (λ text. IsOfSomeText (header_of_text name.now) text.items) }
 {
-    let bytes = read_text(alloc, store, file)?;
+    let bytes = read_file(alloc, store, file)?;
     named_header(alloc, name, file, bytes.as_slice())
 }

@@ -1,6 +1,6 @@
 //! From the files to what a run begins with.
 ghost use Rattle.std.specs.Prelude.{◌≡◌, ◌≤◌, [], length, map, All, IfOk};
-ghost use Rattle.rv_bind.specs.Outcomes.{Refines, BlamesReached};
+ghost use Rattle.rv_bind.specs.Outcomes.{ReadsOutcome};
 ghost use Rattle.rv_bind.specs.BoundViews.{bound_value};
 ghost use Rattle.rv_bind.specs.WellFormed.{HaveTables, kinds_of, IsWellFormed};
 ghost use Rattle.rv_route.specs.Routed.{routed_value};
@@ -48,12 +48,9 @@ pub(crate) fn read_input<S: Store>(
     bindings: &str,
     trace: &str,
 ) -> Result<Prepared, BindFault>
-    ensures kept { S.files store.new ≡ S.files store.old }
-    ensures later { S.faults store.old ≤ S.faults store.new }
     ensures ready { IfOk result IsPrepared }
     ensures unchanged { IfOk result (λ ready. ready.changes.items ≡ []) }
-    ensures value { Refines prepared_value (S.files store.old) (S.faults store.old) (S.faults store.new) result (λ files. run_input files bindings.now trace.now) }
-    ensures named { BlamesReached (S.files store.old) result (λ files. run_input files bindings.now trace.now) }
+    ensures reads { ReadsOutcome prepared_value (S.files store.old) (S.files store.new) (S.faults store.old) (S.faults store.new) result (λ files. run_input files bindings.now trace.now) }
 {
     let bound = read_bindings(alloc, store, bindings)?;
     let routed = read_routed(alloc, store, trace, &bound)?;

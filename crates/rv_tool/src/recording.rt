@@ -1,7 +1,7 @@
 //! A run on several threads whose entries are numbered and printed.
 ghost use Rattle.std.specs.Prelude.{◌≡◌, ◌≤◌, [], true, IfOk};
 ghost use Rattle.std.specs.List.{list_any};
-ghost use Rattle.rv_bind.specs.Outcomes.{Refines, BlamesReached, of_file, IsFaultOf};
+ghost use Rattle.rv_bind.specs.Outcomes.{ReadsOutcome, of_file, IsFaultOf};
 ghost use Rattle.rv_tool.specs.Faults.{IsOutcome};
 ghost use Rattle.rv_tool.specs.Journals.{can_record, if_recordable, recordable_input, ends_instances, IsJournalReport, IsRecordable};
 ghost use Rattle.rv_tool.specs.Prepared.{prepared_value, IsPrepared};
@@ -10,9 +10,8 @@ use crate::checking::works;
 use crate::counts_fit::monitors_fit_counts;
 use crate::input::{Prepared, read_input};
 use crate::replaying::FinishedRun;
-use crate::trace_text::refused;
 use crate::widths::widths_of;
-use rv_bind::{BindFault, On};
+use rv_bind::{BindFault, On, refused};
 use rv_io::{Gate, Store};
 use rv_journal::{enabled_works, exit_status, journal_text, record_run};
 use rv_text::{NOT_NUMBERED, Refusal, Refused};
@@ -68,11 +67,8 @@ pub(crate) fn read_recordable<S: Store>(
     bindings: &str,
     trace: &str,
 ) -> Result<Prepared, BindFault>
-    ensures kept { S.files store.new ≡ S.files store.old }
-    ensures later { S.faults store.old ≤ S.faults store.new }
     ensures ready { IfOk result IsRecordable }
-    ensures value { Refines prepared_value (S.files store.old) (S.faults store.old) (S.faults store.new) result (λ files. recordable_input files bindings.now trace.now) }
-    ensures named { BlamesReached (S.files store.old) result (λ files. recordable_input files bindings.now trace.now) }
+    ensures reads { ReadsOutcome prepared_value (S.files store.old) (S.files store.new) (S.faults store.old) (S.faults store.new) result (λ files. recordable_input files bindings.now trace.now) }
 {
     let ready = read_input(alloc, store, bindings, trace)?;
     recordable(alloc, bindings, ready)

@@ -1,7 +1,7 @@
 //! A script of commands on the control files.
 ghost use Rattle.std.specs.Prelude.{◌≡◌, ◌≤◌, ◌++◌, Some, IfOk, OnOk, OnErr};
 ghost use Rattle.rv_text.specs.Readings.{Gives};
-ghost use Rattle.rv_bind.specs.Outcomes.{Refines, BlamesReached, of_file};
+ghost use Rattle.rv_bind.specs.Outcomes.{ReadsOutcome, of_file};
 ghost use Rattle.rv_bind.specs.BoundViews.{bound_value};
 ghost use Rattle.rv_bind.specs.WellFormed.{IsWellFormed};
 ghost use Rattle.rv_control.specs.Opening.{opening_tree};
@@ -12,8 +12,7 @@ ghost use Rattle.rv_tool.specs.Sessions.{replied, done_of, session_of, session_t
 ghost use Rattle.rv_tool.specs.SessionValues.{session_value};
 
 use crate::output::refusal_line;
-use crate::trace_text::{read_text, refused};
-use rv_bind::{BindFault, Bound, read_bindings};
+use rv_bind::{BindFault, Bound, read_bindings, read_file, refused};
 use rv_control::{Command, Control, Numbered, read_script};
 use rv_io::Store;
 use rv_text::{Line, Refusal, Refused};
@@ -157,13 +156,10 @@ fn run_script<S: Store>(
     bound: &Bound,
 ) -> Result<Session, BindFault>
     requires { IsWellFormed (bound_value bound.now) }
-    ensures kept { S.files store.new ≡ S.files store.old }
-    ensures later { S.faults store.old ≤ S.faults store.new }
-    ensures value { Refines session_value (S.files store.old) (S.faults store.old) (S.faults store.new) result (λ files. session_in files script.now (bound_value bound.now)) }
-    ensures named { BlamesReached (S.files store.old) result (λ files. session_in files script.now (bound_value bound.now)) }
+    ensures reads { ReadsOutcome session_value (S.files store.old) (S.files store.new) (S.faults store.old) (S.faults store.new) result (λ files. session_in files script.now (bound_value bound.now)) }
     ensures some { IfOk result (λ session. IsSession script.now (session_value session)) }
 {
-    let text = read_text(alloc, store, script)?;
+    let text = read_file(alloc, store, script)?;
     run_text(alloc, script, bound, text.as_slice())
 }
 
@@ -175,10 +171,7 @@ pub(crate) fn read_control<S: Store>(
     bindings: &str,
     script: &str,
 ) -> Result<Session, BindFault>
-    ensures kept { S.files store.new ≡ S.files store.old }
-    ensures later { S.faults store.old ≤ S.faults store.new }
-    ensures value { Refines session_value (S.files store.old) (S.faults store.old) (S.faults store.new) result (λ files. control_in files bindings.now script.now) }
-    ensures named { BlamesReached (S.files store.old) result (λ files. control_in files bindings.now script.now) }
+    ensures reads { ReadsOutcome session_value (S.files store.old) (S.files store.new) (S.faults store.old) (S.faults store.new) result (λ files. control_in files bindings.now script.now) }
     ensures some { IfOk result (λ session. IsSession script.now (session_value session)) }
 {
     let bound = read_bindings(alloc, store, bindings)?;

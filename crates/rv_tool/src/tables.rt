@@ -1,14 +1,13 @@
 //! From a specification's file to its printed table.
 ghost use Rattle.std.specs.Prelude.{◌≡◌, ◌≤◌, IfOk};
 ghost use Rattle.rv_text.specs.Readings.{Gives};
-ghost use Rattle.rv_bind.specs.Outcomes.{Refines, BlamesReached, of_file};
+ghost use Rattle.rv_bind.specs.Outcomes.{ReadsOutcome, of_file};
 ghost use Rattle.rv_tool.specs.Faults.{IsOutcome};
 ghost use Rattle.rv_tool.specs.SomeTexts.{IsOfSomeText};
 ghost use Rattle.rv_tool.specs.Tables.{rule_text, table_text, table_in};
 
-use crate::trace_text::{read_text, refused};
 use crate::words::Kind;
-use rv_bind::BindFault;
+use rv_bind::{BindFault, read_file, refused};
 use rv_dot::read_dot;
 use rv_io::Store;
 use rv_ltl::read_ltl;
@@ -74,12 +73,9 @@ pub(crate) fn read_table<S: Store>(
     kind: Kind,
     name: &str,
 ) -> Result<Vec<u8>, BindFault>
-    ensures kept { S.files store.new ≡ S.files store.old }
-    ensures later { S.faults store.old ≤ S.faults store.new }
-    ensures value { Refines (λ text. text.items) (S.files store.old) (S.faults store.old) (S.faults store.new) result (λ files. table_in files kind name.now) }
-    ensures named { BlamesReached (S.files store.old) result (λ files. table_in files kind name.now) }
+    ensures reads { ReadsOutcome (λ text. text.items) (S.files store.old) (S.files store.new) (S.faults store.old) (S.faults store.new) result (λ files. table_in files kind name.now) }
     ensures some { IfOk result (λ text. IsOfSomeText (table_text kind) text.items) }
 {
-    let bytes = read_text(alloc, store, name)?;
+    let bytes = read_file(alloc, store, name)?;
     named_text(alloc, kind, name, bytes.as_slice())
 }

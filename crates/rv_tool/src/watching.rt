@@ -1,6 +1,6 @@
 //! A run on several threads, with a reader of one slot beside them.
 ghost use Rattle.std.specs.Prelude.{◌≡◌, ◌≤◌, [], IfOk};
-ghost use Rattle.rv_bind.specs.Outcomes.{Refines, BlamesReached, of_file};
+ghost use Rattle.rv_bind.specs.Outcomes.{ReadsOutcome, of_file};
 ghost use Rattle.rv_tool.specs.Faults.{IsOutcome};
 ghost use Rattle.rv_tool.specs.LaneReports.{ReportsWatched};
 ghost use Rattle.rv_tool.specs.Prepared.{prepared_value, IsPrepared};
@@ -9,8 +9,7 @@ ghost use Rattle.rv_tool.specs.WatchReports.{IsWatchReport, watch_value, IsPrepa
 
 use crate::input::{Prepared, read_input};
 use crate::replaying::{FinishedRun, report};
-use crate::trace_text::refused;
-use rv_bind::{BindFault, Bindings};
+use rv_bind::{BindFault, Bindings, refused};
 use rv_io::{Gate, Store};
 use rv_slots::Tasks;
 use rv_text::{NO_INSTANCE, Refusal, Refused};
@@ -64,11 +63,8 @@ pub(crate) fn read_watched<S: Store>(
     monitor: &str,
     instance: &str,
 ) -> Result<PreparedWatch, BindFault>
-    ensures kept { S.files store.new ≡ S.files store.old }
-    ensures later { S.faults store.old ≤ S.faults store.new }
     ensures ready { IfOk result IsPreparedWatch }
-    ensures value { Refines watch_value (S.files store.old) (S.faults store.old) (S.faults store.new) result (λ files. watched_input files bindings.now trace.now monitor.now instance.now) }
-    ensures named { BlamesReached (S.files store.old) result (λ files. watched_input files bindings.now trace.now monitor.now instance.now) }
+    ensures reads { ReadsOutcome watch_value (S.files store.old) (S.files store.new) (S.faults store.old) (S.faults store.new) result (λ files. watched_input files bindings.now trace.now monitor.now instance.now) }
 {
     let ready = read_input(alloc, store, bindings, trace)?;
     find_slot(alloc, trace, ready, monitor, instance)

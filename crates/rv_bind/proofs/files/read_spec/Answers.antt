@@ -1,10 +1,20 @@
-use Rattle.std.proofs.Common.{◌≡◌, Err, sym, ap, ◌∙◌, rules}
+use Rattle.std.proofs.Common.{List, ℕ, subst}
+use Rattle.rv_text.specs.Readings.{Refuses}
+use Rattle.rv_bind.specs.Bound.{compiled_in}
 use Rattle.rv_bind.specs.Compiling.{compiled_of}
+use Rattle.rv_bind.specs.declared.compile.Compiled.{Compiled}
 use Rattle.rv_bind.proofs.NumberLemmas.{spec_comes}
+use Rattle.rv_bind.proofs.ReachedLemmas.{file_named}
 use Rattle.rv_bind.proofs.files.read_spec.Goals as goal
 
-pub returns-in-Err-Because-clause-compiled : goal.returns-in-Err-Because-clause-compiled
-returns-in-Err-Because-clause-compiled g c =
+pub returns-clause-reads : goal.returns-clause-reads
+returns-clause-reads g c =
     let told = g.S.Store.files c.args.store.now in
-    let refused : compiled_of c.args.kind c.as_slice.result.now ≡ Err c.in-Err-Because.refusal = search rules in
-    spec_comes told _ _ c.args.kind c.args.file.now c.in_ok-text.text.items c.in-Err-Because.refusal _ c.refused.ensures (ap (compiled_of c.args.kind) (sym c.as_slice.ensures.value) ∙ refused) c.in_ok-text.ensures.text
+    let fault = c.in-Err.fault in
+    let refuses = subst (λ (text : List ℕ). Refuses fault (compiled_of c.args.kind text)) c.as_slice.ensures.value c.in-Err.ensures.gives in
+    record {
+      kept = c.in_ok-text.ensures.kept;
+      later = c.in_ok-text.ensures.later;
+      value = spec_comes told _ _ c.args.kind c.args.file.now c.in_ok-text.text.items fault _ c.refused.ensures refuses c.in_ok-text.ensures.value;
+      named = file_named told Compiled c.args.file.now fault c.refused.result (λ files. compiled_in files c.args.kind c.args.file.now) c.refused.ensures;
+    }

@@ -17,9 +17,9 @@ loop-line-preserved g c =
     let line = line_text c.in-Some.line in
     let later = c.next_line.new.self in
     let split : c.loop-line.lines ≡ line ∷ later = c.in-Some.ensures.some in
-    let read : (files : Files) → told ≡ Some files → line_bound files here before line ≡ accepted (bound_value c.bind_line.new.bound) = λ files known. c.in_ok-bind_line.ensures.bound files (c.loop-line.invariant.0 ∙ known) in (
-      c.bind_line.ensures.kept ∙ c.loop-line.invariant.0,
-      omega (arith, c.loop-line.invariant.1, c.bind_line.ensures.later),
+    let read : (files : Files) → told ≡ Some files → line_bound files here before line ≡ accepted (bound_value c.bind_line.new.bound) = λ files known. c.in_ok-bind_line.ensures.reads.value files (c.loop-line.invariant.0 ∙ known) in (
+      c.bind_line.ensures.reads.kept ∙ c.loop-line.invariant.0,
+      omega (arith, c.loop-line.invariant.1, c.bind_line.ensures.reads.later),
       c.in_ok-bind_line.ensures.formed,
       λ files known.
           c.loop-line.invariant.3 files known

@@ -1,24 +1,36 @@
 use Rattle.std.proofs.Common.{◌≡◌, ◌<◌, ◌+◌, ◌++◌, List, ℕ, take, length, not, ap, sym, ◌∙◌, subst, arith}
-use Rattle.std.specs.Prelude.{Option}
+use Rattle.std.specs.Prelude.{Option, Err}
 use Rattle.std.proofs.lemmas.Result.{err_from_is_err_and}
 use Rattle.rv_io.specs.Files.{Files}
-use Rattle.rv_bind.specs.Outcomes.{of_text, accepted}
+use Rattle.rv_bind.specs.FilePieces.{FailsAs, FaultBlamesReached, IsFilePiece}
+use Rattle.rv_bind.specs.Outcomes.{Outcome, of_text, accepted}
+use Rattle.rv_bind.proofs.OutcomeLemmas.{Refines-later}
 use Rattle.rv_check.specs.Readings.{ReaderValue}
-use Rattle.rv_tool.specs.Feeding.{FedOf, IsFilePiece}
-use Rattle.rv_tool.proofs.CheckLemmas.{shifted_comes, whole_comes, fed_all, fed_enough}
+use Rattle.rv_tool.specs.Feeding.{FedOf}
+use Rattle.rv_tool.proofs.CheckLemmas.{whole_comes, whole_named, fed_all, fed_enough}
 use Rattle.rv_tool.proofs.JudgedLemmas.{same_longer}
 use Rattle.rv_tool.proofs.FeedingLemmas.{fed-more}
 use Rattle.rv_tool.proofs.checking.take_pieces.Goals as goal
 
-pub returns-in_err-count-clause-fault : goal.returns-in_err-count-clause-fault
-returns-in_err-count-clause-fault g c =
+pub returns-in_err-count-clause-fails : goal.returns-in_err-count-clause-fails
+returns-in_err-count-clause-fails g c =
+    let files = g.S.Store.files in
+    let faults = g.S.Store.faults in
     let journal = c.args.journal.now in
     let fault = c.in_err-count.field-0.0 in
     let given = err_from_is_err_and c.from_residual.result c.from_residual.ensures.1 in
     let kept = c.loop-piece.invariant in
-    rw (given.1, given.2)
-    (shifted_comes (λ files. of_text journal (files journal) accepted) (g.S.Store.files c.args.store.now) (g.S.Store.files c.loop-piece.store) (g.S.Store.faults c.args.store.now) (g.S.Store.faults c.loop-piece.store) (g.S.Store.faults c.fetch.new.store) fault kept.0 kept.1
-    (whole_comes (g.S.Store.files c.loop-piece.store) journal (g.S.Store.faults c.loop-piece.store) (g.S.Store.faults c.fetch.new.store) fault c.in_err-count.ensures.fault))
+    let last = c.in_err-count.ensures.fails in
+    let outcome : Files → Outcome (List ℕ) = λ held. of_text journal (held journal) accepted in
+    let fails : FailsAs {X = Unit} (files c.args.store.now) (files c.fetch.new.store) (faults c.args.store.now) (faults c.fetch.new.store) (Err fault) outcome = record {
+      kept = last.kept ∙ kept.0;
+      later = let first = kept.1 in let later = last.later in omega arith;
+      fault =
+          Refines-later (λ (text : List ℕ). text) (files c.args.store.now) (files c.loop-piece.store) (faults c.args.store.now) (faults c.loop-piece.store) (faults c.fetch.new.store) (Err fault) outcome kept.0 kept.1
+          (whole_comes (files c.loop-piece.store) journal (faults c.loop-piece.store) (faults c.fetch.new.store) fault last.fault);
+      named = subst (λ (told : Option Files). FaultBlamesReached told fault outcome) kept.0 (whole_named (files c.loop-piece.store) journal fault last.named);
+    } in
+    rw (given.1, given.2) fails
 
 pub returns-then-count-eq0-clause-all : goal.returns-then-count-eq0-clause-all
 returns-then-count-eq0-clause-all g c =
@@ -54,9 +66,9 @@ loop-piece-preserved g c =
     let more = fed-more told journal c.loop-piece.place count c.loop-piece.reader.journal.text c.loop-piece.buffer c.fetch.new.buffer kept.4 piece in
     let ok = c.in-Ok-true.ensures.ok in
     let text : c.feed.new.self.journal.text ≡ c.loop-piece.reader.journal.text ++ take count c.fetch.new.buffer = ap (λ (r : ReaderValue). r.journal.text) ok in
-    let first = kept.1 in let later = c.in_ok-count.ensures.later in
+    let first = kept.1 in let later = c.in_ok-count.ensures.fails.later in
     let next : c.in-Some.next ≡ c.loop-piece.place + count = c.in-Some.ensures.1 in (
-      c.in_ok-count.ensures.kept ∙ kept.0,
+      c.in_ok-count.ensures.fails.kept ∙ kept.0,
       omega arith,
       c.in_ok-count.ensures.len ∙ kept.2,
       same_longer c.args.reader.now.journal c.loop-piece.reader c.feed.new.self (take count c.fetch.new.buffer) _ kept.3 ok,

@@ -1,14 +1,12 @@
-use Rattle.std.proofs.Common.{subst}
-use Rattle.std.specs.Prelude.{Option}
-use Rattle.rv_io.specs.Files.{Files}
-use Rattle.rv_bind.specs.Outcomes.{BlamesReached}
 use Rattle.rv_bind.specs.BoundViews.{bound_value}
-use Rattle.rv_tool.specs.Sessions.{session_in}
-use Rattle.rv_tool.proofs.NamedLemmas.{control_behind_named}
+use Rattle.rv_tool.specs.SessionValues.{session_value}
+use Rattle.rv_tool.proofs.NamedLemmas.{control_behind_reads}
 use Rattle.rv_tool.proofs.session.read_control.Goals as goal
 
-pub returns-clause-named : goal.returns-clause-named
-returns-clause-named g c =
-    let bound = bound_value c.in_ok-bound.bound in
-    control_behind_named (g.S.Store.files c.args.store.now) c.args.bindings.now c.args.script.now bound c.run_script.result c.in_ok-bound.ensures.bound
-    (subst (λ (t : Option Files). BlamesReached t c.run_script.result (λ files. session_in files c.args.script.now bound)) c.read_bindings.ensures.kept c.run_script.ensures.named)
+pub returns-clause-reads : goal.returns-clause-reads
+returns-clause-reads g c =
+    let files = g.S.Store.files in
+    let faults = g.S.Store.faults in
+    let first = c.in_ok-bound.ensures.reads in
+    control_behind_reads (files c.args.store.now) (files c.read_bindings.new.store) (files c.run_script.new.store) (faults c.args.store.now) (faults c.read_bindings.new.store) (faults c.run_script.new.store)
+    c.args.bindings.now (bound_value c.in_ok-bound.bound) session_value c.args.script.now c.run_script.result first.kept first.later first.value c.run_script.ensures.reads

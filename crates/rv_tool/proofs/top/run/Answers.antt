@@ -11,17 +11,17 @@ use Rattle.rv_tool.proofs.top.run.Goals as goal
 pub returns-in_ok-ready-in-Replay-clause-comes : goal.returns-in_ok-ready-in-Replay-clause-comes
 returns-in_ok-ready-in-Replay-clause-comes g c =
     let words = c.in-Replay in let read = c.in_ok-ready-in-Replay in
-    rw words.is (run_comes prepared_value IsOneReport (λ files. run_input files words.bindings.now words.trace.now) _ _ _ read.ready c.replayed.result c.ended.result read.ensures.value
+    rw words.is (run_comes prepared_value IsOneReport (λ files. run_input files words.bindings.now words.trace.now) _ _ _ read.ready c.replayed.result c.ended.result read.ensures.reads.value
     (runs_one read.ready c.replayed.result read.ensures.ready c.replayed.ensures) c.ended.ensures)
 
 pub returns-in_ok-ready-in-Feed-clause-comes : goal.returns-in_ok-ready-in-Feed-clause-comes
 returns-in_ok-ready-in-Feed-clause-comes g c =
     let words = c.in-Feed in let read = c.in_ok-ready-in-Feed in
-    rw words.is (run_comes prepared_value IsVerdictReport (λ files. run_input files words.bindings.now words.trace.now) _ _ _ read.ready c.fed.result c.ended-in-Feed.result read.ensures.value
+    rw words.is (run_comes prepared_value IsVerdictReport (λ files. run_input files words.bindings.now words.trace.now) _ _ _ read.ready c.fed.result c.ended-in-Feed.result read.ensures.reads.value
     (runs_verdicts read.ready c.fed.result read.ensures.ready read.ensures.unchanged c.fed.ensures) c.ended-in-Feed.ensures)
 
 pub returns-in_ok-session-in-Control-clause-comes : goal.returns-in_ok-session-in-Control-clause-comes
 returns-in_ok-session-in-Control-clause-comes g c =
     let words = c.in-Control in let read = c.in_ok-session-in-Control in
     rw words.is (done_comes session_value (IsSessionText words.script.now) (λ files. control_in files words.bindings.now words.script.now) _ (g.S.Store.faults c.args.store.now) (g.S.Store.faults c.read_control.new.store) read.session
-    c.without_run-in-Control.result read.ensures.value (read.ensures.some, c.without_run-in-Control.ensures))
+    c.without_run-in-Control.result read.ensures.reads.value (read.ensures.some, c.without_run-in-Control.ensures))

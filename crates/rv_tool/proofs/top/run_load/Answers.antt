@@ -17,5 +17,5 @@ returns g c =
     let outcome : Files → Outcome InputValue = λ files. run_input files (codes "gen.rv") (codes "gen.txt") in
     let ready = c.in_ok-ready.ready in
     subst (λ (files : Files). ComesTo IsVerdictReport outcome (Some files) 0 0 c.ended.result) c.in-Ok.ensures
-    (run_comes prepared_value IsVerdictReport outcome (Some told) 0 0 ready c.fed.result c.ended.result c.in_ok-ready.ensures.value
+    (run_comes prepared_value IsVerdictReport outcome (Some told) 0 0 ready c.fed.result c.ended.result c.in_ok-ready.ensures.reads.value
     (runs_verdicts ready c.fed.result c.in_ok-ready.ensures.ready c.in_ok-ready.ensures.unchanged c.fed.ensures) c.ended.ensures)

@@ -11,13 +11,16 @@ use Rattle.rv_tool.proofs.NamedLemmas.{tells_named}
 use Rattle.rv_tool.proofs.FrontLemmas.{of_file-and_then}
 use Rattle.rv_tool.proofs.trace_text.read_routed.Goals as goal
 
-pub returns-clause-value : goal.returns-clause-value
-returns-clause-value g c =
+pub returns-clause-reads : goal.returns-clause-reads
+returns-clause-reads g c =
     let bound = c.args.bound.now.bindings in
     let text = c.take_trace.new.routing.lines.fed in
-    routed_comes (g.S.Store.files c.args.store.now) c.args.trace.now text (bound_value c.args.bound.now) c.in_ok-take_trace.ensures.all
-    routed_value (g.S.Store.faults c.args.store.now) (g.S.Store.faults c.take_trace.new.store) c.end_routing.result
-    (subst (λ (o : Outcome RoutedValue). IsOutcome routed_value c.end_routing.result o) (of_file-and_then c.args.trace.now (trace_of text) (route_of bound.monitors.items bound.rules.items text)) c.end_routing.ensures.value)
-
-pub returns-clause-named : goal.returns-clause-named
-returns-clause-named g c = tells_named (g.S.Store.files c.args.store.now) routed_value c.end_routing.result _ (λ files. routed_in files c.args.trace.now (bound_value c.args.bound.now)) c.end_routing.ensures.value
+    record {
+      kept = c.in_ok-take_trace.ensures.fails.kept;
+      later = c.in_ok-take_trace.ensures.fails.later;
+      value =
+          routed_comes (g.S.Store.files c.args.store.now) c.args.trace.now text (bound_value c.args.bound.now) c.in_ok-take_trace.ensures.all
+          routed_value (g.S.Store.faults c.args.store.now) (g.S.Store.faults c.take_trace.new.store) c.end_routing.result
+          (subst (λ (o : Outcome RoutedValue). IsOutcome routed_value c.end_routing.result o) (of_file-and_then c.args.trace.now (trace_of text) (route_of bound.monitors.items bound.rules.items text)) c.end_routing.ensures.value);
+      named = tells_named (g.S.Store.files c.args.store.now) routed_value c.end_routing.result _ (λ files. routed_in files c.args.trace.now (bound_value c.args.bound.now)) c.end_routing.ensures.value;
+    }

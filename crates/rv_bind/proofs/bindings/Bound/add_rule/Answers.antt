@@ -15,8 +15,8 @@ returns-clause-rule c =
     let within : c.in-Some.place < length (bound_value c.args.self.now).monitors = search rules in
     let there : slice_get (bound_value c.args.self.now).monitors c.in-Some.place ≡ Some c.index-monitor.result.now =
     slice_get-get_or (bound_value c.args.self.now).monitors c.in-Some.place c.index-monitor.result.now within ∙ ap Some (sym c.index-monitor.ensures) in
-    rule_added (bound_value c.args.self.now) c.args.on.monitor.now c.in-Some.place named c.index-monitor.result.now _ _ _ _ _ c.in_ok-what.what _
+    rule_added (bound_value c.args.self.now) c.args.on.monitor.now c.in-Some.place named c.index-monitor.result.now c.args.on c.in_ok-what.what _
     there (search rules) (search rules) (search rules) (ap (λ ws. brought c.index-monitor.result.now.spec c.args.on.mode (texts ws)) (sym c.as_slice-words.ensures.value) ∙ c.in_ok-what.ensures) (search rules)
 
 pub returns-clause-formed : goal.returns-clause-formed
-returns-clause-formed c = rule_formed (bound_value c.args.self.now) _ _ _ _ _ _ _ c.requires (returns-clause-rule c)
+returns-clause-formed c = rule_formed (bound_value c.args.self.now) _ c.args.on c.requires (returns-clause-rule c)
