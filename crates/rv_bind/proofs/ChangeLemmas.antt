@@ -16,9 +16,9 @@ use Rattle.rv_model.specs.Numbers.{number_of}
 use Rattle.rv_model.specs.Scripts.{is_end}
 use Rattle.rv_model.proofs.NumberLemmas.{number_of-lt}
 use Rattle.rv_text.specs.declared.numbers.TheConstants.{UNKNOWN_ATOM}
-use Rattle.rv_ltl.specs.Texts.{texts}
+use Rattle.rv_ltl.specs.inner.Texts.{texts}
 use Rattle.rv_bind.specs.declared.fault.LineFault.{LineFault}
-use Rattle.rv_bind.specs.LineReads.{ReadsValue}
+use Rattle.rv_bind.specs.inner.LineReads.{ReadsValue}
 use Rattle.rv_bind.specs.LineWords.{Words}
 use Rattle.rv_bind.specs.Changes.{runs_its_event, is_change, stands_twice, allows_what, may_end, allows_hit, place_named, atoms_signed, are_known, event_what, event_of, what_of, brought, bit_at_place, atom_bit}
 use Rattle.rv_bind.specs.WellFormed.{FitsEvents, FitsAtoms, FitsSpec, FitsRule, StartsIn}

@@ -4,10 +4,10 @@ use Rattle.std.specs.Prelude.{Result, Ok, Err, bytes_eq, codes}
 use Rattle.std.specs.Str.{is_utf8, IsUtf8}
 use Rattle.std.proofs.lemmas.Str.{IsUtf8-from_is_utf8, is_utf8-from_IsUtf8}
 use Rattle.std.proofs.lemmas.List.{map-append, append_assoc, append-nil}
-use Rattle.rv_ltl.specs.Texts.{texts}
+use Rattle.rv_ltl.specs.inner.Texts.{texts}
 use Rattle.rv_text.specs.declared.numbers.TheConstants.{BIND_SYNTAX}
 use Rattle.rv_bind.specs.Forms.{FormValue, on, by_at, tests_at, hit_form, on_form}
-use Rattle.rv_bind.specs.FormsAhead.{with_next, on_read}
+use Rattle.rv_bind.specs.inner.FormsAhead.{with_next, on_read}
 use Rattle.rv_bind.specs.LineWords.{Words, Read, when, after}
 
 -- text is kept as it is

@@ -6,7 +6,7 @@ use Rattle.rv_bind.specs.declared.fault.LineFault.{LineFault}
 use Rattle.rv_bind.specs.declared.fault.LineFault.TheVariants as lines
 use Rattle.rv_bind.specs.declared.fault.BindFault.{BindFault}
 use Rattle.rv_bind.specs.declared.fault.BindFault.TheVariants as faults
-use Rattle.rv_bind.specs.LineReads.{Faults, ReadsValue, InLine}
+use Rattle.rv_bind.specs.inner.LineReads.{Faults, ReadsValue, InLine}
 use Rattle.rv_bind.specs.Values.{BoundValue}
 use Rattle.rv_bind.specs.Outcomes.{Outcome, accepted, reading, of_line, of_text, of_name, IsNumber, Refines, IsFaultOf}
 

@@ -17,7 +17,7 @@ use Rattle.rv_bind.specs.Values.{BoundValue}
 use Rattle.rv_bind.specs.Forms.{FormValue, skipped, container, monitor, on, react, off, begin}
 use Rattle.rv_bind.specs.Compiling.{compiled_of}
 use Rattle.rv_bind.specs.Bound.{nothing_bound, place_for, with_monitor, compiled_in, monitor_bound, form_bound, form_in, line_bound, lines_bound, bound_of}
-use Rattle.rv_bind.specs.LineReads.{InLine}
+use Rattle.rv_bind.specs.inner.LineReads.{InLine}
 use Rattle.rv_bind.specs.Outcomes.{Outcome, accepted, refused, missing, reading, of_file, of_line, of_text, of_name, files_without, IsReached, BlamesReached, IsFaultOf, IsFaultIn}
 use Rattle.rv_bind.proofs.OutcomeLemmas.{of_name-reading}
 

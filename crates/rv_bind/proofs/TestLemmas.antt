@@ -5,7 +5,7 @@ use Rattle.std.proofs.lemmas.List.{append_assoc, append-nil}
 use Rattle.rv_text.specs.declared.numbers.TheConstants.{BIND_SYNTAX}
 use Rattle.rv_bind.specs.declared.bindings.Test.{Test}
 use Rattle.rv_bind.specs.Forms.{tests_at, with_test}
-use Rattle.rv_bind.specs.FormsAhead.{with_next, test_next, with_tests}
+use Rattle.rv_bind.specs.inner.FormsAhead.{with_next, test_next, with_tests}
 use Rattle.rv_bind.specs.LineWords.{Words, Read, word_at, or_syntax, test_of, after}
 
 -- a test, and the word behind it, from the test's word on

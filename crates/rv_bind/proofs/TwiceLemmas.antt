@@ -10,7 +10,7 @@ use Rattle.std.specs.declared.cmp.Ordering.TheVariants.{Less, Equal, Greater}
 use Rattle.std.proofs.lemmas.List.{take_rest}
 use Rattle.std.proofs.lemmas.Map.Text.{is_eq-slice_cmp}
 use Rattle.std.proofs.lemmas.Map.Lookups.{exact_bytes}
-use Rattle.rv_ltl.specs.Texts.{texts}
+use Rattle.rv_ltl.specs.inner.Texts.{texts}
 use Rattle.rv_bind.specs.LineWords.{Words}
 use Rattle.rv_bind.specs.Changes.{atom_in, stands_twice}
 

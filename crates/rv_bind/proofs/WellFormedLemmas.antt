@@ -9,7 +9,7 @@ use Rattle.rv_model.specs.declared.hit.Mode.{Mode}
 use Rattle.rv_model.specs.declared.hit.What.{What}
 use Rattle.rv_model.specs.declared.work.Scope.{Scope}
 use Rattle.rv_model.specs.Table.{Table}
-use Rattle.rv_ltl.specs.Texts.{texts}
+use Rattle.rv_ltl.specs.inner.Texts.{texts}
 use Rattle.rv_bind.specs.declared.bindings.Monitor.{Monitor}
 use Rattle.rv_bind.specs.declared.bindings.Item.{Item}
 use Rattle.rv_bind.specs.declared.bindings.Item.TheVariants as items
@@ -22,7 +22,7 @@ use Rattle.rv_bind.specs.LineWords.{Words}
 use Rattle.rv_bind.specs.Changes.{allows_hit, brought}
 use Rattle.rv_bind.specs.Compiling.{Compiles}
 use Rattle.rv_bind.specs.Bound.{nothing_bound, is_taken, monitor_named, container_bound, items_of, with_monitor}
-use Rattle.rv_bind.specs.FormViews.{rule_said}
+use Rattle.rv_bind.specs.inner.FormViews.{rule_said}
 use Rattle.rv_bind.specs.MonitorLines.{allows_by, with_rule, rule_at, rule_bound}
 use Rattle.rv_bind.specs.WellFormed.{MonitorKind, kind_of, kinds_of, HasTable, HaveTables, FitsKind, holders_of, IsHolder, IsItem, IsWellFormed}
 use Rattle.rv_bind.proofs.ChangeLemmas.{hit_fits, starts_at_first}

@@ -3,13 +3,11 @@ pub mod BoundViews
 pub mod Changes
 pub mod Compiling
 pub mod FilePieces
-pub mod FormViews
 pub mod Forms
-pub mod FormsAhead
-pub mod LineReads
 pub mod LineWords
 pub mod MonitorLines
 pub mod Outcomes
 pub mod RuleValues
 pub mod Values
 pub mod WellFormed
+pub mod inner

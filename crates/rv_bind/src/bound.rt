@@ -1,12 +1,12 @@
 //! What was bound so far, and what a line adds to it.
 ghost use Rattle.std.specs.Prelude.{◌≡◌, ◌≤◌, ◌<◌, ◌++◌, ℕ, List, Option, Some, None, Bool, length, position, bytes_eq, option_copied, IfOk, IfSome, OnOk};
 ghost use Rattle.std.specs.List.{position_or_len};
-ghost use Rattle.rv_bind.specs.LineReads.{ReadsValue};
+ghost use Rattle.rv_bind.specs.inner.LineReads.{ReadsValue};
 ghost use Rattle.rv_bind.specs.Compiling.{Compiles};
 ghost use Rattle.rv_bind.specs.Bound.{nothing_bound, is_called, is_taken, monitor_named, holder_named, room_for, place_for, new_monitor, with_monitor, items_of, container_bound};
 ghost use Rattle.rv_bind.specs.MonitorLines.{allows_by, change_bound, reacting, disabled, begin_bound};
 ghost use Rattle.rv_bind.specs.BoundViews.{bound_value};
-ghost use Rattle.rv_bind.specs.FormViews.{rule_said};
+ghost use Rattle.rv_bind.specs.inner.FormViews.{rule_said};
 ghost use Rattle.rv_bind.specs.WellFormed.{IsWellFormed, IsHolder};
 ghost use Rattle.rv_bind.specs.declared.limits.TheConstants.{MAX_MONITORS};
 

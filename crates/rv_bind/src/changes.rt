@@ -1,8 +1,8 @@
 //! What an `on` line brings: an automaton's event, what becomes of a rule's atoms, or nothing where it is an end.
 ghost use Rattle.std.specs.Prelude.{◌≡◌, ◌≤◌, ◌<◌, ◌+◌, ◌*◌, ◌^◌, ◌||◌, ℕ, List, length, if◌then◌else◌, IfOk, is_some};
 ghost use Rattle.std.specs.List.{list_all, list_any};
-ghost use Rattle.rv_ltl.specs.Texts.{texts};
-ghost use Rattle.rv_bind.specs.LineReads.{ReadsValue};
+ghost use Rattle.rv_ltl.specs.inner.Texts.{texts};
+ghost use Rattle.rv_bind.specs.inner.LineReads.{ReadsValue};
 ghost use Rattle.rv_bind.specs.Changes.{is_sign, is_change, atom_in, is_signed_name, stands_twice, runs_its_event, is_one, allows_what, may_end, allows_hit, atoms_signed, are_known, atoms_change, event_what, event_of, what_of, brought, place_named, bit_at_place, atom_bit};
 
 use crate::bound::place_in;

@@ -1,7 +1,7 @@
 //! The files that bindings name, and the faults that name a file.
 ghost use Rattle.std.specs.Prelude.{◌≡◌, ◌≤◌, ◌⊎◌, ℕ, Option, Result, IfOk, length};
 ghost use Rattle.rv_bind.specs.FilePieces.{FailsAs, IsFilePiece};
-ghost use Rattle.rv_bind.specs.LineReads.{InLine};
+ghost use Rattle.rv_bind.specs.inner.LineReads.{InLine};
 ghost use Rattle.rv_bind.specs.Outcomes.{ReadsOutcome, IsFaultIn, accepted, of_name};
 ghost use Rattle.rv_bind.specs.Bound.{compiled_in};
 ghost use Rattle.rv_bind.specs.Compiling.{Compiles};

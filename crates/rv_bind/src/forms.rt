@@ -1,11 +1,11 @@
 //! A bindings line by its form.
 ghost use Rattle.std.specs.Prelude.{◌≡◌, ◌∷◌, option_copied, IfOk};
-ghost use Rattle.rv_ltl.specs.Texts.{texts};
+ghost use Rattle.rv_ltl.specs.inner.Texts.{texts};
 ghost use Rattle.rv_text.specs.Words.{words_of};
-ghost use Rattle.rv_bind.specs.LineReads.{ReadsValue, ReadsOn};
+ghost use Rattle.rv_bind.specs.inner.LineReads.{ReadsValue, ReadsOn};
 ghost use Rattle.rv_bind.specs.Forms.{container_form, monitor_form, holder_at, react_form, off_form, begin_form, by_at, tests_at, form_of};
-ghost use Rattle.rv_bind.specs.FormsAhead.{on_read, with_next, test_next};
-ghost use Rattle.rv_bind.specs.FormViews.{form_value};
+ghost use Rattle.rv_bind.specs.inner.FormsAhead.{on_read, with_next, test_next};
+ghost use Rattle.rv_bind.specs.inner.FormViews.{form_value};
 
 use crate::bindings::Test;
 use crate::fault::LineFault;

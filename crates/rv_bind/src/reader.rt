@@ -1,11 +1,11 @@
 //! From a bindings file, and the files that it names, to bindings.
 ghost use Rattle.std.specs.Prelude.{IfOk, OnOk};
 ghost use Rattle.rv_text.specs.TextLines.{line_text};
-ghost use Rattle.rv_bind.specs.LineReads.{ReadsValue};
+ghost use Rattle.rv_bind.specs.inner.LineReads.{ReadsValue};
 ghost use Rattle.rv_bind.specs.Outcomes.{ReadsOutcome};
 ghost use Rattle.rv_bind.specs.Bound.{bound_of, line_bound, form_in, form_bound};
 ghost use Rattle.rv_bind.specs.BoundViews.{bound_value};
-ghost use Rattle.rv_bind.specs.FormViews.{form_value, monitor_said};
+ghost use Rattle.rv_bind.specs.inner.FormViews.{form_value, monitor_said};
 ghost use Rattle.rv_bind.specs.WellFormed.{IsWellFormed};
 
 use crate::bindings::Bound;

@@ -3,7 +3,7 @@ ghost use Rattle.std.specs.Prelude.{◌≡◌, ◌≤◌, ℕ, List, Option, Som
 ghost use Rattle.std.specs.List.{list_all};
 ghost use Rattle.rv_model.specs.Reactors.{reactor_named};
 ghost use Rattle.rv_model.specs.Words.{kind_named, scope_named};
-ghost use Rattle.rv_bind.specs.LineReads.{Faults, ReadsValue, ReadsOn};
+ghost use Rattle.rv_bind.specs.inner.LineReads.{Faults, ReadsValue, ReadsOn};
 ghost use Rattle.rv_bind.specs.LineWords.{word_at, no_word_left, is_name, is_name_byte, is_field, is_field_byte, mode_named, test_of, test_behind, or_syntax, when};
 ghost use Rattle.std.specs.Str.{is_utf8};
 

@@ -14,8 +14,9 @@ use Rattle.rv_model.specs.Histories.{IsPermittedTo, LostThrice}
 use Rattle.rv_core.specs.Advance.{FitsTable, WhatFits, advanced}
 use Rattle.rv_core.specs.Setup.{table_at}
 use Rattle.rv_word.specs.Words.{packed}
-use Rattle.rv_board.specs.Rule.{width, KeptPlainly}
-use Rattle.rv_board.specs.Steps.{Ours, IsActStep, IsLoadStep, IsExchangeStep, IsLookStep, IsRaiseStep, IsLowerStep, IsClearStep, IsEndStep, IsStopStep}
+use Rattle.rv_board.specs.Rule.{width}
+use Rattle.rv_board.specs.inner.Rule.{KeptPlainly}
+use Rattle.rv_board.specs.inner.Steps.{Ours, IsActStep, IsLoadStep, IsExchangeStep, IsLookStep, IsRaiseStep, IsLowerStep, IsClearStep, IsEndStep, IsStopStep}
 use Rattle.rv_board.specs.Seats.{IsUsable}
 use Rattle.rv_board.proofs.StepLemmas.{makes, tries, sees}
 use Rattle.rv_board.proofs.CallLemmas.{may}

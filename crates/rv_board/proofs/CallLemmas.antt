@@ -11,10 +11,12 @@ use Rattle.rv_model.specs.Histories.{IsSound, IsJustifiedBy, IsPermittedTo}
 use Rattle.rv_model.specs.Seats.{Seat, known_of, entries_of, Grows}
 use Rattle.rv_core.specs.Setup.{FitsAct, ActFits, judges_of}
 use Rattle.rv_board.specs.declared.view.View.{View}
-use Rattle.rv_board.specs.Known.{knows, Begun}
-use Rattle.rv_board.specs.Rule.{word_at, with_seen, first_view, joined}
-use Rattle.rv_board.specs.Seats.{SeatValue, board_id, seat_value, IsUsable, SeatGrows, Acts, Looks, ExtendsSeen, Joins, Closes}
-use Rattle.rv_board.specs.Steps.{Ours, Saw, Made, IsActStep, made_after}
+use Rattle.rv_board.specs.inner.Known.{knows, Begun}
+use Rattle.rv_board.specs.Rule.{joined}
+use Rattle.rv_board.specs.inner.Rule.{word_at, with_seen, first_view}
+use Rattle.rv_board.specs.Seats.{SeatValue, seat_value, IsUsable, SeatGrows, Acts, Looks, ExtendsSeen, Joins, Closes}
+use Rattle.rv_board.specs.inner.Seats.{board_id}
+use Rattle.rv_board.specs.inner.Steps.{Ours, Saw, Made, IsActStep, made_after}
 use Rattle.rv_board.proofs.Knowing.{knows_own, known_is}
 use Rattle.rv_board.proofs.KeepLemmas.{CanMake}
 use Rattle.rv_board.proofs.SoundLemmas.{sound-empty}

@@ -8,7 +8,8 @@ use Rattle.rv_model.specs.declared.entry.Entry.{Entry}
 use Rattle.rv_model.specs.Histories.{IsSound}
 use Rattle.rv_model.specs.Seats.{known_of, entries_of}
 use Rattle.rv_core.specs.Setup.{judges_of}
-use Rattle.rv_board.specs.Known.{known_by, blank, numbers}
+use Rattle.rv_board.specs.Known.{blank, numbers}
+use Rattle.rv_board.specs.inner.Known.{known_by}
 use Rattle.rv_board.specs.Rule.{view, no_setup}
 use Rattle.rv_board.specs.Seats.{BoardId, SeatValue, SeatGrows, ExtendsSeen, Joins}
 use Rattle.rv_board.proofs.Knowing.{knows_own, known_is}

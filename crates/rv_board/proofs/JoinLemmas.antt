@@ -9,8 +9,10 @@ use Rattle.rv_model.specs.declared.entry.Entry.{Entry}
 use Rattle.rv_model.specs.Setups.{Setup}
 use Rattle.rv_model.specs.Seats.{is_within, is_among, entries_of}
 use Rattle.rv_board.specs.declared.view.View.{View}
-use Rattle.rv_board.specs.Known.{knows, Begun, numbers, blank}
-use Rattle.rv_board.specs.Rule.{word_at, nothing_else, Fits, Kept, KeptPlainly, spent_view, joined}
+use Rattle.rv_board.specs.Known.{numbers, blank}
+use Rattle.rv_board.specs.inner.Known.{knows, Begun}
+use Rattle.rv_board.specs.Rule.{spent_view, joined}
+use Rattle.rv_board.specs.inner.Rule.{word_at, nothing_else, Fits, Kept, KeptPlainly}
 use Rattle.rv_board.proofs.Knowing.{not_true, none_of, none_after, none_either, knows_blank, none_blank, begun_blank}
 use Rattle.rv_board.proofs.ViewLemmas.{each_set, blank_within, AllApart}
 use Rattle.rv_board.proofs.SplitLemmas.{IsSteady}

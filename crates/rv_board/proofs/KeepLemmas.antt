@@ -17,9 +17,10 @@ use Rattle.rv_model.specs.Seats.{Seat, is_within, entries_of}
 use Rattle.rv_core.specs.Advance.{acted}
 use Rattle.rv_core.specs.Setup.{FitsAct, ActFits, word_index, table_of_act, start_of_act, judges_of}
 use Rattle.rv_board.specs.declared.view.View.{View}
-use Rattle.rv_board.specs.Known.{knows, Begun}
-use Rattle.rv_board.specs.Rule.{width, word_at, IsMachine, Fits, Kept, with_seen}
-use Rattle.rv_board.specs.Steps.{Ours, Saw, Made, made_after}
+use Rattle.rv_board.specs.inner.Known.{knows, Begun}
+use Rattle.rv_board.specs.Rule.{width}
+use Rattle.rv_board.specs.inner.Rule.{word_at, IsMachine, Fits, Kept, with_seen}
+use Rattle.rv_board.specs.inner.Steps.{Ours, Saw, Made, made_after}
 use Rattle.rv_board.proofs.Knowing.{not_true, none_append, none_is, none_append_is, begun_blank, knows_own}
 use Rattle.rv_board.proofs.SoundLemmas.{sound-snoc, filter_append}
 use Rattle.rv_board.proofs.WordSteps.{place-within, Acted}

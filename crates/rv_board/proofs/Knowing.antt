@@ -5,7 +5,8 @@ use Rattle.std.proofs.lemmas.List.Elements.{filter-append}
 use Rattle.rv_model.specs.declared.entry.Entry.{Entry}
 use Rattle.rv_model.specs.Histories.{NoneOf}
 use Rattle.rv_model.specs.Seats.{Seat, is_within, is_among, known_of, entries_of}
-use Rattle.rv_board.specs.Known.{known_by, knows, blank, Begun}
+use Rattle.rv_board.specs.Known.{blank}
+use Rattle.rv_board.specs.inner.Known.{known_by, knows, Begun}
 
 -- what is not true is false
 no : (b : Bool) → (b ≡ true → ⊥) → b ≡ false

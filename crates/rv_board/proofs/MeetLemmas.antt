@@ -5,7 +5,8 @@ use Rattle.rv_model.specs.Seats.{Seat}
 use Rattle.rv_model.specs.Setups.{Setup, start_of}
 use Rattle.rv_word.specs.Words.{packed}
 use Rattle.rv_board.specs.Rule.{width}
-use Rattle.rv_board.specs.Seats.{BoardId, SeatValue, board_id, seat_value}
+use Rattle.rv_board.specs.Seats.{BoardId, SeatValue, seat_value}
+use Rattle.rv_board.specs.inner.Seats.{board_id}
 
 -- the seat's table is the board's, and the seat's setup and the one that the words are ruled by are the one that contracts see
 pub record Meet (mine theirs : TableId) (own key setup : Setup) : Type 0 where

@@ -5,7 +5,8 @@ use Rattle.std.proofs.lemmas.Bool.Decides.{nat_tests}
 use Rattle.std.proofs.lemmas.List.Folds.{list_any-append}
 use Rattle.rv_model.specs.Seats.{Seat, is_within, is_among}
 use Rattle.rv_board.specs.declared.view.View.{View}
-use Rattle.rv_board.specs.Known.{known_by, knows, count_from, numbers}
+use Rattle.rv_board.specs.Known.{count_from, numbers}
+use Rattle.rv_board.specs.inner.Known.{known_by, knows}
 use Rattle.rv_board.specs.Rule.{joined}
 
 -- no number is among none

@@ -16,10 +16,13 @@ use Rattle.rv_core.specs.Advance.{acted, advanced}
 use Rattle.rv_core.specs.Setup.{word_index, table_at, table_of_act, start_of_act, judges_of}
 use Rattle.rv_board.specs.declared.view.View.{View}
 use Rattle.rv_board.specs.Deliveries.{IsMade, IsGivenUp}
-use Rattle.rv_board.specs.Known.{knows, blank}
-use Rattle.rv_board.specs.Rule.{word_at, with_seen, view}
-use Rattle.rv_board.specs.Seats.{SeatValue, board_id, seat_value, IsUsable, Acts}
-use Rattle.rv_board.specs.Steps.{Ours, Saw, Made, made_after}
+use Rattle.rv_board.specs.Known.{blank}
+use Rattle.rv_board.specs.inner.Known.{knows}
+use Rattle.rv_board.specs.Rule.{view}
+use Rattle.rv_board.specs.inner.Rule.{word_at, with_seen}
+use Rattle.rv_board.specs.Seats.{SeatValue, seat_value, IsUsable, Acts}
+use Rattle.rv_board.specs.inner.Seats.{board_id}
+use Rattle.rv_board.specs.inner.Steps.{Ours, Saw, Made, made_after}
 use Rattle.rv_board.proofs.Knowing.{none_append, none_is, knows_own, known_is}
 use Rattle.rv_board.proofs.SoundLemmas.{changes, filter_append}
 use Rattle.rv_board.proofs.CallLemmas.{entry_of, grown_by, usable}

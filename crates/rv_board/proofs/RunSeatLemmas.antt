@@ -5,7 +5,8 @@ use Rattle.std.proofs.lemmas.Bool.Decides.{nat_tests}
 use Rattle.std.proofs.lemmas.List.Elements.{filter-append, All-nil, All-cons, All-head, All-weaker}
 use Rattle.rv_model.specs.declared.entry.Entry.{Entry}
 use Rattle.rv_model.specs.Seats.{Seat, is_within, is_among, known_of, entries_of}
-use Rattle.rv_board.specs.Known.{known_by, part}
+use Rattle.rv_board.specs.Known.{part}
+use Rattle.rv_board.specs.inner.Known.{known_by}
 use Rattle.rv_board.specs.RunSeats.{HasTakenIn}
 use Rattle.rv_board.specs.Seats.{BoardId, SeatValue, SeatGrows, ExtendsSeen, Joins}
 use Rattle.rv_board.proofs.GrowLemmas.{own_within, other_within, same_known}

@@ -10,8 +10,10 @@ use Rattle.rv_model.specs.Setups.{Setup}
 use Rattle.rv_model.specs.Seats.{Seat, is_within}
 use Rattle.rv_core.specs.Setup.{IsSetup, judges_of}
 use Rattle.rv_board.specs.declared.view.View.{View}
-use Rattle.rv_board.specs.Known.{knows, Begun, part}
-use Rattle.rv_board.specs.Rule.{width, word_at, nothing_else, IsOpening, Fits, Kept, KeptPlainly, first_view, cut_left, cut_right}
+use Rattle.rv_board.specs.Known.{part}
+use Rattle.rv_board.specs.inner.Known.{knows, Begun}
+use Rattle.rv_board.specs.Rule.{width, cut_left, cut_right}
+use Rattle.rv_board.specs.inner.Rule.{word_at, nothing_else, IsOpening, Fits, Kept, KeptPlainly, first_view}
 use Rattle.rv_board.proofs.Knowing.{none_of, begun_blank, cut_left_within, cut_right_within}
 use Rattle.rv_board.proofs.ViewLemmas.{each_set, blank_within, apart_set, apart_snoc}
 use Rattle.rv_board.proofs.SoundLemmas.{sound-empty}

@@ -11,8 +11,9 @@ use Rattle.rv_model.specs.Setups.{Setup}
 use Rattle.rv_core.specs.Advance.{acted}
 use Rattle.rv_core.specs.Setup.{word_index, table_of_act, start_of_act}
 use Rattle.rv_board.specs.declared.view.View.{View}
-use Rattle.rv_board.specs.Rule.{width, word_at, nothing_else, KeptPlainly, with_seen}
-use Rattle.rv_board.specs.Steps.{Ours, Made, IsActStep, IsLoadStep, IsExchangeStep, made_after}
+use Rattle.rv_board.specs.Rule.{width}
+use Rattle.rv_board.specs.inner.Rule.{word_at, nothing_else, KeptPlainly, with_seen}
+use Rattle.rv_board.specs.inner.Steps.{Ours, Made, IsActStep, IsLoadStep, IsExchangeStep, made_after}
 use Rattle.rv_board.proofs.WordSteps.{place-within, Acted, acts}
 use Rattle.rv_board.proofs.ViewLemmas.{St}
 use Rattle.rv_board.proofs.KeepLemmas.{CanMake, sees_with, makes_with}

@@ -10,7 +10,8 @@ use Rattle.rv_model.specs.declared.entry.Act.{Act}
 use Rattle.rv_model.specs.declared.entry.Entry.{Entry}
 use Rattle.rv_model.specs.Seats.{Seat, is_within, entries_of}
 use Rattle.rv_board.specs.declared.view.View.{View}
-use Rattle.rv_board.specs.Known.{known_by, knows, Begun, blank, with_list}
+use Rattle.rv_board.specs.Known.{blank}
+use Rattle.rv_board.specs.inner.Known.{known_by, knows, Begun, with_list}
 use Rattle.rv_board.proofs.Knowing.{none_append, knows_blank}
 
 -- a table with its words and views

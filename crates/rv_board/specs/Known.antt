@@ -1,21 +1,7 @@
 -- What a seat has seen of a history, and all numbers that it knows.
-use Rattle.std.specs.Prelude.{◌≡◌, ℕ, zero, suc, ◌-◌, Bool, ◌||◌, List, [], ◌∷◌, ◌++◌}
+use Rattle.std.specs.Prelude.{ℕ, zero, suc, ◌-◌, List, [], ◌∷◌, ◌++◌}
 use Rattle.rv_model.specs.declared.entry.Entry.{Entry}
-use Rattle.rv_model.specs.Seats.{Seat, is_within, is_among, entries_of}
-
--- from the number up to the end, or one of those that were joined in
-unfoldable pub known_by : ℕ → ℕ → List ℕ → ℕ → Bool
-known_by number end joined_in n = is_within number end n || is_among joined_in n
-
--- what the seat knows, whatever it has seen
-abbrev pub knows : Seat → ℕ → Bool
-knows p = known_by p.number p.end p.joined_in
-
--- the history begins with what was seen, and has no further entry by these numbers
-pub record Begun (history : List Entry) (p : Seat) : Type 0 where
-  pub rest : List Entry
-  pub whole : history ≡ p.seen ++ rest
-  pub none : entries_of (knows p) rest ≡ []
+use Rattle.rv_model.specs.Seats.{Seat}
 
 -- so many numbers, from this one on
 abbrev pub count_from : ℕ → ℕ → List ℕ
@@ -33,7 +19,3 @@ part number end joined_in seen = record { number = number; end = end; joined_in 
 -- one that knows no number and has seen nothing
 abbrev pub blank : Seat
 blank = part 0 0 [] []
-
--- the same numbers, with this list
-abbrev pub with_list : Seat → List Entry → Seat
-with_list p history = part p.number p.end p.joined_in history

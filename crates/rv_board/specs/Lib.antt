@@ -4,4 +4,4 @@ pub mod Known
 pub mod Rule
 pub mod RunSeats
 pub mod Seats
-pub mod Steps
+pub mod inner

@@ -33,10 +33,6 @@ coded_board = code_by (TableId × Setup) (coded× table_id_coded coded_setup) (�
 abbrev pub coded_seat : Coded Entry → Coded SeatValue
 coded_seat entry = code_by (Seat × BoardId) (coded× (coded_part entry) coded_board) (λ s. (s.part, s.board)) (λ p. record { part = p.0; board = p.1 }) (λ _. refl)
 
--- the board of these
-abbrev pub board_id : TableId → Setup → BoardId
-board_id table setup = record { table = table; setup = setup }
-
 -- the seat of these
 abbrev pub seat_value : Seat → BoardId → SeatValue
 seat_value part board = record { part = part; board = board }

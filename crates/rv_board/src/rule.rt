@@ -10,7 +10,7 @@ use std::marker::{Brand, PhantomData};
 pub struct Law;
 
 impl TableRule<Act, View, Setup> for Law {
-    ghost use Rattle.rv_board.specs.Rule.{KeptPlainly, first_view};
+    ghost use Rattle.rv_board.specs.inner.Rule.{KeptPlainly, first_view};
 
     ghost holds = { KeptPlainly };
 
@@ -21,7 +21,7 @@ impl TableRule<Act, View, Setup> for Law {
 pub(crate) struct LoadStep;
 
 impl Play<Act, View> for LoadStep {
-    ghost use Rattle.rv_board.specs.Steps.{IsLoadStep};
+    ghost use Rattle.rv_board.specs.inner.Steps.{IsLoadStep};
 
     ghost then = { IsLoadStep };
 }
@@ -30,7 +30,7 @@ impl Play<Act, View> for LoadStep {
 pub(crate) struct ExchangeStep;
 
 impl Play<Act, View> for ExchangeStep {
-    ghost use Rattle.rv_board.specs.Steps.{IsExchangeStep};
+    ghost use Rattle.rv_board.specs.inner.Steps.{IsExchangeStep};
 
     ghost then = { IsExchangeStep };
 }
@@ -39,7 +39,7 @@ impl Play<Act, View> for ExchangeStep {
 pub(crate) struct StopStep;
 
 impl Play<Act, View> for StopStep {
-    ghost use Rattle.rv_board.specs.Steps.{IsStopStep};
+    ghost use Rattle.rv_board.specs.inner.Steps.{IsStopStep};
 
     ghost then = { IsStopStep };
 }
@@ -48,7 +48,7 @@ impl Play<Act, View> for StopStep {
 pub(crate) struct LookStep;
 
 impl Play<Act, View> for LookStep {
-    ghost use Rattle.rv_board.specs.Steps.{IsLookStep};
+    ghost use Rattle.rv_board.specs.inner.Steps.{IsLookStep};
 
     ghost then = { IsLookStep };
 }
@@ -57,7 +57,7 @@ impl Play<Act, View> for LookStep {
 pub(crate) struct RaiseStep;
 
 impl Play<Act, View> for RaiseStep {
-    ghost use Rattle.rv_board.specs.Steps.{IsRaiseStep};
+    ghost use Rattle.rv_board.specs.inner.Steps.{IsRaiseStep};
 
     ghost then = { IsRaiseStep };
 }
@@ -66,7 +66,7 @@ impl Play<Act, View> for RaiseStep {
 pub(crate) struct LowerStep;
 
 impl Play<Act, View> for LowerStep {
-    ghost use Rattle.rv_board.specs.Steps.{IsLowerStep};
+    ghost use Rattle.rv_board.specs.inner.Steps.{IsLowerStep};
 
     ghost then = { IsLowerStep };
 }
@@ -75,7 +75,7 @@ impl Play<Act, View> for LowerStep {
 pub(crate) struct ClearStep;
 
 impl Play<Act, View> for ClearStep {
-    ghost use Rattle.rv_board.specs.Steps.{IsClearStep};
+    ghost use Rattle.rv_board.specs.inner.Steps.{IsClearStep};
 
     ghost then = { IsClearStep };
 }
@@ -84,7 +84,7 @@ impl Play<Act, View> for ClearStep {
 pub(crate) struct EndStep;
 
 impl Play<Act, View> for EndStep {
-    ghost use Rattle.rv_board.specs.Steps.{IsEndStep};
+    ghost use Rattle.rv_board.specs.inner.Steps.{IsEndStep};
 
     ghost then = { IsEndStep };
 }

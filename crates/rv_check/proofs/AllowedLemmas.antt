@@ -16,7 +16,7 @@ use Rattle.rv_core.specs.Setup.{FitsAct, table_at}
 use Rattle.rv_check.specs.declared.next.Due.{Due}
 use Rattle.rv_check.specs.declared.next.Next.{Next}
 use Rattle.rv_check.specs.declared.next.Next.TheVariants as next
-use Rattle.rv_check.specs.Nexts.{work_delivery, HasPlace, CanMove, IsDue, IsNext, ServesDue, Allows, lost_of, CountsTo, CountsLostTries}
+use Rattle.rv_check.specs.inner.Nexts.{work_delivery, HasPlace, CanMove, IsDue, IsNext, ServesDue, Allows, lost_of, CountsTo, CountsLostTries}
 use Rattle.rv_check.proofs.LostLemmas.{counted-thrice}
 use Rattle.rv_check.proofs.ServeLemmas.{look-is, halt-is}
 

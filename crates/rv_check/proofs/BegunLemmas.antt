@@ -22,8 +22,8 @@ use Rattle.rv_check.specs.declared.next.Due.{Due}
 use Rattle.rv_check.specs.declared.next.Next.{Next}
 use Rattle.rv_check.specs.declared.next.Next.TheVariants as next
 use Rattle.rv_check.specs.Beginnings.{HasBegun, IsBeginning}
-use Rattle.rv_check.specs.Nexts.{Allows, lost_of, CountsTo, CountsLostTries}
-use Rattle.rv_check.specs.Standing.{IsRun}
+use Rattle.rv_check.specs.inner.Nexts.{Allows, lost_of, CountsTo, CountsLostTries}
+use Rattle.rv_check.specs.inner.Standing.{IsRun}
 use Rattle.rv_check.proofs.BeginningLemmas.{played-more}
 use Rattle.rv_check.proofs.LostLemmas.{thrice-counted}
 use Rattle.rv_check.proofs.MoveLemmas.{may-allowed}

@@ -9,7 +9,7 @@ use Rattle.rv_core.specs.Setup.{judges_of}
 use Rattle.rv_journal.specs.EntryTexts.{entry_text, IsEntry}
 use Rattle.rv_check.specs.Checker.{IsJournalOf, CheckerValue, IsBegun, IsWhole, IsGoodJournal, IsBad, IsChecker}
 use Rattle.rv_check.specs.Run.{RunValue, BeginsRun}
-use Rattle.rv_check.specs.Standing.{AllPlayed}
+use Rattle.rv_check.specs.inner.Standing.{AllPlayed}
 use Rattle.rv_check.proofs.BeginningLemmas.{begins-front, begins-legal, legal-begins}
 
 -- the entries of lines and one more

@@ -3,7 +3,7 @@ use Rattle.std.proofs.Common.{◌≡◌, inl, inr, ℕ, suc, Bool, true, false, 
 use Rattle.std.proofs.lemmas.Grind.{flat_map-append}
 use Rattle.rv_check.specs.Checker.{CheckerValue, IsBegun}
 use Rattle.rv_check.specs.Readings.{pieces_joined, journal_by, has_no_end, with_line_ends, IsStopped, IsOpen, IsReader}
-use Rattle.rv_check.specs.Taking.{SameMaking, TakesJournalLine, one_more}
+use Rattle.rv_check.specs.inner.Taking.{SameMaking, TakesJournalLine, one_more}
 use Rattle.rv_check.proofs.ReaderLemmas.{stop-more, stop-long, stop-bad, open-next}
 
 -- pieces and one more

@@ -5,7 +5,7 @@ use Rattle.std.proofs.lemmas.List.{reverse-append, reverse-reverse}
 use Rattle.std.proofs.lemmas.List.Elements.{filter-append}
 use Rattle.rv_model.specs.declared.entry.Entry.{Entry}
 use Rattle.rv_model.specs.Histories.{changed, NoneOf, LostThrice}
-use Rattle.rv_check.specs.Nexts.{lost_of}
+use Rattle.rv_check.specs.inner.Nexts.{lost_of}
 
 -- nobody's entry stands in two lists, one behind the other
 none-append : (seat : ℕ) (a b : List Entry) → NoneOf seat a → NoneOf seat b → NoneOf seat (a ++ b)

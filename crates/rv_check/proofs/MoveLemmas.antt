@@ -16,7 +16,7 @@ use Rattle.rv_model.proofs.AgreeLemmas.{match-one}
 use Rattle.rv_check.specs.declared.next.Due.{Due}
 use Rattle.rv_check.specs.declared.next.Next.{Next}
 use Rattle.rv_check.specs.declared.next.Next.TheVariants as next
-use Rattle.rv_check.specs.Nexts.{turn_in, May, IsDue, IsNext, HasNoLostTry, ServesDue, IsLook, IsHalt, Allows, Settles, ends_by, Moves}
+use Rattle.rv_check.specs.inner.Nexts.{turn_in, May, IsDue, IsNext, HasNoLostTry, ServesDue, IsLook, IsHalt, Allows, Settles, ends_by, Moves}
 use Rattle.rv_check.proofs.SettleLemmas.{shown_in}
 use Rattle.rv_check.proofs.ServeLemmas.{look-is, halt-is, serves-makes, makes-serves, begins-due}
 use Rattle.rv_check.proofs.TurnLemmas.{turns-first, plays-look}

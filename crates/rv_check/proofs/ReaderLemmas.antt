@@ -8,7 +8,7 @@ use Rattle.rv_model.specs.declared.formula.Spec.{Spec}
 use Rattle.rv_journal.specs.EntryTexts.{entry_text, journal_of}
 use Rattle.rv_check.specs.Checker.{IsJournalOf, CheckerValue, IsBegun, IsWhole}
 use Rattle.rv_check.specs.Readings.{journal_by, with_more_text, has_no_end, with_line_ends, IsStopped, IsOpen}
-use Rattle.rv_check.specs.Taking.{one_more}
+use Rattle.rv_check.specs.inner.Taking.{one_more}
 use Rattle.rv_check.specs.Verdicts.{Journal, Begins, BeginsUpTo, IsYes, IsStuck, IsNo}
 use Rattle.rv_check.proofs.JournalLemmas.{journal-more}
 use Rattle.rv_check.proofs.LineEndLemmas.{no_end-append, end-in, one-line, long-line}

@@ -15,8 +15,8 @@ use Rattle.rv_core.specs.Setup.{judges_of}
 use Rattle.rv_check.specs.declared.next.Next.{Next}
 use Rattle.rv_check.specs.declared.next.Next.TheVariants as next
 use Rattle.rv_check.specs.Beginnings.{HasBegun, IsBeginning, FitWorks, FitsWork}
-use Rattle.rv_check.specs.Nexts.{MayEnd}
-use Rattle.rv_check.specs.Standing.{Stands, IsRun}
+use Rattle.rv_check.specs.inner.Nexts.{MayEnd}
+use Rattle.rv_check.specs.inner.Standing.{Stands, IsRun}
 use Rattle.rv_check.proofs.TurnLemmas.{some-may, ends-may, may-ends}
 
 -- where there is no work

@@ -9,7 +9,7 @@ use Rattle.rv_model.specs.Scripts.{hit_act, Makes}
 use Rattle.rv_model.specs.Setups.{Setup, slot_of}
 use Rattle.rv_model.specs.Works.{Work}
 use Rattle.rv_check.specs.declared.next.Due.{Due}
-use Rattle.rv_check.specs.Nexts.{work_delivery, IsDue, is_ending, ServesDue, IsLook, IsHalt}
+use Rattle.rv_check.specs.inner.Nexts.{work_delivery, IsDue, is_ending, ServesDue, IsLook, IsHalt}
 use Rattle.rv_check.proofs.SettleLemmas.{shown_in, shown-first}
 
 -- a look is the look

@@ -9,7 +9,7 @@ use Rattle.rv_core.specs.Advance.{FitsHit}
 use Rattle.rv_core.specs.Setup.{table_at}
 use Rattle.rv_check.specs.declared.next.Next.TheVariants as next
 use Rattle.rv_core.specs.Deliveries.{FitsDelivery}
-use Rattle.rv_check.specs.Nexts.{work_delivery, Settles}
+use Rattle.rv_check.specs.inner.Nexts.{work_delivery, Settles}
 use Rattle.rv_check.proofs.PlaceLemmas.{slice-first, slice-empty}
 
 -- those that a look shows on, between two places

@@ -22,8 +22,8 @@ use Rattle.rv_core.specs.Setup.{ActFits, FitsAct, word_index, table_of_act, star
 use Rattle.rv_core.proofs.CoreLemmas.{core-after, core-answer}
 use Rattle.rv_check.specs.declared.next.Next.{Next}
 use Rattle.rv_check.specs.declared.next.Next.TheVariants as next
-use Rattle.rv_check.specs.Nexts.{HasNoLostTry, Allows, Moves, CountsLostTries, after_other}
-use Rattle.rv_check.specs.Standing.{Stands, IsRun}
+use Rattle.rv_check.specs.inner.Nexts.{HasNoLostTry, Allows, Moves, CountsLostTries, after_other}
+use Rattle.rv_check.specs.inner.Standing.{Stands, IsRun}
 use Rattle.rv_check.proofs.ServeLemmas.{look-is}
 use Rattle.rv_check.proofs.BeginningLemmas.{played-more}
 use Rattle.rv_check.proofs.MoveLemmas.{may-after, moves-on}

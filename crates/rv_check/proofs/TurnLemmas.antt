@@ -13,7 +13,7 @@ use Rattle.rv_model.specs.Setups.{Setup, slot_of}
 use Rattle.rv_model.specs.Works.{Work}
 use Rattle.rv_check.specs.declared.next.Next.{Next}
 use Rattle.rv_check.specs.declared.next.Next.TheVariants as next
-use Rattle.rv_check.specs.Nexts.{turn_in, no_turn, May, IsNext, MayEnd}
+use Rattle.rv_check.specs.inner.Nexts.{turn_in, no_turn, May, IsNext, MayEnd}
 use Rattle.rv_check.proofs.SettleLemmas.{shown_in}
 use Rattle.rv_check.proofs.ServeLemmas.{begins-due}
 

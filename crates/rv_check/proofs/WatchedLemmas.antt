@@ -8,7 +8,7 @@ use Rattle.rv_model.specs.Setups.{Setup}
 use Rattle.rv_model.specs.Works.{Work}
 use Rattle.rv_check.specs.declared.next.Next.{Next}
 use Rattle.rv_check.specs.declared.next.Next.TheVariants as next
-use Rattle.rv_check.specs.Nexts.{May, IsNext, lost_of, CountsTo, CountsLostTries, after_other}
+use Rattle.rv_check.specs.inner.Nexts.{May, IsNext, lost_of, CountsTo, CountsLostTries, after_other}
 
 module _ (s : Setup) (v : Work) (e : Entry) where
   -- it may be next

@@ -3,7 +3,7 @@ ghost use Rattle.std.specs.Prelude.{◌≡◌, ◌≢◌, ℕ, ◌≤◌, List, 
 ghost use Rattle.rv_model.specs.declared.formula.Spec.{Spec};
 ghost use Rattle.rv_check.specs.Checker.{CheckerValue};
 ghost use Rattle.rv_check.specs.Readings.{ReaderValue, coded_reader, pieces_joined, journal_by, with_more_text, grown, has_no_end, IsFed};
-ghost use Rattle.rv_check.specs.Taking.{TakesJournalLine};
+ghost use Rattle.rv_check.specs.inner.Taking.{TakesJournalLine};
 ghost use Rattle.rv_check.specs.Verdicts.{Journal, VerdictHolds, OneVerdict};
 
 use crate::checker::Checker;

@@ -4,7 +4,7 @@ ghost use Rattle.rv_core.specs.Judged.{JudgesBySpecs};
 ghost use Rattle.rv_check.specs.declared.next.Next.TheVariants.{Look};
 ghost use Rattle.rv_check.specs.Beginnings.{FitWorks};
 ghost use Rattle.rv_check.specs.Run.{RunValue, BeginsRun};
-ghost use Rattle.rv_check.specs.Standing.{AllPlayed};
+ghost use Rattle.rv_check.specs.inner.Standing.{AllPlayed};
 
 use crate::next::Next;
 use crate::script::{after, allows, may_end, watch_all};
@@ -31,7 +31,7 @@ impl Model for Run {
     ghost use Rattle.rv_model.specs.contracts.entry.Entry as entry;
     ghost use Rattle.rv_model.specs.contracts.work.CpuWork as work;
     ghost use Rattle.rv_check.specs.Run.{RunValue};
-    ghost use Rattle.rv_check.specs.Standing.{coded_run, IsRun};
+    ghost use Rattle.rv_check.specs.inner.Standing.{coded_run, IsRun};
 
     ghost Value = { RunValue };
 

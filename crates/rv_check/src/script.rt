@@ -6,7 +6,7 @@ ghost use Rattle.rv_model.specs.declared.entry.Answer.{Answer};
 ghost use Rattle.rv_check.specs.declared.next.Next.{Next};
 ghost use Rattle.rv_check.specs.declared.next.Next.TheVariants.{Look, Deliver};
 ghost use Rattle.rv_core.specs.Deliveries.{FitsDelivery};
-ghost use Rattle.rv_check.specs.Nexts.{IsNext, HasPlace, IsDue, IsHalt, ServesDue, Allows, MayEnd, Settles, Moves, CanMove, after_other};
+ghost use Rattle.rv_check.specs.inner.Nexts.{IsNext, HasPlace, IsDue, IsHalt, ServesDue, Allows, MayEnd, Settles, Moves, CanMove, after_other};
 
 use crate::entries::changes;
 use crate::next::{Due, Next};

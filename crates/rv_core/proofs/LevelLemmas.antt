@@ -10,7 +10,8 @@ use Rattle.rv_model.specs.declared.hit.What.TheVariants.{Ltl}
 use Rattle.rv_model.specs.Numbers.{has_bit, number_of, one_if}
 use Rattle.rv_model.specs.Phases.{level_by, letter_at}
 use Rattle.rv_model.proofs.NumberLemmas.{is_number_of, bit_at-number_of, number_of-lt}
-use Rattle.rv_core.specs.Levels.{new_levels, LevelsAreBits}
+use Rattle.rv_core.specs.Levels.{new_levels}
+use Rattle.rv_core.specs.inner.Levels.{LevelsAreBits}
 
 -- one level: `on` wins over `off`
 level-bit : (was : Bool) (on off : ℕ) → on < 2 → off < 2 → max (min (one_if was) (1 - off)) on ≡ one_if (if on == 1 then true else if off == 1 then false else was)

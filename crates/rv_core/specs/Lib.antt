@@ -4,3 +4,4 @@ pub mod Deliveries
 pub mod Judged
 pub mod Levels
 pub mod Setup
+pub mod inner

@@ -14,11 +14,11 @@ use Rattle.rv_dot.specs.declared.moves.Move.{Move}
 use Rattle.rv_dot.specs.Statements.{Claim}
 use Rattle.rv_dot.specs.Names.{is_event_name}
 use Rattle.rv_dot.specs.Gathered.{Arc, state_in, states_in, arcs_in, fits, events_fit, all_fit, is_marked}
-use Rattle.rv_text.specs.Ascending.{Ascends}
+use Rattle.rv_text.specs.inner.Ascending.{Ascends}
 use Rattle.rv_dot.specs.Members.{IsMember}
 use Rattle.rv_dot.specs.Sets.{ascending, stands_in, number_in}
 use Rattle.rv_dot.specs.Moves.{moves_of, arc_move, edge_of}
-use Rattle.rv_dot.specs.Clashes.{has_clash}
+use Rattle.rv_dot.specs.inner.Clashes.{has_clash}
 use Rattle.rv_dot.specs.Dot.{bits_of, marked_or_initial, ends_declared, has_conflict, states_from, events_from, machine_from}
 use Rattle.rv_dot.proofs.BitLaws.{bits_below}
 use Rattle.rv_dot.proofs.ConflictLaws.{IsNumbered, arc_of_move, move_of_arc, clash_is_conflict}

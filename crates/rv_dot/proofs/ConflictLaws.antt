@@ -9,7 +9,7 @@ use Rattle.rv_dot.specs.Gathered.{Arc}
 use Rattle.rv_dot.specs.Members.{IsMember}
 use Rattle.rv_dot.specs.Sets.{stands_in, number_in}
 use Rattle.rv_dot.specs.Moves.{moves_of, arc_move}
-use Rattle.rv_dot.specs.Clashes.{has_clash}
+use Rattle.rv_dot.specs.inner.Clashes.{has_clash}
 use Rattle.rv_dot.specs.Dot.{are_apart, has_conflict}
 use Rattle.rv_dot.proofs.MemberLaws.{and_true, member_map, map_member, list_any_member, list_any_from}
 use Rattle.rv_dot.proofs.MoveSets.{moves_ascend, moves_members}

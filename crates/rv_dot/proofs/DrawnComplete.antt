@@ -12,7 +12,7 @@ use Rattle.rv_dot.specs.Gathered.{Arc, states_in, targets_in, arcs_in, is_marked
 use Rattle.rv_dot.specs.Members.{IsMember}
 use Rattle.rv_dot.specs.Sets.{ascending, stands_in}
 use Rattle.rv_dot.specs.Moves.{move_cmp, moves_of, arc_move, edge_of}
-use Rattle.rv_dot.specs.Clashes.{has_clash}
+use Rattle.rv_dot.specs.inner.Clashes.{has_clash}
 use Rattle.rv_dot.specs.Canonical.{arc_named}
 use Rattle.rv_dot.specs.Dot.{ends_declared, states_from, events_from, bits_of, marked_or_initial, initial_of, machine_of, dot_of}
 use Rattle.rv_dot.specs.Drawn.{IsDrawnBy, IsDotOf}

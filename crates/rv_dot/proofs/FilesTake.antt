@@ -10,12 +10,12 @@ use Rattle.std.proofs.lemmas.Option.{same_Some}
 use Rattle.std.specs.Cmp.Lexicographic.{bytes_decides}
 use Rattle.std.proofs.lemmas.Bool.Decides.{nat_tests}
 use Rattle.rv_dot.specs.declared.token.Mark.TheVariants.{OpenBrace, CloseBrace}
-use Rattle.rv_text.specs.Unreads.{IsReadAs}
+use Rattle.rv_text.specs.inner.Unreads.{IsReadAs}
 use Rattle.rv_dot.specs.Tokens.{Lexeme, sign, word}
 use Rattle.rv_dot.specs.Marks.{expects}
 use Rattle.rv_dot.specs.Lists.{front_word}
 use Rattle.rv_dot.specs.Statements.{Claim, statements_at, claims_of}
-use Rattle.rv_dot.specs.Held.{claims}
+use Rattle.rv_dot.specs.inner.Held.{claims}
 use Rattle.rv_dot.specs.Grammar.{with_semicolon, File, file, IsFile, file_says}
 use Rattle.rv_dot.proofs.MarkLaws.{bind_some, chosen, expects_takes}
 use Rattle.rv_dot.proofs.ListsTake.{word_takes}

@@ -10,7 +10,7 @@ use Rattle.rv_dot.specs.declared.saying.Saying.{Saying}
 use Rattle.rv_dot.specs.declared.gather.Arc.{Arc as Held}
 use Rattle.rv_dot.specs.Statements.{Claim}
 use Rattle.rv_dot.specs.Gathered.{Arc, arcs_of}
-use Rattle.rv_dot.specs.Held.{claim_of, sayings_claims, arc, bytes_of}
+use Rattle.rv_dot.specs.inner.Held.{claim_of, sayings_claims, arc, bytes_of}
 
 -- at most one in front
 option_front : {A : Type 0} (o : Option A) → cons_option o [] ≡ option_to_list o

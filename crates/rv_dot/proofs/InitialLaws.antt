@@ -17,10 +17,10 @@ use Rattle.rv_dot.specs.declared.moves.Move.{Move}
 use Rattle.rv_dot.specs.Statements.{Claim}
 use Rattle.rv_dot.specs.Gathered.{Arc, states_in, arcs_in, all_fit, is_marked}
 use Rattle.rv_dot.specs.Sets.{ascending, stands_in, place_of}
-use Rattle.rv_dot.specs.Held.{bytes_of}
-use Rattle.rv_text.specs.Ascending.{Ascends}
+use Rattle.rv_dot.specs.inner.Held.{bytes_of}
+use Rattle.rv_text.specs.inner.Ascending.{Ascends}
 use Rattle.rv_dot.specs.Moves.{moves_of, arc_move, edge_of}
-use Rattle.rv_dot.specs.Clashes.{has_clash}
+use Rattle.rv_dot.specs.inner.Clashes.{has_clash}
 use Rattle.rv_dot.specs.Dot.{ends_declared, has_conflict, states_from, events_from, bits_of, marked_or_initial, machine_from, with_initial}
 use Rattle.rv_dot.proofs.AutomatonLaws.{IsDrawn, arcs_numbered, drawn_is_automaton}
 use Rattle.rv_dot.proofs.ConflictLaws.{clash_is_conflict}

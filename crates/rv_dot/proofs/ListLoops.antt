@@ -4,11 +4,11 @@ use Rattle.std.specs.Option.{option_map}
 use Rattle.std.proofs.lemmas.List.{append-nil}
 use Rattle.rv_text.specs.declared.unread.Unread.{Unread}
 use Rattle.rv_text.specs.declared.unread.Unread.TheVariants.{Memory, Syntax}
-use Rattle.rv_text.specs.Unreads.{Fails}
+use Rattle.rv_text.specs.inner.Unreads.{Fails}
 use Rattle.rv_dot.specs.declared.token.Mark.{Mark}
 use Rattle.rv_dot.specs.declared.token.DotToken.{DotToken}
 use Rattle.rv_dot.specs.Tokens.{Lexeme, ◌>>=◌}
-use Rattle.rv_dot.specs.Held.{lexemes}
+use Rattle.rv_dot.specs.inner.Held.{lexemes}
 use Rattle.rv_dot.specs.Marks.{begins, past_mark}
 use Rattle.rv_dot.specs.Lists.{items_within, items_at}
 use Rattle.rv_dot.proofs.Lengths.{length_lexemes}

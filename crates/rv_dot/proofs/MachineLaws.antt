@@ -9,7 +9,7 @@ use Rattle.rv_model.specs.declared.automaton.Edge.{Edge}
 use Rattle.rv_model.specs.Machine.{Machine}
 use Rattle.rv_model.specs.WellFormed.{EdgeIsBefore, IsAutomaton}
 use Rattle.rv_dot.specs.Gathered.{Arc}
-use Rattle.rv_text.specs.Ascending.{Ascends}
+use Rattle.rv_text.specs.inner.Ascending.{Ascends}
 use Rattle.rv_dot.specs.Members.{IsMember}
 use Rattle.rv_dot.specs.Sets.{ascending, place_of, number_in}
 use Rattle.rv_dot.specs.Moves.{moves_of, arc_move}

@@ -6,7 +6,7 @@ use Rattle.std.specs.declared.option.Option.{Option}
 use Rattle.std.specs.declared.option.Option.TheVariants.{None, Some}
 use Rattle.std.specs.declared.cmp.Ordering.{Ordering}
 use Rattle.std.specs.declared.cmp.Ordering.TheVariants.{Less}
-use Rattle.rv_text.specs.Ascending.{Ascends}
+use Rattle.rv_text.specs.inner.Ascending.{Ascends}
 use Rattle.rv_dot.specs.Members.{IsMember}
 use Rattle.rv_dot.proofs.SetOrder.{all_from_members, member_of_all}
 

@@ -8,9 +8,9 @@ use Rattle.std.specs.List.{AllByRecursion}
 use Rattle.std.proofs.lemmas.Bool.Decides.{nat_tests}
 use Rattle.rv_dot.specs.declared.moves.Move.{Move}
 use Rattle.rv_dot.specs.Members.{IsMember}
-use Rattle.rv_text.specs.Ascending.{Ascends}
+use Rattle.rv_text.specs.inner.Ascending.{Ascends}
 use Rattle.rv_dot.specs.Moves.{move_cmp}
-use Rattle.rv_dot.specs.Clashes.{same_key, has_clash}
+use Rattle.rv_dot.specs.inner.Clashes.{same_key, has_clash}
 use Rattle.rv_dot.proofs.MoveSets.{nat_less, nat_same}
 
 -- by from, then by event, then by to

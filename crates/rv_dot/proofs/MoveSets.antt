@@ -13,8 +13,8 @@ use Rattle.rv_dot.specs.contracts.moves.MoveOrd.TheImpl.Laws.{total-law}
 use Rattle.rv_dot.specs.declared.moves.Move.{Move}
 use Rattle.rv_dot.specs.declared.gather.Arc.{Arc as Held}
 use Rattle.rv_dot.specs.Gathered.{Arc}
-use Rattle.rv_dot.specs.Held.{arc}
-use Rattle.rv_text.specs.Ascending.{Ascends}
+use Rattle.rv_dot.specs.inner.Held.{arc}
+use Rattle.rv_text.specs.inner.Ascending.{Ascends}
 use Rattle.rv_dot.specs.Members.{IsMember}
 use Rattle.rv_dot.specs.Moves.{move_cmp, moves_of, arc_move}
 use Rattle.rv_dot.proofs.SetOrder.{fold_ascends, fold_members, members_fold}

@@ -9,9 +9,9 @@ use Rattle.std.proofs.lemmas.Bool.Decides.{nat_tests}
 use Rattle.rv_model.specs.declared.automaton.Edge.{Edge}
 use Rattle.rv_model.specs.WellFormed.{IsBefore, EdgeIsBefore}
 use Rattle.rv_dot.specs.declared.moves.Move.{Move}
-use Rattle.rv_text.specs.Ascending.{Ascends}
+use Rattle.rv_text.specs.inner.Ascending.{Ascends}
 use Rattle.rv_dot.specs.Moves.{move_cmp, moves_of, edge_of}
-use Rattle.rv_dot.specs.Clashes.{same_key, has_clash}
+use Rattle.rv_dot.specs.inner.Clashes.{same_key, has_clash}
 use Rattle.rv_dot.proofs.MemberLaws.{AllLater, place_of_member}
 use Rattle.rv_dot.proofs.MoveSets.{moves_total, same_move, moves_ascend, moves_members}
 use Rattle.rv_dot.proofs.SetOrder.{all_from_members, one_list}

@@ -12,11 +12,11 @@ use Rattle.rv_model.specs.Machine.{Machine}
 use Rattle.rv_model.specs.WellFormed.{IsNameOf, IsStateName, IsAutomaton, is_event_byte}
 use Rattle.rv_dot.specs.Statements.{Claim}
 use Rattle.rv_dot.specs.Gathered.{Arc, states_in, arcs_in, is_marked}
-use Rattle.rv_text.specs.Ascending.{Ascends}
+use Rattle.rv_text.specs.inner.Ascending.{Ascends}
 use Rattle.rv_dot.specs.Members.{IsMember}
 use Rattle.rv_dot.specs.Sets.{stands_in}
 use Rattle.rv_dot.specs.Moves.{moves_of, arc_move, edge_of}
-use Rattle.rv_dot.specs.Clashes.{has_clash}
+use Rattle.rv_dot.specs.inner.Clashes.{has_clash}
 use Rattle.rv_dot.specs.Canonical.{State, states_marked, arc_named, drawing_of, drawing_text, dot_text}
 use Rattle.rv_dot.specs.Dot.{ends_declared, states_from, events_from, bits_of, marked_or_initial, initial_of, machine_of, dot_of}
 use Rattle.rv_dot.proofs.CanonicalLaws.{names_marked}

@@ -9,7 +9,7 @@ use Rattle.std.specs.Cmp.Lexicographic.{slice_cmp}
 use Rattle.std.proofs.lemmas.List.Sums.{fold_push}
 use Rattle.std.proofs.lemmas.List.{map_more}
 use Rattle.rv_dot.specs.Sets.{ascending}
-use Rattle.rv_dot.specs.Held.{bytes_of}
+use Rattle.rv_dot.specs.inner.Held.{bytes_of}
 
 -- by bytes
 abbrev pub name_cmp : Bor (List ℕ) → Bor (List ℕ) → Ordering

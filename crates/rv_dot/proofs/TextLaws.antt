@@ -3,9 +3,9 @@ use Rattle.std.proofs.Common.{◌≡◌, ℕ, List, length, arith, ap, ◌∙◌
 use Rattle.std.specs.Prelude.{Result, Ok, Err, IfOk}
 use Rattle.rv_dot.specs.declared.token.DotToken.{DotToken}
 use Rattle.rv_text.specs.declared.unread.Unread.{Unread}
-use Rattle.rv_text.specs.Unreads.{IsReadAs}
+use Rattle.rv_text.specs.inner.Unreads.{IsReadAs}
 use Rattle.rv_dot.specs.Tokens.{tokens_of}
-use Rattle.rv_dot.specs.Held.{lexemes}
+use Rattle.rv_dot.specs.inner.Held.{lexemes}
 use Rattle.rv_dot.specs.Pieces.{Piece, SplitsInto, tokens_in}
 use Rattle.rv_dot.specs.Statements.{Claim, claims_of}
 use Rattle.rv_dot.specs.Grammar.{File, file_says}

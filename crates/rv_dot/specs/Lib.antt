@@ -8,14 +8,11 @@ pub mod Marks
 pub mod Lists
 pub mod Statements
 pub mod Gathered
-pub mod Held
-pub mod Gathering
 pub mod Moves
-pub mod Clashes
 pub mod Grammar
 pub mod Pieces
 pub mod Text
 pub mod Canonical
 pub mod Dot
-pub mod Numberings
 pub mod Drawn
+pub mod inner

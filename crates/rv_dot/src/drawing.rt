@@ -1,11 +1,11 @@
 //! The automaton of names and moves that fit together.
 ghost use Rattle.std.specs.Prelude.{◌≡◌, ◌<◌, ◌≤◌, ◌+◌, ◌*◌, IfOk, map, All, length, if◌then◌else◌};
 ghost use Rattle.rv_model.specs.WellFormed.{IsAutomaton};
-ghost use Rattle.rv_dot.specs.Held.{sayings_claims, bytes_of};
+ghost use Rattle.rv_dot.specs.inner.Held.{sayings_claims, bytes_of};
 ghost use Rattle.rv_dot.specs.Gathered.{is_marked};
 ghost use Rattle.rv_dot.specs.Moves.{edge_of};
 ghost use Rattle.rv_dot.specs.Dot.{bits_of, marked_or_initial};
-ghost use Rattle.rv_dot.specs.Numberings.{states_by, machine_by};
+ghost use Rattle.rv_dot.specs.inner.Numberings.{states_by, machine_by};
 
 use crate::gather::is_marked;
 use crate::moves::Move;

@@ -3,7 +3,7 @@ ghost use Rattle.std.specs.Prelude.{◌≡◌, ◌<◌, ◌≤◌, ◌+◌, leng
 ghost use Rattle.std.specs.Option.{option_map};
 ghost use Rattle.rv_dot.specs.Runs.{begins_with};
 ghost use Rattle.rv_dot.specs.Tokens.{mark_of, comment_of, string_of, front_of};
-ghost use Rattle.rv_dot.specs.Held.{lexeme};
+ghost use Rattle.rv_dot.specs.inner.Held.{lexeme};
 
 use crate::runs::{begins_with, is_word_byte, line_len, pair_len, string_len, word_len};
 use crate::token::{DotToken, Mark};

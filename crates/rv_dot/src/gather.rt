@@ -2,8 +2,8 @@
 ghost use Rattle.std.specs.Prelude.{◌≡◌, map, IfOk};
 ghost use Rattle.std.specs.List.{filter_map, list_all};
 ghost use Rattle.std.specs.Option.{option_map};
-ghost use Rattle.rv_dot.specs.Held.{claim_of, sayings_claims, arc, bytes_of};
-ghost use Rattle.rv_dot.specs.Gathering.{gathered_by};
+ghost use Rattle.rv_dot.specs.inner.Held.{claim_of, sayings_claims, arc, bytes_of};
+ghost use Rattle.rv_dot.specs.inner.Gathering.{gathered_by};
 ghost use Rattle.rv_dot.specs.Names.{is_event_name};
 ghost use Rattle.rv_dot.specs.Gathered.{state_in, target_in, states_in, targets_in, arcs_with, arcs_of, arcs_in, fits, events_fit, marks_state, is_marked};
 

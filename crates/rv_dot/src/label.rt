@@ -3,7 +3,7 @@ ghost use Rattle.std.specs.Prelude.{◌≡◌, ◌≤◌, ◌<◌, ◌+◌, ◌^
 ghost use Rattle.std.specs.Option.{option_map};
 ghost use Rattle.rv_text.specs.Places.{is_blank};
 ghost use Rattle.rv_dot.specs.Labels.{piece_of, without_blanks, kept_len, trimmed, label_events};
-ghost use Rattle.rv_dot.specs.Held.{bytes_of};
+ghost use Rattle.rv_dot.specs.inner.Held.{bytes_of};
 
 use crate::runs::pair_len;
 use rv_text::ByteClass;

@@ -1,8 +1,8 @@
 //! Attributes in a bracket, and names in a group.
 ghost use Rattle.std.specs.Prelude.{◌≡◌, ◌<◌, ◌≤◌, length, IfSome, IfOk};
 ghost use Rattle.std.specs.Option.{option_map};
-ghost use Rattle.rv_text.specs.Unreads.{IsReadAs};
-ghost use Rattle.rv_dot.specs.Held.{lexeme, lexemes, setting};
+ghost use Rattle.rv_text.specs.inner.Unreads.{IsReadAs};
+ghost use Rattle.rv_dot.specs.inner.Held.{lexeme, lexemes, setting};
 ghost use Rattle.rv_dot.specs.Lists.{separated, attribute_at, bracket_at, names_at};
 
 use crate::attribute::Attribute;

@@ -1,7 +1,7 @@
 //! Single tokens: marks, words, values and names.
 ghost use Rattle.std.specs.Prelude.{◌≡◌, ◌<◌, ◌≤◌, length, IfSome};
 ghost use Rattle.std.specs.Option.{option_map};
-ghost use Rattle.rv_dot.specs.Held.{lexeme, lexemes};
+ghost use Rattle.rv_dot.specs.inner.Held.{lexeme, lexemes};
 ghost use Rattle.rv_dot.specs.Marks.{begins, expects, past_mark, is_assignment, mark_eq};
 ghost use Rattle.rv_dot.specs.Lists.{is_keyword, front_word, value_at, name_at};
 

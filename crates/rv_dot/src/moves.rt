@@ -1,7 +1,7 @@
 //! Moves by number, ascending, and whether two of them clash.
 
 ghost use Rattle.std.specs.Prelude.{◌≡◌};
-ghost use Rattle.rv_dot.specs.Clashes.{has_clash};
+ghost use Rattle.rv_dot.specs.inner.Clashes.{has_clash};
 
 /// From one state to another by an event, each by its number.
 #[derive(Clone, Copy, Debug, PartialEq, Eq, PartialOrd, Ord)]

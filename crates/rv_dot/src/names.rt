@@ -3,7 +3,7 @@ ghost use Rattle.std.specs.Prelude.{◌≡◌, ◌&&◌, ◌==◌, not, IfOk};
 ghost use Rattle.std.specs.List.{list_all};
 ghost use Rattle.rv_dot.specs.Runs.{is_word_byte};
 ghost use Rattle.std.specs.Option.{option_map};
-ghost use Rattle.rv_dot.specs.Held.{lexeme, bytes_of};
+ghost use Rattle.rv_dot.specs.inner.Held.{lexeme, bytes_of};
 ghost use Rattle.rv_dot.specs.Names.{content_of, name_byte, name_of, is_marker, is_state_name, is_event_name, is_marking_shape};
 
 use crate::runs::is_word_byte;

@@ -3,9 +3,9 @@ ghost use Rattle.std.specs.Prelude.{◌≡◌, ◌<◌, ◌∷◌, length, map, 
 ghost use Rattle.std.specs.List.{list_all};
 ghost use Rattle.std.specs.Cmp.Lexicographic.{slice_cmp};
 ghost use Rattle.std.specs.Ordering.{nat_cmp};
-ghost use Rattle.rv_text.specs.Ascending.{Ascends};
+ghost use Rattle.rv_text.specs.inner.Ascending.{Ascends};
 ghost use Rattle.rv_dot.specs.Sets.{ascending, place_of, stands_in, number_in};
-ghost use Rattle.rv_dot.specs.Held.{bytes_of, arc as arc_of};
+ghost use Rattle.rv_dot.specs.inner.Held.{bytes_of, arc as arc_of};
 ghost use Rattle.rv_dot.specs.Moves.{moves_of, arc_move};
 ghost use Rattle.rv_dot.specs.Dot.{ends_declared};
 
@@ -66,7 +66,7 @@ pub struct Numbering<'n, 's> {
 }
 
 impl Numbering<'_, '_> {
-    ghost use Rattle.rv_dot.specs.Numberings.{IsNumbering, states_by, events_by};
+    ghost use Rattle.rv_dot.specs.inner.Numberings.{IsNumbering, states_by, events_by};
 
     /// Whether the name is a state's.
     pub fn is_declared(&self, name: &[u8]) -> bool

@@ -3,12 +3,12 @@ ghost use Rattle.std.specs.Prelude.{◌≡◌, ◌↔◌, IfOk, List, ℕ, map, 
 ghost use Rattle.std.specs.List.{list_all, filter};
 ghost use Rattle.std.specs.Str.{bytes_eq};
 ghost use Rattle.rv_text.specs.Readings.{Gives, refused_with};
-ghost use Rattle.rv_text.specs.Unreads.{IsReadAs};
+ghost use Rattle.rv_text.specs.inner.Unreads.{IsReadAs};
 ghost use Rattle.rv_dot.specs.Text.{said_by};
-ghost use Rattle.rv_dot.specs.Held.{sayings_claims, arc, bytes_of};
+ghost use Rattle.rv_dot.specs.inner.Held.{sayings_claims, arc, bytes_of};
 ghost use Rattle.rv_dot.specs.Gathered.{states_in, arcs_in, all_fit};
 ghost use Rattle.rv_dot.specs.Sets.{ascending, stands_in};
-ghost use Rattle.rv_dot.specs.Numberings.{IsNumbering, states_by, events_by};
+ghost use Rattle.rv_dot.specs.inner.Numberings.{IsNumbering, states_by, events_by};
 ghost use Rattle.rv_model.specs.Machine.{Machine};
 ghost use Rattle.rv_dot.specs.Drawn.{IsDotOf};
 ghost use Rattle.rv_dot.specs.Dot.{initial_of, with_initial, machine_of, states_from, events_from, dot_of};

@@ -1,7 +1,7 @@
 //! What statements say, with names as they read.
 ghost use Rattle.std.specs.Prelude.{◌≡◌, IfOk};
 ghost use Rattle.std.specs.Option.{option_map};
-ghost use Rattle.rv_dot.specs.Held.{lexeme, claim, claims, claim_of, sayings_claims, bytes_of};
+ghost use Rattle.rv_dot.specs.inner.Held.{lexeme, claim, claims, claim_of, sayings_claims, bytes_of};
 ghost use Rattle.rv_dot.specs.Statements.{value_held};
 
 use crate::fact::Fact;

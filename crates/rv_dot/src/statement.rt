@@ -1,8 +1,8 @@
 //! From tokens to what the statements say.
 ghost use Rattle.std.specs.Prelude.{◌≡◌, ◌<◌, ◌≤◌, length, IfOk, IfSome, map, Some};
 ghost use Rattle.std.specs.Option.{option_map};
-ghost use Rattle.rv_text.specs.Unreads.{IsReadAs};
-ghost use Rattle.rv_dot.specs.Held.{lexeme, lexemes, claims};
+ghost use Rattle.rv_text.specs.inner.Unreads.{IsReadAs};
+ghost use Rattle.rv_dot.specs.inner.Held.{lexeme, lexemes, claims};
 ghost use Rattle.rv_dot.specs.Names.{name_of};
 ghost use Rattle.rv_dot.specs.Grammar.{File, IsFile, file, file_says};
 ghost use Rattle.rv_dot.specs.Statements.{declares, value_held, optional_bracket_at, declared_at, ranked_at, group_at, assignment_at, edge_at, named_at, statement_at, statements_at, claims_of};

@@ -1,9 +1,9 @@
 //! From a text's bytes to its tokens.
 ghost use Rattle.std.specs.Prelude.{◌≡◌, List, Some, IfOk, true};
 ghost use Rattle.rv_dot.specs.Pieces.{Piece, SplitsInto, tokens_in};
-ghost use Rattle.rv_text.specs.Unreads.{IsReadAs};
+ghost use Rattle.rv_text.specs.inner.Unreads.{IsReadAs};
 ghost use Rattle.rv_dot.specs.Tokens.{tokens_of};
-ghost use Rattle.rv_dot.specs.Held.{lexemes};
+ghost use Rattle.rv_dot.specs.inner.Held.{lexemes};
 
 use crate::front::front;
 use rv_text::Unread;

@@ -24,7 +24,8 @@ use Rattle.rv_core.specs.Setup.{judges_of}
 use Rattle.rv_board.specs.Deliveries.{DeliversOrStops}
 use Rattle.rv_board.specs.Seats.{BoardId, SeatValue, SeatGrows, Acts, Looks, Does}
 use Rattle.rv_board.proofs.GrowLemmas.{grows_none, grows_then}
-use Rattle.rv_feed.specs.Feeding.{played_by, Adds, Serves}
+use Rattle.rv_feed.specs.Feeding.{played_by, Adds}
+use Rattle.rv_feed.specs.inner.Feeding.{Serves}
 use Rattle.rv_feed.specs.Turns.{entries_played}
 use Rattle.rv_feed.proofs.DoneLemmas.{entries_played-append}
 

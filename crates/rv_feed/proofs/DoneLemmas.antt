@@ -11,7 +11,8 @@ use Rattle.rv_model.specs.Histories.{IsNoStop, IsPermittedTo}
 use Rattle.rv_model.proofs.ScriptLemmas.{played-own}
 use Rattle.rv_core.specs.Core.{CoreValue, Steps}
 use Rattle.rv_core.specs.Setup.{judges_of}
-use Rattle.rv_feed.specs.Turns.{entries_played, AllBy, Did, NoLooks}
+use Rattle.rv_feed.specs.Turns.{entries_played}
+use Rattle.rv_feed.specs.inner.Turns.{AllBy, Did, NoLooks}
 
 -- entries of both
 pub entries_played-append : (ps qs : List Played) → entries_played (ps ++ qs) ≡ entries_played ps ++ entries_played qs

@@ -5,7 +5,7 @@ use Rattle.rv_model.specs.declared.record.Record.{Record}
 use Rattle.rv_model.specs.declared.work.Turn.{Turn}
 use Rattle.rv_model.specs.Histories.{IsSound}
 use Rattle.rv_model.specs.Records.{script_records}
-use Rattle.rv_model.specs.ScriptParts.{turn_lists, GoesOn, EndsScript}
+use Rattle.rv_model.specs.inner.ScriptParts.{turn_lists, GoesOn, EndsScript}
 use Rattle.rv_model.specs.Scripts.{PlaysTurns}
 use Rattle.rv_model.specs.Setups.{Setup}
 use Rattle.rv_model.specs.Works.{Work, IsWork}
@@ -13,7 +13,8 @@ use Rattle.rv_model.proofs.ScriptPartLemmas.{goes-nothing, goes-join, goes-end, 
 use Rattle.rv_core.specs.Setup.{judges_of}
 use Rattle.rv_board.specs.Seats.{SeatValue}
 use Rattle.rv_feed.specs.Lane.{LaneValue}
-use Rattle.rv_feed.specs.Feeding.{FeedsTurn, CanFeed, FedSoFar, Feeds}
+use Rattle.rv_feed.specs.Feeding.{CanFeed, Feeds}
+use Rattle.rv_feed.specs.inner.Feeding.{FeedsTurn, FedSoFar}
 use Rattle.rv_feed.proofs.AddLemmas.{adds-none, adds-then}
 use Rattle.rv_feed.proofs.LaneLemmas.{names-in, names-next}
 use Rattle.rv_feed.proofs.FeedLemmas.{same-setup}

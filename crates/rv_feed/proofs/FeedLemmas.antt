@@ -7,13 +7,15 @@ use Rattle.rv_model.specs.declared.work.Delivery.{Delivery}
 use Rattle.rv_model.specs.declared.work.Turn.{Turn}
 use Rattle.rv_model.specs.Numbers.{has_bit}
 use Rattle.rv_model.specs.Records.{failed_outcome, record_of}
-use Rattle.rv_model.specs.ScriptParts.{TurnPart, LastPart}
+use Rattle.rv_model.specs.inner.ScriptParts.{TurnPart, LastPart}
 use Rattle.rv_model.specs.Scripts.{Played, is_enabled_by, fails}
 use Rattle.rv_model.specs.Setups.{Setup}
 use Rattle.rv_model.proofs.ScriptPartLemmas.{part-nothing, part-join, last-join, part-one, last-one, turn-goes, turn-ends, turn-halted}
 use Rattle.rv_board.specs.Seats.{BoardId, SeatValue, Looks, Does}
-use Rattle.rv_feed.specs.Lane.{LaneValue, AddsRecords}
-use Rattle.rv_feed.specs.Feeding.{Adds, Serves, FeedsDelivery, FeedsPart, FeedsTurn}
+use Rattle.rv_feed.specs.Lane.{LaneValue}
+use Rattle.rv_feed.specs.inner.Lane.{AddsRecords}
+use Rattle.rv_feed.specs.Feeding.{Adds}
+use Rattle.rv_feed.specs.inner.Feeding.{Serves, FeedsDelivery, FeedsPart, FeedsTurn}
 use Rattle.rv_feed.proofs.AddLemmas.{adds-then, adds-look, adds-raise}
 use Rattle.rv_feed.proofs.PlaceLemmas.{record-for, adds-nothing, adds-join, AtPlace, shown_to, shown_behind, hidden-more, shown-more, shown-split}
 

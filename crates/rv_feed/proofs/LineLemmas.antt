@@ -6,7 +6,7 @@ use Rattle.rv_model.specs.declared.work.Turn.{Turn}
 use Rattle.rv_model.specs.Works.{Work}
 use Rattle.rv_feed.specs.declared.order.NextTurn.{NextTurn}
 use Rattle.rv_feed.specs.Lane.{LaneValue}
-use Rattle.rv_feed.specs.SoFar.{next_turn_of, IsPending, next_line, HasLine, HasLines, IsLeast}
+use Rattle.rv_feed.specs.inner.SoFar.{next_turn_of, IsPending, next_line, HasLine, HasLines, IsLeast}
 use Rattle.rv_feed.proofs.LaneLemmas.{same_or_not, same-lane}
 
 -- a line stays while the lane's place does

@@ -11,7 +11,8 @@ use Rattle.rv_model.specs.Numbers.{has_bit}
 use Rattle.rv_model.specs.Scripts.{is_enabled_by}
 use Rattle.rv_model.specs.Works.{Work}
 use Rattle.rv_feed.specs.Kept.{record_on}
-use Rattle.rv_feed.specs.Lane.{LaneValue, AddsRecords}
+use Rattle.rv_feed.specs.Lane.{LaneValue}
+use Rattle.rv_feed.specs.inner.Lane.{AddsRecords}
 
 -- ---- records of a lane
 

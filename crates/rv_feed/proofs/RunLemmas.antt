@@ -7,7 +7,7 @@ use Rattle.rv_model.specs.declared.record.Record.{Record}
 use Rattle.rv_model.specs.declared.work.Turn.{Turn}
 use Rattle.rv_model.specs.Cuts.{AtEach}
 use Rattle.rv_model.specs.Scripts.{Played, played, Plays}
-use Rattle.rv_model.specs.ScriptParts.{GoesOn}
+use Rattle.rv_model.specs.inner.ScriptParts.{GoesOn}
 use Rattle.rv_model.specs.Histories.{IsNoStop, IsPermittedTo, line_at}
 use Rattle.rv_model.specs.Records.{script_records}
 use Rattle.rv_model.proofs.CutLemmas.{at_each-nil}
@@ -17,7 +17,7 @@ use Rattle.rv_core.specs.Setup.{judges_of}
 use Rattle.rv_feed.specs.declared.order.NextTurn.{NextTurn}
 use Rattle.rv_feed.specs.Lane.{LaneValue, FitsLane, FitLanes, works_of}
 use Rattle.rv_feed.specs.Order.{Whole, Ran}
-use Rattle.rv_feed.specs.SoFar.{next_turn_of, IsPending, next_line, IsLeast, PlaysNext, Going, HasEnded, LaneSoFar, RunSoFar}
+use Rattle.rv_feed.specs.inner.SoFar.{next_turn_of, IsPending, next_line, IsLeast, PlaysNext, Going, HasEnded, LaneSoFar, RunSoFar}
 use Rattle.rv_feed.proofs.LaneLemmas.{same_or_not}
 use Rattle.rv_feed.proofs.StepLemmas.{run-step}
 

@@ -7,7 +7,8 @@ use Rattle.std.proofs.lemmas.List.Elements.{All-nil, All-head, All-push}
 use Rattle.std.proofs.lemmas.List.Quantifiers.{Any-push}
 use Rattle.rv_model.specs.Seats.{is_within, is_among, known_of}
 use Rattle.rv_model.specs.Setups.{Setup}
-use Rattle.rv_board.specs.Known.{known_by, part}
+use Rattle.rv_board.specs.Known.{part}
+use Rattle.rv_board.specs.inner.Known.{known_by}
 use Rattle.rv_board.specs.RunSeats.{IsFirst}
 use Rattle.rv_board.specs.Seats.{BoardId, SeatValue, seat_value}
 use Rattle.rv_board.proofs.Knowing.{known_is}

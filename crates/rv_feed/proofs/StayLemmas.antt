@@ -9,7 +9,7 @@ use Rattle.rv_model.specs.Histories.{NoneOf}
 use Rattle.rv_model.proofs.SeatLemmas.{looks_on-none, played-none}
 use Rattle.rv_core.specs.Setup.{judges_of}
 use Rattle.rv_feed.specs.Lane.{LaneValue}
-use Rattle.rv_feed.specs.SoFar.{next_turn_of, IsPending, next_line, Going, HasEnded, LaneSoFar}
+use Rattle.rv_feed.specs.inner.SoFar.{next_turn_of, IsPending, next_line, Going, HasEnded, LaneSoFar}
 
 module _ (s : Setup) (panics : ℕ → Bool) (old more es : List Entry) (places : List ℕ) (from line cpu place' : ℕ) (m : LaneValue) where
   -- entries of other seats leave the lane's script going on or ended

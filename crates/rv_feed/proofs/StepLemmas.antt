@@ -8,7 +8,7 @@ use Rattle.rv_model.specs.declared.work.Turn.{Turn}
 use Rattle.rv_model.specs.Cuts.{AtEach}
 use Rattle.rv_model.specs.Setups.{Setup}
 use Rattle.rv_model.specs.Scripts.{Played, played, PlaysTurns}
-use Rattle.rv_model.specs.ScriptParts.{GoesOn, EndsScript, ScriptOr, turn_lists}
+use Rattle.rv_model.specs.inner.ScriptParts.{GoesOn, EndsScript, ScriptOr, turn_lists}
 use Rattle.rv_model.specs.Histories.{IsNoStop, IsPermittedTo, IsPermitted, look_count, looks_of, NoneOf, IsInOrder, line_at, line_in, work_of}
 use Rattle.rv_model.specs.Records.{script_records}
 use Rattle.rv_model.specs.Works.{Work}
@@ -18,8 +18,9 @@ use Rattle.rv_model.proofs.SeatLemmas.{looks_of-append, line-index}
 use Rattle.rv_core.specs.Core.{CoreValue}
 use Rattle.rv_core.specs.Setup.{judges_of}
 use Rattle.rv_feed.specs.Lane.{LaneValue, FitLanes, works_of}
-use Rattle.rv_feed.specs.Turns.{entries_played, PlaysTurn}
-use Rattle.rv_feed.specs.SoFar.{next_turn_of, IsPending, next_line, PlaysNext, Going, LaneSoFar, RunSoFar}
+use Rattle.rv_feed.specs.Turns.{entries_played}
+use Rattle.rv_feed.specs.inner.Turns.{PlaysTurn}
+use Rattle.rv_feed.specs.inner.SoFar.{next_turn_of, IsPending, next_line, PlaysNext, Going, LaneSoFar, RunSoFar}
 use Rattle.rv_feed.proofs.EntryLemmas.{none-by, IsIn, by-at, one-at, one-looks, below-more, order-more}
 use Rattle.rv_feed.proofs.StayLemmas.{lane-stays}
 use Rattle.rv_feed.proofs.LaneLemmas.{works-set, work-at, work-is, same-lane, same_or_not, pairs-to, pairs-from, names-in, names-next}

@@ -12,11 +12,12 @@ use Rattle.rv_model.specs.Histories.{IsNoStop, IsPermittedTo, look_count}
 use Rattle.rv_model.specs.Records.{outcome_of, record_of}
 use Rattle.rv_model.specs.Setups.{Setup, slot_of}
 use Rattle.rv_model.specs.Scripts.{is_enabled_by, fails, hit_act}
-use Rattle.rv_model.specs.ScriptParts.{TurnPart, LastPart, GoesOn, EndsScript}
+use Rattle.rv_model.specs.inner.ScriptParts.{TurnPart, LastPart, GoesOn, EndsScript}
 use Rattle.rv_model.proofs.ScriptPartLemmas.{part-nothing, part-join, last-join, part-one, last-one, part-quiet, turn-goes, turn-ends, turn-halted}
 use Rattle.rv_core.specs.Core.{CoreValue, Steps}
-use Rattle.rv_feed.specs.Lane.{LaneValue, AddsRecords}
-use Rattle.rv_feed.specs.Turns.{Did, LooksAt, DeliversRecorded, PlaysTurn, PartDone}
+use Rattle.rv_feed.specs.Lane.{LaneValue}
+use Rattle.rv_feed.specs.inner.Lane.{AddsRecords}
+use Rattle.rv_feed.specs.inner.Turns.{Did, LooksAt, DeliversRecorded, PlaysTurn, PartDone}
 use Rattle.rv_feed.proofs.ActLemmas.{hit-free, hit-held, hit-done}
 use Rattle.rv_feed.proofs.DoneLemmas.{did-step, did-nothing, did-join, no_looks-append}
 use Rattle.rv_feed.proofs.PlaceLemmas.{record-for, adds-nothing, adds-join, AtPlace, shown_to, shown_behind, hidden-more, shown-more, shown-split}

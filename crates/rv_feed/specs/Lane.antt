@@ -1,5 +1,5 @@
 -- What one CPU has to do and did, and what a run in order begins with.
-use Rattle.std.specs.Prelude.{◌≡◌, ◌≢◌, ℕ, ◌<◌, ◌≤◌, Bool, true, false, List, [], ◌++◌, map, length, All, AllPairs, Option, Some, slice_get}
+use Rattle.std.specs.Prelude.{◌≡◌, ◌≢◌, ℕ, ◌<◌, ◌≤◌, Bool, true, false, List, [], map, length, All, AllPairs, Option, Some, slice_get}
 use Rattle.rv_model.specs.declared.reactor.Reactor.{Reactor}
 use Rattle.rv_model.specs.declared.reactor.Reactor.TheVariants.{Panic}
 use Rattle.rv_model.specs.declared.record.Record.{Record}
@@ -13,12 +13,6 @@ pub record LaneValue : Type 0 where
   pub work : Work
   pub records : List Record
   pub room : ℕ
-
--- a lane has these records more, and the same work
-pub record AddsRecords (lane lane' : LaneValue) (rs : List Record) : Type 0 where
-  pub work_is : lane'.work ≡ lane.work
-  pub records_are : lane'.records ≡ lane.records ++ rs
-  pub room : lane.room ≤ lane'.room
 
 -- no record, and room for one of each delivery
 pub record IsNewLane (work : Work) (lane : LaneValue) : Type 0 where

@@ -7,5 +7,5 @@ pub mod Lane
 pub mod One
 pub mod Order
 pub mod Runs
-pub mod SoFar
 pub mod Turns
+pub mod inner

@@ -6,7 +6,8 @@ ghost use Rattle.rv_model.specs.Records.{failed_outcome};
 ghost use Rattle.rv_core.specs.Deliveries.{FitsDelivery};
 ghost use Rattle.rv_feed.specs.Lane.{panics_of};
 ghost use Rattle.rv_feed.specs.Feeders.{FitsFeeder, RunsFeeder};
-ghost use Rattle.rv_feed.specs.Feeding.{Serves, FeedsDelivery, FeedsTurn, CanFeed, Feeds};
+ghost use Rattle.rv_feed.specs.Feeding.{CanFeed, Feeds};
+ghost use Rattle.rv_feed.specs.inner.Feeding.{Serves, FeedsDelivery, FeedsTurn};
 
 use crate::lane::{Lane, assert_invariant, cpu_of, delivery_at, keep, turn_at, turn_count};
 use crate::turn::halts;

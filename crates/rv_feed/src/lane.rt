@@ -5,7 +5,8 @@ ghost use Rattle.rv_model.specs.declared.work.Turn.{Turn};
 ghost use Rattle.rv_model.specs.Works.{IsWork};
 ghost use Rattle.rv_model.specs.declared.record.Record.{Record};
 ghost use Rattle.rv_feed.specs.Kept.{record_on};
-ghost use Rattle.rv_feed.specs.Lane.{panics_of, AddsRecords, IsNewLane};
+ghost use Rattle.rv_feed.specs.Lane.{panics_of, IsNewLane};
+ghost use Rattle.rv_feed.specs.inner.Lane.{AddsRecords};
 
 use crate::kept::{Kept, Outcome};
 use rv_model::{CpuWork, Delivered, Delivery, Reactor, Record, Turn};

@@ -4,7 +4,7 @@ ghost use Rattle.std.specs.Prelude.{◌≡◌, ◌≢◌, ℕ, ◌^◌, ◌<◌,
 ghost use Rattle.rv_core.specs.Deliveries.{FitsDelivery};
 ghost use Rattle.rv_feed.specs.Lane.{LaneValue, FitLanes, panics_of};
 ghost use Rattle.rv_feed.specs.Order.{Ran};
-ghost use Rattle.rv_feed.specs.SoFar.{IsPending, next_line, HasLines, IsLeast, PlaysNext};
+ghost use Rattle.rv_feed.specs.inner.SoFar.{IsPending, next_line, HasLines, IsLeast, PlaysNext};
 
 use crate::lane::{Lane, assert_invariant, seat_of, turn_at, turn_count};
 use crate::turn::play_turn;

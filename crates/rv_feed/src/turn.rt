@@ -5,7 +5,7 @@ ghost use Rattle.rv_model.specs.Numbers.{has_bit};
 ghost use Rattle.rv_model.specs.Scripts.{fails, hit_act};
 ghost use Rattle.rv_core.specs.Deliveries.{FitsDelivery};
 ghost use Rattle.rv_feed.specs.Lane.{panics_of};
-ghost use Rattle.rv_feed.specs.Turns.{LooksAt, DeliversRecorded, PlaysTurn};
+ghost use Rattle.rv_feed.specs.inner.Turns.{LooksAt, DeliversRecorded, PlaysTurn};
 
 use crate::lane::{Lane, delivery_at, is_panic, keep, seat_of};
 use rv_core::Core;

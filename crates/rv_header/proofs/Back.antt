@@ -13,7 +13,7 @@ use Rattle.rv_dot.proofs.SetOrder.{all_from_members}
 use Rattle.rv_dot.proofs.MachineLaws.{edges_later}
 use Rattle.rv_header.specs.Naming.{is_header_name, has_no_tables}
 use Rattle.rv_header.specs.HeaderText.{tagged, enumerators, enum_text, struct_text, list_text, cells, row_text, function_text, marks, declarations, tables, header_text}
-use Rattle.rv_header.specs.Taking.{pieces, piece_from, quoted_in, members_in, rows_arcs, marked_by, name_in, state_names_in, events_in, rows_in, marks_in, are_few, file_in}
+use Rattle.rv_header.specs.inner.Taking.{pieces, piece_from, quoted_in, members_in, rows_arcs, marked_by, name_in, state_names_in, events_in, rows_in, marks_in, are_few, file_in}
 use Rattle.rv_header.proofs.Cuts.{lacks, simple, cut, both_lack, all_lack, simple_lacks, and_then, dotless}
 use Rattle.rv_header.proofs.Listed.{quoted_back}
 use Rattle.rv_header.proofs.RowsBack.{rows_back}

@@ -10,7 +10,7 @@ use Rattle.rv_dot.proofs.MemberLaws.{and_true}
 use Rattle.rv_dot.proofs.StandsLaws.{name_same}
 use Rattle.rv_header.specs.Naming.{is_header_byte, is_header_name}
 use Rattle.rv_header.specs.HeaderText.{tagged, target_of, cell_text, cells}
-use Rattle.rv_header.specs.Taking.{untagged, cell_arcs, row_arcs}
+use Rattle.rv_header.specs.inner.Taking.{untagged, cell_arcs, row_arcs}
 use Rattle.rv_header.proofs.ListSteps.{cut_here}
 use Rattle.rv_header.proofs.Grid.{arcs_to, cells_arcs, all_arcs}
 

@@ -6,7 +6,7 @@ use Rattle.std.proofs.lemmas.Bool.Decides.{nat_tests}
 use Rattle.std.proofs.lemmas.List.Folds.{list_all-append}
 use Rattle.rv_dot.proofs.MemberLaws.{and_true}
 use Rattle.rv_model.specs.WellFormed.{is_event_byte}
-use Rattle.rv_header.specs.Taking.{pieces}
+use Rattle.rv_header.specs.inner.Taking.{pieces}
 
 -- the byte does not stand in the text
 abbrev pub lacks : ℕ → List ℕ → Bool

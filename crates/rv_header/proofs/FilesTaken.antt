@@ -1,7 +1,7 @@
 -- The text of an automaton file, from what was taken.
 use Rattle.std.proofs.Common.{◌≡◌, ℕ, true, false, List, Some, None, refl, sym, ap, ◌∙◌}
 use Rattle.rv_dot.specs.Canonical.{drawing_text}
-use Rattle.rv_header.specs.Taking.{name_in, state_names_in, events_in, rows_in, marks_in, drawing_by, drawing_in, are_few, file_in}
+use Rattle.rv_header.specs.inner.Taking.{name_in, state_names_in, events_in, rows_in, marks_in, drawing_by, drawing_in, are_few, file_in}
 
 -- too many states
 pub many_states : (text : List ℕ) (states : List (List ℕ)) → states ≡ state_names_in text → are_few 31 states ≡ false → None ≡ file_in text

@@ -13,7 +13,7 @@ use Rattle.rv_text.specs.declared.numbers.TheConstants.{HEADER_SYNTAX}
 use Rattle.rv_header.specs.declared.reading.Header.{Header}
 use Rattle.rv_header.specs.Naming.{is_header_name}
 use Rattle.rv_header.specs.Headers.{IsHeaderOf, Finds}
-use Rattle.rv_header.specs.Taking.{name_in, file_in}
+use Rattle.rv_header.specs.inner.Taking.{name_in, file_in}
 use Rattle.rv_header.proofs.Back.{name_back, file_back}
 
 -- the name is taken from the text

@@ -4,7 +4,7 @@ use Rattle.std.specs.Prelude.{map, codes}
 use Rattle.std.specs.List.{AllByRecursion, flat_map}
 use Rattle.rv_dot.specs.Canonical.{quoted}
 use Rattle.rv_header.specs.HeaderText.{list_text}
-use Rattle.rv_header.specs.Taking.{pieces, piece_from, seconds, quoted_in, member_in, members_in}
+use Rattle.rv_header.specs.inner.Taking.{pieces, piece_from, seconds, quoted_in, member_in, members_in}
 use Rattle.rv_header.proofs.Cuts.{lacks, simple, cut, uncut, both_lack, simple_lacks}
 
 -- a comma and a blank, and the member

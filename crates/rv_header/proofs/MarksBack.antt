@@ -5,7 +5,7 @@ use Rattle.std.specs.List.{AllByRecursion}
 use Rattle.std.specs.Str.{bytes_eq}
 use Rattle.rv_dot.specs.Canonical.{State, states_marked}
 use Rattle.rv_header.specs.HeaderText.{mark_text}
-use Rattle.rv_header.specs.Taking.{marked_by}
+use Rattle.rv_header.specs.inner.Taking.{marked_by}
 use Rattle.rv_header.proofs.Cuts.{simple}
 
 -- a mark is read as it was written

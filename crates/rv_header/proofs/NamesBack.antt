@@ -9,7 +9,7 @@ use Rattle.rv_dot.specs.Members.{IsMember}
 use Rattle.rv_dot.proofs.MemberLaws.{and_true, all_member, list_all_from}
 use Rattle.rv_dot.proofs.SetOrder.{all_from_members}
 use Rattle.rv_header.specs.Naming.{is_header_byte, is_header_name, has_dot, is_unfit_state, has_no_tables}
-use Rattle.rv_header.specs.Taking.{are_few}
+use Rattle.rv_header.specs.inner.Taking.{are_few}
 use Rattle.rv_header.proofs.Cuts.{simple}
 
 -- neither test passes

@@ -4,7 +4,7 @@ use Rattle.std.specs.Prelude.{codes}
 use Rattle.std.specs.List.{AllByRecursion, flat_map, zip}
 use Rattle.rv_dot.specs.Gathered.{Arc}
 use Rattle.rv_header.specs.HeaderText.{row_text}
-use Rattle.rv_header.specs.Taking.{pieces, members_in, cell_arcs, row_arcs, rows_arcs}
+use Rattle.rv_header.specs.inner.Taking.{pieces, members_in, cell_arcs, row_arcs, rows_arcs}
 use Rattle.rv_header.proofs.Cuts.{lacks, simple, cut, uncut, both_lack, all_lack, simple_lacks}
 use Rattle.rv_header.proofs.Listed.{later, members_back}
 

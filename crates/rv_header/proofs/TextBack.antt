@@ -7,7 +7,7 @@ use Rattle.rv_model.specs.WellFormed.{is_event_byte}
 use Rattle.rv_model.specs.Machine.{Machine}
 use Rattle.rv_dot.specs.Canonical.{quoted}
 use Rattle.rv_header.specs.HeaderText.{tagged, enumerators, enum_text, list_text, target_of, cell_text, cells, row_text, marks}
-use Rattle.rv_header.specs.Taking.{pieces, piece_from, members_in}
+use Rattle.rv_header.specs.inner.Taking.{pieces, piece_from, members_in}
 use Rattle.rv_header.proofs.Cuts.{lacks, simple, cut, uncut, both_lack, all_lack, simple_lacks}
 use Rattle.rv_header.proofs.Listed.{later, members_back}
 use Rattle.rv_header.proofs.RowsBack.{IsRow}

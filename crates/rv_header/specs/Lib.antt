@@ -1,4 +1,4 @@
 pub mod Naming
 pub mod HeaderText
-pub mod Taking
 pub mod Headers
+pub mod inner

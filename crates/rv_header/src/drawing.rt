@@ -3,8 +3,8 @@ ghost use Rattle.std.specs.Prelude.{◌≡◌, ◌++◌, IfOk, OnOk, map, codes}
 ghost use Rattle.std.specs.List.{flat_map};
 ghost use Rattle.std.specs.Str.{bytes_eq};
 ghost use Rattle.rv_dot.specs.Canonical.{Drawing as Drawn, state_line, node_line, arc_line, drawing_text};
-ghost use Rattle.rv_dot.specs.Held.{bytes_of};
-ghost use Rattle.rv_header.specs.Taking.{untagged, cell_arcs, row_arcs, rows_arcs, members_in, marked_by, drawing_by};
+ghost use Rattle.rv_dot.specs.inner.Held.{bytes_of};
+ghost use Rattle.rv_header.specs.inner.Taking.{untagged, cell_arcs, row_arcs, rows_arcs, members_in, marked_by, drawing_by};
 
 use crate::taking::{members_in, text_at};
 use rv_dot::lines::{

@@ -1,8 +1,8 @@
 //! From a header's text to its name and automaton.
 ghost use Rattle.std.specs.Prelude.{◌≡◌, List, ℕ, IfOk, Ok, map};
 ghost use Rattle.rv_text.specs.Readings.{Gives};
-ghost use Rattle.rv_dot.specs.Held.{bytes_of};
-ghost use Rattle.rv_header.specs.Taking.{name_in, are_few, file_in};
+ghost use Rattle.rv_dot.specs.inner.Held.{bytes_of};
+ghost use Rattle.rv_header.specs.inner.Taking.{name_in, are_few, file_in};
 ghost use Rattle.rv_header.specs.declared.reading.Header.{Header as HeaderValue};
 ghost use Rattle.rv_header.specs.Headers.{IsHeaderOf, Finds};
 
@@ -52,7 +52,7 @@ fn are_few(names: &[&[u8]], most: usize) -> bool
 }
 
 /// The text of an automaton file that draws the same, where it is no longer than such a text may be.
-#[tactic(auto, unfolding(crate::specs::Taking::piece_from))]
+#[tactic(auto, unfolding(crate::specs::inner::Taking::piece_from))]
 fn file_in(alloc: Global, bytes: &[u8], name: &[u8]) -> Result<Option<Line>, AllocError>
     requires { name.now ≡ name_in bytes.now }
     ensures { IfOk result (λ text. text ≡ file_in bytes.now) }

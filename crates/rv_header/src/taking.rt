@@ -1,8 +1,8 @@
 //! The pieces of a text, and what stands in them.
 ghost use Rattle.std.specs.Prelude.{◌≡◌, IfOk, map, slice_index_or, [], drop, nat_le, length};
 ghost use Rattle.std.specs.List.{list_all};
-ghost use Rattle.rv_dot.specs.Held.{bytes_of};
-ghost use Rattle.rv_header.specs.Taking.{pieces, piece_from, quoted_in, members_in, seconds};
+ghost use Rattle.rv_dot.specs.inner.Held.{bytes_of};
+ghost use Rattle.rv_header.specs.inner.Taking.{pieces, piece_from, quoted_in, members_in, seconds};
 
 use std::alloc::{AllocError, Global};
 
@@ -32,7 +32,7 @@ pub(crate) fn text_at<'a>(texts: &[&'a [u8]], place: usize) -> &'a [u8]
 }
 
 /// One of the pieces, or an empty one.
-#[tactic(auto, unfolding(crate::specs::Taking::piece_from))]
+#[tactic(auto, unfolding(crate::specs::inner::Taking::piece_from))]
 pub(crate) fn piece_from<'a>(
     alloc: Global,
     text: &'a [u8],
@@ -59,7 +59,7 @@ fn seconds<'a>(alloc: Global, texts: &[&'a [u8]]) -> Result<Vec<&'a [u8]>, Alloc
 }
 
 /// What stands between quotes.
-#[tactic(auto, unfolding(crate::specs::Taking::quoted_in))]
+#[tactic(auto, unfolding(crate::specs::inner::Taking::quoted_in))]
 pub(crate) fn quoted_in<'a>(alloc: Global, text: &'a [u8]) -> Result<Vec<&'a [u8]>, AllocError>
     ensures { IfOk result (λ found. map bytes_of found.items ≡ quoted_in text.now) }
 {
@@ -68,7 +68,7 @@ pub(crate) fn quoted_in<'a>(alloc: Global, text: &'a [u8]) -> Result<Vec<&'a [u8
 }
 
 /// The members of a list.
-#[tactic(auto, unfolding(crate::specs::Taking::members_in))]
+#[tactic(auto, unfolding(crate::specs::inner::Taking::members_in))]
 pub(crate) fn members_in<'a>(alloc: Global, text: &'a [u8]) -> Result<Vec<&'a [u8]>, AllocError>
     ensures { IfOk result (λ found. map bytes_of found.items ≡ members_in text.now) }
 {

@@ -3,5 +3,5 @@ pub mod Files
 pub mod MemSinks
 pub mod MemStores
 pub mod Pieces
-pub mod Reading
 pub mod Taken
+pub mod inner

@@ -1,10 +1,5 @@
 -- A store in memory.
-use Rattle.std.specs.Prelude.{◌≡◌, ℕ, List, Option, Some, None, if◌then◌else◌, bytes_eq, option_map, find, Vec, Result, Ok, Err}
-use Rattle.std.specs.declared.alloc.Global.{Global}
-use Rattle.rv_io.specs.declared.store.ReadError.{ReadError}
-use Rattle.rv_io.specs.declared.store.ReadError.TheVariants.{NoFile, Memory}
-use Rattle.rv_io.specs.Files.{front_read}
-use Rattle.rv_io.specs.Pieces.{IsPiece}
+use Rattle.std.specs.Prelude.{◌≡◌, ℕ, List, Option, Some, if◌then◌else◌, bytes_eq, option_map, find}
 use Rattle.rv_io.specs.Calls.{Calls, is_listed, passed, failed}
 
 -- files with their names and bytes, the most bytes of a piece, and the calls
@@ -20,18 +15,6 @@ lookup files name = option_map (λ file. file.1) (find (λ file. bytes_eq file.0
 -- the name has these bytes, and every other name what it had
 abbrev pub IsReplaced : List (List ℕ × List ℕ) → List (List ℕ × List ℕ) → List ℕ → List ℕ → Type 0
 IsReplaced old new name bytes = (other : List ℕ) → lookup new other ≡ (if bytes_eq name other then Some bytes else lookup old other)
-
--- a copy of the bytes that a name has, cut
-abbrev pub Copies : Option (List ℕ) → Result (Vec ℕ Global) ReadError → Type 0
-Copies None result = result ≡ Err NoFile
-Copies (Some bytes) (Ok read) = read.items ≡ front_read bytes
-Copies (Some bytes) (Err refused) = refused ≡ Memory
-
--- a piece of the bytes that a name has
-abbrev pub CopiesPiece : Option (List ℕ) → ℕ → List ℕ → List ℕ → Result ℕ ReadError → Type 0
-CopiesPiece None from old new result = (result ≡ Err NoFile) × (new ≡ old)
-CopiesPiece (Some bytes) from old new (Ok count) = IsPiece bytes from old new count
-CopiesPiece (Some bytes) from old new (Err refused) = ⊥
 
 -- after a call: a fault is counted exactly where the call is listed
 abbrev pub counted : Calls → Calls

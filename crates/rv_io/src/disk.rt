@@ -3,7 +3,7 @@ ghost use Rattle.std.specs.Prelude.{◌≡◌, ◌≤◌, ◌⊎◌, None, take,
 ghost use Rattle.rv_io.specs.Calls.{risen};
 ghost use Rattle.rv_io.specs.Files.{Reads};
 ghost use Rattle.rv_io.specs.Pieces.{ReadsPiece};
-ghost use Rattle.rv_io.specs.Reading.{ReadsMore};
+ghost use Rattle.rv_io.specs.inner.Reading.{ReadsMore};
 
 use crate::{READ_LIMIT, ReadError, Store};
 use std::alloc::Global;

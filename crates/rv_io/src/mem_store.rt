@@ -2,7 +2,8 @@
 ghost use Rattle.std.specs.Prelude.{◌≡◌, ◌≤◌, ◌↔◌, ◌∷◌, [], ◌++◌, ℕ, List, Bool, true, Some, None, take, bytes_eq, OnOk, OnErr, IfOk, IsErrOf, IsTrue, IfSome, position, false, find, option_copied};
 ghost use Rattle.rv_io.specs.Calls.{is_listed};
 ghost use Rattle.rv_io.specs.Files.{Reads, front_read};
-ghost use Rattle.rv_io.specs.MemStores.{lookup, counted, Copies, CopiesPiece, IsReplaced};
+ghost use Rattle.rv_io.specs.MemStores.{lookup, counted, IsReplaced};
+ghost use Rattle.rv_io.specs.inner.MemStores.{Copies, CopiesPiece};
 ghost use Rattle.rv_io.specs.Pieces.{ReadsPiece};
 
 use crate::calls::Calls;

@@ -28,7 +28,7 @@ use Rattle.rv_core.proofs.LevelLemmas.{levels_are_bits}
 use Rattle.rv_core.proofs.TurnLemmas.{set_of, fits-start, turn-live}
 use Rattle.rv_core.proofs.WordLemmas.{Acts, live-same, phase_after-other}
 use Rattle.rv_laws.proofs.PastLemmas.{Each}
-use Rattle.rv_journal.specs.Whole.{is_start_run, shows_failure, is_failed_entry}
+use Rattle.rv_journal.specs.inner.Whole.{is_start_run, shows_failure, is_failed_entry}
 use Rattle.rv_journal.proofs.TotalLemmas.{same_or_not}
 
 -- ---- one word

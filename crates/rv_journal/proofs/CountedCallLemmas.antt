@@ -7,15 +7,16 @@ use Rattle.rv_model.specs.Setups.{Setup}
 use Rattle.rv_model.specs.Seats.{Seat, is_within, entries_of}
 use Rattle.rv_core.specs.Setup.{word_index}
 use Rattle.rv_board.specs.declared.view.View.{View}
-use Rattle.rv_board.specs.Known.{knows, Begun}
-use Rattle.rv_board.specs.Rule.{word_at, with_seen}
+use Rattle.rv_board.specs.inner.Known.{knows, Begun}
+use Rattle.rv_board.specs.inner.Rule.{word_at, with_seen}
 use Rattle.rv_board.specs.Seats.{IsUsable}
-use Rattle.rv_board.specs.Steps.{Ours, Saw, Made, made_after}
+use Rattle.rv_board.specs.inner.Steps.{Ours, Saw, Made, made_after}
 use Rattle.rv_board.proofs.Knowing.{none_of, none_append, knows_own}
 use Rattle.rv_board.proofs.ViewLemmas.{range_within, range_not_own}
 use Rattle.rv_board.proofs.CallLemmas.{usable}
-use Rattle.rv_journal.specs.CountedWords.{counted_at, entries_by, most_entries, FitsCounts}
-use Rattle.rv_journal.specs.CountedSteps.{SawCounted, MadeCounted}
+use Rattle.rv_journal.specs.CountedWords.{entries_by, most_entries, FitsCounts}
+use Rattle.rv_journal.specs.inner.CountedWords.{counted_at}
+use Rattle.rv_journal.specs.inner.CountedSteps.{SawCounted, MadeCounted}
 use Rattle.rv_journal.specs.CountedSeats.{IsCountedSeat}
 use Rattle.rv_journal.proofs.CountLemmas.{by-append, by-none, by-snoc}
 

@@ -11,13 +11,15 @@ use Rattle.rv_core.specs.Setup.{table_at, judges_of}
 use Rattle.rv_core.specs.Advance.{advanced}
 use Rattle.rv_board.specs.declared.view.View.{View}
 use Rattle.rv_board.specs.Deliveries.{IsMade, IsGivenUp}
-use Rattle.rv_board.specs.Rule.{word_at}
-use Rattle.rv_board.specs.Seats.{BoardId, SeatValue, board_id, seat_value}
-use Rattle.rv_board.specs.Steps.{Ours, made_after}
+use Rattle.rv_board.specs.inner.Rule.{word_at}
+use Rattle.rv_board.specs.Seats.{BoardId, SeatValue, seat_value}
+use Rattle.rv_board.specs.inner.Seats.{board_id}
+use Rattle.rv_board.specs.inner.Steps.{Ours, made_after}
 use Rattle.rv_board.proofs.SoundLemmas.{sound-front}
 use Rattle.rv_board.proofs.RaceLemmas.{Lost, opened, opened_is, is-made, given_up}
-use Rattle.rv_journal.specs.CountedWords.{word_in, rows_at, counted_at}
-use Rattle.rv_journal.specs.CountedSteps.{SawCounted, MadeCounted}
+use Rattle.rv_journal.specs.CountedWords.{rows_at}
+use Rattle.rv_journal.specs.inner.CountedWords.{word_in, counted_at}
+use Rattle.rv_journal.specs.inner.CountedSteps.{SawCounted, MadeCounted}
 use Rattle.rv_journal.specs.CountedSeats.{CountedValue, counted_value, IsCountedSeat}
 use Rattle.rv_journal.proofs.CountedWordLemmas.{found-word}
 use Rattle.rv_journal.proofs.CountedCallLemmas.{saw-plain, made-plain}

@@ -20,7 +20,8 @@ use Rattle.rv_board.proofs.GrowLemmas.{same_known, grows_none, grows_then}
 use Rattle.rv_board.proofs.Knowing.{none_before, none_after}
 use Rattle.rv_journal.specs.declared.counted.Counted.{Counted}
 use Rattle.rv_journal.specs.CountedSeats.{CountedValue, Counts}
-use Rattle.rv_journal.specs.CountedLanes.{CountedLaneValue, IsNewCountedLane, slot_at, EndsAs, IsObserved, AllObservedAfter, entries_observed, FeedsCounted, KeepsObserved}
+use Rattle.rv_journal.specs.CountedLanes.{CountedLaneValue, IsNewCountedLane, slot_at, EndsAs, IsObserved, AllObservedAfter, entries_observed, FeedsCounted}
+use Rattle.rv_journal.specs.inner.CountedLanes.{KeepsObserved}
 use Rattle.rv_journal.proofs.CountedStepLemmas.{snoc-front, snoc-last}
 use Rattle.rv_journal.proofs.MergeStepLemmas.{names-within}
 

@@ -6,8 +6,9 @@ use Rattle.rv_model.specs.Setups.{Setup}
 use Rattle.rv_model.specs.Table.{Table}
 use Rattle.rv_core.specs.Setup.{table_at}
 use Rattle.rv_core.specs.Advance.{advanced}
-use Rattle.rv_journal.specs.CountedWords.{FitsCountedWord, word_in, count_in, counted_word, rows_at}
-use Rattle.rv_journal.specs.CountedSteps.{next_word, next_counted}
+use Rattle.rv_journal.specs.CountedWords.{FitsCountedWord, rows_at}
+use Rattle.rv_journal.specs.inner.CountedWords.{word_in, count_in, counted_word}
+use Rattle.rv_journal.specs.inner.CountedSteps.{next_word, next_counted}
 
 -- by this setup: the slot's rows, the word before, the word behind it, and the answer
 pub record Computed (s : Setup) (slot raw : ℕ) (hit : Hit) (rows before word : ℕ) (answer : Answer) : Type 0 where

@@ -13,13 +13,15 @@ use Rattle.rv_word.specs.Words.{packed}
 use Rattle.rv_core.specs.Setup.{IsSetup, FitsShape, table_at, judges_of}
 use Rattle.rv_core.proofs.OpeningLemmas as plain
 use Rattle.rv_core.proofs.PlaceLemmas.{monitor_of-lt}
-use Rattle.rv_board.specs.Rule.{width, first_view}
+use Rattle.rv_board.specs.Rule.{width}
+use Rattle.rv_board.specs.inner.Rule.{first_view}
 use Rattle.rv_board.proofs.SplitLemmas.{opens_with}
 use Rattle.rv_board.proofs.WordSteps.{opening-is}
 use Rattle.rv_journal.specs.declared.words.Width.{Width}
-use Rattle.rv_journal.specs.CountedWords.{FitsCountedWord, counted_word, rows_at, counted_at, also_counted, KeptCounted}
+use Rattle.rv_journal.specs.CountedWords.{FitsCountedWord, rows_at}
+use Rattle.rv_journal.specs.inner.CountedWords.{counted_word, counted_at, also_counted, KeptCounted}
 use Rattle.rv_journal.specs.CountedSeats.{no_width, IsWidth, AreWidths}
-use Rattle.rv_journal.specs.Openings.{OpensCounted}
+use Rattle.rv_journal.specs.inner.Openings.{OpensCounted}
 use Rattle.rv_journal.proofs.WidthLemmas.{one-below, packed-narrow}
 
 -- the opening word of a slot, by its starting levels

@@ -11,14 +11,15 @@ use Rattle.rv_model.specs.Histories.{IsSound, changed}
 use Rattle.rv_model.specs.Seats.{entries_of}
 use Rattle.rv_core.specs.Setup.{judges_of}
 use Rattle.rv_board.specs.declared.view.View.{View}
-use Rattle.rv_board.specs.Known.{knows}
-use Rattle.rv_board.specs.Rule.{word_at, with_seen}
-use Rattle.rv_board.specs.Steps.{Saw}
+use Rattle.rv_board.specs.inner.Known.{knows}
+use Rattle.rv_board.specs.inner.Rule.{word_at, with_seen}
+use Rattle.rv_board.specs.inner.Steps.{Saw}
 use Rattle.rv_board.proofs.Knowing.{none_append}
 use Rattle.rv_board.proofs.SoundLemmas.{changes, filter_append}
 use Rattle.rv_board.proofs.RaceLemmas.{Lost}
-use Rattle.rv_journal.specs.CountedWords.{counted_word, word_in, count_on, rows_at, counted_at, FitsCounts}
-use Rattle.rv_journal.specs.CountedSteps.{SawCounted}
+use Rattle.rv_journal.specs.CountedWords.{count_on, rows_at, FitsCounts}
+use Rattle.rv_journal.specs.inner.CountedWords.{counted_word, word_in, counted_at}
+use Rattle.rv_journal.specs.inner.CountedSteps.{SawCounted}
 use Rattle.rv_journal.proofs.CountLemmas.{count-append, counted-changes}
 use Rattle.rv_journal.proofs.CountedWordLemmas.{at-slot, slot-word, found-word}
 

@@ -6,13 +6,14 @@ use Rattle.rv_model.specs.Histories.{IsSound}
 use Rattle.rv_model.specs.Seats.{is_within, entries_of}
 use Rattle.rv_core.specs.Setup.{judges_of}
 use Rattle.rv_board.specs.declared.view.View.{View}
-use Rattle.rv_board.specs.Rule.{first_view, cut_left, cut_right, joined}
-use Rattle.rv_board.specs.Steps.{Ours}
+use Rattle.rv_board.specs.Rule.{cut_left, cut_right, joined}
+use Rattle.rv_board.specs.inner.Rule.{first_view}
+use Rattle.rv_board.specs.inner.Steps.{Ours}
 use Rattle.rv_board.proofs.Knowing.{none_of}
 use Rattle.rv_board.proofs.NumberLemmas.{range_left, range_right}
 use Rattle.rv_board.proofs.CallLemmas.{usable_first}
 use Rattle.rv_journal.specs.CountedWords.{entries_by, most_entries, FitsCounts}
-use Rattle.rv_journal.specs.CountedSteps.{SawCounted}
+use Rattle.rv_journal.specs.inner.CountedSteps.{SawCounted}
 use Rattle.rv_journal.specs.CountedSeats.{IsCountedSeat}
 use Rattle.rv_journal.proofs.CountLemmas.{by-none}
 use Rattle.rv_journal.proofs.CountedCallLemmas.{room-begun, unused-begun}

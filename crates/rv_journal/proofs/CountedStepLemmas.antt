@@ -15,15 +15,17 @@ use Rattle.rv_model.specs.declared.hit.Hit.{Hit}
 use Rattle.rv_model.specs.Setups.{Setup}
 use Rattle.rv_core.specs.Setup.{word_index, table_at}
 use Rattle.rv_board.specs.declared.view.View.{View}
-use Rattle.rv_board.specs.Known.{knows}
-use Rattle.rv_board.specs.Rule.{width, with_seen}
-use Rattle.rv_board.specs.Steps.{Ours, made_after}
+use Rattle.rv_board.specs.inner.Known.{knows}
+use Rattle.rv_board.specs.Rule.{width}
+use Rattle.rv_board.specs.inner.Rule.{with_seen}
+use Rattle.rv_board.specs.inner.Steps.{Ours, made_after}
 use Rattle.rv_board.proofs.Knowing.{knows_own}
 use Rattle.rv_board.proofs.WordSteps.{place-within, Acted, acts}
 use Rattle.rv_board.proofs.ViewLemmas.{St}
 use Rattle.rv_board.proofs.KeepLemmas.{CanMake, sees_with, makes_with}
-use Rattle.rv_journal.specs.CountedWords.{FitsCountedWord, IsBelow, rows_at, counted_at, entries_by, most_entries, FitsCounts, also_counted, KeptCounted}
-use Rattle.rv_journal.specs.CountedSteps.{SawCounted, MadeCounted, IsCountedLoad, IsCountedExchange, IsCountedStop, next_counted}
+use Rattle.rv_journal.specs.CountedWords.{FitsCountedWord, IsBelow, rows_at, entries_by, most_entries, FitsCounts}
+use Rattle.rv_journal.specs.inner.CountedWords.{counted_at, also_counted, KeptCounted}
+use Rattle.rv_journal.specs.inner.CountedSteps.{SawCounted, MadeCounted, IsCountedLoad, IsCountedExchange, IsCountedStop, next_counted}
 use Rattle.rv_journal.proofs.CountLemmas.{by-append, by-none}
 use Rattle.rv_journal.proofs.WidthLemmas.{rows-few}
 use Rattle.rv_journal.proofs.CountedWordLemmas.{counted-elsewhere, narrow-small, zero-narrow, hit-narrow, hit-leaves, stop-leaves, counted-made}

@@ -12,15 +12,17 @@ use Rattle.rv_model.specs.Seats.{entries_of}
 use Rattle.rv_core.specs.Setup.{word_index, table_at, judges_of}
 use Rattle.rv_core.specs.Advance.{advanced}
 use Rattle.rv_board.specs.declared.view.View.{View}
-use Rattle.rv_board.specs.Known.{knows}
-use Rattle.rv_board.specs.Rule.{word_at}
-use Rattle.rv_board.specs.Seats.{SeatValue, board_id, seat_value}
-use Rattle.rv_board.specs.Steps.{made_after}
+use Rattle.rv_board.specs.inner.Known.{knows}
+use Rattle.rv_board.specs.inner.Rule.{word_at}
+use Rattle.rv_board.specs.Seats.{SeatValue, seat_value}
+use Rattle.rv_board.specs.inner.Seats.{board_id}
+use Rattle.rv_board.specs.inner.Steps.{made_after}
 use Rattle.rv_board.proofs.Knowing.{none_append, known_is}
 use Rattle.rv_board.proofs.SoundLemmas.{filter_append, sound-front}
 use Rattle.rv_journal.specs.declared.counted.Counted.{Counted}
-use Rattle.rv_journal.specs.CountedWords.{word_in, count_in, count_on, rows_at, counted_at}
-use Rattle.rv_journal.specs.CountedSteps.{MadeCounted, next_word}
+use Rattle.rv_journal.specs.CountedWords.{count_on, rows_at}
+use Rattle.rv_journal.specs.inner.CountedWords.{word_in, count_in, counted_at}
+use Rattle.rv_journal.specs.inner.CountedSteps.{MadeCounted, next_word}
 use Rattle.rv_journal.specs.CountedSeats.{Counts}
 use Rattle.rv_journal.proofs.CountedWordLemmas.{found-count}
 use Rattle.rv_journal.proofs.CountedDeliveryLemmas.{Tried, w-setup, word-found}

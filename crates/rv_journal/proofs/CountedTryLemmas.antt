@@ -12,11 +12,12 @@ use Rattle.rv_core.specs.Setup.{table_at, judges_of}
 use Rattle.rv_core.specs.Advance.{FitsTable, WhatFits, advanced}
 use Rattle.rv_board.specs.declared.view.View.{View}
 use Rattle.rv_board.specs.Rule.{width}
-use Rattle.rv_board.specs.Steps.{Ours}
+use Rattle.rv_board.specs.inner.Steps.{Ours}
 use Rattle.rv_board.proofs.CallLemmas.{may}
 use Rattle.rv_board.proofs.RaceLemmas.{raced}
-use Rattle.rv_journal.specs.CountedWords.{FitsCountedWord, IsBelow, count_in, rows_at, counted_at, FitsCounts, KeptCounted}
-use Rattle.rv_journal.specs.CountedSteps.{IsCountedLoad, IsCountedExchange, IsCountedStop, next_word, next_counted}
+use Rattle.rv_journal.specs.CountedWords.{FitsCountedWord, IsBelow, rows_at, FitsCounts}
+use Rattle.rv_journal.specs.inner.CountedWords.{count_in, counted_at, KeptCounted}
+use Rattle.rv_journal.specs.inner.CountedSteps.{IsCountedLoad, IsCountedExchange, IsCountedStop, next_word, next_counted}
 use Rattle.rv_journal.specs.CountedSeats.{IsCountedSeat}
 use Rattle.rv_journal.proofs.CountLemmas.{count-fits}
 use Rattle.rv_journal.proofs.WidthLemmas.{rows-few}

@@ -14,12 +14,13 @@ use Rattle.rv_model.specs.Histories.{IsSound}
 use Rattle.rv_word.specs.Words.{set_in, atoms_in}
 use Rattle.rv_core.specs.Setup.{word_index, table_at, judges_of}
 use Rattle.rv_core.specs.Advance.{advanced}
-use Rattle.rv_board.specs.Rule.{word_at}
-use Rattle.rv_board.specs.Steps.{made_after}
+use Rattle.rv_board.specs.inner.Rule.{word_at}
+use Rattle.rv_board.specs.inner.Steps.{made_after}
 use Rattle.rv_board.proofs.WordSteps.{Acted}
-use Rattle.rv_journal.specs.CountedWords.{FitsCountedWord, IsBelow, counted_word, word_in, count_in, counts, count_on, rows_at, counted_at, entries_by, most_entries, FitsCounts}
-use Rattle.rv_journal.specs.CountedSteps.{next_counted}
-use Rattle.rv_journal.proofs.NarrowLemmas.{word_in_32-zero, halves-back, count-back, word-back}
+use Rattle.rv_journal.specs.CountedWords.{FitsCountedWord, IsBelow, counts, count_on, rows_at, entries_by, most_entries, FitsCounts}
+use Rattle.rv_journal.specs.inner.CountedWords.{counted_word, word_in, count_in, counted_at}
+use Rattle.rv_journal.specs.inner.CountedSteps.{next_counted}
+use Rattle.rv_journal.proofs.CountsFitLemmas.{word_in_32-zero, halves-back, count-back, word-back}
 use Rattle.rv_journal.proofs.WidthLemmas.{advanced-narrow}
 use Rattle.rv_journal.proofs.CountLemmas.{count-snoc, counts-other, counts-deliver, few-snoc, count-fits}
 

@@ -10,8 +10,8 @@ use Rattle.rv_model.specs.declared.hit.What.TheVariants.{Da, Ltl, Nothing}
 use Rattle.rv_journal.specs.declared.names.LetterKind.TheVariants as kinds
 use Rattle.rv_journal.specs.declared.names.ActVerb.TheVariants as verbs
 use Rattle.rv_journal.specs.EntryTexts.{mode_word, what_words, act_words, entry_words, IsWhat, IsAct, RunsLetter, IsNoEnd, IsEntry}
-use Rattle.rv_journal.specs.PieceReadings.{most_8, most_32, most_64}
-use Rattle.rv_journal.specs.EntryReadings.{off_from, pulse_from, what_of, what_from, hit_from, run_from, deliver_from, numbered_from, act_of, act_from, all_words_read, acted_from, before_from, after_from, entry_from}
+use Rattle.rv_journal.specs.inner.PieceReadings.{most_8, most_32, most_64}
+use Rattle.rv_journal.specs.inner.EntryReadings.{off_from, pulse_from, what_of, what_from, hit_from, run_from, deliver_from, numbered_from, act_of, act_from, all_words_read, acted_from, before_from, after_from, entry_from}
 use Rattle.rv_journal.proofs.NumberLemmas.{number_from-decimal}
 use Rattle.rv_journal.proofs.ThenLemmas.{then-some}
 use Rattle.rv_journal.proofs.NameLemmas.{verb-first, kind-first, mode-first}

@@ -13,8 +13,8 @@ use Rattle.rv_journal.specs.declared.names.LetterKind.TheVariants as kinds
 use Rattle.rv_journal.specs.declared.names.ActVerb.{ActVerb}
 use Rattle.rv_journal.specs.declared.names.ActVerb.TheVariants as verbs
 use Rattle.rv_journal.specs.EntryTexts.{mode_word, what_words, act_words, entry_words}
-use Rattle.rv_journal.specs.PieceReadings.{most_8, most_32, most_64, number_from, first_by, mode_in, kind_in, verb_in}
-use Rattle.rv_journal.specs.EntryReadings.{off_from, pulse_from, what_of, what_from, hit_from, run_from, deliver_from, numbered_from, act_of, act_from, all_words_read, acted_from, before_from, after_from, entry_from}
+use Rattle.rv_journal.specs.inner.PieceReadings.{most_8, most_32, most_64, number_from, first_by, mode_in, kind_in, verb_in}
+use Rattle.rv_journal.specs.inner.EntryReadings.{off_from, pulse_from, what_of, what_from, hit_from, run_from, deliver_from, numbered_from, act_of, act_from, all_words_read, acted_from, before_from, after_from, entry_from}
 use Rattle.rv_journal.proofs.NumberLemmas.{number_from-some}
 use Rattle.rv_journal.proofs.ThenLemmas.{then-parts, same-read, no-read, first-some}
 use Rattle.rv_journal.proofs.NameLemmas.{verb_word, kind_word, mode-spelled, kind-spelled, verb-spelled}

@@ -30,7 +30,8 @@ use Rattle.rv_laws.proofs.PastLemmas.{Each, each-of}
 use Rattle.rv_journal.specs.CountedLanes.{FitsCounted}
 use Rattle.rv_journal.specs.CountedWords.{IsBelow}
 use Rattle.rv_journal.specs.Running.{FitsCountedWork, recorded_input}
-use Rattle.rv_journal.specs.Whole.{is_failed_entry, IsWholeRun}
+use Rattle.rv_journal.specs.Whole.{IsWholeRun}
+use Rattle.rv_journal.specs.inner.Whole.{is_failed_entry}
 use Rattle.rv_journal.proofs.AnswerLemmas.{FitsEntry, FitsPast, entry-shows}
 use Rattle.rv_journal.proofs.ServedLemmas.{slot_of-lt}
 

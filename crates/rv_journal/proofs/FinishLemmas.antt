@@ -13,17 +13,18 @@ use Rattle.rv_journal.specs.declared.steps.LaneProgress.{LaneProgress}
 use Rattle.rv_journal.specs.declared.steps.VersionInterval.{VersionInterval}
 use Rattle.rv_journal.specs.declared.steps.MergeStep.{MergeStep}
 use Rattle.rv_journal.specs.CountedLanes.{CountedLaneValue}
-use Rattle.rv_journal.specs.MergeSteps.{items_of, steps_from, rest_of, IsCursor, held_by, total}
-use Rattle.rv_journal.specs.MergeStates.{IsUnderWay, NextIsJustified, step_entries}
-use Rattle.rv_journal.specs.MergePending.{Pending, pending_at, lane_pending}
-use Rattle.rv_journal.specs.Merging.{CanMerge, NumbersFit, IsMergeOf, lanes_of}
-use Rattle.rv_journal.specs.MergeRuns.{Run, merge_run, lane_at, first_cursor, rests, IsGiven, IsMerging, NoneReady, NewLanes}
+use Rattle.rv_journal.specs.inner.MergeSteps.{items_of, steps_from, rest_of, IsCursor, held_by, total}
+use Rattle.rv_journal.specs.inner.MergeStates.{IsUnderWay, NextIsJustified, step_entries}
+use Rattle.rv_journal.specs.inner.MergePending.{Pending, pending_at, lane_pending}
+use Rattle.rv_journal.specs.Merging.{CanMerge, IsMergeOf}
+use Rattle.rv_journal.specs.inner.Merging.{NumbersFit, lanes_of}
+use Rattle.rv_journal.specs.inner.MergeRuns.{Run, merge_run, lane_at, first_cursor, rests, IsGiven, IsMerging, NoneReady, NewLanes}
 use Rattle.rv_journal.proofs.MergeStepLemmas.{steps-opens, steps-none, first-cursor}
 use Rattle.rv_journal.proofs.MergedLemmas.{merged}
 use Rattle.rv_journal.proofs.ProgressLemmas.{all-ended, all-placed}
 use Rattle.rv_journal.proofs.TotalLemmas.{total-same}
 use Rattle.rv_journal.proofs.StartLemmas.{names-at, script-items, starts}
-use Rattle.rv_journal.proofs.ToldLemmas.{all_items, all-told, owned}
+use Rattle.rv_journal.proofs.ObservedLemmas.{all_items, all-told, owned}
 use Rattle.rv_journal.proofs.WholeLemmas.{whole}
 
 -- before its first step a lane holds all that its items hold

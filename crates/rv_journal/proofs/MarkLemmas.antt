@@ -7,7 +7,7 @@ use Rattle.std.proofs.lemmas.List.Elements.{filter-append}
 use Rattle.rv_model.specs.declared.entry.Entry.{Entry}
 use Rattle.rv_model.specs.Seats.{entries_of}
 use Rattle.rv_journal.specs.declared.counted.Counted.{Counted}
-use Rattle.rv_journal.specs.MergeStates.{Mark, mark, items_in, is_left}
+use Rattle.rv_journal.specs.inner.MergeStates.{Mark, mark, items_in, is_left}
 
 -- ---- lists
 

@@ -15,7 +15,7 @@ use Rattle.rv_model.proofs.CutLemmas.{reverse-cut}
 use Rattle.rv_model.proofs.NumberLemmas.{number_of-same, number_of-bits}
 use Rattle.rv_core.specs.Setup.{IsSetup, judges_of}
 use Rattle.rv_board.proofs.SoundLemmas.{on-slot, still}
-use Rattle.rv_journal.specs.MergeStates.{IsMergedAct}
+use Rattle.rv_journal.specs.inner.MergeStates.{IsMergedAct}
 
 -- ---- words by changes
 

@@ -19,9 +19,11 @@ use Rattle.rv_journal.specs.declared.counted.Counted.{Counted}
 use Rattle.rv_journal.specs.declared.steps.MergeStep.{MergeStep}
 use Rattle.rv_journal.specs.declared.steps.MergeStep.TheVariants.{TurnLook, Item}
 use Rattle.rv_journal.specs.CountedLanes.{CountedLaneValue}
-use Rattle.rv_journal.specs.MergeSteps.{items_of}
-use Rattle.rv_journal.specs.MergeStates.{Mark, mark, items_in, entries_in, entry_in, IsItemAct, StandsAs, step_entries, IsUnderWay}
-use Rattle.rv_journal.specs.Merging.{FitsSetup, CanMerge, NumbersFit, seat_of, no_lane, lanes_of, works_of, input_of, IsMergeOf}
+use Rattle.rv_journal.specs.inner.MergeSteps.{items_of}
+use Rattle.rv_journal.specs.MergeStates.{entries_in, StandsAs}
+use Rattle.rv_journal.specs.inner.MergeStates.{Mark, mark, items_in, entry_in, IsItemAct, step_entries, IsUnderWay}
+use Rattle.rv_journal.specs.Merging.{FitsSetup, CanMerge, seat_of, works_of, input_of, IsMergeOf}
+use Rattle.rv_journal.specs.inner.Merging.{NumbersFit, no_lane, lanes_of}
 use Rattle.rv_journal.proofs.ItemLemmas.{by-item}
 use Rattle.rv_journal.proofs.MarkLemmas.{filter_yes, filter_no, AllPlaced, placed-filter}
 use Rattle.rv_journal.proofs.PlaceLemmas.{entries-filter, marked-items}

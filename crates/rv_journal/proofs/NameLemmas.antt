@@ -10,7 +10,7 @@ use Rattle.rv_journal.specs.declared.names.LetterKind.TheVariants as kinds
 use Rattle.rv_journal.specs.declared.names.ActVerb.{ActVerb}
 use Rattle.rv_journal.specs.declared.names.ActVerb.TheVariants as verbs
 use Rattle.rv_journal.specs.EntryTexts.{mode_word}
-use Rattle.rv_journal.specs.PieceReadings.{first_by, mode_in, kind_in, verb_in}
+use Rattle.rv_journal.specs.inner.PieceReadings.{first_by, mode_in, kind_in, verb_in}
 use Rattle.rv_journal.proofs.ThenLemmas.{no-read}
 
 -- the word is this one, or what is read of another

@@ -10,7 +10,7 @@ use Rattle.std.proofs.lemmas.Str.Parse.{IsNumeralModel, numerals_by_fold, not_in
 use Rattle.std.proofs.lemmas.Fmt.{digits_decimal, digits_value-decimal, decimal-digits_value, decimal_nonempty, first_decimal, decimal_digit}
 use Rattle.rv_text.specs.Decimal.{all_digits, digit_of, number_of, decimal_of}
 use Rattle.rv_text.proofs.DecimalLemmas.{decimal-some}
-use Rattle.rv_journal.specs.PieceReadings.{number_in, number_from}
+use Rattle.rv_journal.specs.inner.PieceReadings.{number_in, number_from}
 use Rattle.rv_journal.proofs.PieceLemmas.{has_no_blank, no_blank-each}
 use Rattle.rv_journal.proofs.ThenLemmas.{first-some}
 

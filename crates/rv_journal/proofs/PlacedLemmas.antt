@@ -14,8 +14,10 @@ use Rattle.rv_board.proofs.SoundLemmas.{sound-snoc}
 use Rattle.rv_journal.specs.declared.counted.Counted.{Counted}
 use Rattle.rv_journal.specs.declared.steps.MergeStep.{MergeStep}
 use Rattle.rv_journal.specs.declared.steps.MergeStep.TheVariants.{TurnLook, Item}
-use Rattle.rv_journal.specs.MergeSteps.{items_of, slot_in, version, leaves, changes_on, held_by, MayPlace}
-use Rattle.rv_journal.specs.MergeStates.{Mark, mark, items_in, entries_in, is_left, IsMergedAct, IsKnownItem, AreKnownItems, Divides, StandsAs, LastBy, NextIsJustified, Lanes, IsUnderWay}
+use Rattle.rv_journal.specs.MergeSteps.{slot_in}
+use Rattle.rv_journal.specs.inner.MergeSteps.{items_of, version, leaves, changes_on, held_by, MayPlace}
+use Rattle.rv_journal.specs.MergeStates.{entries_in, StandsAs}
+use Rattle.rv_journal.specs.inner.MergeStates.{Mark, mark, items_in, is_left, IsMergedAct, IsKnownItem, AreKnownItems, Divides, LastBy, NextIsJustified, Lanes, IsUnderWay}
 use Rattle.rv_journal.proofs.MarkLemmas.{same, earlier, later, compare, first-left, FirstLeft}
 use Rattle.rv_journal.proofs.SlotActLemmas.{slot_in-is, machine-snoc}
 use Rattle.rv_journal.proofs.PlaceLemmas.{same-entries, fits-there, look_entry, look-fits, earned-there, held-item, merged-item}

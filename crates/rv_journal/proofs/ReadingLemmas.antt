@@ -10,7 +10,7 @@ use Rattle.rv_model.specs.declared.hit.What.{What}
 use Rattle.rv_model.specs.declared.hit.What.TheVariants.{Da, Ltl, Nothing}
 use Rattle.rv_journal.specs.EntryTexts.{mode_word, what_words, act_words, entry_words, one_apart, entry_text, IsWhat, IsAct, IsEntry}
 use Rattle.rv_text.specs.Pieces.{pieces_by}
-use Rattle.rv_journal.specs.EntryReadings.{entry_from}
+use Rattle.rv_journal.specs.inner.EntryReadings.{entry_from}
 use Rattle.rv_journal.proofs.PieceLemmas.{has_no_blank, AreWords, words-append, pieces-text, pieces-words}
 use Rattle.rv_journal.proofs.NumberLemmas.{decimal-word}
 use Rattle.rv_journal.proofs.EntryReadLemmas.{entry-read}

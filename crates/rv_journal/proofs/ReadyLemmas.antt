@@ -10,10 +10,11 @@ use Rattle.rv_journal.specs.declared.steps.LaneProgress.{LaneProgress}
 use Rattle.rv_journal.specs.declared.steps.MergeStep.{MergeStep}
 use Rattle.rv_journal.specs.declared.steps.MergeStep.TheVariants.{TurnLook, Item}
 use Rattle.rv_journal.specs.CountedLanes.{CountedLaneValue}
-use Rattle.rv_journal.specs.MergeSteps.{rest_of, IsCursor, GoesTo, slot_in, version, leaves, held_by, MayPlace, CannotGo}
-use Rattle.rv_journal.specs.MergePending.{Pending, pending_at, interval_in, is_ready}
-use Rattle.rv_journal.specs.Merging.{lanes_of, no_lane}
-use Rattle.rv_journal.specs.MergeRuns.{Run, lane_at, cursor_at, first_cursor, rests, IsMerging, InSlots, IsReadyAt}
+use Rattle.rv_journal.specs.MergeSteps.{slot_in}
+use Rattle.rv_journal.specs.inner.MergeSteps.{rest_of, IsCursor, GoesTo, version, leaves, held_by, MayPlace, CannotGo}
+use Rattle.rv_journal.specs.inner.MergePending.{Pending, pending_at, interval_in, is_ready}
+use Rattle.rv_journal.specs.inner.Merging.{lanes_of, no_lane}
+use Rattle.rv_journal.specs.inner.MergeRuns.{Run, lane_at, cursor_at, first_cursor, rests, IsMerging, InSlots, IsReadyAt}
 use Rattle.rv_journal.proofs.SlotActLemmas.{slot-below}
 use Rattle.rv_journal.proofs.AddedLemmas.{next-told}
 use Rattle.rv_journal.proofs.TotalLemmas.{total-least, total-none}

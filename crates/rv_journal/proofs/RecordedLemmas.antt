@@ -21,7 +21,8 @@ use Rattle.rv_journal.specs.declared.feeding.CountedFeeder.{CountedFeeder}
 use Rattle.rv_journal.specs.CountedFeeders.{FitsCountedFeeder, RunsCounted}
 use Rattle.rv_journal.specs.CountedLanes.{CountedLaneValue, FitsCounted, AllObservedAfter, FeedsCounted, entries_observed}
 use Rattle.rv_journal.specs.Merging.{FitsSetup, IsSeatPartOf, FitsLane, CanMerge, IsMergeOf, seat_of, works_of}
-use Rattle.rv_journal.specs.Running.{FitsCountedWork, recorded_input, IsCountedSeated, lanes_in, works_in, AreCountedSeated, AreJoined}
+use Rattle.rv_journal.specs.Running.{FitsCountedWork, recorded_input}
+use Rattle.rv_journal.specs.inner.Running.{IsCountedSeated, lanes_in, works_in, AreCountedSeated, AreJoined}
 use Rattle.rv_journal.proofs.PartLemmas.{is-part, all-served}
 
 module _ {G : Type 0} (board : BoardId) (h : List Entry) where

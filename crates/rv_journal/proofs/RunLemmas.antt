@@ -10,11 +10,13 @@ use Rattle.rv_journal.specs.declared.steps.NextStep.{NextStep}
 use Rattle.rv_journal.specs.declared.steps.MergeStep.{MergeStep}
 use Rattle.rv_journal.specs.declared.steps.MergeStep.TheVariants.{TurnLook, Item}
 use Rattle.rv_journal.specs.CountedLanes.{CountedLaneValue}
-use Rattle.rv_journal.specs.MergeSteps.{rest_of, IsCursor, GoesTo, step_entry, slot_in, held_by, total, MayPlace}
-use Rattle.rv_journal.specs.MergeStates.{IsUnderWay}
-use Rattle.rv_journal.specs.MergePending.{Pending, pending_at, Fallen, step_pending, next_pending, changes_after}
-use Rattle.rv_journal.specs.Merging.{lanes_of, seat_of}
-use Rattle.rv_journal.specs.MergeRuns.{Run, lane_at, cursor_at, first_cursor, rests, steps_left, IsMerging}
+use Rattle.rv_journal.specs.MergeSteps.{slot_in}
+use Rattle.rv_journal.specs.inner.MergeSteps.{rest_of, IsCursor, GoesTo, step_entry, held_by, total, MayPlace}
+use Rattle.rv_journal.specs.inner.MergeStates.{IsUnderWay}
+use Rattle.rv_journal.specs.inner.MergePending.{Pending, pending_at, Fallen, step_pending, next_pending, changes_after}
+use Rattle.rv_journal.specs.Merging.{seat_of}
+use Rattle.rv_journal.specs.inner.Merging.{lanes_of}
+use Rattle.rv_journal.specs.inner.MergeRuns.{Run, lane_at, cursor_at, first_cursor, rests, steps_left, IsMerging}
 use Rattle.rv_journal.proofs.SlotActLemmas.{is_on-slot, slot-below}
 use Rattle.rv_journal.proofs.AddedLemmas.{next-told}
 use Rattle.rv_journal.proofs.PlacedLemmas.{look-placed, item-placed}

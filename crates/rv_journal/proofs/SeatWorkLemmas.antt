@@ -8,7 +8,8 @@ use Rattle.std.proofs.lemmas.List.Quantifiers.{Any-push}
 use Rattle.rv_model.specs.Seats.{is_within, is_among, known_of}
 use Rattle.rv_model.specs.Setups.{Setup}
 use Rattle.rv_model.specs.Works.{Work}
-use Rattle.rv_board.specs.Known.{known_by, part}
+use Rattle.rv_board.specs.Known.{part}
+use Rattle.rv_board.specs.inner.Known.{known_by}
 use Rattle.rv_board.specs.RunSeats.{IsFirst}
 use Rattle.rv_board.specs.Seats.{BoardId, SeatValue, seat_value}
 use Rattle.rv_board.proofs.Knowing.{known_is}
@@ -17,7 +18,8 @@ use Rattle.rv_board.proofs.RunSeatLemmas.{split_known}
 use Rattle.rv_journal.specs.declared.feeding.CountedFeeder.{CountedFeeder}
 use Rattle.rv_journal.specs.CountedLanes.{IsNewCountedLane, FitsCounted}
 use Rattle.rv_journal.specs.CountedSeats.{CountedValue, counted_value}
-use Rattle.rv_journal.specs.Running.{FitsCountedWork, IsCountedSeated, IsSeatedFor, works_in, AreCountedSeated}
+use Rattle.rv_journal.specs.Running.{FitsCountedWork}
+use Rattle.rv_journal.specs.inner.Running.{IsCountedSeated, IsSeatedFor, works_in, AreCountedSeated}
 
 -- the first seat of a board has all numbers
 all_known : (n : ℕ) → n < 67 → known_by 0 67 [] n ≡ true

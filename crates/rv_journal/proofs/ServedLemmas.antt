@@ -8,8 +8,9 @@ use Rattle.rv_model.specs.Setups.{Setup, slot_of}
 use Rattle.rv_core.specs.Setup.{FitsAct, ActFits}
 use Rattle.rv_slots.proofs.ShapeLemmas.{sum-cons}
 use Rattle.rv_journal.specs.declared.counted.Counted.{Counted}
-use Rattle.rv_journal.specs.MergeStates.{IsItemAct}
-use Rattle.rv_journal.specs.Merging.{FitsSetup, Serves, AllServed, HitFits}
+use Rattle.rv_journal.specs.inner.MergeStates.{IsItemAct}
+use Rattle.rv_journal.specs.Merging.{FitsSetup, Serves, AllServed}
+use Rattle.rv_journal.specs.inner.Merging.{HitFits}
 use Rattle.rv_journal.proofs.ItemLemmas.{by-item}
 
 -- the slot of an instance is one of the setup's

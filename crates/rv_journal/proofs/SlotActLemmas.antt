@@ -19,9 +19,9 @@ use Rattle.rv_core.specs.Setup.{IsSetup, FitsAct, ActFits, word_index, table_at,
 use Rattle.rv_core.proofs.CoreLemmas.{table_at-is, word_of-is}
 use Rattle.rv_core.proofs.TurnLemmas.{fits-start}
 use Rattle.rv_core.proofs.WordLemmas.{Acts, acted-same, live-same, phase_after-other}
-use Rattle.rv_board.specs.Rule.{IsMachine}
+use Rattle.rv_board.specs.inner.Rule.{IsMachine}
 use Rattle.rv_journal.specs.MergeSteps.{slot_in}
-use Rattle.rv_journal.specs.MergeStates.{IsItemAct, IsMergedAct}
+use Rattle.rv_journal.specs.inner.MergeStates.{IsItemAct, IsMergedAct}
 use Rattle.rv_journal.proofs.ItemLemmas.{by-item}
 
 -- equal or not

@@ -16,10 +16,10 @@ use Rattle.rv_core.specs.Core.{IsLive, slot_phase}
 use Rattle.rv_core.specs.Setup.{FitsAct, ActFits, judges_of, table_at}
 use Rattle.rv_core.proofs.CoreLemmas.{word_of-is}
 use Rattle.rv_core.proofs.TurnLemmas.{IsGoing, turn-going}
-use Rattle.rv_board.specs.Rule.{IsMachine}
+use Rattle.rv_board.specs.inner.Rule.{IsMachine}
 use Rattle.rv_journal.specs.CountedWords.{is_deliver}
 use Rattle.rv_journal.specs.MergeSteps.{slot_in}
-use Rattle.rv_journal.specs.MergeStates.{IsItemAct}
+use Rattle.rv_journal.specs.inner.MergeStates.{IsItemAct}
 use Rattle.rv_journal.proofs.ItemLemmas.{by-item}
 use Rattle.rv_journal.proofs.SlotActLemmas.{on-slot_in, word-after, machine-snoc, slot-below}
 use Rattle.rv_journal.proofs.PlaceLemmas.{merged-item}

@@ -1,7 +1,7 @@
 -- One reading after another.
 use Rattle.std.proofs.Common.{◌≡◌, ℕ, List, [], ◌∷◌, Option, Some, None, refl, sym, ap, ◌∙◌, subst}
 use Rattle.std.specs.Option.{option_map}
-use Rattle.rv_journal.specs.PieceReadings.{Reading, ReadsWords, then_read, first_by}
+use Rattle.rv_journal.specs.inner.PieceReadings.{Reading, ReadsWords, then_read, first_by}
 
 -- what is read first goes into what is read next
 pub then-some : {X Y : Type 0} (next : X → List (List ℕ) → Option Y) {r : Reading X} {x : X} {words : List (List ℕ)} → r ≡ Some (x, words) → then_read r next ≡ next x words

@@ -13,8 +13,10 @@ use Rattle.rv_journal.specs.declared.counted.Counted.{Counted}
 use Rattle.rv_journal.specs.CountedLanes.{CountedLaneValue}
 use Rattle.rv_journal.specs.CountedWords.{count_on}
 use Rattle.rv_journal.specs.MergeSteps.{slot_in}
-use Rattle.rv_journal.specs.MergeStates.{entries_in, IsItemAct}
-use Rattle.rv_journal.specs.Merging.{IsLost, seat_of, FitsLane, CanMerge, NumbersFit, no_lane}
+use Rattle.rv_journal.specs.MergeStates.{entries_in}
+use Rattle.rv_journal.specs.inner.MergeStates.{IsItemAct}
+use Rattle.rv_journal.specs.Merging.{IsLost, seat_of, FitsLane, CanMerge}
+use Rattle.rv_journal.specs.inner.Merging.{NumbersFit, no_lane}
 use Rattle.rv_journal.proofs.MarkLemmas.{cut_alike, same-cut, filter_yes, filter_no}
 use Rattle.rv_journal.proofs.UnderWayLemmas.{item-cut}
 use Rattle.rv_journal.proofs.ServedLemmas.{all-served, all-cut, bits-fit}

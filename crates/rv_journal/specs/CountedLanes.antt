@@ -75,9 +75,3 @@ pub record FeedsCounted (old new : CountedValue) (deliveries : List Delivery) (c
   pub grows : SeatGrows old.seat new.seat (entries_observed counted)
   pub observed : AllObservedAfter old.seat.board.setup (known_of old.seat.part) old.seat.part.seen new.seat.part.seen (entries_of (known_of old.seat.part) old.seat.part.seen) deliveries counted
   pub left : new.left + length deliveries ≡ old.left
-
--- what the lane keeps of one delivery more
-pub record KeepsObserved (lane lane' : CountedLaneValue) (observed : Counted) : Type 0 where
-  pub work_is : lane'.work ≡ lane.work
-  pub counted_is : lane'.counted ≡ lane.counted ++ observed ∷ []
-  pub room : lane.room ≤ lane'.room

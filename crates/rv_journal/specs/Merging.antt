@@ -1,5 +1,5 @@
 -- Counted lists of CPUs, and the one legal history that they become.
-use Rattle.std.specs.Prelude.{◌≡◌, ◌≢◌, ◌⊎◌, ℕ, ◌+◌, ◌<◌, ◌≤◌, ◌^◌, true, false, ◌==◌, not, List, [], ◌∷◌, ◌++◌, map, filter, length, All, Any, AllPairs, slice_index, slice_index_or}
+use Rattle.std.specs.Prelude.{◌≡◌, ◌≢◌, ◌⊎◌, ℕ, ◌+◌, ◌<◌, ◌≤◌, true, false, ◌==◌, not, List, [], ◌∷◌, ◌++◌, map, filter, length, All, Any, AllPairs, slice_index}
 use Rattle.rv_model.specs.declared.entry.Act.{Act}
 use Rattle.rv_model.specs.declared.entry.Act.TheVariants.{Deliver, Stop}
 use Rattle.rv_model.specs.declared.entry.Entry.{Entry}
@@ -12,13 +12,13 @@ use Rattle.rv_model.specs.Scripts.{is_enabled_by}
 use Rattle.rv_model.specs.Seats.{entries_of}
 use Rattle.rv_model.specs.Setups.{Setup, slot_of}
 use Rattle.rv_model.specs.Works.{Work}
-use Rattle.rv_core.specs.Advance.{FitsTable, WhatFits}
+use Rattle.rv_core.specs.Advance.{FitsTable}
 use Rattle.rv_core.specs.Setup.{FitsAct, judges_of, table_at}
 use Rattle.rv_journal.specs.declared.counted.Counted.{Counted}
 use Rattle.rv_journal.specs.CountedLanes.{CountedLaneValue}
 use Rattle.rv_journal.specs.CountedWords.{count_on}
-use Rattle.rv_journal.specs.MergeSteps.{slot_in, rest_of}
-use Rattle.rv_journal.specs.MergeStates.{entries_in, StandsAs, Lanes}
+use Rattle.rv_journal.specs.MergeSteps.{slot_in}
+use Rattle.rv_journal.specs.MergeStates.{entries_in, StandsAs}
 
 -- ---- parts of a history
 
@@ -64,21 +64,9 @@ AllServed s [] (c ∷ items) = ⊥
 AllServed s (d ∷ deliveries) [] = ⊥
 AllServed s (d ∷ deliveries) (c ∷ items) = Serves s d c.entry.act × AllServed s deliveries items
 
--- a lane with nothing to do
-abbrev pub no_lane : CountedLaneValue
-no_lane = record { work = record { cpu = 0; turns = []; deliveries = [] }; counted = []; room = 0 }
-
 -- the seat of a lane's CPU
 abbrev pub seat_of : CountedLaneValue → ℕ
 seat_of lane = 2 + lane.work.cpu
-
--- the lanes by their places, each with all of its steps
-abbrev pub lanes_of : List CountedLaneValue → Lanes
-lanes_of lanes = record {
-  many = length lanes;
-  seat = λ l. seat_of (slice_index_or lanes l no_lane);
-  script = λ l. rest_of (slice_index_or lanes l no_lane) (record { turns = 0; items = 0 });
-}
 
 -- the lane's deliveries fit the setup, whose switches show them on; its items serve them, and are its CPU's part of the history
 pub record FitsLane (s : Setup) (seen : List Entry) (lane : CountedLaneValue) : Type 0 where
@@ -118,15 +106,3 @@ pub record IsMergeOf (s : Setup) (seen : List Entry) (lanes : List CountedLaneVa
   pub legal : IsLegal (input_of s lanes) (judges_of s) merged
   pub fits : AtEach (λ before e. FitsAct s e.act) merged
   pub from : MergedFrom seen merged
-
--- ---- what the machine's numbers give
-
--- the sets of atoms of a hit fit their words
-abbrev pub HitFits : Act → Type 0
-HitFits (Deliver slot hit) = WhatFits hit.what
-HitFits _ = Unit {0}
-
--- an item's numbers fit theirs
-pub record NumbersFit (c : Counted) : Type 0 where
-  pub hit : HitFits c.entry.act
-  pub word : c.entry.after < 2 ^ 64

@@ -4,7 +4,7 @@ ghost use Rattle.rv_board.specs.Known.{part};
 ghost use Rattle.rv_board.specs.Seats.{seat_value};
 ghost use Rattle.rv_journal.specs.CountedSeats.{AreWidths, counted_value};
 ghost use Rattle.rv_journal.specs.CountedWords.{rows_at};
-ghost use Rattle.rv_journal.specs.Openings.{OpensCounted};
+ghost use Rattle.rv_journal.specs.inner.Openings.{OpensCounted};
 
 use crate::rule::CountedLaw;
 use crate::seat::{CountedSeat, MAX_ENTRIES};

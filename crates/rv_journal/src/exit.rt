@@ -5,7 +5,8 @@ ghost use Rattle.rv_model.specs.Setups.{Setup};
 ghost use Rattle.rv_model.specs.Works.{Work};
 ghost use Rattle.rv_core.specs.Setup.{judges_of};
 ghost use Rattle.rv_laws.specs.Exits.{exit_of, is_stop, has_stop};
-ghost use Rattle.rv_journal.specs.Whole.{is_failed_entry, shows_failure, IsWholeRun};
+ghost use Rattle.rv_journal.specs.Whole.{IsWholeRun};
+ghost use Rattle.rv_journal.specs.inner.Whole.{is_failed_entry, shows_failure};
 
 use rv_model::{Act, Entry, Mode};
 use rv_word::set_of;

@@ -3,7 +3,8 @@ ghost use Rattle.std.specs.Prelude.{◌≡◌, ◌<◌, length, slice_index_or, 
 ghost use Rattle.rv_model.specs.declared.work.Delivery.{Delivery};
 ghost use Rattle.rv_model.specs.declared.work.Turn.{Turn};
 ghost use Rattle.rv_model.specs.Works.{IsWork};
-ghost use Rattle.rv_journal.specs.CountedLanes.{IsNewCountedLane, KeepsObserved};
+ghost use Rattle.rv_journal.specs.CountedLanes.{IsNewCountedLane};
+ghost use Rattle.rv_journal.specs.inner.CountedLanes.{KeepsObserved};
 
 use crate::counted::Counted;
 use rv_model::{CpuWork, Delivery, Turn};

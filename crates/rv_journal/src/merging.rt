@@ -4,10 +4,11 @@
 ghost use Rattle.std.specs.Prelude.{◌≡◌, ◌+◌, ◌<◌, ◌^◌, ◌↔◌, ⊤, ℕ, true, false, List, [], length, sum, All, IfOk, OnOk, MatchOption, slice_index};
 ghost use Rattle.rv_model.specs.declared.entry.Entry.{Entry};
 ghost use Rattle.rv_model.specs.Works.{IsWork};
-ghost use Rattle.rv_journal.specs.MergeSteps.{rest_of, IsCursor, GoesTo};
-ghost use Rattle.rv_journal.specs.MergeRuns.{merge_run, lane_at, IsMerging, InSlots, IsReadyAt, CannotGoAt, IsLowestReady, NoneReady, steps_left};
-ghost use Rattle.rv_journal.specs.MergePending.{is_ready, changes_after};
-ghost use Rattle.rv_journal.specs.Merging.{CanMerge, IsMergeOf, NumbersFit, seat_of};
+ghost use Rattle.rv_journal.specs.inner.MergeSteps.{rest_of, IsCursor, GoesTo};
+ghost use Rattle.rv_journal.specs.inner.MergeRuns.{merge_run, lane_at, IsMerging, InSlots, IsReadyAt, CannotGoAt, IsLowestReady, NoneReady, steps_left};
+ghost use Rattle.rv_journal.specs.inner.MergePending.{is_ready, changes_after};
+ghost use Rattle.rv_journal.specs.Merging.{CanMerge, IsMergeOf, seat_of};
+ghost use Rattle.rv_journal.specs.inner.Merging.{NumbersFit};
 
 use crate::lane::{CountedLane, cpu_of};
 use crate::observed::{assert_observed, items, seat_of};

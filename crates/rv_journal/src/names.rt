@@ -1,6 +1,6 @@
 //! The names of acts, of modes and of kinds of letters.
 ghost use Rattle.std.specs.Prelude.{◌≡◌};
-ghost use Rattle.rv_journal.specs.PieceReadings.{mode_in, kind_in, verb_in};
+ghost use Rattle.rv_journal.specs.inner.PieceReadings.{mode_in, kind_in, verb_in};
 
 use rv_model::Mode;
 
@@ -24,7 +24,7 @@ pub(crate) enum LetterKind {
 }
 
 /// The mode that bindings write so.
-#[tactic(auto, unfolding(crate::specs::PieceReadings::mode_in))]
+#[tactic(auto, unfolding(crate::specs::inner::PieceReadings::mode_in))]
 pub(crate) fn mode_in(word: &[u8]) -> Option<Mode>
     ensures { result ≡ mode_in word.now }
 {
@@ -40,7 +40,7 @@ pub(crate) fn mode_in(word: &[u8]) -> Option<Mode>
 }
 
 /// The kind that bindings write so.
-#[tactic(auto, unfolding(crate::specs::PieceReadings::kind_in))]
+#[tactic(auto, unfolding(crate::specs::inner::PieceReadings::kind_in))]
 pub(crate) fn kind_in(word: &[u8]) -> Option<LetterKind>
     ensures { result ≡ kind_in word.now }
 {
@@ -54,7 +54,7 @@ pub(crate) fn kind_in(word: &[u8]) -> Option<LetterKind>
 }
 
 /// What an act is called.
-#[tactic(auto, unfolding(crate::specs::PieceReadings::verb_in))]
+#[tactic(auto, unfolding(crate::specs::inner::PieceReadings::verb_in))]
 pub(crate) fn verb_in(word: &[u8]) -> Option<ActVerb>
     ensures { result ≡ verb_in word.now }
 {

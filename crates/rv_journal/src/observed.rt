@@ -2,7 +2,7 @@
 ghost use Rattle.std.specs.Prelude.{◌≡◌, ◌<◌, ◌+◌, ◌^◌, All, length, slice_index_or};
 ghost use Rattle.rv_model.specs.Works.{IsWork};
 ghost use Rattle.rv_journal.specs.declared.counted.Counted.{Counted};
-ghost use Rattle.rv_journal.specs.Merging.{HitFits, NumbersFit};
+ghost use Rattle.rv_journal.specs.inner.Merging.{HitFits, NumbersFit};
 
 use crate::counted::Counted;
 use crate::lane::CountedLane;

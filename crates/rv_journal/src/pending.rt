@@ -1,8 +1,8 @@
 //! For how many things each gap has to stay open: for entries that leave its word and are not placed, and for Stops that
 //! were lost from it on and are not yet the next steps of their lanes.
 ghost use Rattle.std.specs.Prelude.{◌≡◌, ◌+◌, ◌-◌, ◌<◌, ◌≤◌, OnOk};
-ghost use Rattle.rv_journal.specs.MergeSteps.{leaves_in, lost_in};
-ghost use Rattle.rv_journal.specs.MergePending.{pending_at, SetsPending, item_pending, lane_pending, Grown, Fallen, step_pending, next_pending};
+ghost use Rattle.rv_journal.specs.inner.MergeSteps.{leaves_in, lost_in};
+ghost use Rattle.rv_journal.specs.inner.MergePending.{pending_at, SetsPending, item_pending, lane_pending, Grown, Fallen, step_pending, next_pending};
 ghost use Rattle.rv_journal.specs.declared.steps.VersionInterval.{VersionInterval};
 
 use crate::counted::Counted;

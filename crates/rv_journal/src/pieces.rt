@@ -1,6 +1,6 @@
 //! What the next piece of a line is, as the lines of entries have them.
 ghost use Rattle.std.specs.Prelude.{◌≡◌, ◌≤◌, IfSome};
-ghost use Rattle.rv_journal.specs.PieceReadings.{number_in, number_from, first_by, mode_in, kind_in, verb_in, ReadsWords};
+ghost use Rattle.rv_journal.specs.inner.PieceReadings.{number_in, number_from, first_by, mode_in, kind_in, verb_in, ReadsWords};
 
 use crate::names::{ActVerb, LetterKind, kind_in, mode_in, verb_in};
 use rv_model::Mode;

@@ -2,8 +2,8 @@
 ghost use Rattle.std.specs.Prelude.{◌≡◌, Some, IfSome};
 ghost use Rattle.rv_model.specs.declared.entry.Entry.{Entry as Told};
 ghost use Rattle.rv_journal.specs.EntryTexts.{entry_text, IsEntry};
-ghost use Rattle.rv_journal.specs.PieceReadings.{most_32, number_from, ReadsWords};
-ghost use Rattle.rv_journal.specs.EntryReadings.{event_from, sets_from, what_from, deliver_from, act_from, entry_from};
+ghost use Rattle.rv_journal.specs.inner.PieceReadings.{most_32, number_from, ReadsWords};
+ghost use Rattle.rv_journal.specs.inner.EntryReadings.{event_from, sets_from, what_from, deliver_from, act_from, entry_from};
 
 use crate::names::{ActVerb, LetterKind};
 use crate::pieces::{next_kind, next_mode, next_number, next_verb};

@@ -10,8 +10,8 @@ use rv_model::Act;
 pub struct CountedLaw;
 
 impl TableRule<Act, View, Setup> for CountedLaw {
-    ghost use Rattle.rv_board.specs.Rule.{first_view};
-    ghost use Rattle.rv_journal.specs.CountedWords.{KeptCounted};
+    ghost use Rattle.rv_board.specs.inner.Rule.{first_view};
+    ghost use Rattle.rv_journal.specs.inner.CountedWords.{KeptCounted};
 
     ghost holds = { KeptCounted };
 
@@ -22,7 +22,7 @@ impl TableRule<Act, View, Setup> for CountedLaw {
 pub(crate) struct CountedLoad;
 
 impl Play<Act, View> for CountedLoad {
-    ghost use Rattle.rv_journal.specs.CountedSteps.{IsCountedLoad};
+    ghost use Rattle.rv_journal.specs.inner.CountedSteps.{IsCountedLoad};
 
     ghost then = { IsCountedLoad };
 }
@@ -31,7 +31,7 @@ impl Play<Act, View> for CountedLoad {
 pub(crate) struct CountedExchange;
 
 impl Play<Act, View> for CountedExchange {
-    ghost use Rattle.rv_journal.specs.CountedSteps.{IsCountedExchange};
+    ghost use Rattle.rv_journal.specs.inner.CountedSteps.{IsCountedExchange};
 
     ghost then = { IsCountedExchange };
 }
@@ -40,7 +40,7 @@ impl Play<Act, View> for CountedExchange {
 pub(crate) struct CountedStop;
 
 impl Play<Act, View> for CountedStop {
-    ghost use Rattle.rv_journal.specs.CountedSteps.{IsCountedStop};
+    ghost use Rattle.rv_journal.specs.inner.CountedSteps.{IsCountedStop};
 
     ghost then = { IsCountedStop };
 }

@@ -10,7 +10,8 @@ ghost use Rattle.rv_board.specs.RunSeats.{IsFirst};
 ghost use Rattle.rv_board.specs.Seats.{seat_value};
 ghost use Rattle.rv_journal.specs.CountedSeats.{AreWidths, counted_value};
 ghost use Rattle.rv_journal.specs.EntryTexts.{IsEntry};
-ghost use Rattle.rv_journal.specs.Running.{FitsCountedWork, recorded_input, IsLegalBy, IsSeatedFor, AreCountedSeated, AreJoined};
+ghost use Rattle.rv_journal.specs.Running.{FitsCountedWork, recorded_input, IsLegalBy};
+ghost use Rattle.rv_journal.specs.inner.Running.{IsSeatedFor, AreCountedSeated, AreJoined};
 
 use crate::board::{CountedBoard, CountedStart};
 use crate::entries::closed_of;

@@ -1,6 +1,7 @@
 //! Words with a count in their low half, and an instance's word in their high half.
 ghost use Rattle.std.specs.Prelude.{◌≡◌, ◌≤◌, ◌<◌, ◌+◌, ◌^◌, ◌==◌, if◌then◌else◌};
-ghost use Rattle.rv_journal.specs.CountedWords.{FitsCountedWord, counted_word, word_in, count_in};
+ghost use Rattle.rv_journal.specs.CountedWords.{FitsCountedWord};
+ghost use Rattle.rv_journal.specs.inner.CountedWords.{counted_word, word_in, count_in};
 
 use rv_word::{atoms_of, pack, set_of};
 

@@ -5,6 +5,7 @@ pub mod CountLemmas
 pub mod CpuJoinLemmas
 pub mod CpuLemmas
 pub mod CpuPartLemmas
+pub mod EnabledLemmas
 pub mod ExitLemmas
 pub mod FilterLemmas
 pub mod InstanceLemmas
@@ -20,6 +21,7 @@ pub mod MadeAtLemmas
 pub mod MadeLemmas
 pub mod MergeLemmas
 pub mod NumberingLemmas
+pub mod ObservedLemmas
 pub mod OrderLemmas
 pub mod OutcomeLemmas
 pub mod OwnerLemmas
@@ -29,12 +31,10 @@ pub mod PartRecordLemmas
 pub mod PastLemmas
 pub mod RiseLemmas
 pub mod SeatStepLemmas
-pub mod ShownLemmas
 pub mod StatusLemmas
 pub mod StepLemmas
 pub mod StopLemmas
 pub mod SumLemmas
 pub mod SwitchLemmas
-pub mod ToldLemmas
 pub mod VerdictLemmas
 pub mod WholeLemmas

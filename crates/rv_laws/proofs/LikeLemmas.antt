@@ -15,14 +15,14 @@ use Rattle.rv_model.specs.Histories.{is_on}
 use Rattle.rv_model.specs.Judging.{Judge}
 use Rattle.rv_model.specs.Numbers.{has_bit}
 use Rattle.rv_model.specs.Records.{record_of, outcome_of, look_word, is_look, is_delivery, until_look, from_look, turn_records, script_records}
-use Rattle.rv_model.specs.ScriptParts.{records_in, turn_lists}
+use Rattle.rv_model.specs.inner.ScriptParts.{records_in, turn_lists}
 use Rattle.rv_model.specs.Scripts.{Played, is_enabled_by, hit_act, Makes, Delivers, PlaysTurns}
 use Rattle.rv_model.specs.Setups.{Setup, slot_of}
 use Rattle.rv_model.proofs.AgreeLemmas.{match-both}
 use Rattle.rv_model.proofs.HitLemmas.{hit-not_look, hit-delivers}
 use Rattle.rv_laws.proofs.OwnerLemmas.{hit-on}
 use Rattle.rv_laws.proofs.SwitchLemmas.{opening_word, rest-of}
-use Rattle.rv_laws.proofs.ToldLemmas.{grown, Tells, TellsAt}
+use Rattle.rv_laws.proofs.ObservedLemmas.{grown, Tells, TellsAt}
 
 -- the records are of one instance, and the same where it has the slot
 pub record IsLike (shape : List ℕ) (slot : ℕ) (r t : Record) : Type 0 where

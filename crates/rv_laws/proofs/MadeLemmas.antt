@@ -14,7 +14,7 @@ use Rattle.rv_model.specs.declared.work.Turn.{Turn}
 use Rattle.rv_model.specs.Histories.{IsNoStop, is_on}
 use Rattle.rv_model.specs.Numbers.{has_bit}
 use Rattle.rv_model.specs.Records.{record_of, outcome_of, look_word, until_look, from_look, turn_records, script_records}
-use Rattle.rv_model.specs.ScriptParts.{records_in, turn_lists}
+use Rattle.rv_model.specs.inner.ScriptParts.{records_in, turn_lists}
 use Rattle.rv_model.specs.Scripts.{Played, is_enabled_by, is_end, hit_act, Makes, Delivers, PlaysTurns}
 use Rattle.rv_model.specs.Setups.{Setup, slot_of}
 use Rattle.rv_model.proofs.HitLemmas.{by_hit}

@@ -11,7 +11,7 @@ use Rattle.rv_model.specs.declared.work.Delivery.{Delivery}
 use Rattle.rv_model.specs.declared.work.Turn.{Turn}
 use Rattle.rv_model.specs.Numbers.{has_bit}
 use Rattle.rv_model.specs.Records.{record_of, outcome_of, look_word, is_look, is_delivery, until_look, from_look, turn_records, script_records, insert_record, sort_records}
-use Rattle.rv_model.specs.ScriptParts.{records_in, turn_lists}
+use Rattle.rv_model.specs.inner.ScriptParts.{records_in, turn_lists}
 use Rattle.rv_model.specs.Scripts.{Played, is_enabled_by, fails, Makes, Delivers, PlaysTurns}
 use Rattle.rv_model.specs.Setups.{Setup}
 use Rattle.rv_model.specs.Works.{Work}

@@ -11,7 +11,7 @@ use Rattle.rv_model.specs.Histories.{Input, IsOneHistory, AreJudges}
 use Rattle.rv_model.specs.Judging.{Judge}
 use Rattle.rv_model.specs.Numbers.{has_bit, number_of}
 use Rattle.rv_model.specs.Records.{look_word, until_look, from_look, turn_records, script_records, sort_records, records_of}
-use Rattle.rv_model.specs.ScriptParts.{turn_lists}
+use Rattle.rv_model.specs.inner.ScriptParts.{turn_lists}
 use Rattle.rv_model.specs.Scripts.{Played, played, is_enabled_by, PlaysTurns}
 use Rattle.rv_model.specs.Setups.{Setup}
 use Rattle.rv_model.specs.Table.{Table}

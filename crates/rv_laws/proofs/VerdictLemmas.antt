@@ -16,7 +16,7 @@ use Rattle.rv_laws.specs.Verdicts.{IsSteady, AreHistories, AgreeOnSingleWriter, 
 use Rattle.rv_laws.proofs.FilterLemmas.{filter-sort, like-filter, like-all, zip-works}
 use Rattle.rv_laws.proofs.LikeLemmas.{IsLike, like-script}
 use Rattle.rv_laws.proofs.OwnerLemmas.{plays}
-use Rattle.rv_laws.proofs.ToldLemmas.{tells-lone}
+use Rattle.rv_laws.proofs.ObservedLemmas.{tells-lone}
 
 -- the records of a work
 abbrev work_records : Input → List Judge → List Entry → Work → List Record

@@ -5,7 +5,7 @@ use Rattle.rv_ltl.specs.File.{Def}
 use Rattle.rv_ltl.specs.Reach.{Mentions, Uses, NameReaches, Step, Then, IsAtom}
 use Rattle.rv_ltl.specs.Replace.{body_of, replaced, value_of}
 use Rattle.rv_ltl.specs.Atoms.{Has, Rises}
-use Rattle.rv_ltl.specs.Weights.{def_at}
+use Rattle.rv_ltl.specs.inner.Weights.{def_at}
 use Rattle.rv_ltl.specs.RuleFile.{atoms_of}
 use Rattle.rv_ltl.proofs.Values.{replaced_some}
 use Rattle.rv_ltl.proofs.Settling.{Found, Free, Held, found, value_free, value_defined, value_zero}

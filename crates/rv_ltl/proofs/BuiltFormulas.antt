@@ -12,9 +12,9 @@ use Rattle.rv_ltl.specs.Parse.{◌>>=◌}
 use Rattle.rv_ltl.specs.File.{Def}
 use Rattle.rv_ltl.specs.Replace.{replaced, value_of}
 use Rattle.rv_ltl.specs.Atoms.{place_of, one_of, two_of, formula_over}
-use Rattle.rv_ltl.specs.Machine.{Values, value, run, last_or, computed, defs, AllCoded}
-use Rattle.rv_ltl.specs.Weights.{index_of, def_at}
-use Rattle.rv_ltl.specs.Collected.{ltls, built}
+use Rattle.rv_ltl.specs.inner.Machine.{Values, value, run, last_or, computed, defs, AllCoded}
+use Rattle.rv_ltl.specs.inner.Weights.{index_of, def_at}
+use Rattle.rv_ltl.specs.inner.Collected.{ltls, built}
 use Rattle.rv_ltl.proofs.OperatorLaws.{bind_some}
 use Rattle.rv_ltl.proofs.Elements.{value_at}
 use Rattle.rv_ltl.proofs.Settling.{Found, Free, Held, found, value_free, value_defined, value_zero}

@@ -6,10 +6,10 @@ use Rattle.rv_ltl.specs.declared.token.Unary.{Unary}
 use Rattle.rv_ltl.specs.declared.token.Binary.{Binary}
 use Rattle.rv_text.specs.declared.unread.Unread.{Unread}
 use Rattle.rv_text.specs.declared.unread.Unread.TheVariants.{Memory, Syntax}
-use Rattle.rv_text.specs.Unreads.{Fails}
+use Rattle.rv_text.specs.inner.Unreads.{Fails}
 use Rattle.rv_ltl.specs.Grammar.{Expr, Paren, One, Two}
 use Rattle.rv_ltl.specs.Parse.{Reader, operator, chain_at, term_at, expr_by, closed, is_close, ◌>>=◌}
-use Rattle.rv_ltl.specs.Fronts.{front}
+use Rattle.rv_ltl.specs.inner.Fronts.{front}
 use Rattle.rv_ltl.specs.Operators.{is_same_operator}
 
 -- another operator

@@ -8,13 +8,13 @@ use Rattle.rv_ltl.specs.declared.token.CodeStep.{CodeStep}
 use Rattle.rv_ltl.specs.declared.token.CodeStep.TheVariants as steps
 use Rattle.rv_ltl.specs.Grammar.{Expr, Paren, One, Two}
 use Rattle.rv_ltl.specs.Parse.{operator, is_close, chain_at, term_at, expr_by}
-use Rattle.rv_ltl.specs.Fronts.{front}
+use Rattle.rv_ltl.specs.inner.Fronts.{front}
 use Rattle.rv_ltl.specs.Operators.{is_same_operator}
 use Rattle.std.specs.Prelude.{map}
 use Rattle.std.proofs.lemmas.List.{map_push}
 use Rattle.rv_ltl.specs.declared.definitions.Definition.{Definition}
 use Rattle.rv_ltl.specs.File.{Def}
-use Rattle.rv_ltl.specs.Postfix.{code, coded, Coded, coded_def, seen, AreCodes}
+use Rattle.rv_ltl.specs.inner.Postfix.{code, coded, Coded, coded_def, seen, AreCodes}
 use Rattle.rv_ltl.proofs.ChainSteps.{chain_step, paren_at, unary_at, closed_yes, closed_no}
 
 -- a tree was read up to the rest, and its code stands behind the old code

@@ -5,14 +5,14 @@ use Rattle.rv_ltl.specs.declared.token.CodeStep.TheVariants as steps
 use Rattle.rv_ltl.specs.declared.definitions.Definition.{Definition}
 use Rattle.rv_ltl.specs.Grammar.{Expr, Paren, One, Two}
 use Rattle.rv_ltl.specs.File.{Def}
-use Rattle.rv_ltl.specs.Postfix.{code}
+use Rattle.rv_ltl.specs.inner.Postfix.{code}
 use Rattle.rv_ltl.specs.Reach.{Mentions}
-use Rattle.rv_ltl.specs.Machine.{computed, formulas, defs, AllCoded}
-use Rattle.rv_ltl.specs.Weights.{def_at}
-use Rattle.rv_ltl.specs.Reached.{flag_at}
+use Rattle.rv_ltl.specs.inner.Machine.{computed, formulas, defs, AllCoded}
+use Rattle.rv_ltl.specs.inner.Weights.{def_at}
+use Rattle.rv_ltl.specs.inner.Reached.{flag_at}
 use Rattle.rv_ltl.specs.Atoms.{Has, Rises, inserted, names_into}
 use Rattle.std.proofs.lemmas.Bool.{cases_lt, false≢true}
-use Rattle.rv_ltl.specs.Collected.{step_into, code_into, def_into, atoms_from, Puts}
+use Rattle.rv_ltl.specs.inner.Collected.{step_into, code_into, def_into, atoms_from, Puts}
 use Rattle.rv_ltl.proofs.Elements.{read_def, coded_at}
 use Rattle.rv_ltl.proofs.Inserting.{rises_inserted, has_inserted, inserted_has, inserted_keeps, length_inserted}
 

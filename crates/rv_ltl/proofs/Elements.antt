@@ -5,9 +5,9 @@ use Rattle.rv_ltl.specs.declared.token.CodeStep.{CodeStep}
 use Rattle.rv_ltl.specs.declared.definitions.Definition.{Definition}
 use Rattle.rv_ltl.specs.Parse.{◌>>=◌}
 use Rattle.rv_ltl.specs.File.{Def}
-use Rattle.rv_ltl.specs.Postfix.{code}
-use Rattle.rv_ltl.specs.Machine.{Values, value, computed, formulas, def, defs, AllCoded}
-use Rattle.rv_ltl.specs.Weights.{index_of, def_at}
+use Rattle.rv_ltl.specs.inner.Postfix.{code}
+use Rattle.rv_ltl.specs.inner.Machine.{Values, value, computed, formulas, def, defs, AllCoded}
+use Rattle.rv_ltl.specs.inner.Weights.{index_of, def_at}
 use Rattle.rv_ltl.proofs.Running.{coded_value}
 
 -- there are as many definitions as the program has

@@ -9,12 +9,12 @@ use Rattle.rv_ltl.specs.declared.weight.Weight.TheVariants.{Is}
 use Rattle.rv_ltl.specs.Grammar.{Expr}
 use Rattle.rv_ltl.specs.File.{Def}
 use Rattle.rv_ltl.specs.Replace.{once, value_of, any_endless, weight_of}
-use Rattle.rv_ltl.specs.Weights.{index_of, known_at, limited, weighed, IsSettled}
-use Rattle.rv_ltl.specs.Reached.{AreUses, AreReachFlags}
-use Rattle.rv_ltl.specs.Collected.{is_free, atoms_from, Collects}
+use Rattle.rv_ltl.specs.inner.Weights.{index_of, known_at, limited, weighed, IsSettled}
+use Rattle.rv_ltl.specs.inner.Reached.{AreUses, AreReachFlags}
+use Rattle.rv_ltl.specs.inner.Collected.{is_free, atoms_from, Collects}
 use Rattle.rv_ltl.specs.RuleFile.{atoms_of, within_limits, formula_of}
 use Rattle.rv_ltl.specs.Atoms.{Has}
-use Rattle.rv_ltl.specs.Rules.{IsMentioned, GivesAtoms}
+use Rattle.rv_ltl.specs.inner.Rules.{IsMentioned, GivesAtoms}
 use Rattle.rv_ltl.proofs.Collecting.{atoms_only}
 use Rattle.rv_ltl.proofs.Settling.{body_at}
 use Rattle.rv_ltl.proofs.Mentioned.{the_atoms}

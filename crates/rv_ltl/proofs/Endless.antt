@@ -6,7 +6,7 @@ use Rattle.rv_ltl.specs.Parse.{◌>>=◌}
 use Rattle.rv_ltl.specs.File.{Def}
 use Rattle.rv_ltl.specs.Reach.{Mentions, Uses, IsCyclic}
 use Rattle.rv_ltl.specs.Replace.{body_of, replaced, value_of, any_endless}
-use Rattle.rv_ltl.specs.Weights.{def_at}
+use Rattle.rv_ltl.specs.inner.Weights.{def_at}
 use Rattle.rv_ltl.proofs.Cycle.{In, some_cycle}
 use Rattle.rv_ltl.proofs.Values.{value_more, not_around, is_defined}
 use Rattle.rv_ltl.proofs.Settling.{Found, Free, Held, found, value_free, value_defined, endless_at, none_endless}

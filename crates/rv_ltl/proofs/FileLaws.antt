@@ -5,7 +5,7 @@ use Rattle.rv_ltl.specs.declared.token.Token.{Token}
 use Rattle.rv_ltl.specs.declared.token.Token.TheVariants as token
 use Rattle.rv_text.specs.declared.unread.Unread.{Unread}
 use Rattle.rv_text.specs.declared.unread.Unread.TheVariants.{Memory, Syntax}
-use Rattle.rv_text.specs.Unreads.{Fails}
+use Rattle.rv_text.specs.inner.Unreads.{Fails}
 use Rattle.rv_ltl.specs.Grammar.{Expr, spell}
 use Rattle.rv_ltl.specs.Parse.{operator, term_at, expr_by, ◌>>=◌}
 use Rattle.rv_ltl.specs.File.{Def, spell_file, IsFile, head_name, defs_at}

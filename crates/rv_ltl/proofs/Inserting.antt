@@ -4,7 +4,7 @@ use Rattle.std.specs.List.{insert}
 use Rattle.std.proofs.lemmas.List.Edits.{length-insert}
 use Rattle.std.proofs.lemmas.Bool.{eqb-true, eqb-false, ltb-true, ltb-false}
 use Rattle.rv_ltl.specs.Atoms.{Has, Rises, inserted}
-use Rattle.rv_ltl.specs.Collected.{count_below, stands}
+use Rattle.rv_ltl.specs.inner.Collected.{count_below, stands}
 
 -- an ascending list with one number more at its place ascends
 pub rises_inserted : (low x : ℕ) (xs : List ℕ) → low ≤ x → Rises low xs → Rises low (inserted x xs)

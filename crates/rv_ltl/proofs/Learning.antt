@@ -7,8 +7,8 @@ use Rattle.rv_ltl.specs.declared.weight.Weight.TheVariants.{Open, Large, Is}
 use Rattle.rv_model.specs.Numbers.{one_if}
 use Rattle.rv_ltl.specs.File.{Def}
 use Rattle.rv_ltl.specs.Replace.{value_of, any_endless}
-use Rattle.rv_ltl.specs.Machine.{value}
-use Rattle.rv_ltl.specs.Weights.{def_at, known_at, weight_at, weights_by, weighed, IsDistinct, IsSure, IsStuck, IsSettled, open_count, known_count, Learns, Passes}
+use Rattle.rv_ltl.specs.inner.Machine.{value}
+use Rattle.rv_ltl.specs.inner.Weights.{def_at, known_at, weight_at, weights_by, weighed, IsDistinct, IsSure, IsStuck, IsSettled, open_count, known_count, Learns, Passes}
 use Rattle.rv_ltl.proofs.Settling.{set_sure, sure_after, never, endless_at, none_endless}
 use Rattle.rv_ltl.proofs.WeightLaws.{weighed_none}
 

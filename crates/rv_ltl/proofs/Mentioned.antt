@@ -7,9 +7,9 @@ use Rattle.rv_ltl.specs.Parse.{◌>>=◌}
 use Rattle.rv_ltl.specs.File.{Def}
 use Rattle.rv_ltl.specs.Reach.{Mentions, Leads, Step, Then}
 use Rattle.rv_ltl.specs.Replace.{is_none, replaced, value_of}
-use Rattle.rv_ltl.specs.Weights.{index_of, def_at, IsDistinct}
-use Rattle.rv_ltl.specs.Reached.{flag_at, row_at, Flags, AreReachFlags, AreUses}
-use Rattle.rv_ltl.specs.Collected.{is_free, atoms_from}
+use Rattle.rv_ltl.specs.inner.Weights.{index_of, def_at, IsDistinct}
+use Rattle.rv_ltl.specs.inner.Reached.{flag_at, row_at, Flags, AreReachFlags, AreUses}
+use Rattle.rv_ltl.specs.inner.Collected.{is_free, atoms_from}
 use Rattle.rv_ltl.specs.RuleFile.{atoms_of}
 use Rattle.rv_ltl.proofs.OperatorLaws.{bind_some}
 use Rattle.rv_ltl.proofs.Values.{replaced_some}

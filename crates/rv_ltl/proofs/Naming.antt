@@ -13,8 +13,8 @@ use Rattle.rv_ltl.specs.Names.{place_in}
 use Rattle.rv_ltl.specs.Tokens.{plain_of, unary_of, binary_of, token_of, tokens_of}
 use Rattle.rv_ltl.specs.Reach.{Mentions}
 use Rattle.rv_ltl.specs.Replace.{plain, plain_def}
-use Rattle.rv_ltl.specs.Weights.{def_at}
-use Rattle.rv_ltl.specs.Rules.{AllNamed}
+use Rattle.rv_ltl.specs.inner.Weights.{def_at}
+use Rattle.rv_ltl.specs.inner.Rules.{AllNamed}
 use Rattle.rv_ltl.proofs.OperatorLaws.{bind_some}
 
 -- a name of a token is below n

@@ -5,7 +5,7 @@ use Rattle.std.specs.declared.alloc.Global.{Global}
 use Rattle.std.proofs.Math.ListN.{set, length-set}
 use Rattle.std.proofs.lemmas.Bool.{false≢true}
 use Rattle.rv_ltl.specs.Reach.{Leads, Step}
-use Rattle.rv_ltl.specs.Reached.{flag_at, row_at, Flags, AreReachFlags, IsUnderWay, Joins, NextIs, undone}
+use Rattle.rv_ltl.specs.inner.Reached.{flag_at, row_at, Flags, AreReachFlags, IsUnderWay, Joins, NextIs, undone}
 use Rattle.rv_ltl.proofs.Cycle.{append_leads}
 use Rattle.rv_ltl.proofs.Rows.{set_only}
 

@@ -11,17 +11,17 @@ use Rattle.rv_ltl.specs.declared.token.Token.{Token}
 use Rattle.rv_ltl.specs.declared.definitions.Definition.{Definition}
 use Rattle.rv_text.specs.declared.unread.Unread.{Unread}
 use Rattle.rv_text.specs.declared.unread.Unread.TheVariants.{Memory, Syntax}
-use Rattle.rv_text.specs.Unreads.{Fails}
+use Rattle.rv_text.specs.inner.Unreads.{Fails}
 use Rattle.rv_ltl.specs.Grammar.{Expr}
 use Rattle.rv_ltl.specs.Parse.{◌>>=◌}
 use Rattle.rv_ltl.specs.File.{Def, defs_at}
-use Rattle.rv_ltl.specs.Postfix.{ReadsCode}
+use Rattle.rv_ltl.specs.inner.Postfix.{ReadsCode}
 use Rattle.rv_ltl.specs.Pieces.{pieces_of}
 use Rattle.rv_ltl.specs.Names.{names_of, place_in}
 use Rattle.rv_ltl.specs.Tokens.{tokens_of}
 use Rattle.rv_ltl.specs.Replace.{plain_def}
 use Rattle.rv_ltl.specs.RuleFile.{formula_of, rule_of, rule_in, definitions_of, ltl_of}
-use Rattle.rv_ltl.specs.Rules.{AllNamed, ReadsDefinitions, of_unread}
+use Rattle.rv_ltl.specs.inner.Rules.{AllNamed, ReadsDefinitions, of_unread}
 use Rattle.rv_ltl.proofs.FileLaws.{file_sound}
 use Rattle.rv_ltl.proofs.Running.{defs-codes, all_coded}
 use Rattle.rv_ltl.proofs.Naming.{InMarks, tokens_in, file_named, plain_named}

@@ -11,12 +11,12 @@ use Rattle.rv_ltl.specs.declared.weight.Weight.{Weight}
 use Rattle.rv_ltl.specs.declared.weight.Weight.TheVariants.{Open}
 use Rattle.rv_ltl.specs.Grammar.{Expr, Paren, One, Two}
 use Rattle.rv_ltl.specs.File.{Def}
-use Rattle.rv_ltl.specs.Postfix.{code}
+use Rattle.rv_ltl.specs.inner.Postfix.{code}
 use Rattle.rv_ltl.specs.Reach.{Mentions}
-use Rattle.rv_ltl.specs.Machine.{value}
-use Rattle.rv_ltl.specs.Weights.{index_of, def_at, known_at, weight_at, weights_by, IsDistinct}
-use Rattle.rv_ltl.specs.Reached.{flag_at, IsNameStep, Holds, IsRow, row_at, AreUses}
-use Rattle.rv_ltl.specs.Uses.{flagged}
+use Rattle.rv_ltl.specs.inner.Machine.{value}
+use Rattle.rv_ltl.specs.inner.Weights.{index_of, def_at, known_at, weight_at, weights_by, IsDistinct}
+use Rattle.rv_ltl.specs.inner.Reached.{flag_at, IsNameStep, Holds, IsRow, row_at, AreUses}
+use Rattle.rv_ltl.specs.inner.Uses.{flagged}
 use Rattle.rv_ltl.proofs.Settling.{body_at, weight_held}
 use Rattle.rv_ltl.proofs.WeightLaws.{open_formula}
 

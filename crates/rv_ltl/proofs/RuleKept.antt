@@ -13,7 +13,7 @@ use Rattle.rv_ltl.specs.declared.token.Unary.TheVariants as unary
 use Rattle.rv_ltl.specs.declared.token.Binary.{Binary}
 use Rattle.rv_ltl.specs.declared.token.Binary.TheVariants as binary
 use Rattle.rv_ltl.specs.Grammar.{Expr, Paren, One, Two}
-use Rattle.rv_text.specs.Ascending.{Ascends}
+use Rattle.rv_text.specs.inner.Ascending.{Ascends}
 use Rattle.rv_ltl.specs.Reach.{Mentions}
 use Rattle.rv_ltl.specs.Atoms.{Has, Rises, place_of, one_of, two_of, formula_over, name_at}
 use Rattle.rv_ltl.specs.RuleFile.{atoms_of, rule_of}

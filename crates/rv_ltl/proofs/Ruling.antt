@@ -8,7 +8,7 @@ use Rattle.rv_ltl.specs.Grammar.{Expr}
 use Rattle.rv_ltl.specs.Parse.{◌>>=◌}
 use Rattle.rv_ltl.specs.File.{Def}
 use Rattle.rv_ltl.specs.Replace.{body_of, is_none, once, value_of, any_endless, weight_of}
-use Rattle.rv_ltl.specs.Weights.{index_of, def_at, limited, IsDistinct}
+use Rattle.rv_ltl.specs.inner.Weights.{index_of, def_at, limited, IsDistinct}
 use Rattle.rv_ltl.specs.RuleFile.{atoms_of, within_limits, formula_of}
 use Rattle.rv_ltl.proofs.Settling.{Found, Free, Held, found, body_at, body_none}
 

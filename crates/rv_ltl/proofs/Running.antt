@@ -6,9 +6,9 @@ use Rattle.rv_ltl.specs.declared.token.CodeStep.TheVariants as steps
 use Rattle.rv_ltl.specs.declared.definitions.Definition.{Definition}
 use Rattle.rv_ltl.specs.Grammar.{Expr, Paren, One, Two}
 use Rattle.rv_ltl.specs.File.{Def}
-use Rattle.rv_ltl.specs.Postfix.{code, Coded, coded_def, seen, AreCodes}
+use Rattle.rv_ltl.specs.inner.Postfix.{code, Coded, coded_def, seen, AreCodes}
 use Rattle.rv_ltl.specs.Replace.{plain, plain_def}
-use Rattle.rv_ltl.specs.Machine.{Values, value, one_step, two_step, stepped, run, last_or, computed, formulas, def, defs, AllCoded}
+use Rattle.rv_ltl.specs.inner.Machine.{Values, value, one_step, two_step, stepped, run, last_or, computed, formulas, def, defs, AllCoded}
 
 -- code behind other code runs on the stack that the other leaves
 run-append : {A : Type 0} (v : Values A) (front back : List CodeStep) (stack : List A) → run v (front ++ back) stack ≡ run v back (run v front stack)

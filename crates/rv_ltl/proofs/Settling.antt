@@ -9,8 +9,8 @@ use Rattle.rv_ltl.specs.Parse.{◌>>=◌}
 use Rattle.rv_ltl.specs.File.{Def}
 use Rattle.rv_ltl.specs.Reach.{Mentions}
 use Rattle.rv_ltl.specs.Replace.{body_of, is_none, replaced, value_of, any_endless}
-use Rattle.rv_ltl.specs.Machine.{value}
-use Rattle.rv_ltl.specs.Weights.{index_of, def_at, known_at, weight_at, weighed, weights_by, IsDistinct, IsSure, IsStuck}
+use Rattle.rv_ltl.specs.inner.Machine.{value}
+use Rattle.rv_ltl.specs.inner.Weights.{index_of, def_at, known_at, weight_at, weighed, weights_by, IsDistinct, IsSure, IsStuck}
 use Rattle.rv_ltl.proofs.Values.{value_more, value_after}
 use Rattle.rv_ltl.proofs.WeightLaws.{weighed_some, is_weighed, open_name}
 

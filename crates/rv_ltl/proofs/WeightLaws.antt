@@ -10,8 +10,8 @@ use Rattle.rv_ltl.specs.Operators.{weight_two}
 use Rattle.rv_ltl.specs.Parse.{◌>>=◌}
 use Rattle.rv_ltl.specs.Reach.{Mentions}
 use Rattle.rv_ltl.specs.Replace.{weight_of, replaced}
-use Rattle.rv_ltl.specs.Machine.{value}
-use Rattle.rv_ltl.specs.Weights.{limited, weighed, one_weight, two_weights, weights_by}
+use Rattle.rv_ltl.specs.inner.Machine.{value}
+use Rattle.rv_ltl.specs.inner.Weights.{limited, weighed, one_weight, two_weights, weights_by}
 
 -- two operands with an operator weigh no less than both operands
 both_weigh : (op : Binary) (a b : ℕ) → a + b ≤ weight_two op a b

@@ -1,9 +1,9 @@
 //! The names that stand in reached definitions and are not defined, ascending: at most 32.
 
 ghost use Rattle.std.specs.Prelude.{◌≡◌, ◌≤◌, ◌<◌, length, IfOk};
-ghost use Rattle.rv_ltl.specs.Machine.{defs, AllCoded};
+ghost use Rattle.rv_ltl.specs.inner.Machine.{defs, AllCoded};
 ghost use Rattle.rv_ltl.specs.Atoms.{inserted};
-ghost use Rattle.rv_ltl.specs.Collected.{count_below, stands, is_free, step_into, code_into, def_into, atoms_from, Puts, Collects};
+ghost use Rattle.rv_ltl.specs.inner.Collected.{count_below, stands, is_free, step_into, code_into, def_into, atoms_from, Puts, Collects};
 
 use crate::definitions::Definition;
 use crate::token::CodeStep;

@@ -2,9 +2,9 @@
 
 ghost use Rattle.std.specs.Prelude.{◌≡◌, ◌≤◌, ◌<◌, ◌∷◌, length, IfOk, map, reverse};
 ghost use Rattle.rv_model.specs.Formulas.{ltl};
-ghost use Rattle.rv_ltl.specs.Machine.{defs, AllCoded, one_step, two_step, stepped};
+ghost use Rattle.rv_ltl.specs.inner.Machine.{defs, AllCoded, one_step, two_step, stepped};
 ghost use Rattle.rv_ltl.specs.Atoms.{place_of, one_of, two_of};
-ghost use Rattle.rv_ltl.specs.Collected.{built, ltls};
+ghost use Rattle.rv_ltl.specs.inner.Collected.{built, ltls};
 
 use crate::definitions::Definition;
 use crate::token::{Binary, CodeStep, Unary};
@@ -119,7 +119,7 @@ fn step(
 
 /// The formula that the name stands for, in which definitions stand in one another at most so deep.
 #[cycle(build)]
-#[tactic(auto, unfolding(crate::specs::Collected::built))]
+#[tactic(auto, unfolding(crate::specs::inner::Collected::built))]
 pub fn build(
     alloc: Global,
     definitions: &[Definition],

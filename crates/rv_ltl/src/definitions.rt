@@ -2,7 +2,7 @@
 
 ghost use Rattle.std.specs.Prelude.{◌≡◌};
 ghost use Rattle.rv_ltl.specs.File.{defs_at, head_name};
-ghost use Rattle.rv_ltl.specs.Postfix.{ReadsCode};
+ghost use Rattle.rv_ltl.specs.inner.Postfix.{ReadsCode};
 
 use crate::expression::expression;
 use crate::marks::after;

@@ -2,7 +2,7 @@
 
 ghost use Rattle.std.specs.Prelude.{◌≡◌, ◌++◌, ◌∷◌, [], OnOk};
 ghost use Rattle.rv_ltl.specs.Parse.{term_at, expr_by};
-ghost use Rattle.rv_ltl.specs.Postfix.{Appends};
+ghost use Rattle.rv_ltl.specs.inner.Postfix.{Appends};
 
 use crate::marks::{after, front, is_close, operator};
 use crate::operators::{is_same_operator, joins};

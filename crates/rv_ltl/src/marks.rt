@@ -2,7 +2,7 @@
 
 ghost use Rattle.std.specs.Prelude.{◌≡◌, drop};
 ghost use Rattle.rv_ltl.specs.Parse.{is_close, operator};
-ghost use Rattle.rv_ltl.specs.Fronts.{front};
+ghost use Rattle.rv_ltl.specs.inner.Fronts.{front};
 
 use crate::token::{Binary, Token};
 

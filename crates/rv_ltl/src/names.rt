@@ -3,8 +3,8 @@
 ghost use Rattle.std.specs.Prelude.{◌≡◌, ℕ, List, map, IfOk, option_map};
 ghost use Rattle.std.specs.Cmp.Lexicographic.{slice_cmp};
 ghost use Rattle.std.specs.Ordering.{nat_cmp};
-ghost use Rattle.rv_ltl.specs.Texts.{texts};
-ghost use Rattle.rv_text.specs.Ascending.{Ascends};
+ghost use Rattle.rv_ltl.specs.inner.Texts.{texts};
+ghost use Rattle.rv_text.specs.inner.Ascending.{Ascends};
 ghost use Rattle.rv_ltl.specs.Names.{is_upper, is_atom_byte, all_name_bytes, is_atom_name, names_of, place_in};
 
 use std::alloc::{AllocError, Global};

@@ -1,10 +1,10 @@
 //! A rule file's text, cut into marks and words.
 
 ghost use Rattle.std.specs.Prelude.{◌≡◌, ◌≤◌, ◌<◌, ℕ, length, map, false};
-ghost use Rattle.rv_text.specs.Unreads.{IsReadAs};
+ghost use Rattle.rv_text.specs.inner.Unreads.{IsReadAs};
 ghost use Rattle.rv_ltl.specs.Pieces.{is_whitespace, is_mark, is_word, pieces_of};
-ghost use Rattle.rv_ltl.specs.Lengths.{word_len, comment_len, piece_len, skipped};
-ghost use Rattle.rv_ltl.specs.Texts.{texts};
+ghost use Rattle.rv_ltl.specs.inner.Lengths.{word_len, comment_len, piece_len, skipped};
+ghost use Rattle.rv_ltl.specs.inner.Texts.{texts};
 
 use rv_text::Unread;
 use std::alloc::Global;

@@ -1,7 +1,7 @@
 //! The definitions that a definition reaches.
 
 ghost use Rattle.std.specs.Prelude.{◌≡◌, ◌<◌, length, IfOk};
-ghost use Rattle.rv_ltl.specs.Reached.{Joins, NextIs, AreReachFlags};
+ghost use Rattle.rv_ltl.specs.inner.Reached.{Joins, NextIs, AreReachFlags};
 
 use crate::uses::all_false;
 use std::alloc::{AllocError, Global};

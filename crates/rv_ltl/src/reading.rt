@@ -5,13 +5,13 @@ ghost use Rattle.std.specs.Cmp.Lexicographic.{slice_cmp};
 ghost use Rattle.std.specs.Ordering.{nat_cmp};
 ghost use Rattle.rv_text.specs.Readings.{Gives};
 ghost use Rattle.rv_model.specs.Formulas.{IsRule, ltl};
-ghost use Rattle.rv_ltl.specs.Texts.{texts};
-ghost use Rattle.rv_text.specs.Ascending.{Ascends};
+ghost use Rattle.rv_ltl.specs.inner.Texts.{texts};
+ghost use Rattle.rv_text.specs.inner.Ascending.{Ascends};
 ghost use Rattle.rv_ltl.specs.Names.{names_of};
-ghost use Rattle.rv_ltl.specs.Machine.{defs, AllCoded};
+ghost use Rattle.rv_ltl.specs.inner.Machine.{defs, AllCoded};
 ghost use Rattle.rv_ltl.specs.Atoms.{name_at};
 ghost use Rattle.rv_ltl.specs.RuleFile.{rule_in, ltl_of};
-ghost use Rattle.rv_ltl.specs.Rules.{AllNamed, ReadsDefinitions, of_unread};
+ghost use Rattle.rv_ltl.specs.inner.Rules.{AllNamed, ReadsDefinitions, of_unread};
 
 use crate::building::build;
 use crate::definitions::{Definition, definitions};

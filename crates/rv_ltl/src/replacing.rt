@@ -2,9 +2,9 @@
 
 ghost use Rattle.std.specs.Prelude.{◌≡◌, ◌≤◌, ◌<◌, length};
 ghost use Rattle.rv_text.specs.Readings.{Refuses};
-ghost use Rattle.rv_ltl.specs.Machine.{defs, AllCoded};
+ghost use Rattle.rv_ltl.specs.inner.Machine.{defs, AllCoded};
 ghost use Rattle.rv_ltl.specs.Replace.{once};
-ghost use Rattle.rv_ltl.specs.Rules.{GivesAtoms};
+ghost use Rattle.rv_ltl.specs.inner.Rules.{GivesAtoms};
 
 use crate::atoms::atoms;
 use crate::definitions::Definition;

@@ -2,9 +2,9 @@
 //! Which definitions use which is asked first, so that each formula is weighed once.
 
 ghost use Rattle.std.specs.Prelude.{◌≡◌, ◌≢◌, ◌<◌, ℕ, length, IfOk, IfSome, IfNone, true, false};
-ghost use Rattle.rv_ltl.specs.Machine.{defs, AllCoded};
-ghost use Rattle.rv_ltl.specs.Weights.{IsDistinct, IsSettled, IsSure, Learns, Passes, known_at, known_count};
-ghost use Rattle.rv_ltl.specs.Reached.{AreUses, flag_at};
+ghost use Rattle.rv_ltl.specs.inner.Machine.{defs, AllCoded};
+ghost use Rattle.rv_ltl.specs.inner.Weights.{IsDistinct, IsSettled, IsSure, Learns, Passes, known_at, known_count};
+ghost use Rattle.rv_ltl.specs.inner.Reached.{AreUses, flag_at};
 ghost use Rattle.rv_ltl.specs.declared.weight.Weight.TheVariants.{Open};
 
 use crate::definitions::Definition;

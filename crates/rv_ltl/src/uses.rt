@@ -1,10 +1,10 @@
 //! Which definitions a definition uses.
 
 ghost use Rattle.std.specs.Prelude.{◌≡◌, ◌<◌, ℕ, length, IfOk, false};
-ghost use Rattle.rv_ltl.specs.Machine.{defs, AllCoded};
-ghost use Rattle.rv_ltl.specs.Weights.{index_of, IsDistinct};
-ghost use Rattle.rv_ltl.specs.Reached.{flag_at, IsRow, AreUses, IsNameStep};
-ghost use Rattle.rv_ltl.specs.Uses.{flagged};
+ghost use Rattle.rv_ltl.specs.inner.Machine.{defs, AllCoded};
+ghost use Rattle.rv_ltl.specs.inner.Weights.{index_of, IsDistinct};
+ghost use Rattle.rv_ltl.specs.inner.Reached.{flag_at, IsRow, AreUses, IsNameStep};
+ghost use Rattle.rv_ltl.specs.inner.Uses.{flagged};
 
 use crate::definitions::Definition;
 use crate::token::CodeStep;

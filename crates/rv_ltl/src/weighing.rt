@@ -1,8 +1,8 @@
 //! The weight of a formula, from its code and what is known of its names.
 
 ghost use Rattle.std.specs.Prelude.{◌≡◌, ◌<◌, IfOk, reverse};
-ghost use Rattle.rv_ltl.specs.Machine.{defs, one_step, two_step, stepped, computed};
-ghost use Rattle.rv_ltl.specs.Weights.{one_weight, two_weights, weights_by, weight_at, known_at};
+ghost use Rattle.rv_ltl.specs.inner.Machine.{defs, one_step, two_step, stepped, computed};
+ghost use Rattle.rv_ltl.specs.inner.Weights.{one_weight, two_weights, weights_by, weight_at, known_at};
 
 use crate::definitions::Definition;
 use crate::token::{Binary, CodeStep};

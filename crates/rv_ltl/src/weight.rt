@@ -3,7 +3,7 @@
 ghost use Rattle.std.specs.Prelude.{◌≡◌, ◌+◌, ◌*◌, ◌^◌, ◌<◌, ◌↔◌, IsTrue};
 ghost use Rattle.rv_ltl.specs.Operators.{weight_two};
 ghost use Rattle.rv_ltl.specs.declared.weight.Weight.TheVariants.{Open};
-ghost use Rattle.rv_ltl.specs.Weights.{limited, one_weight, two_weights};
+ghost use Rattle.rv_ltl.specs.inner.Weights.{limited, one_weight, two_weights};
 
 use crate::token::Binary;
 

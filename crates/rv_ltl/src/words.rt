@@ -3,9 +3,9 @@
 ghost use Rattle.std.specs.Prelude.{◌≡◌};
 ghost use Rattle.std.specs.Cmp.Lexicographic.{slice_cmp};
 ghost use Rattle.std.specs.Ordering.{nat_cmp};
-ghost use Rattle.rv_ltl.specs.Texts.{texts};
-ghost use Rattle.rv_text.specs.Unreads.{IsReadAs};
-ghost use Rattle.rv_text.specs.Ascending.{Ascends};
+ghost use Rattle.rv_ltl.specs.inner.Texts.{texts};
+ghost use Rattle.rv_text.specs.inner.Unreads.{IsReadAs};
+ghost use Rattle.rv_text.specs.inner.Ascending.{Ascends};
 ghost use Rattle.rv_ltl.specs.Tokens.{plain_of, unary_of, binary_of, token_of, tokens_of};
 
 use crate::names::find;

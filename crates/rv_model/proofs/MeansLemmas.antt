@@ -12,7 +12,7 @@ use Rattle.rv_model.specs.Numbers.{list_of}
 use Rattle.rv_model.specs.Language.{IsPath, HasEdge, Accepts}
 use Rattle.rv_model.specs.declared.formula.Spec.{Spec}
 use Rattle.rv_model.specs.declared.formula.Spec.TheVariants.{Da}
-use Rattle.rv_model.specs.EventTables.{entry}
+use Rattle.rv_model.specs.inner.EventTables.{entry}
 use Rattle.rv_model.specs.Table.{Table, first_row, next_row, table_of, is_next, Follows, end_of, Reaches}
 use Rattle.rv_model.specs.Judging.{IsGood, Judge, Means, JudgesByTable, JudgesBySpec}
 use Rattle.rv_model.proofs.GoodLemmas.{good_letters}

@@ -11,7 +11,7 @@ use Rattle.rv_model.specs.declared.work.Turn.{Turn}
 use Rattle.rv_model.specs.Histories.{look_count}
 use Rattle.rv_model.specs.Numbers.{has_bit}
 use Rattle.rv_model.specs.Records.{record_of, is_look, is_delivery, until_look, from_look, script_records, turn_records}
-use Rattle.rv_model.specs.ScriptParts.{records_in, TurnPart, LastPart, turn_lists, GoesOn, EndsScript}
+use Rattle.rv_model.specs.inner.ScriptParts.{records_in, TurnPart, LastPart, turn_lists, GoesOn, EndsScript}
 use Rattle.rv_model.specs.Scripts.{Played, is_enabled_by, fails, Makes, Delivers, PlaysTurns}
 use Rattle.rv_model.specs.Setups.{Setup, slot_of}
 use Rattle.rv_model.proofs.HitLemmas.{hit-no_look, hit-not_look, hit-delivers}

@@ -88,14 +88,6 @@ pub record Input : Type 0 where
 abbrev pub input_with : Setup → List Spec → (ℕ → Bool) → List Work → List Change → Input
 input_with s specs panics works changes = record { setup = s; specs = specs; panics = panics; works = works; changes = changes }
 
--- a run whose switches nobody changes
-abbrev pub input_of : Setup → List Spec → (ℕ → Bool) → List Work → Input
-input_of s specs panics works = input_with s specs panics works []
-
--- a run whose switches nobody changes, in which no reactor is panic
-abbrev pub recorded_input : Setup → List Spec → List Work → Input
-recorded_input s specs works = input_of s specs (λ _. false) works
-
 -- one judge for each monitor, by its specification
 abbrev pub AreJudges : List Spec → List Table → List Judge → Type 0
 AreJudges [] [] [] = Unit {0}

@@ -1,5 +1,4 @@
 pub mod Cuts
-pub mod EventTables
 pub mod Formulas
 pub mod GoodLetters
 pub mod Histories
@@ -17,7 +16,6 @@ pub mod Phases
 pub mod Reactors
 pub mod Records
 pub mod Reports
-pub mod ScriptParts
 pub mod Scripts
 pub mod Seats
 pub mod Setups
@@ -30,3 +28,4 @@ pub mod Truth
 pub mod WellFormed
 pub mod Words
 pub mod Works
+pub mod inner

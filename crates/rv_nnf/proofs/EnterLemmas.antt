@@ -9,7 +9,7 @@ use Rattle.rv_nnf.specs.declared.parts.Part.{Part}
 use Rattle.rv_nnf.specs.Lists.{place}
 use Rattle.rv_text.specs.declared.numbers.TheConstants.{TOO_MANY_PARTS}
 use Rattle.rv_text.specs.Readings.{refused_with}
-use Rattle.rv_nnf.specs.Entering.{same_part, Entered, enter, try_enter}
+use Rattle.rv_nnf.specs.inner.Entering.{same_part, Entered, enter, try_enter}
 use Rattle.rv_nnf.proofs.Places.{decided_decides, place_le, place_end, among_from_place, not_among}
 
 -- the test of parts decides

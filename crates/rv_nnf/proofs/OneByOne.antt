@@ -7,7 +7,7 @@ use Rattle.rv_nnf.specs.Tree.{Tree, Label, Next, And, Or, Until, Release}
 use Rattle.rv_nnf.specs.Parts.{PartValue}
 use Rattle.rv_nnf.specs.Lists.{among, place, with_new, firsts}
 use Rattle.rv_nnf.specs.NormalForm.{same_tree, walk, parts_of, part_value_of, numbered_parts}
-use Rattle.rv_nnf.specs.Entering.{same_part, Entered, enter}
+use Rattle.rv_nnf.specs.inner.Entering.{same_part, Entered, enter}
 use Rattle.rv_nnf.proofs.Places.{place_append, firsts_kept, firsts_place}
 use Rattle.rv_nnf.proofs.Settled.{same_tree_decides, There, Operands, IsSettled, settled_nil}
 use Rattle.rv_nnf.proofs.Walked.{IsPlainTree, after, after_one, after_two, walked}

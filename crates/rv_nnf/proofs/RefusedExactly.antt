@@ -16,7 +16,7 @@ use Rattle.rv_nnf.specs.Tree.{Tree, Label, Next, And, Or, Until, Release, tree_o
 use Rattle.rv_nnf.specs.Parts.{PartValue, part_meaning, IsNormal}
 use Rattle.rv_nnf.specs.Lists.{among, place}
 use Rattle.rv_nnf.specs.NormalForm.{same_tree, parts_of, part_value_of, numbered_parts, normal_of}
-use Rattle.rv_nnf.specs.Entering.{same_part, Entered, enter, try_enter, numbers}
+use Rattle.rv_nnf.specs.inner.Entering.{same_part, Entered, enter, try_enter, numbers}
 use Rattle.rv_nnf.proofs.OneByOne.{numbering, numbering_is}
 use Rattle.rv_nnf.proofs.TreeLabels.{tree_plain}
 use Rattle.rv_nnf.proofs.LastPart.{normal_is, last_says}

@@ -2,6 +2,6 @@ pub mod Tree
 pub mod Lists
 pub mod Parts
 pub mod NormalForm
-pub mod Entering
 pub mod Views
 pub mod Codes
+pub mod inner

@@ -1,7 +1,7 @@
 //! Entering parts into a list, in which each stands once.
 ghost use Rattle.std.specs.Prelude.{◌≡◌, ◌↔◌, ◌≤◌, vec_len, IsTrue, OnOk};
 ghost use Rattle.rv_text.specs.Readings.{Gives};
-ghost use Rattle.rv_nnf.specs.Entering.{same_part, try_enter};
+ghost use Rattle.rv_nnf.specs.inner.Entering.{same_part, try_enter};
 ghost use Rattle.rv_nnf.specs.Lists.{place as place_in};
 ghost use Rattle.rv_nnf.specs.Views.{part_value, part_values};
 

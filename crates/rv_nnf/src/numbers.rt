@@ -4,7 +4,7 @@ ghost use Rattle.rv_text.specs.Readings.{Gives};
 ghost use Rattle.rv_model.specs.Formulas.{ltl, HasAtomsBelow};
 ghost use Rattle.rv_model.specs.Ltl.{Or};
 ghost use Rattle.rv_model.specs.Truth.{View, Satisfies};
-ghost use Rattle.rv_nnf.specs.Entering.{numbers, and_or_of, until_release_of, constant_of};
+ghost use Rattle.rv_nnf.specs.inner.Entering.{numbers, and_or_of, until_release_of, constant_of};
 ghost use Rattle.rv_nnf.specs.NormalForm.{normal_of};
 ghost use Rattle.rv_nnf.specs.Parts.{part_meaning};
 ghost use Rattle.rv_nnf.specs.Tree.{tree_of};
@@ -65,7 +65,7 @@ fn either(
 
 /// The number of the normal form of a formula or of its negation, whose parts are entered by first use.
 #[cycle(number)]
-#[tactic(auto, using(crate::proofs::Signs::always_numbers, crate::proofs::Signs::eventually_numbers))]
+#[tactic(auto, using(crate::proofs::Polarities::always_numbers, crate::proofs::Polarities::eventually_numbers))]
 fn number(
     alloc: Global,
     parts: &mut Vec<Part>,

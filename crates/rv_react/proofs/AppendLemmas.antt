@@ -2,7 +2,7 @@
 use Rattle.std.proofs.Common.{◌≡◌, ℕ, ◌+◌, ◌<◌, List, [], ◌∷◌, ◌++◌, Result, Ok, Err, Bor, take, drop, length, slice_index_or, sym, ap, ◌∙◌, append_assoc, take-append-drop, append-nil, refl}
 use Rattle.std.proofs.lemmas.List.{take_more}
 use Rattle.rv_react.specs.Appending.{Appends}
-use Rattle.rv_react.specs.Parts.{joined}
+use Rattle.rv_react.specs.inner.Parts.{joined}
 
 -- a refusal in the first part
 pub Appends-front : {E : Type 0} (old new first later : List ℕ) (refused : E) → Appends {E = E} old new first (Err refused) → Appends {E = E} old new (first ++ later) (Err refused)

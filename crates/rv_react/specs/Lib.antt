@@ -1,3 +1,3 @@
 pub mod Appending
 pub mod Reactions
-pub mod Parts
+pub mod inner

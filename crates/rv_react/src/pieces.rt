@@ -1,6 +1,6 @@
 //! A text is appended piece by piece.
 ghost use Rattle.rv_react.specs.Appending.{Appends};
-ghost use Rattle.rv_react.specs.Parts.{joined};
+ghost use Rattle.rv_react.specs.inner.Parts.{joined};
 
 use rv_text::Line;
 use std::alloc::AllocError;

@@ -3,7 +3,7 @@ ghost use Rattle.std.specs.Prelude.{List, ℕ, ◌++◌, codes};
 ghost use Rattle.rv_model.specs.Reports.{said_text, reaction_text};
 ghost use Rattle.rv_react.specs.Appending.{Appends};
 ghost use Rattle.rv_react.specs.Reactions.{shown_fault};
-ghost use Rattle.rv_react.specs.Parts.{begun_text, ended_text};
+ghost use Rattle.rv_react.specs.inner.Parts.{begun_text, ended_text};
 
 use crate::pieces::append;
 use rv_model::{Name, Reactor};

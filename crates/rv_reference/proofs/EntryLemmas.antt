@@ -8,12 +8,12 @@ use Rattle.rv_model.specs.declared.hit.Letter.TheVariants.{Event, Atoms}
 use Rattle.rv_model.specs.declared.automaton.Edge.{Edge}
 use Rattle.rv_model.specs.Machine.{Machine}
 use Rattle.rv_model.specs.Numbers.{list_of}
-use Rattle.rv_model.specs.EventTables.{entry}
+use Rattle.rv_model.specs.inner.EventTables.{entry}
 use Rattle.rv_model.specs.Table.{next_row, table_of}
 use Rattle.rv_model.specs.WellFormed.{IsAutomaton}
 use Rattle.rv_model.proofs.MeansLemmas.{is_next-true}
 use Rattle.rv_model.proofs.FoundLemmas.{length-list_of, get_or-list_of, find-found}
-use Rattle.rv_reference.specs.PlainParts.{BelowCount}
+use Rattle.rv_reference.specs.inner.PlainParts.{BelowCount}
 
 -- the first element that passes, where none before it does
 pub find-here : {X : Type 0} (p : X → Bool) (xs : List X) (n : ℕ) (d : X) → n < length xs → ((k : ℕ) → k < n → p (get_or xs k d) ≡ false) → p (get_or xs n d) ≡ true → find p xs ≡ Some (get_or xs n d)

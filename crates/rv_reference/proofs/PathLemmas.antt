@@ -7,7 +7,7 @@ use Rattle.rv_model.specs.declared.hit.Letter.TheVariants.{Event, Atoms}
 use Rattle.rv_model.specs.Machine.{Machine}
 use Rattle.rv_model.specs.Language.{IsPath, HasEdge}
 use Rattle.rv_model.proofs.NumberLemmas.{nat_lt_or}
-use Rattle.rv_reference.specs.Edges.{is_edge_by}
+use Rattle.rv_reference.specs.inner.Edges.{is_edge_by}
 
 -- some path from the state takes the letters
 abbrev pub AcceptsFrom : Machine → ℕ → List Letter → Type 0

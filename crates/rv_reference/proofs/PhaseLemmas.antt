@@ -11,7 +11,7 @@ use Rattle.rv_reference.specs.declared.monitor.Monitor.{Monitor}
 use Rattle.rv_reference.specs.Monitors.{table_by}
 use Rattle.rv_reference.specs.declared.phase.Phase.{Phase}
 use Rattle.rv_reference.specs.PlainPhases.{ByJudge, IsPhaseOf}
-use Rattle.rv_reference.specs.PlainParts.{IsPhaseAfter}
+use Rattle.rv_reference.specs.inner.PlainParts.{IsPhaseAfter}
 use Rattle.rv_reference.proofs.ListLemmas.{reverse_last}
 use Rattle.rv_reference.proofs.NumberLemmas.{number-none, number-step}
 

@@ -4,7 +4,7 @@ use Rattle.rv_model.specs.declared.hit.Letter.{Letter}
 use Rattle.rv_model.specs.Language.{IsPath}
 use Rattle.rv_model.specs.Table.{Table, follows, Follows, end_of}
 use Rattle.rv_model.proofs.NumberLemmas.{nat_lt_or}
-use Rattle.rv_reference.specs.PlainParts.{BelowCount}
+use Rattle.rv_reference.specs.inner.PlainParts.{BelowCount}
 
 -- the letters lead from one row to another
 abbrev pub LeadsTo : Table → ℕ → List Letter → ℕ → Type 0

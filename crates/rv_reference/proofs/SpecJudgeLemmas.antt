@@ -16,7 +16,7 @@ use Rattle.rv_model.specs.Judging.{Judge, IsGood}
 use Rattle.rv_model.specs.Stepping.{table_judge}
 use Rattle.rv_model.proofs.TruthLemmas.{tells}
 use Rattle.rv_model.proofs.TableJudgeLemmas.{every_table_is_judged}
-use Rattle.rv_reference.specs.Edges.{is_edge_by}
+use Rattle.rv_reference.specs.inner.Edges.{is_edge_by}
 use Rattle.rv_reference.specs.JudgedSpecs.{EverySpecIsJudged}
 use Rattle.rv_reference.proofs.PathLemmas.{AcceptsFrom, edge_at, no_edge, itself, path-here, path-empty}
 

@@ -1,9 +1,8 @@
-pub mod Edges
 pub mod JudgedSpecs
 pub mod Monitors
 pub mod PlainPhases
 pub mod PlainRecords
 pub mod Plans
-pub mod PlainParts
 pub mod Views
 pub mod Worked
+pub mod inner

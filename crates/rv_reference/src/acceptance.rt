@@ -1,7 +1,7 @@
 //! Whether an automaton accepts letters, by trying all its paths.
 ghost use Rattle.std.specs.Prelude.{◌≡◌, ◌↔◌, ℕ, List, IsTrue};
 ghost use Rattle.rv_model.specs.Language.{IsPath, HasEdge, Accepts};
-ghost use Rattle.rv_reference.specs.Edges.{is_edge_by};
+ghost use Rattle.rv_reference.specs.inner.Edges.{is_edge_by};
 
 use rv_model::{Automaton, Edge, Letter};
 

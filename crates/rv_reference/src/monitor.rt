@@ -5,10 +5,10 @@ ghost use Rattle.rv_model.specs.Formulas.{ltl};
 ghost use Rattle.rv_model.specs.Judging.{IsGood};
 ghost use Rattle.rv_model.specs.Language.{IsPath};
 ghost use Rattle.rv_model.specs.Meaning.{true_on};
-ghost use Rattle.rv_model.specs.EventTables.{entry};
+ghost use Rattle.rv_model.specs.inner.EventTables.{entry};
 ghost use Rattle.rv_model.specs.Table.{table_of, next_row, node_at, follows_by, follows, first_row, Follows, end_of, Reaches};
 ghost use Rattle.rv_reference.specs.Monitors.{node_of, table_by};
-ghost use Rattle.rv_reference.specs.PlainParts.{BelowCount};
+ghost use Rattle.rv_reference.specs.inner.PlainParts.{BelowCount};
 
 use crate::acceptance::{accepts, leads};
 use crate::bits::has_bit;

@@ -4,7 +4,7 @@ ghost use Rattle.rv_model.specs.Judging.{Judge, JudgesBySpec};
 ghost use Rattle.rv_model.specs.Phases.{rows_of};
 ghost use Rattle.rv_reference.specs.Monitors.{table_by};
 ghost use Rattle.rv_reference.specs.PlainPhases.{IsRowsOf, IsPhaseOf, IsAnswer};
-ghost use Rattle.rv_reference.specs.PlainParts.{IsTurn, IsPhaseAfter};
+ghost use Rattle.rv_reference.specs.inner.PlainParts.{IsTurn, IsPhaseAfter};
 
 use crate::levels::{letter_at, with_bit};
 use crate::monitor::Monitor;

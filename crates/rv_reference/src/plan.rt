@@ -4,7 +4,7 @@ ghost use Rattle.rv_model.specs.Judging.{Judge, JudgesBySpec};
 ghost use Rattle.rv_model.specs.Setups.{monitor_of, judge_of, start_of};
 ghost use Rattle.rv_model.specs.SharedWords.{word_of, word_on, answer_at};
 ghost use Rattle.rv_reference.specs.Monitors.{table_by};
-ghost use Rattle.rv_reference.specs.PlainParts.{IsPacked};
+ghost use Rattle.rv_reference.specs.inner.PlainParts.{IsPacked};
 ghost use Rattle.rv_reference.specs.Plans.{setup_of, ByJudges, HasSlot, HasSlotOf, slots_in};
 
 use crate::levels::levels_of;

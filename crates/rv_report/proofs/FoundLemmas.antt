@@ -11,8 +11,8 @@ use Rattle.rv_model.specs.Reports.{Reported}
 use Rattle.rv_feed.specs.Lane.{LaneValue}
 use Rattle.rv_feed.specs.One.{lane_records}
 use Rattle.rv_report.specs.declared.found.Found.{Found}
-use Rattle.rv_report.specs.Printed.{is_printed}
-use Rattle.rv_report.specs.Tallies.{AreTallies, IsFound}
+use Rattle.rv_report.specs.inner.Printed.{is_printed}
+use Rattle.rv_report.specs.inner.Tallies.{AreTallies, IsFound}
 use Rattle.rv_feed.proofs.OneLemmas.{status-sorted}
 use Rattle.rv_feed.proofs.SortedLemmas.{filter-sort}
 use Rattle.rv_report.proofs.TallyLemmas.{tallies-sort}

@@ -6,7 +6,7 @@ ghost use Rattle.rv_model.specs.Reports.{report_text};
 ghost use Rattle.rv_feed.specs.One.{lane_records};
 ghost use Rattle.rv_report.specs.Exit.{IsStatus};
 ghost use Rattle.rv_report.specs.Reported.{reported_of};
-ghost use Rattle.rv_report.specs.Tallies.{IsFound};
+ghost use Rattle.rv_report.specs.inner.Tallies.{IsFound};
 
 use crate::found::Found;
 use crate::reactions::react_to;

@@ -8,8 +8,10 @@ use Rattle.rv_trace.specs.declared.line.Span.{Span}
 use Rattle.rv_trace.specs.declared.line.TraceLine.{TraceLine}
 use Rattle.rv_bind.specs.declared.bindings.Test.{Test}
 use Rattle.rv_bind.specs.declared.bindings.Test.TheVariants.{Is, IsNot}
-use Rattle.rv_route.specs.Asking.{text_at, test_holds, holds, pid_of, pid_found}
-use Rattle.rv_route.specs.Events.{tested_field, tested_fields, found_at}
+use Rattle.rv_route.specs.Asking.{text_at, holds, pid_of}
+use Rattle.rv_route.specs.inner.Asking.{test_holds, pid_found}
+use Rattle.rv_route.specs.Events.{tested_field, tested_fields}
+use Rattle.rv_route.specs.inner.Events.{found_at}
 
 -- what was looked up for a test is what its field has
 test-found : (fields : List ℕ) (found : List (Option Span)) (places : List ℕ) (tests : List Test) (i : ℕ) (test : Test) → map (found_at found) places ≡ map (field_of fields) (tested_fields tests) → i < length tests → test ≡ get_or tests i test

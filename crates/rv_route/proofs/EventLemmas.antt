@@ -12,7 +12,8 @@ use Rattle.rv_trace.specs.declared.line.Span.{Span}
 use Rattle.rv_bind.specs.declared.bindings.Test.{Test}
 use Rattle.rv_bind.specs.RuleValues.{OnValue}
 use Rattle.rv_route.specs.declared.event.Asked.{Asked}
-use Rattle.rv_route.specs.Events.{Extends, HasFields, IsAsked, tested_field, tested_fields, found_at, HasFound, is_on_event}
+use Rattle.rv_route.specs.Events.{HasFields, IsAsked, tested_field, tested_fields, is_on_event}
+use Rattle.rv_route.specs.inner.Events.{Extends, found_at, HasFound}
 
 -- equal bytes are equal
 pub same_bytes : (a b : List ℕ) → bytes_eq a b ≡ true → a ≡ b

@@ -9,7 +9,8 @@ use Rattle.std.specs.declared.alloc.Global.{Global}
 use Rattle.std.proofs.lemmas.Bool.Decides.{Decides-eqb}
 use Rattle.rv_bind.specs.RuleValues.{OnValue}
 use Rattle.rv_route.specs.declared.event.Event.{Event}
-use Rattle.rv_route.specs.Events.{IsEventOf, key_of, Index, event_among, event_at, AreEventsOf, HasEvent, events_of, IsNoted}
+use Rattle.rv_route.specs.Events.{IsEventOf, key_of, Index, event_among, event_at, AreEventsOf, HasEvent}
+use Rattle.rv_route.specs.inner.Events.{events_of, IsNoted}
 use Rattle.rv_route.proofs.EventLemmas.{same_bytes, itself}
 
 -- what is read of a reference is there where it is

@@ -38,11 +38,6 @@ abbrev pub holds : List ℕ → Test → Bool
 holds fields (Is field wanted) = has_value wanted (field_value fields field)
 holds fields (IsNot field wanted) = differs wanted (field_value fields field)
 
--- whether a test holds of what its field has
-abbrev pub test_holds : Test → Option (List ℕ) → Bool
-test_holds (Is field wanted) found = has_value wanted found
-test_holds (IsNot field wanted) found = differs wanted found
-
 -- a rule fires on its event where all its tests hold
 abbrev pub fires : List ℕ → List ℕ → OnValue → Bool
 fires event fields rule = bytes_eq event rule.event && list_all (holds fields) rule.tests
@@ -72,15 +67,6 @@ by_scope fields line by scopes.Task = pid_of fields line by
 abbrev pub asked_of : List ℕ → TraceLine → Option (List ℕ) → Option Monitor → Ask
 asked_of fields line by None = asks.Quiet
 asked_of fields line by (Some monitor) = by_scope fields line by monitor.scope
-
--- what the rule asks for on a line of its event with these fields
-abbrev pub ask_on : List ℕ → TraceLine → List Monitor → OnValue → Ask
-ask_on fields line monitors rule = if list_all (holds fields) rule.tests then asked_of fields line rule.by (slice_get monitors rule.monitor) else asks.Quiet
-
--- the pid of a field that was looked up, or else the line's
-abbrev pub pid_found : List ℕ → TraceLine → Option (Option Span) → Ask
-pid_found fields line None = asks.Pid line.pid
-pid_found fields line (Some found) = pid_at (option_map (text_at fields) found)
 
 -- what the rule asks for
 unfoldable pub ask_of : List ℕ → TraceLine → List Monitor → OnValue → Ask

@@ -1,15 +1,11 @@
 -- Rules by the events that they are on, and the fields that they name.
-use Rattle.std.specs.Prelude.{◌≡◌, ◌≤◌, ℕ, Bool, List, All, length, map, filter, Option, Some, None, IsSome, IfSome, option_map, option_and_then, nat_eq, bytes_eq, slice_get, slice_index_or, if◌then◌else◌, [], ◌∷◌, ◌++◌, Vec}
+use Rattle.std.specs.Prelude.{◌≡◌, ℕ, Bool, List, All, map, filter, Option, Some, IsSome, IfSome, option_map, option_and_then, nat_eq, bytes_eq, slice_get, Vec}
 use Rattle.std.specs.List.{find, AllZip}
-use Rattle.std.specs.Borrow.{Bor}
 use Rattle.std.specs.Hash.FoldHasher as folding
 use Rattle.std.specs.HashMap.{get, HashMap}
-use Rattle.std.specs.HashSet.{HashSet}
 use Rattle.std.specs.declared.alloc.Global.{Global}
 use Rattle.std.specs.declared.hash.BuildHasherDefault.{BuildHasherDefault}
 use Rattle.std.specs.declared.hash.FoldHasher.{FoldHasher}
-use Rattle.rv_trace.specs.Fields.{field_of}
-use Rattle.rv_trace.specs.declared.line.Span.{Span}
 use Rattle.rv_bind.specs.declared.bindings.Test.{Test}
 use Rattle.rv_bind.specs.declared.bindings.Test.TheVariants.{Is, IsNot}
 use Rattle.rv_bind.specs.RuleValues.{OnValue}
@@ -24,14 +20,6 @@ tested_field (IsNot field wanted) = field
 -- the fields that tests name, in order
 abbrev pub tested_fields : List Test → List (List ℕ)
 tested_fields tests = map tested_field tests
-
--- the names that a set of references has, in order
-abbrev pub names_in_set : {S : Type 0} → HashSet (Bor (List ℕ)) S → List (List ℕ)
-names_in_set names = map (λ key. key.now) names.keys
-
--- each name stands where it stood
-abbrev pub Extends : List (List ℕ) → List (List ℕ) → Type 0
-Extends old new = (place : ℕ) (name : List ℕ) → slice_get old place ≡ Some name → slice_get new place ≡ Some name
 
 -- the rule's fields stand among the names at these places
 pub record HasFields (names : List (List ℕ)) (asked : Asked) (rule : OnValue) : Type 0 where
@@ -67,17 +55,6 @@ event_among name events = find (λ event. bytes_eq name event.name) events
 unfoldable pub event_at : Index → List ℕ → Option Event
 event_at index name = option_and_then (λ events. event_among name events.items) (get nat_eq index (key_of name))
 
--- the events that a hash has
-abbrev pub events_of : Option (Vec Event Global) → List Event
-events_of None = []
-events_of (Some events) = events.items
-
--- the event of a new name stands last among those of its hash, and others stay as they are
-pub record IsNoted (old new : Index) (name : List ℕ) (event : Event) : Type 0 where
-  pub events : Vec Event Global
-  pub last : events.items ≡ events_of (get nat_eq old (key_of name)) ++ event ∷ []
-  pub at : (key : ℕ) → get nat_eq new key ≡ (if nat_eq (key_of name) key then Some events else get nat_eq old key)
-
 -- the event of each name asks for the rules that are on the name
 unfoldable pub AreEventsOf : List OnValue → Index → Type 0
 AreEventsOf rules index = (name : List ℕ) → IfSome (event_at index name) (IsEventOf rules name)
@@ -90,16 +67,3 @@ HasEvent index name = IsSome (event_at index name)
 pub record IsIndexOf (rules : List OnValue) (index : Index) : Type 0 where
   pub events : AreEventsOf rules index
   pub has : All (λ rule. HasEvent index rule.event) rules
-
--- the span lies in the fields
-abbrev pub IsInside : List ℕ → Option Span → Type 0
-IsInside fields found = IfSome found (λ span. (span.from ≤ span.to) × (span.to ≤ length fields))
-
--- what was found at a place
-abbrev pub found_at : List (Option Span) → ℕ → Option Span
-found_at found place = slice_index_or found place None
-
--- the rule's fields were found at these places
-pub record HasFound (fields : List ℕ) (found : List (Option Span)) (asked : Asked) (rule : OnValue) : Type 0 where
-  pub tests : map (found_at found) asked.tests.items ≡ map (field_of fields) (tested_fields rule.tests)
-  pub by : option_map (found_at found) asked.by ≡ option_map (field_of fields) rule.by

@@ -6,3 +6,4 @@ pub mod Lines
 pub mod Routed
 pub mod Routers
 pub mod Routing
+pub mod inner

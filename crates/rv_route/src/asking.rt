@@ -3,8 +3,10 @@ ghost use Rattle.std.specs.Prelude.{◌≡◌, ◌≤◌, length, map, All, OnOk
 ghost use Rattle.std.specs.List.{list_all};
 ghost use Rattle.rv_text.specs.Decimal.{decimal_of};
 ghost use Rattle.rv_trace.specs.Fields.{field_of};
-ghost use Rattle.rv_route.specs.Asking.{text_at, has_value, differs, test_holds, holds, pid_from, pid_at, pid_found, ask_on};
-ghost use Rattle.rv_route.specs.Events.{tested_fields, IsInside, found_at, HasFound};
+ghost use Rattle.rv_route.specs.Asking.{text_at, has_value, differs, holds, pid_from, pid_at};
+ghost use Rattle.rv_route.specs.inner.Asking.{test_holds, pid_found, ask_on};
+ghost use Rattle.rv_route.specs.Events.{tested_fields};
+ghost use Rattle.rv_route.specs.inner.Events.{IsInside, found_at, HasFound};
 
 use crate::event::Asked;
 use rv_bind::{Monitor, On, Test};

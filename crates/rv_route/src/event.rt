@@ -1,7 +1,8 @@
 //! What is asked on the lines of one event.
 ghost use Rattle.std.specs.Prelude.{◌≡◌, map, filter, option_map, slice_get, Some, IfOk, OnOk};
 ghost use Rattle.std.specs.List.{AllZip};
-ghost use Rattle.rv_route.specs.Events.{tested_field, tested_fields, names_in_set, Extends, HasFields, IsAsked, IsEventOf, is_on_event};
+ghost use Rattle.rv_route.specs.Events.{tested_field, tested_fields, HasFields, IsAsked, IsEventOf, is_on_event};
+ghost use Rattle.rv_route.specs.inner.Events.{names_in_set, Extends};
 
 use crate::asking::has_value;
 use indexmap::IndexSet;

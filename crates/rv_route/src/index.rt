@@ -1,6 +1,7 @@
 //! The events that rules are on, by their names.
 ghost use Rattle.std.specs.Prelude.{◌≡◌, ℕ, List, IfOk, OnOk, option_copied};
-ghost use Rattle.rv_route.specs.Events.{key_of, event_among, event_at, HasEvent, IsNoted, AreEventsOf, IsIndexOf};
+ghost use Rattle.rv_route.specs.Events.{key_of, event_among, event_at, HasEvent, AreEventsOf, IsIndexOf};
+ghost use Rattle.rv_route.specs.inner.Events.{IsNoted};
 
 use crate::asking::has_value;
 use crate::event::{Event, event_of};

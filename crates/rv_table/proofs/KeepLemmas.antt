@@ -4,7 +4,7 @@ use Rattle.std.specs.List.{All}
 use Rattle.std.proofs.lemmas.List.{get_or_default, get_or-set_same, get_or-set_other, length-set}
 use Rattle.rv_model.specs.Ltl.{True}
 use Rattle.rv_table.specs.declared.label.Label.{Label}
-use Rattle.rv_table.specs.Numbered.{AreNumbers, AreDistinct, KeepsNumbers, label_at}
+use Rattle.rv_table.specs.inner.Numbered.{AreNumbers, AreDistinct, KeepsNumbers, label_at}
 
 -- what stands for no label
 abbrev no_label : Label

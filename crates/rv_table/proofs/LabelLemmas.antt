@@ -14,7 +14,7 @@ use Rattle.rv_model.specs.Table.{of_labels, Node, node_at}
 use Rattle.rv_model.specs.Stepping.{some_follows, step_set}
 use Rattle.rv_model.specs.Labels.{IsLabel}
 use Rattle.rv_model.proofs.SetLemmas.{has_none}
-use Rattle.rv_table.specs.Numbered.{some_next}
+use Rattle.rv_table.specs.inner.Numbered.{some_next}
 use Rattle.rv_table.specs.Rows.{IsNodeBelow, IsLabelRows}
 use Rattle.rv_table.proofs.SetLemmas.{some_follows-none, some_follows-more, is_step_set}
 

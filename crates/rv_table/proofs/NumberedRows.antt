@@ -10,7 +10,7 @@ use Rattle.rv_model.specs.Table.{Node, node_at}
 use Rattle.rv_table.specs.Rows.{node_rows}
 use Rattle.rv_table.specs.declared.label.Label.{Label}
 use Rattle.rv_table.specs.declared.nodes.NumberedRow.{NumberedRow}
-use Rattle.rv_table.specs.Numbered.{AreNumbers, AreEntered, KeepsNumbers, AreNumberedRows, label_at, node_by, nodes_by, row_passes, allows}
+use Rattle.rv_table.specs.inner.Numbered.{AreNumbers, AreEntered, KeepsNumbers, AreNumberedRows, label_at, node_by, nodes_by, row_passes, allows}
 use Rattle.rv_table.proofs.KeepLemmas.{Keeps-trans, AreNumbers-kept, labels-kept}
 
 -- so each row is what it was

@@ -5,7 +5,7 @@ use Rattle.rv_model.specs.Ltl.{Ltl}
 use Rattle.rv_model.specs.Meaning.{true_on}
 use Rattle.rv_model.specs.Numbers.{has_bit}
 use Rattle.rv_table.specs.declared.label.Label.{Label}
-use Rattle.rv_table.specs.Numbered.{row_passes, label_at}
+use Rattle.rv_table.specs.inner.Numbered.{row_passes, label_at}
 
 -- a row is put into a label's set
 put : (had is holds rest : Bool) → ((not (had || is) || holds) && rest) ≡ (((not had || holds) && rest) && (not is || holds))

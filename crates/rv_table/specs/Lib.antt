@@ -1,3 +1,3 @@
 pub mod Kinds
-pub mod Numbered
 pub mod Rows
+pub mod inner

@@ -2,7 +2,7 @@
 ghost use Rattle.std.specs.Prelude.{◌≡◌, ℕ, ◌<◌, ◌&&◌, ◌||◌, not};
 ghost use Rattle.rv_model.specs.Numbers.{has_bit};
 ghost use Rattle.rv_model.specs.Meaning.{true_on};
-ghost use Rattle.rv_table.specs.Numbered.{row_passes};
+ghost use Rattle.rv_table.specs.inner.Numbered.{row_passes};
 
 use crate::bits::without;
 use crate::label::Label;

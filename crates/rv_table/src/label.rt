@@ -3,7 +3,7 @@ ghost use Rattle.std.specs.Prelude.{◌≡◌, ◌≢◌, ℕ, ◌<◌, ◌==◌
 ghost use Rattle.rv_model.specs.Numbers.{has_bit};
 ghost use Rattle.rv_model.specs.Formulas.{ltl};
 ghost use Rattle.rv_model.specs.Meaning.{true_on};
-ghost use Rattle.rv_table.specs.Numbered.{AreEntered, KeepsNumbers, label_at, row_passes};
+ghost use Rattle.rv_table.specs.inner.Numbered.{AreEntered, KeepsNumbers, label_at, row_passes};
 ghost use Rattle.rv_model.specs.Labels.{IsLabel};
 
 use crate::bits::with;

@@ -34,7 +34,7 @@ impl Model for Nodes {
     ghost use Rattle.std.specs.Prelude.{List};
     ghost use Rattle.std.specs.Coded.{coded_list};
     ghost use Rattle.rv_model.specs.Table.{Node as NodeValue, coded_node};
-    ghost use Rattle.rv_table.specs.Numbered.{nodes_by, AreNumberedRows};
+    ghost use Rattle.rv_table.specs.inner.Numbered.{nodes_by, AreNumberedRows};
 
     ghost Value = { List NodeValue };
 

@@ -6,7 +6,7 @@ ghost use Rattle.rv_model.specs.Table.{of_events, of_labels, entry_by, is_next, 
 ghost use Rattle.rv_model.specs.Stepping.{step_set};
 ghost use Rattle.rv_model.specs.declared.hit.Letter.{Letter};
 ghost use Rattle.rv_model.specs.declared.hit.Letter.TheVariants.{Event};
-ghost use Rattle.rv_table.specs.Numbered.{some_next};
+ghost use Rattle.rv_table.specs.inner.Numbered.{some_next};
 ghost use Rattle.rv_table.specs.Rows.{IsEventRows, IsLabelRows};
 
 use crate::bits::with;

@@ -7,7 +7,7 @@ use Rattle.std.proofs.Math.Seq.{get_or-append_seam}
 use Rattle.std.proofs.lemmas.List.{get_or_append_left}
 use Rattle.std.proofs.lemmas.Bool.{cases_lt}
 use Rattle.rv_model.specs.Numbers.{has_bit}
-use Rattle.rv_tableau.specs.Covering.{AreBranchNumbers}
+use Rattle.rv_tableau.specs.inner.Covering.{AreBranchNumbers}
 use Rattle.rv_tableau.specs.Branches.{piece_branches, part_branches, branches_below}
 use Rattle.rv_nnf.specs.Parts.{PartValue, Label, Next, And, Or, Until, Release, part_value_at, OperandsBelow}
 use Rattle.rv_nnf.proofs.ByNumber.{by_number_is}

@@ -7,7 +7,7 @@ use Rattle.rv_nnf.specs.declared.parts.Part.{Part}
 use Rattle.rv_tableau.specs.declared.pairs.Pair.{Pair}
 use Rattle.rv_tableau.specs.Cover.{part_cover, cover_of}
 use Rattle.rv_tableau.specs.Branches.{part_branches, branch_number}
-use Rattle.rv_tableau.specs.Covering.{AreBranchNumbers}
+use Rattle.rv_tableau.specs.inner.Covering.{AreBranchNumbers}
 use Rattle.rv_tableau.proofs.PartAt.{AllBelow}
 use Rattle.rv_tableau.proofs.CoverLen.{part_cover_len, cover_len}
 

@@ -7,7 +7,7 @@ use Rattle.rv_nnf.specs.Views.{part_value, part_values}
 use Rattle.rv_nnf.specs.declared.parts.Part.{Part}
 use Rattle.rv_tableau.specs.declared.pairs.Pair.{Pair}
 use Rattle.rv_tableau.specs.Cover.{part_cover, piece_cover}
-use Rattle.rv_tableau.specs.Covering.{operands_of, cover_from, cover_alone}
+use Rattle.rv_tableau.specs.inner.Covering.{operands_of, cover_from, cover_alone}
 use Rattle.rv_tableau.proofs.CoverSays.{cover_by}
 
 -- the operands of each part have smaller numbers

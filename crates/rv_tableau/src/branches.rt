@@ -4,7 +4,7 @@ ghost use Rattle.rv_model.specs.Formulas.{ltl};
 ghost use Rattle.rv_nnf.specs.Parts.{OperandsBelow, part_value_at};
 ghost use Rattle.rv_nnf.specs.Views.{part_value, part_values};
 ghost use Rattle.rv_tableau.specs.Branches.{piece_branches, label_branches as branches_of_label, part_branches, branch_number as branch_number_of};
-ghost use Rattle.rv_tableau.specs.Covering.{AreBranchNumbers};
+ghost use Rattle.rv_tableau.specs.inner.Covering.{AreBranchNumbers};
 
 use rv_model::{Formula, has_bit};
 use rv_nnf::Part;

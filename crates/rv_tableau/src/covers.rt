@@ -5,7 +5,7 @@ ghost use Rattle.std.specs.Prelude.{◌≡◌, ◌<◌, ◌≤◌, ◌++◌, ℕ
 ghost use Rattle.rv_model.specs.Formulas.{ltl};
 ghost use Rattle.rv_nnf.specs.Parts.{OperandsBelow, part_value_at};
 ghost use Rattle.rv_nnf.specs.Views.{part_value, part_values};
-ghost use Rattle.rv_tableau.specs.Covering.{AreBranchNumbers, cover_alone, cover_from, operands_of};
+ghost use Rattle.rv_tableau.specs.inner.Covering.{AreBranchNumbers, cover_alone, cover_from, operands_of};
 ghost use Rattle.rv_tableau.specs.Cover.{label_cover as cover_of_label, part_cover as cover_of_part, cover_of};
 
 use crate::branches::branch_number;

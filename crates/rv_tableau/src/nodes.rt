@@ -3,7 +3,7 @@ ghost use Rattle.std.specs.Prelude.{◌≡◌, ◌+◌, nat_lt};
 ghost use Rattle.rv_text.specs.Readings.{Gives};
 ghost use Rattle.rv_nnf.specs.Parts.{IsNormal};
 ghost use Rattle.rv_nnf.specs.Views.{part_values};
-ghost use Rattle.rv_tableau.specs.Covering.{AreBranchNumbers};
+ghost use Rattle.rv_tableau.specs.inner.Covering.{AreBranchNumbers};
 ghost use Rattle.rv_tableau.specs.Nodes.{nodes_of};
 
 use crate::branches::{MOST_BRANCHES, branch_number};

@@ -4,7 +4,7 @@ ghost use Rattle.rv_text.specs.Readings.{Gives};
 ghost use Rattle.rv_model.specs.Formulas.{ltl};
 ghost use Rattle.rv_nnf.specs.Parts.{OperandsBelow, part_value_at, IsNormal};
 ghost use Rattle.rv_nnf.specs.Views.{part_value, part_values};
-ghost use Rattle.rv_tableau.specs.Covering.{AreBranchNumbers};
+ghost use Rattle.rv_tableau.specs.inner.Covering.{AreBranchNumbers};
 ghost use Rattle.rv_tableau.specs.Rows.{MeansParts, labels_below, piece_labels, rows_in, node_row, tableau_of};
 
 use crate::branches::branch_numbers;

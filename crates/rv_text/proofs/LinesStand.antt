@@ -5,7 +5,7 @@ use Rattle.std.proofs.lemmas.List.Elements.{All-nil, All-cons, All-head, All-tai
 use Rattle.std.proofs.lemmas.List.Edits.{length-between}
 use Rattle.rv_text.specs.Places.{between}
 use Rattle.rv_text.specs.TextLines.{select, is_line_start, line_end, line_here, lines_at, lines_from, lines_of, next_number}
-use Rattle.rv_text.specs.LinePlaces.{StandsIn}
+use Rattle.rv_text.specs.inner.LinePlaces.{StandsIn}
 use Rattle.rv_text.proofs.TextLineLemmas.{line_end-low, line_end-high}
 
 -- the places that pass lie among the places

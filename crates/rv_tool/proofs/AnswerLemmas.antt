@@ -9,11 +9,11 @@ use Rattle.rv_io.specs.Files.{Files}
 use Rattle.rv_bind.specs.declared.fault.BindFault.{BindFault}
 use Rattle.rv_bind.specs.declared.fault.BindFault.TheVariants as faults
 use Rattle.rv_bind.specs.Outcomes.{Outcome, accepted, refused, missing}
-use Rattle.rv_tool.specs.declared.replaying.FinishedRun.{FinishedRun}
+use Rattle.rv_tool.specs.declared.replay.FinishedRun.{FinishedRun}
 use Rattle.rv_tool.specs.Calls.{CallEnd, Call}
 use Rattle.rv_tool.specs.Changes.{input_beside}
 use Rattle.rv_tool.specs.Checks.{IsCheckReport, checked_input}
-use Rattle.rv_tool.specs.Commands.{IsOneReport, IsVerdictReport, IsText, IsSomeText, IsSessionText, ComesTo, CommandComes, IsPut}
+use Rattle.rv_tool.specs.inner.Commands.{IsOneReport, IsVerdictReport, IsText, IsSomeText, IsSessionText, ComesTo, CommandComes, IsPut}
 use Rattle.rv_tool.specs.HeaderFiles.{header_of_text, header_in}
 use Rattle.rv_tool.specs.Headline.{IsReported, Ending, GivesUp, PrintsText, PrintsRefusal, PrintsSome, Ends}
 use Rattle.rv_tool.specs.Inputs.{InputValue, run_input}

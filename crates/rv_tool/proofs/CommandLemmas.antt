@@ -8,9 +8,10 @@ use Rattle.rv_bind.specs.declared.fault.BindFault.{BindFault}
 use Rattle.rv_bind.specs.declared.fault.BindFault.TheVariants as faults
 use Rattle.rv_bind.specs.Outcomes.{Outcome, Refines, BlamesReached}
 use Rattle.rv_check.specs.declared.reading.Verdict.{Verdict}
-use Rattle.rv_tool.specs.declared.replaying.FinishedRun.{FinishedRun}
-use Rattle.rv_tool.specs.Checks.{CheckedValue, IsJudged, IsCheckReport, verdict_text, verdict_status, JudgesRead, IsVerdict}
-use Rattle.rv_tool.specs.Commands.{ComesTo, IsFinished, IsText}
+use Rattle.rv_tool.specs.declared.replay.FinishedRun.{FinishedRun}
+use Rattle.rv_tool.specs.Checks.{CheckedValue, IsJudged, IsCheckReport, verdict_text, verdict_status}
+use Rattle.rv_tool.specs.inner.Checks.{JudgesRead, IsVerdict}
+use Rattle.rv_tool.specs.inner.Commands.{ComesTo, IsFinished, IsText}
 
 module _ {X Y : Type 0} (view : X → Y) (Goes : Y → List Entry → List ℕ → ℕ → Type 0) (outcome : Files → Outcome Y) (told : Option Files) (before now : ℕ) where
   -- what was read was done

@@ -15,7 +15,7 @@ use Rattle.rv_laws.specs.SingleWriter.{HasInstance, HaveInstances, IsByCpu}
 use Rattle.rv_laws.proofs.CpuLemmas.{cpu_slots_are_lone, all_by_cpu_are_lone}
 use Rattle.rv_tool.specs.declared.input.Prepared.{Prepared}
 use Rattle.rv_tool.specs.Inputs.{InputValue, run_of, HasCpus}
-use Rattle.rv_tool.specs.Prepared.{prepared_value, IsPrepared}
+use Rattle.rv_tool.specs.inner.Prepared.{prepared_value, IsPrepared}
 use Rattle.rv_tool.specs.Verdicts.{HasOneWriterIn, AllHaveCpus}
 
 -- ---- what is known of the scripts

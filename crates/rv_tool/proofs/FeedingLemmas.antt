@@ -19,7 +19,7 @@ use Rattle.rv_bind.specs.Values.{BoundValue}
 use Rattle.rv_bind.specs.FilePieces.{FaultRefines, PieceIn, IsFilePiece}
 use Rattle.rv_bind.specs.Outcomes.{accepted, refused, reading, of_file, of_text, IsFaultIn}
 use Rattle.rv_route.specs.Routing.{route_of}
-use Rattle.rv_tool.specs.Feeding.{FedOf, IsFileFed, IsAll}
+use Rattle.rv_tool.specs.inner.Feeding.{FedOf, IsFileFed, IsAll}
 use Rattle.rv_tool.specs.Inputs.{routed_text, routed_in}
 use Rattle.rv_tool.proofs.FrontLemmas.{front_refused}
 use Rattle.rv_tool.proofs.NumberLemmas.{refusal_numbered, trace_numbered}

@@ -31,9 +31,9 @@ use Rattle.rv_journal.specs.CountedLanes.{FitsCounted}
 use Rattle.rv_journal.specs.CountedWords.{IsBelow}
 use Rattle.rv_journal.specs.Running.{FitsCountedWork}
 use Rattle.rv_journal.specs.Enabled.{IsEnabledWork}
-use Rattle.rv_journal.proofs.ShownFitLemmas.{shown-fits}
+use Rattle.rv_journal.proofs.EnabledFitLemmas.{shown-fits}
 use Rattle.rv_tool.specs.CountsFit.{atom_count, monitor_fits_counts, monitors_fit_counts}
-use Rattle.rv_tool.proofs.NarrowLemmas.{narrow-room}
+use Rattle.rv_tool.proofs.CountsFitLemmas.{narrow-room}
 
 -- ---- one monitor
 

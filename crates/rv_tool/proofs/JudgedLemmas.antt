@@ -19,11 +19,12 @@ use Rattle.rv_check.specs.Readings.{ReaderValue, with_more_text, grown}
 use Rattle.rv_check.specs.Verdicts.{Journal, VerdictHolds}
 use Rattle.rv_bind.specs.declared.bindings.Monitor.{Monitor}
 use Rattle.rv_tool.specs.declared.input.Prepared.{Prepared}
-use Rattle.rv_tool.specs.Prepared.{prepared_value, IsPrepared}
-use Rattle.rv_tool.specs.Checks.{panic_bits, judged, IsJudged, IsVerdict}
+use Rattle.rv_tool.specs.inner.Prepared.{prepared_value, IsPrepared}
+use Rattle.rv_tool.specs.Checks.{panic_bits, judged, IsJudged}
+use Rattle.rv_tool.specs.inner.Checks.{IsVerdict}
 use Rattle.rv_tool.specs.Inputs.{InputValue, run_of}
-use Rattle.rv_tool.specs.JournalPieces.{IsSameRun, EnoughOf}
-use Rattle.rv_tool.proofs.ReadyLemmas.{get_or-works, works_counted}
+use Rattle.rv_tool.specs.inner.JournalPieces.{IsSameRun, EnoughOf}
+use Rattle.rv_tool.proofs.PreparedLemmas.{get_or-works, works_counted}
 
 -- ---- reactors
 

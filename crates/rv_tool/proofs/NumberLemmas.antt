@@ -26,7 +26,7 @@ use Rattle.rv_header.specs.HeaderText.{header_of}
 use Rattle.rv_tool.specs.declared.words.Kind.{Kind}
 use Rattle.rv_tool.specs.declared.words.Kind.TheVariants as kinds
 use Rattle.rv_tool.specs.Changes.{asked, asked_in, in_line, changes_of}
-use Rattle.rv_tool.specs.Faults.{IsOutcome}
+use Rattle.rv_tool.specs.inner.Faults.{IsOutcome}
 use Rattle.rv_tool.specs.HeaderFiles.{header_of_text}
 use Rattle.rv_tool.specs.Inputs.{InputValue}
 use Rattle.rv_tool.specs.Tables.{rule_text, table_text}

@@ -13,11 +13,11 @@ use Rattle.rv_model.proofs.UniqueLemmas.{one_has_no_stop, one_is_unique}
 use Rattle.rv_report.specs.Reported.{reported}
 use Rattle.rv_laws.proofs.StatusLemmas.{free_gives_no_six}
 use Rattle.rv_tool.specs.declared.input.Prepared.{Prepared}
-use Rattle.rv_tool.specs.declared.replaying.FinishedRun.{FinishedRun}
-use Rattle.rv_tool.specs.Commands.{IsOneReport}
+use Rattle.rv_tool.specs.declared.replay.FinishedRun.{FinishedRun}
+use Rattle.rv_tool.specs.inner.Commands.{IsOneReport}
 use Rattle.rv_tool.specs.Headline.{IsReported}
 use Rattle.rv_tool.specs.Inputs.{InputValue, run_of}
-use Rattle.rv_tool.specs.Prepared.{prepared_value, IsPrepared}
+use Rattle.rv_tool.specs.inner.Prepared.{prepared_value, IsPrepared}
 use Rattle.rv_tool.specs.Verdicts.{HasOneVerdict}
 
 module _ (i : InputValue) (apart : LinesApart (run_of i).works) (h : List Entry) (text : List ℕ) (status : ℕ) (is : IsReported IsOneHistory i h text status) where

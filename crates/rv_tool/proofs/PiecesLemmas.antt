@@ -9,7 +9,7 @@ use Rattle.rv_text.specs.declared.refusals.Refused.TheVariants as refuseds
 use Rattle.rv_text.specs.Places.{between}
 use Rattle.rv_text.specs.Readings.{Refuses, and_then}
 use Rattle.rv_text.specs.TextLines.{lines_of, lines_from, lines_at, select}
-use Rattle.rv_text.specs.LinePlaces.{StandsIn}
+use Rattle.rv_text.specs.inner.LinePlaces.{StandsIn}
 use Rattle.rv_text.proofs.LinesStand.{lines_of-stand}
 use Rattle.rv_text.proofs.ReadingLaws.{Refuses-and_then, Refuses-same, and_then-ok}
 use Rattle.rv_trace.specs.declared.line.TraceLine.{TraceLine}
@@ -27,7 +27,7 @@ use Rattle.rv_route.specs.Routers.{RouterValue, IsFor, RoutesLine, refusal_of}
 use Rattle.rv_route.specs.Routing.{Routes, RoutedValue, GivesRoutes, routes_of, line_routes, no_routes, routed_of, route_of, works_of}
 use Rattle.rv_route.proofs.MoveLemmas.{routes_of-more, line_routes-moved}
 use Rattle.rv_route.proofs.RoutingLemmas.{line-last}
-use Rattle.rv_tool.specs.Pieces.{passed_text, RoutedAs, IsRouted}
+use Rattle.rv_tool.specs.inner.Pieces.{passed_text, RoutedAs, IsRouted}
 use Rattle.rv_trace.proofs.AscendLemmas.{trace_ascends}
 
 module _ (bindings : Bindings) where

@@ -24,18 +24,19 @@ use Rattle.rv_journal.specs.EntryTexts.{journal_of, IsEntry}
 use Rattle.rv_journal.specs.Running.{FitsCountedWork, recorded_input, IsLegalBy}
 use Rattle.rv_journal.specs.Enabled.{IsEnabledWork}
 use Rattle.rv_journal.specs.Whole.{IsWholeRun}
-use Rattle.rv_journal.proofs.ShownFitLemmas.{shown-ascends, shown-of-each}
+use Rattle.rv_journal.proofs.EnabledFitLemmas.{shown-ascends, shown-of-each}
 use Rattle.rv_laws.specs.Exits.{exit_of}
 use Rattle.rv_laws.specs.Enabled.{IsEnabledOf}
 use Rattle.rv_laws.specs.Verdicts.{IsSteady}
 use Rattle.rv_laws.proofs.ExitLemmas.{status_is_seen}
-use Rattle.rv_laws.proofs.ShownLemmas.{shown_is_enough}
+use Rattle.rv_laws.proofs.EnabledLemmas.{shown_is_enough}
 use Rattle.rv_tool.specs.declared.input.Prepared.{Prepared}
 use Rattle.rv_tool.specs.Inputs.{run_of}
-use Rattle.rv_tool.specs.Journals.{ends_instances, IsJournalReport, IsRecordable}
-use Rattle.rv_tool.specs.Prepared.{prepared_value}
+use Rattle.rv_tool.specs.Journals.{ends_instances, IsJournalReport}
+use Rattle.rv_tool.specs.inner.Journals.{IsRecordable}
+use Rattle.rv_tool.specs.inner.Prepared.{prepared_value}
 use Rattle.rv_tool.proofs.FitLemmas.{IsOpened, HaveNoEnds, works-fit}
-use Rattle.rv_tool.proofs.NarrowLemmas.{all-calm}
+use Rattle.rv_tool.proofs.CountsFitLemmas.{all-calm}
 use Rattle.rv_tool.proofs.VerdictLemmas.{calm}
 
 -- no switch of those that a run opens with is past the two that react and monitor

@@ -7,9 +7,9 @@ use Rattle.rv_bind.specs.Values.{BoundValue}
 use Rattle.rv_bind.specs.WellFormed.{IsWellFormed}
 use Rattle.rv_control.specs.declared.script.Numbered.{Numbered}
 use Rattle.rv_control.specs.Trees.{ControlValue}
-use Rattle.rv_tool.specs.declared.session.Session.{Session}
-use Rattle.rv_tool.specs.Faults.{IsOutcome}
-use Rattle.rv_tool.specs.SessionValues.{session_value}
+use Rattle.rv_tool.specs.declared.control.Session.{Session}
+use Rattle.rv_tool.specs.inner.Faults.{IsOutcome}
+use Rattle.rv_tool.specs.inner.SessionValues.{session_value}
 use Rattle.rv_tool.specs.Sessions.{Printed, status_with, done_of, before, session_of, session_text, IsSession}
 
 -- a part of a script was done: its texts, and whether a command was refused

@@ -4,7 +4,7 @@ use Rattle.std.specs.Prelude.{Result, Ok, Err, IfOk}
 use Rattle.rv_text.specs.declared.refusals.Refusal.{Refusal}
 use Rattle.rv_bind.specs.declared.fault.BindFault.{BindFault}
 use Rattle.rv_bind.specs.Outcomes.{accepted, of_file}
-use Rattle.rv_tool.specs.Faults.{IsOutcome}
+use Rattle.rv_tool.specs.inner.Faults.{IsOutcome}
 use Rattle.rv_tool.specs.SomeTexts.{IsOfSomeText}
 
 -- where a file is accepted, its text was read

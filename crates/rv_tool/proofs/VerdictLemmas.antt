@@ -22,11 +22,11 @@ use Rattle.rv_laws.proofs.StatusLemmas.{all_lone_give_no_six}
 use Rattle.rv_laws.proofs.StopLemmas.{lone_has_no_stop}
 use Rattle.rv_laws.proofs.VerdictLemmas.{lone_records_are_one, all_records_are_one}
 use Rattle.rv_tool.specs.declared.input.Prepared.{Prepared}
-use Rattle.rv_tool.specs.declared.replaying.FinishedRun.{FinishedRun}
-use Rattle.rv_tool.specs.Commands.{IsVerdictReport}
+use Rattle.rv_tool.specs.declared.replay.FinishedRun.{FinishedRun}
+use Rattle.rv_tool.specs.inner.Commands.{IsVerdictReport}
 use Rattle.rv_tool.specs.Headline.{IsReported}
 use Rattle.rv_tool.specs.Inputs.{InputValue, run_of}
-use Rattle.rv_tool.specs.Prepared.{prepared_value, IsPrepared}
+use Rattle.rv_tool.specs.inner.Prepared.{prepared_value, IsPrepared}
 use Rattle.rv_tool.specs.Verdicts.{HasOneWriterIn, HasNoPanic, HasVerdicts}
 use Rattle.rv_tool.proofs.CpuLemmas.{FitCpus, ready_routed, cpu_is_lone, all_are_lone}
 

@@ -18,9 +18,10 @@ use Rattle.rv_bind.specs.WellFormed.{kind_of, kinds_of, StartsIn, HasTable, Have
 use Rattle.rv_bind.proofs.TableLemmas.{labelled}
 use Rattle.rv_journal.specs.declared.words.Width.{Width}
 use Rattle.rv_journal.specs.CountedSeats.{IsWidth, AreWidths, no_width}
-use Rattle.rv_tool.specs.CountsFit.{atom_count, HasState, monitor_fits_counts}
-use Rattle.rv_tool.proofs.NarrowLemmas.{narrow-room}
-use Rattle.rv_tool.proofs.ReadyLemmas.{tables_counted}
+use Rattle.rv_tool.specs.CountsFit.{atom_count, monitor_fits_counts}
+use Rattle.rv_tool.specs.inner.CountsFit.{HasState}
+use Rattle.rv_tool.proofs.CountsFitLemmas.{narrow-room}
+use Rattle.rv_tool.proofs.PreparedLemmas.{tables_counted}
 
 -- the start row of a formula's table is one of its rows
 labels-begin : (nodes : List Node) → IsRows (of_labels nodes) → first_row (of_labels nodes) < row_count (of_labels nodes)

@@ -1,13 +1,11 @@
 -- What `check` says of a journal.
-use Rattle.std.specs.Prelude.{◌≡◌, ℕ, List, [], ◌++◌, codes, decimal, map, Option, Some, Result, Ok, Err}
+use Rattle.std.specs.Prelude.{◌≡◌, ℕ, List, [], ◌++◌, codes, decimal, map}
 use Rattle.rv_io.specs.Files.{Files}
 use Rattle.rv_model.specs.declared.entry.Entry.{Entry}
 use Rattle.rv_model.specs.Histories.{AreJudges}
 use Rattle.rv_model.specs.Numbers.{has_bit, number_of}
 use Rattle.rv_core.specs.Setup.{judges_of}
 use Rattle.rv_feed.specs.Lane.{panics_of}
-use Rattle.rv_bind.specs.declared.fault.BindFault.{BindFault}
-use Rattle.rv_bind.specs.FilePieces.{FaultRefines}
 use Rattle.rv_bind.specs.Outcomes.{Outcome, accepted, reading, of_text}
 use Rattle.rv_check.specs.declared.reading.Verdict.{Verdict}
 use Rattle.rv_check.specs.declared.reading.Verdict.TheVariants.{Yes, No}
@@ -41,10 +39,6 @@ pub record IsJudged (c : CheckedValue) (verdict : Verdict) : Type 0 where
   pub is_run : input_of (run_of c.input).setup (run_of c.input).specs (has_bit (panic_bits c.input)) (run_of c.input).works ≡ run_of c.input
   pub holds : VerdictHolds (judged c.input c.journal) (run_of c.input).specs verdict
 
--- it is the verdict on some journal of some run
-abbrev pub IsVerdict : Verdict → Type 0
-IsVerdict verdict = (c : CheckedValue) × IsJudged c verdict
-
 -- `yes`, or `no` with the line that decides it
 abbrev pub verdict_text : Verdict → List ℕ
 verdict_text Yes = codes "yes\n"
@@ -68,8 +62,3 @@ pub record IsCheckReport (c : CheckedValue) (h : List Entry) (text : List ℕ) (
 -- an accepted journal is judged by its run
 abbrev pub Checks : CheckedValue → Ending
 Checks c = PrintsSome (IsCheckReport c)
-
--- what was read gives a verdict that holds, or it is the fault that the files come to
-abbrev pub JudgesRead : Option Files → ℕ → ℕ → Result Verdict BindFault → (Files → Outcome CheckedValue) → Type 0
-JudgesRead told before now (Ok verdict) outcome = (files : Files) → told ≡ Some files → (c : CheckedValue) × (outcome files ≡ accepted c) × IsJudged c verdict
-JudgesRead told before now (Err fault) outcome = FaultRefines told before now fault outcome

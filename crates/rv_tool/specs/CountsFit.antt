@@ -1,5 +1,5 @@
 -- Which runs can be numbered: a word with a count has 32 bits for an instance's rows and levels, and nothing raises the halt (this project's choice: docs/DECISIONS.md, "Counted words").
-use Rattle.std.specs.Prelude.{ℕ, ◌+◌, ◌≤◌, nat_le, Bool, true, false, ◌&&◌, not, List, [], ◌∷◌, length, Some}
+use Rattle.std.specs.Prelude.{ℕ, ◌+◌, nat_le, Bool, true, false, ◌&&◌, not, List, [], ◌∷◌, length, Some}
 use Rattle.rv_model.specs.declared.formula.Spec.{Spec}
 use Rattle.rv_model.specs.declared.formula.Spec.TheVariants as specs
 use Rattle.rv_model.specs.Table.{Table}
@@ -11,11 +11,6 @@ use Rattle.rv_feed.specs.Lane.{is_panic_reactor}
 abbrev pub atom_count : Spec → ℕ
 atom_count (specs.Da automaton) = 0
 atom_count (specs.Ltl rule) = length rule.atoms
-
--- an automaton has a state
-abbrev pub HasState : Spec → Type 0
-HasState (specs.Da automaton) = 1 ≤ length automaton.states
-HasState (specs.Ltl rule) = Unit {0}
 
 -- the rows of the monitor's table, row 0 too, and its atoms are 32 together at most, and its reactor is not panic
 abbrev pub monitor_fits_counts : Monitor → Table → Bool

@@ -1,6 +1,6 @@
 -- What `journal` prints of a run: the journal of a legal history of it.
 use Rattle.std.specs.List.{list_any}
-use Rattle.std.specs.Prelude.{◌≡◌, ℕ, Bool, true, false, ◌&&◌, not, List, [], All, Result, Ok, if◌then◌else◌}
+use Rattle.std.specs.Prelude.{◌≡◌, ℕ, Bool, ◌&&◌, not, List, All, Result, Ok, if◌then◌else◌}
 use Rattle.rv_text.specs.declared.refusals.Refusal.{Refusal}
 use Rattle.rv_text.specs.Readings.{refused_with}
 use Rattle.rv_io.specs.Files.{Files}
@@ -12,12 +12,10 @@ use Rattle.rv_model.specs.Scripts.{is_end}
 use Rattle.rv_bind.specs.Outcomes.{Outcome, reading, of_file}
 use Rattle.rv_bind.specs.Values.{OnValue}
 use Rattle.rv_journal.specs.EntryTexts.{journal_of, IsEntry}
-use Rattle.rv_tool.specs.declared.input.Prepared.{Prepared}
 use Rattle.rv_text.specs.declared.numbers.TheConstants.{NOT_NUMBERED}
 use Rattle.rv_tool.specs.Headline.{Ending, PrintsSome}
 use Rattle.rv_tool.specs.Inputs.{InputValue, run_input, run_of}
 use Rattle.rv_tool.specs.CountsFit.{monitors_fit_counts}
-use Rattle.rv_tool.specs.Prepared.{IsPrepared}
 
 -- ---- which runs are recorded
 
@@ -51,12 +49,3 @@ pub record IsJournalReport (i : InputValue) (h : List Entry) (text : List ℕ) (
 -- an accepted input is run and recorded
 abbrev pub Journals : InputValue → Ending
 Journals i = PrintsSome (IsJournalReport i)
-
--- ---- what is read
-
--- it is ready, nothing changes beside the CPUs, its monitors are narrow, and no rule ends an instance
-pub record IsRecordable (r : Prepared) : Type 0 where
-  pub ready : IsPrepared r
-  pub unchanged : r.changes.items ≡ []
-  pub narrow : monitors_fit_counts r.bindings.monitors.items r.setup.tables ≡ true
-  pub no_ends : list_any ends_instances r.bindings.rules.items ≡ false

@@ -1,22 +1,14 @@
 pub mod Calls
 pub mod Changes
 pub mod Checks
-pub mod Faults
-pub mod Feeding
 pub mod HeaderFiles
 pub mod Headline
 pub mod Inputs
-pub mod JournalPieces
 pub mod Journals
-pub mod LaneReports
 pub mod Loaded
-pub mod Commands
 pub mod CountsFit
 pub mod Output
-pub mod Pieces
-pub mod Prepared
 pub mod Runs
-pub mod SessionValues
 pub mod Sessions
 pub mod SomeTexts
 pub mod Tables
@@ -25,3 +17,4 @@ pub mod Verdicts
 pub mod WatchReports
 pub mod Watched
 pub mod Words
+pub mod inner

@@ -1,12 +1,10 @@
 -- How `watch` ends.
-use Rattle.std.specs.Prelude.{◌≡◌, ◌<◌, ℕ, List, [], ◌∷◌, ◌++◌, sum}
+use Rattle.std.specs.Prelude.{◌≡◌, ℕ, List, [], ◌∷◌, ◌++◌}
 use Rattle.rv_model.specs.declared.entry.Entry.{Entry}
 use Rattle.rv_watch.specs.Runs.{IsWatched}
 use Rattle.rv_watch.specs.Texts.{words_text}
 use Rattle.rv_watch.specs.Words.{AreKept}
-use Rattle.rv_tool.specs.declared.watching.PreparedWatch.{PreparedWatch}
 use Rattle.rv_tool.specs.Headline.{Ending, IsReported, PrintsSome}
-use Rattle.rv_tool.specs.Prepared.{IsPrepared, prepared_value}
 use Rattle.rv_tool.specs.Watched.{WatchValue}
 
 -- a report of a legal history of the input, and behind it the slot's words at places of this history that never fall, the last of which is its end; before it stand at most 1,024, none of which is the one before it
@@ -21,15 +19,3 @@ pub record IsWatchReport (w : WatchValue) (h : List Entry) (text : List ℕ) (st
 -- an accepted input is run and watched
 abbrev pub Watches : WatchValue → Ending
 Watches w = PrintsSome (IsWatchReport w)
-
--- ---- what is read
-
--- the input of the run, and the slot that is watched
-abbrev pub watch_value : PreparedWatch → WatchValue
-watch_value w = record { input = prepared_value w.ready; slot = w.slot }
-
--- it is ready, nothing changes beside the CPUs, and the slot is the setup's
-pub record IsPreparedWatch (w : PreparedWatch) : Type 0 where
-  pub ready : IsPrepared w.ready
-  pub unchanged : w.ready.changes.items ≡ []
-  pub slot : w.slot < sum w.ready.setup.shape

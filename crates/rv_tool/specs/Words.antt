@@ -1,11 +1,9 @@
 -- What the words of the command line ask for.
-use Rattle.std.specs.Prelude.{◌≡◌, ℕ, true, nat_lt, ◌&&◌, not, List, [], ◌∷◌, map, codes, bytes_eq, string_bytes, Option, Some, None, if◌then◌else◌, String}
+use Rattle.std.specs.Prelude.{ℕ, nat_lt, ◌&&◌, not, List, [], ◌∷◌, map, codes, bytes_eq, string_bytes, Option, Some, None, if◌then◌else◌, String}
 use Rattle.std.specs.declared.alloc.Global.{Global}
 use Rattle.rv_text.specs.Decimal.{decimal_of}
 use Rattle.rv_gen.specs.declared.files.TheConstants.{MAX_BLOCKS}
 use Rattle.rv_header.specs.Naming.{is_header_name}
-use Rattle.rv_tool.specs.declared.words.ToolCommand.{ToolCommand}
-use Rattle.rv_tool.specs.declared.words.ToolCommand.TheVariants as commands
 use Rattle.rv_tool.specs.declared.words.Kind.{Kind}
 use Rattle.rv_tool.specs.declared.words.Kind.TheVariants.{Da, Ltl}
 use Rattle.rv_tool.specs.declared.words.Verb.{Verb}
@@ -36,19 +34,6 @@ pub data CommandValue : Type 0 where
   table : Kind → List ℕ → CommandValue
   -- the name of the C tables, and the automaton's file
   header : List ℕ → List ℕ → CommandValue
-
--- the command, with the bytes of its words as texts
-abbrev pub command_value : ToolCommand → CommandValue
-command_value (commands.Replay bindings trace) = replay bindings.now trace.now
-command_value (commands.Feed bindings trace) = feed bindings.now trace.now
-command_value (commands.FeedBeside bindings trace script) = feed_beside bindings.now trace.now script.now
-command_value (commands.Journal bindings trace) = journal bindings.now trace.now
-command_value (commands.Check bindings trace judged) = check bindings.now trace.now judged.now
-command_value (commands.Watch bindings trace monitor instance) = watch bindings.now trace.now monitor.now instance.now
-command_value (commands.Control bindings script) = control bindings.now script.now
-command_value (commands.Load blocks) = load blocks
-command_value (commands.Table kind file) = table kind file.now
-command_value (commands.Header name file) = header name.now file.now
 
 -- `da` or `ltl`
 abbrev pub kind_word : List ℕ → Option Kind
@@ -103,8 +88,3 @@ command_of (word ∷ first ∷ second ∷ []) = command_with (verb_of word) firs
 command_of (word ∷ bindings ∷ trace ∷ third ∷ []) = command_with_third word bindings trace third
 command_of (word ∷ bindings ∷ trace ∷ monitor ∷ instance ∷ []) = if bytes_eq word (codes "watch") then Some (watch bindings trace monitor instance) else None
 command_of _ = None
-
--- C tables may have the name that the command gives them
-abbrev pub IsWellNamed : ToolCommand → Type 0
-IsWellNamed (commands.Header name file) = is_header_name name.now ≡ true
-IsWellNamed _ = Unit {0}

@@ -7,7 +7,7 @@ ghost use Rattle.rv_route.specs.Routed.{routed_value};
 ghost use Rattle.rv_route.specs.Fitting.{WorksFit, FromRules};
 ghost use Rattle.rv_feed.specs.Lane.{IsNewLane, works_of};
 ghost use Rattle.rv_tool.specs.Inputs.{opened, run_input};
-ghost use Rattle.rv_tool.specs.Prepared.{prepared_value, IsPrepared};
+ghost use Rattle.rv_tool.specs.inner.Prepared.{prepared_value, IsPrepared};
 
 use crate::trace_text::read_routed;
 use rv_bind::{BindFault, Bindings, Bound, Monitor, read_bindings};
@@ -41,7 +41,7 @@ struct RunParts {
 }
 
 /// Reads the bindings and the trace.
-#[tactic(auto, using(crate::proofs::NamedLemmas::input_named))]
+#[tactic(auto, using(crate::proofs::BlamesLemmas::input_named))]
 pub(crate) fn read_input<S: Store>(
     alloc: Global,
     store: &mut S,

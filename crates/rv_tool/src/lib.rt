@@ -1,22 +1,22 @@
 //! The top call: from the command's words and the files that they name to a status, a text and a history.
 #![tactic(auto)]
 
-mod changes;
-mod checking;
+mod check;
+mod control;
 mod counts_fit;
-mod feeding;
-mod headers;
+mod feed;
+mod feed_beside;
+mod header;
 mod input;
-mod loading;
+mod journal;
+mod load;
 mod output;
-mod recording;
-mod replaying;
+mod replay;
 mod routing;
-mod session;
-mod tables;
+mod table;
 mod top;
 mod trace_text;
-mod watching;
+mod watch;
 mod widths;
 mod words;
 

@@ -7,8 +7,8 @@ ghost use Rattle.rv_bind.specs.WellFormed.{FitsKind, kinds_of};
 ghost use Rattle.rv_route.specs.Fitting.{WorksFit, FromRules};
 ghost use Rattle.rv_route.specs.Routed.{routed_value};
 ghost use Rattle.rv_route.specs.Routing.{route_of};
-ghost use Rattle.rv_tool.specs.Pieces.{passed_text, IsRouted};
-ghost use Rattle.rv_tool.specs.Feeding.{MayBeFed};
+ghost use Rattle.rv_tool.specs.inner.Pieces.{passed_text, IsRouted};
+ghost use Rattle.rv_tool.specs.inner.Feeding.{MayBeFed};
 
 use rv_bind::Bindings;
 use rv_route::{Routed, Router};

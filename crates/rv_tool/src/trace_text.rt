@@ -10,8 +10,8 @@ ghost use Rattle.rv_text.specs.Readings.{and_then};
 ghost use Rattle.rv_trace.specs.Traces.{trace_of};
 ghost use Rattle.rv_route.specs.Fitting.{WorksFit, FromRules};
 ghost use Rattle.rv_tool.specs.Inputs.{routed_in};
-ghost use Rattle.rv_tool.specs.Faults.{IsOutcome};
-ghost use Rattle.rv_tool.specs.Feeding.{MayBeFed, IsFileFed, IsAll};
+ghost use Rattle.rv_tool.specs.inner.Faults.{IsOutcome};
+ghost use Rattle.rv_tool.specs.inner.Feeding.{MayBeFed, IsFileFed, IsAll};
 
 use crate::routing::Routing;
 use rv_bind::{BindFault, Bound, fetch, refused};

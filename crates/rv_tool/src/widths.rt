@@ -2,7 +2,8 @@
 ghost use Rattle.std.specs.Prelude.{◌≡◌, true, IfOk, map};
 ghost use Rattle.rv_bind.specs.WellFormed.{kind_of, kinds_of, HasTable, HaveTables};
 ghost use Rattle.rv_journal.specs.CountedSeats.{AreWidths, IsWidth};
-ghost use Rattle.rv_tool.specs.CountsFit.{HasState, monitor_fits_counts, monitors_fit_counts};
+ghost use Rattle.rv_tool.specs.CountsFit.{monitor_fits_counts, monitors_fit_counts};
+ghost use Rattle.rv_tool.specs.inner.CountsFit.{HasState};
 
 use crate::counts_fit::{atom_count, row_count};
 use rv_bind::Monitor;

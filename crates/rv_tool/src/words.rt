@@ -1,5 +1,6 @@
 //! What the words of the command line ask for.
-ghost use Rattle.rv_tool.specs.Words.{load, load_of, verb_of, command_with, command_of, command_value, kind_word, header_command, texts_of, IsWellNamed};
+ghost use Rattle.rv_tool.specs.Words.{load, load_of, verb_of, command_with, command_of, kind_word, header_command, texts_of};
+ghost use Rattle.rv_tool.specs.inner.Words.{command_value, IsWellNamed};
 ghost use Rattle.std.specs.Prelude.{◌≡◌, ◌∷◌, [], Some, option_map, bytes_eq, IfSome};
 ghost use Rattle.rv_text.specs.Decimal.{decimal_of};
 

@@ -9,7 +9,7 @@ use Rattle.rv_text.specs.declared.refusals.Refusal.{Refusal}
 use Rattle.rv_trace.specs.declared.line.TheConstants.{LAST_PID}
 use Rattle.rv_trace.specs.declared.line.TraceLine.{TraceLine}
 use Rattle.rv_trace.specs.declared.parts.Parts.{Parts}
-use Rattle.rv_trace.specs.Runs.{CountsAs}
+use Rattle.rv_trace.specs.inner.Runs.{CountsAs}
 use Rattle.rv_trace.specs.Lines.{number_up_to, head_pid, cpu_of, line_with, said}
 
 module _ (digits : List ℕ) (n limit : ℕ) (is : CountsAs n (number_of digits)) (small : limit ≤ LAST_PID) where

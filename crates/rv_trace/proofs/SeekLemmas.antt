@@ -12,7 +12,7 @@ use Rattle.rv_trace.specs.declared.trace.TheConstants.{MAX_BYTES}
 use Rattle.rv_trace.specs.Lines.{moved, moved_line}
 use Rattle.rv_trace.specs.Traces.{reading_of}
 use Rattle.rv_trace.specs.Held.{IsPieceOf}
-use Rattle.rv_trace.specs.Seeking.{EndsAt, HasNoLineEnd}
+use Rattle.rv_trace.specs.inner.Seeking.{EndsAt, HasNoLineEnd}
 use Rattle.rv_trace.specs.Streams.{ended_front, is_whole, part_read, Adds, TakesLine, AnswersLine, StandsAt, IsPassed}
 use Rattle.rv_trace.proofs.StreamLemmas.{NoEnd, ended_front-none, line_before, behind_line, Steps, steps-ended, steps-last, stands-next}
 use Rattle.rv_trace.proofs.AddLemmas.{Moves, adds-line, adds-skip, reading-fits, reading-moved}

@@ -7,7 +7,7 @@ use Rattle.rv_text.specs.declared.runs.ByteClass.TheVariants as kinds
 use Rattle.rv_text.proofs.LeastLemmas.{run_end-is, run_end-each, run_end-stop}
 use Rattle.rv_trace.specs.declared.parts.LinePart.{LinePart}
 use Rattle.rv_trace.specs.Lines.{is_stamp, word_at, stamp_end}
-use Rattle.rv_trace.specs.LineParts.{word_part, end_from}
+use Rattle.rv_trace.specs.inner.LineParts.{word_part, end_from}
 use Rattle.rv_trace.specs.Stamps.{AreDigits, IsStampTo, IsStamp}
 
 -- a run of digits that has one is digits

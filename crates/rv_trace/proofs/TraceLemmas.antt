@@ -5,7 +5,7 @@ use Rattle.std.proofs.lemmas.List.Elements.{All-nil, All-cons, All-append, All-h
 use Rattle.std.specs.Prelude.{option_to_list}
 use Rattle.rv_text.specs.Readings.{and_then, onto}
 use Rattle.rv_text.specs.TextLines.{LineText, lines_of}
-use Rattle.rv_text.specs.LinePlaces.{StandsIn}
+use Rattle.rv_text.specs.inner.LinePlaces.{StandsIn}
 use Rattle.rv_text.specs.declared.refusals.Refusal.{Refusal}
 use Rattle.rv_text.proofs.LinesStand.{lines_of-stand}
 use Rattle.rv_text.proofs.ReadingLaws.{and_then_ok, chosen}

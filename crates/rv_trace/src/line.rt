@@ -2,7 +2,7 @@
 ghost use Rattle.std.specs.Prelude.{◌≡◌, ◌<◌, ◌≤◌, ◌+◌, ◌^◌, length, slice_index, slice_range, EachIndex, ◌≢◌, Ok, Some};
 ghost use Rattle.rv_text.specs.Readings.{and_then};
 ghost use Rattle.rv_trace.specs.Lines.{is_skipped, is_lost, said, line_of};
-ghost use Rattle.rv_trace.specs.LineParts.{HasHeadNumbers};
+ghost use Rattle.rv_trace.specs.inner.LineParts.{HasHeadNumbers};
 
 use crate::parts::{ReadParts, parts_of};
 use crate::runs::{blanks_end, byte_at};

@@ -3,7 +3,7 @@ ghost use Rattle.std.specs.Prelude.{◌≡◌, ◌<◌, ◌≤◌, ◌+◌, ◌|
 ghost use Rattle.rv_text.specs.Places.{is_blank, run_end};
 ghost use Rattle.rv_text.specs.declared.runs.ByteClass.TheVariants as kinds;
 ghost use Rattle.rv_trace.specs.Lines.{word_at, is_stamp, stamp_end, event_part, parts_of};
-ghost use Rattle.rv_trace.specs.LineParts.{HasHeadNumbers, is_that_end, end_from};
+ghost use Rattle.rv_trace.specs.inner.LineParts.{HasHeadNumbers, is_that_end, end_from};
 
 use crate::head::{Head, find_head};
 use crate::runs::{blanks_end, byte_at, digits_end, word_end};

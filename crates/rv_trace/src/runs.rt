@@ -3,7 +3,7 @@ ghost use Rattle.std.specs.Prelude.{◌≡◌, ◌≢◌, ℕ, ◌<◌, ◌≤�
 ghost use Rattle.rv_text.specs.Decimal.{number_of};
 ghost use Rattle.rv_text.specs.Places.{is_blank, has_class, least, run_end, between};
 ghost use Rattle.rv_text.specs.declared.runs.ByteClass.TheVariants as kinds;
-ghost use Rattle.rv_trace.specs.Runs.{CountsAs, IsMask, IsRunIn, first_set};
+ghost use Rattle.rv_trace.specs.inner.Runs.{CountsAs, IsMask, IsRunIn, first_set};
 ghost use Rattle.std.specs.Int.{bit_at};
 
 use rv_text::{ByteClass, run_end};

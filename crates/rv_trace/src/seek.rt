@@ -2,7 +2,7 @@
 ghost use Rattle.std.specs.Prelude.{◌≡◌, ◌≤◌, ◌+◌, ◌||◌, length, nat_lt, IfSome, IfNone};
 ghost use Rattle.rv_text.specs.Places.{between};
 ghost use Rattle.rv_trace.specs.Held.{LooksAt};
-ghost use Rattle.rv_trace.specs.Seeking.{EndsAt, HasNoLineEnd, Seeks};
+ghost use Rattle.rv_trace.specs.inner.Seeking.{EndsAt, HasNoLineEnd, Seeks};
 ghost use Rattle.rv_trace.specs.Traces.{reading_of};
 
 use crate::line::TraceLine;

@@ -3,7 +3,7 @@ use Rattle.std.proofs.Common.{◌≡◌, ◌⊎◌, inl, inr, ℕ, ◌==◌, Boo
 use Rattle.std.proofs.lemmas.Bool.Decides.{nat_tests}
 use Rattle.rv_model.specs.declared.entry.Entry.{Entry}
 use Rattle.rv_model.specs.Seats.{Seat, is_within, is_among, known_of, entries_of}
-use Rattle.rv_board.specs.Known.{known_by}
+use Rattle.rv_board.specs.inner.Known.{known_by}
 use Rattle.rv_board.specs.RunSeats.{HasTakenIn}
 use Rattle.rv_board.specs.Seats.{SeatValue, SeatGrows, ExtendsSeen}
 use Rattle.rv_board.proofs.GrowLemmas.{same_known}

@@ -13,7 +13,8 @@ use Rattle.rv_model.specs.Setups.{Setup}
 use Rattle.rv_model.specs.SharedWords.{word_of}
 use Rattle.rv_model.proofs.NumberLemmas.{nat_lt_or}
 use Rattle.rv_core.specs.Setup.{judges_of}
-use Rattle.rv_board.specs.Known.{known_by, part}
+use Rattle.rv_board.specs.Known.{part}
+use Rattle.rv_board.specs.inner.Known.{known_by}
 use Rattle.rv_board.specs.RunSeats.{HasTakenIn}
 use Rattle.rv_board.specs.Seats.{BoardId, SeatValue, SeatGrows, seat_value, ExtendsSeen, Joins, Closes}
 use Rattle.rv_board.proofs.GrowLemmas.{same_known}

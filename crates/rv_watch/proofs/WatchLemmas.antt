@@ -15,7 +15,8 @@ use Rattle.rv_board.specs.Seats.{BoardId, SeatValue, SeatGrows}
 use Rattle.rv_board.proofs.GrowLemmas.{same_known, grows_none}
 use Rattle.rv_board.proofs.Knowing.{none_append}
 use Rattle.rv_watch.specs.declared.watcher.Watcher.{Watcher}
-use Rattle.rv_watch.specs.Watching.{word_seen, CanWatch, WatchesSlot, CanRead, ReadsSlot}
+use Rattle.rv_watch.specs.Watching.{word_seen, CanWatch, WatchesSlot}
+use Rattle.rv_watch.specs.inner.Watching.{CanRead, ReadsSlot}
 use Rattle.rv_watch.specs.Words.{AreWords, AreApart, IsSeen, last_word}
 use Rattle.rv_watch.proofs.WordLemmas.{words-none, words-later, words-push, last-push, apart-push}
 

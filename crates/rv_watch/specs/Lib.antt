@@ -3,3 +3,4 @@ pub mod Runs
 pub mod Texts
 pub mod Watching
 pub mod Words
+pub mod inner

@@ -4,7 +4,7 @@ use Rattle.rv_model.specs.SharedWords.{word_of}
 use Rattle.rv_core.specs.Setup.{judges_of}
 use Rattle.rv_board.specs.Seats.{BoardId, SeatValue, SeatGrows}
 use Rattle.rv_watch.specs.declared.watcher.Watcher.{Watcher}
-use Rattle.rv_watch.specs.Words.{AreWords, AreKept, IsSeen, AppendsWord}
+use Rattle.rv_watch.specs.Words.{AreWords, AreKept, IsSeen}
 
 -- the slot's word by the board's tables, after all that the seat has seen
 abbrev pub word_seen : SeatValue → ℕ → ℕ
@@ -33,19 +33,3 @@ module _ {G : Type 0} where
     pub words : AreWords new.seat.board.setup (judges_of new.seat.board.setup) new.seat.part.seen old.slot (length old.seat.part.seen) new.words.items
     pub kept : AreKept new.words.items
     pub newest : IsSeen new.words.items (word_seen new.seat old.slot)
-
-  -- ---- one reading
-
-  -- the seat and the slot are the board's, and there is room for all words that are kept
-  pub record CanRead (board : BoardId) (w : Watcher G) : Type 0 where
-    pub board_is : w.seat.board ≡ board
-    pub slot_is : w.slot < sum board.setup.shape
-    pub few : length w.words.items ≤ 1024
-    pub room : 1024 ≤ vec_capacity w.words
-
-  -- the slot's word was read, and is kept where it is not that before it
-  pub record ReadsSlot (old new : Watcher G) : Type 0 where
-    pub grows : SeatGrows old.seat new.seat []
-    pub slot_is : new.slot ≡ old.slot
-    pub keeps : AppendsWord old.words.items (word_seen new.seat old.slot) new.words.items
-    pub room : vec_capacity old.words ≤ vec_capacity new.words

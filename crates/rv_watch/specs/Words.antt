@@ -1,5 +1,5 @@
 -- Words of a slot along a history, and which of them a watcher keeps.
-use Rattle.std.specs.Prelude.{◌≡◌, ◌≢◌, ◌⊎◌, ℕ, ◌+◌, ◌-◌, ◌<◌, ◌≤◌, List, [], ◌∷◌, ◌++◌, map, take, length, reverse, slice_index, All}
+use Rattle.std.specs.Prelude.{◌≡◌, ◌≢◌, ℕ, ◌+◌, ◌-◌, ◌<◌, ◌≤◌, List, map, take, length, reverse, slice_index, All}
 use Rattle.std.specs.List.Sorted.{IsNonDecreasing}
 use Rattle.rv_model.specs.declared.entry.Entry.{Entry}
 use Rattle.rv_model.specs.Judging.{Judge}
@@ -36,7 +36,3 @@ pub record AreKept (words : List ℕ) : Type 0 where
 -- the word is the last one, or there are 1,024
 abbrev pub IsSeen : List ℕ → ℕ → Type 0
 IsSeen words word = length words < 1024 → (0 < length words) × (last_word words ≡ word)
-
--- the word is put behind the others where there are fewer than 1,024 and the last one is another, and else they stay as they are
-abbrev pub AppendsWord : List ℕ → ℕ → List ℕ → Type 0
-AppendsWord old word new = ((length old < 1024) × (0 < length old → last_word old ≢ word) × (new ≡ old ++ word ∷ [])) ⊎ (IsSeen old word × (new ≡ old))

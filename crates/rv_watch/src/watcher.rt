@@ -1,7 +1,8 @@
 //! A seat that reads the word of one slot, and keeps what it read.
 ghost use Rattle.std.specs.Prelude.{◌≡◌, ◌<◌, ◌≤◌, [], length, vec_capacity, IfOk};
-ghost use Rattle.rv_watch.specs.Watching.{CanWatch, IsWatcher, WatchesSlot, CanRead, ReadsSlot};
-ghost use Rattle.rv_watch.specs.Words.{AppendsWord};
+ghost use Rattle.rv_watch.specs.Watching.{CanWatch, IsWatcher, WatchesSlot};
+ghost use Rattle.rv_watch.specs.inner.Watching.{CanRead, ReadsSlot};
+ghost use Rattle.rv_watch.specs.inner.Words.{AppendsWord};
 
 use rv_board::{Board, Seat};
 use rv_io::Gate;

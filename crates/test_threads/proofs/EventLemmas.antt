@@ -2,7 +2,7 @@
 use Rattle.std.proofs.Common.{◌≡◌, ℕ, ◌<◌, arith}
 use Rattle.rv_model.specs.declared.hit.Mode.{Mode}
 use Rattle.rv_model.specs.declared.hit.What.TheVariants.{Da}
-use Rattle.rv_model.specs.EventTables.{event_count}
+use Rattle.rv_model.specs.inner.EventTables.{event_count}
 use Rattle.rv_model.specs.Table.{Table, of_events, of_labels}
 use Rattle.rv_core.specs.Advance.{FitsKind}
 

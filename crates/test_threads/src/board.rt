@@ -1,7 +1,7 @@
 //! Two seats on one instance, and a gate at which one delivers between the tries of the other; and boards at their
 //! limits.
 ghost use Rattle.std.specs.Prelude.{◌≡◌, ◌<◌, [], ◌∷◌, sum, IfOk, length};
-ghost use Rattle.rv_model.specs.EventTables.{event_count};
+ghost use Rattle.rv_model.specs.inner.EventTables.{event_count};
 ghost use Rattle.rv_core.specs.Setup.{table_at};
 
 use crate::seats::{join_all, split_all};

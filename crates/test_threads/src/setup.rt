@@ -3,7 +3,7 @@
 ghost use Rattle.std.specs.Prelude.{◌≡◌, [], ◌∷◌, IfOk};
 ghost use Rattle.rv_model.specs.declared.hit.Mode.{Mode};
 ghost use Rattle.rv_model.specs.declared.hit.What.TheVariants.{Da};
-ghost use Rattle.rv_model.specs.EventTables.{event_count};
+ghost use Rattle.rv_model.specs.inner.EventTables.{event_count};
 ghost use Rattle.rv_core.specs.Advance.{FitsKind};
 ghost use Rattle.rv_core.specs.Setup.{table_at};
 

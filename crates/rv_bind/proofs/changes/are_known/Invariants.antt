@@ -1,6 +1,6 @@
 use Rattle.std.proofs.Common.{◌≡◌, length}
 use Rattle.rv_bind.specs.Changes.{are_known}
-use Rattle.rv_ltl.specs.Texts.{texts}
+use Rattle.rv_ltl.specs.inner.Texts.{texts}
 use Rattle.rv_bind.proofs.changes.are_known.Given as goal
 
 abbrev pub invariant-loop-rest : goal.invariant-loop-rest

@@ -2,7 +2,7 @@ use Rattle.std.proofs.Common.{◌≡◌, ◌+◌, ◌*◌, ◌^◌, Bool, [], sy
 use Rattle.std.specs.Prelude.{slice_index_or}
 use Rattle.std.specs.List.{list_any}
 use Rattle.std.proofs.lemmas.Option.{get_or_from_slice_get}
-use Rattle.rv_ltl.specs.Texts.{texts}
+use Rattle.rv_ltl.specs.inner.Texts.{texts}
 use Rattle.rv_bind.specs.Changes.{is_signed_name}
 use Rattle.rv_bind.proofs.ChangeLemmas.{number_none, number_more, number_below}
 use Rattle.rv_bind.proofs.changes.atoms_signed.Goals as goal

@@ -1,5 +1,5 @@
 use Rattle.std.proofs.Common.{ap, ◌∙◌, rules, arith}
-use Rattle.rv_ltl.specs.Texts.{texts}
+use Rattle.rv_ltl.specs.inner.Texts.{texts}
 use Rattle.rv_bind.proofs.TwiceLemmas.{stands_beside, stands_beside_none, stands_on}
 use Rattle.rv_bind.proofs.changes.stands_twice.Goals as goal
 

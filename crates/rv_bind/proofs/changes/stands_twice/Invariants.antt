@@ -1,6 +1,6 @@
 use Rattle.std.proofs.Common.{◌≡◌, length}
 use Rattle.rv_bind.specs.Changes.{stands_twice}
-use Rattle.rv_ltl.specs.Texts.{texts}
+use Rattle.rv_ltl.specs.inner.Texts.{texts}
 use Rattle.rv_bind.proofs.TwiceLemmas.{stands_beside}
 use Rattle.rv_bind.proofs.changes.stands_twice.Given as goal
 

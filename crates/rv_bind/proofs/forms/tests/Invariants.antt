@@ -1,6 +1,6 @@
 use Rattle.std.proofs.Common.{◌≡◌, ◌∷◌, length}
 use Rattle.rv_bind.specs.Forms.{tests_at}
-use Rattle.rv_bind.specs.FormsAhead.{with_tests}
+use Rattle.rv_bind.specs.inner.FormsAhead.{with_tests}
 use Rattle.rv_bind.proofs.forms.tests.Given as goal
 
 abbrev pub invariant-loop-next : goal.invariant-loop-next

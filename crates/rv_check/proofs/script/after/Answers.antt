@@ -2,7 +2,7 @@
 use Rattle.std.proofs.Common.{sym, subst}
 use Rattle.rv_model.specs.Numbers.{has_bit}
 use Rattle.rv_check.specs.declared.next.Next.{Next}
-use Rattle.rv_check.specs.Nexts.{Moves}
+use Rattle.rv_check.specs.inner.Nexts.{Moves}
 use Rattle.rv_check.proofs.script.after.Goals as goal
 
 pub returns-in-Look : goal.returns-in-Look

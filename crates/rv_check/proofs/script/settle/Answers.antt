@@ -6,7 +6,7 @@ use Rattle.rv_model.specs.declared.work.Delivery.{Delivery}
 use Rattle.rv_model.specs.Setups.{Setup, slot_of}
 use Rattle.rv_model.specs.Scripts.{is_enabled_by}
 use Rattle.rv_core.specs.Deliveries.{FitsDelivery}
-use Rattle.rv_check.specs.Nexts.{work_delivery, no_delivery}
+use Rattle.rv_check.specs.inner.Nexts.{work_delivery, no_delivery}
 use Rattle.rv_check.proofs.SettleLemmas.{settles-due, settles-none, hidden-first}
 use Rattle.rv_check.proofs.script.settle.Goals as goal
 

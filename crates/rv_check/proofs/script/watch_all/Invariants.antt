@@ -1,7 +1,7 @@
 -- What is next was watched below the place, and is as before from it on.
 use Rattle.std.proofs.Common.{◌≡◌, ℕ, ◌<◌, ◌≤◌, length, get_or}
 use Rattle.rv_check.specs.declared.next.Next.{Next}
-use Rattle.rv_check.specs.Nexts.{after_other}
+use Rattle.rv_check.specs.inner.Nexts.{after_other}
 use Rattle.rv_check.proofs.script.watch_all.Given as goal
 
 abbrev pub invariant-loop-place : goal.invariant-loop-place

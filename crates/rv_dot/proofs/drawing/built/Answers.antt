@@ -1,5 +1,5 @@
 use Rattle.std.proofs.Common.{length}
-use Rattle.rv_dot.specs.Numberings.{states_by, events_by}
+use Rattle.rv_dot.specs.inner.Numberings.{states_by, events_by}
 use Rattle.rv_dot.proofs.InitialLaws.{small_moves}
 use Rattle.rv_dot.proofs.drawing.built.Goals as goal
 

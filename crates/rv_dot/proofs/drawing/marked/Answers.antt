@@ -1,6 +1,6 @@
 use Rattle.std.proofs.Common.{◌+◌, ◌*◌, ◌∙◌, ℕ, Bool, arith, sym, ap, cond}
 use Rattle.rv_dot.specs.Gathered.{is_marked}
-use Rattle.rv_dot.specs.Held.{sayings_claims}
+use Rattle.rv_dot.specs.inner.Held.{sayings_claims}
 use Rattle.rv_dot.proofs.BitLaws.{bits_small, bits_more, bits_from}
 use Rattle.rv_dot.proofs.drawing.marked.Goals as goal
 

@@ -1,5 +1,5 @@
 use Rattle.std.proofs.Common.{◌≡◌, length, map, drop, ◌≤◌}
-use Rattle.rv_dot.specs.Held.{sayings_claims, bytes_of}
+use Rattle.rv_dot.specs.inner.Held.{sayings_claims, bytes_of}
 use Rattle.rv_dot.specs.Gathered.{is_marked}
 use Rattle.rv_dot.specs.Dot.{bits_of}
 use Rattle.rv_dot.proofs.drawing.marked.Given as goal

@@ -1,5 +1,5 @@
 use Rattle.std.proofs.Common.{◌≡◌, map, take}
-use Rattle.rv_dot.specs.Held.{bytes_of}
+use Rattle.rv_dot.specs.inner.Held.{bytes_of}
 use Rattle.rv_dot.proofs.drawing.names.Given as goal
 
 abbrev pub invariant-names : goal.invariant-names

@@ -1,6 +1,6 @@
 use Rattle.std.proofs.Common.{◌≡◌, length, map}
 use Rattle.rv_dot.specs.Gathered.{events_fit}
-use Rattle.rv_dot.specs.Held.{arc}
+use Rattle.rv_dot.specs.inner.Held.{arc}
 use Rattle.rv_dot.proofs.gather.events_fit.Given as goal
 
 abbrev pub invariant-loop-rest : goal.invariant-loop-rest

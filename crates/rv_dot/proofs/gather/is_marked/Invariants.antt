@@ -1,6 +1,6 @@
 use Rattle.std.proofs.Common.{◌≡◌, length}
 use Rattle.rv_dot.specs.Gathered.{is_marked}
-use Rattle.rv_dot.specs.Held.{sayings_claims}
+use Rattle.rv_dot.specs.inner.Held.{sayings_claims}
 use Rattle.rv_dot.proofs.gather.is_marked.Given as goal
 
 abbrev pub invariant-loop-rest : goal.invariant-loop-rest

@@ -1,7 +1,7 @@
 use Rattle.std.proofs.Common.{◌≡◌, ◌++◌, refl, sym}
 use Rattle.std.proofs.lemmas.List.{append-nil}
 use Rattle.std.specs.Option.{option_to_list}
-use Rattle.rv_dot.specs.Gathering.{gathered_by}
+use Rattle.rv_dot.specs.inner.Gathering.{gathered_by}
 use Rattle.rv_dot.proofs.Gathering.{one_more}
 use Rattle.rv_dot.proofs.gather.names_in.Goals as goal
 use Rattle.rv_dot.proofs.gather.names_in.Goals.{in-Some+in_ok-push, in_default}

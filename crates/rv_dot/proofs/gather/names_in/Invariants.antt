@@ -1,7 +1,7 @@
 use Rattle.std.proofs.Common.{◌≡◌, take, map}
 use Rattle.std.specs.List.{filter_map}
-use Rattle.rv_dot.specs.Gathering.{gathered_by}
-use Rattle.rv_dot.specs.Held.{sayings_claims, bytes_of}
+use Rattle.rv_dot.specs.inner.Gathering.{gathered_by}
+use Rattle.rv_dot.specs.inner.Held.{sayings_claims, bytes_of}
 use Rattle.rv_dot.proofs.gather.names_in.Given as goal
 
 abbrev pub invariant-sayings : goal.invariant-sayings

@@ -1,7 +1,7 @@
 use Rattle.std.proofs.Common.{◌≡◌, ◌∙◌, ◌++◌, ◌∷◌, [], List, ℕ, map, ap}
 use Rattle.std.proofs.lemmas.List.{map_push}
 use Rattle.rv_dot.specs.Labels.{label_events}
-use Rattle.rv_dot.specs.Held.{bytes_of}
+use Rattle.rv_dot.specs.inner.Held.{bytes_of}
 use Rattle.rv_dot.proofs.LabelLaws.{pieces_more, pieces_end}
 use Rattle.rv_dot.proofs.label.label_events.Goals as goal
 

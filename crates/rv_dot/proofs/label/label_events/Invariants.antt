@@ -1,6 +1,6 @@
 use Rattle.std.proofs.Common.{◌≡◌, ◌≤◌, ◌++◌, ℕ, length, map}
 use Rattle.rv_dot.specs.Labels.{pieces_within, label_events}
-use Rattle.rv_dot.specs.Held.{bytes_of}
+use Rattle.rv_dot.specs.inner.Held.{bytes_of}
 use Rattle.rv_dot.proofs.label.label_events.Given as goal
 
 abbrev pub invariant-pieces : goal.invariant-pieces

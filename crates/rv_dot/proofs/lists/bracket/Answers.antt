@@ -1,7 +1,7 @@
 use Rattle.std.proofs.Common.{rules, ◌≡◌, [], ◌∷◌, ◌++◌, None, refl, sym, ap, ◌∙◌, arith}
 use Rattle.std.specs.Option.{option_map}
 use Rattle.rv_dot.specs.declared.token.Mark.TheVariants.{CloseBracket}
-use Rattle.rv_dot.specs.Held.{setting, lexeme, lexemes}
+use Rattle.rv_dot.specs.inner.Held.{setting, lexeme, lexemes}
 use Rattle.rv_dot.specs.Lists.{one_item, attribute_item, separated, last_value, bracket_at}
 use Rattle.rv_dot.proofs.LastOf.{last_value-push, last_value-nil}
 use Rattle.rv_dot.proofs.ListLoops.{at_front, goes_on, ends, is_done}

@@ -1,7 +1,7 @@
 use Rattle.std.proofs.Common.{◌≡◌, List, length}
 use Rattle.std.specs.Option.{option_map}
 use Rattle.rv_dot.specs.declared.token.Mark.TheVariants.{CloseBracket}
-use Rattle.rv_dot.specs.Held.{lexeme}
+use Rattle.rv_dot.specs.inner.Held.{lexeme}
 use Rattle.rv_dot.specs.Lists.{Attribute, attribute_item, separated, last_value}
 use Rattle.rv_dot.proofs.ListLoops.{IsUnderWay}
 use Rattle.rv_dot.proofs.lists.bracket.Given as goal

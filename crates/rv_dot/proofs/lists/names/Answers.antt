@@ -2,7 +2,7 @@ use Rattle.std.proofs.Common.{◌≡◌, ◌<◌, ◌++◌, [], ◌∷◌, lengt
 use Rattle.std.proofs.lemmas.List.{map_push}
 use Rattle.std.proofs.lemmas.Result.{err_from_is_err_and}
 use Rattle.rv_dot.specs.declared.token.Mark.TheVariants.{CloseBrace, Semicolon}
-use Rattle.rv_dot.specs.Held.{lexeme, lexemes}
+use Rattle.rv_dot.specs.inner.Held.{lexeme, lexemes}
 use Rattle.rv_dot.specs.Marks.{past_mark}
 use Rattle.rv_dot.specs.Lists.{one_item, name_at, name_item}
 use Rattle.rv_dot.proofs.ListLoops.{at_front, goes_on, fails, none_fails, is_done}

@@ -1,6 +1,6 @@
 use Rattle.std.proofs.Common.{length}
 use Rattle.rv_dot.specs.declared.token.Mark.TheVariants.{CloseBrace, Semicolon}
-use Rattle.rv_dot.specs.Held.{lexemes}
+use Rattle.rv_dot.specs.inner.Held.{lexemes}
 use Rattle.rv_dot.specs.Marks.{past_mark}
 use Rattle.rv_dot.specs.Lists.{name_item}
 use Rattle.rv_dot.proofs.ListLoops.{IsUnderWay}

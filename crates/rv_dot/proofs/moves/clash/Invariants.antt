@@ -1,5 +1,5 @@
 use Rattle.std.proofs.Common.{◌≡◌, length}
-use Rattle.rv_dot.specs.Clashes.{has_clash}
+use Rattle.rv_dot.specs.inner.Clashes.{has_clash}
 use Rattle.rv_dot.proofs.moves.clash.Given as goal
 
 abbrev pub invariant-moves : goal.invariant-moves

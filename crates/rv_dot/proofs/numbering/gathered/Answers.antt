@@ -1,7 +1,7 @@
 use Rattle.std.proofs.Common.{ap}
 use Rattle.std.specs.Prelude.{map}
 use Rattle.rv_dot.specs.Sets.{ascending}
-use Rattle.rv_dot.specs.Held.{bytes_of}
+use Rattle.rv_dot.specs.inner.Held.{bytes_of}
 use Rattle.rv_dot.proofs.SetLaws.{gathers_more}
 use Rattle.rv_dot.proofs.numbering.gathered.Goals as goal
 

@@ -6,7 +6,7 @@ use Rattle.rv_text.specs.Readings.{Gives, Refuses}
 use Rattle.rv_model.specs.Machine.{Machine}
 use Rattle.rv_dot.specs.Gathered.{targets_in, events_fit, all_fit}
 use Rattle.rv_dot.specs.Dot.{initial_of}
-use Rattle.rv_dot.specs.Held.{sayings_claims, arc, bytes_of}
+use Rattle.rv_dot.specs.inner.Held.{sayings_claims, arc, bytes_of}
 use Rattle.rv_dot.proofs.WholeLaws.{unfit_refused, events_unfit, both_fit, initial_refused, from_initial}
 use Rattle.rv_dot.proofs.reading.automaton.Goals as goal
 use Rattle.rv_dot.proofs.reading.automaton.Goals.{then-not-all_fit-via-then-not-all_fit, then-not-all_fit-via-else-not-all_fit+then-not-events_fit}

@@ -1,5 +1,5 @@
 use Rattle.std.proofs.Common.{◌≡◌, map, take}
-use Rattle.rv_dot.specs.Held.{arc, bytes_of}
+use Rattle.rv_dot.specs.inner.Held.{arc, bytes_of}
 use Rattle.rv_dot.proofs.reading.events.Given as goal
 
 abbrev pub invariant-arcs : goal.invariant-arcs

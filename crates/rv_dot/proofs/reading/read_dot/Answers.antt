@@ -4,7 +4,7 @@ use Rattle.rv_text.specs.declared.refusals.Refusal.{Refusal}
 use Rattle.rv_model.specs.Machine.{Machine}
 use Rattle.rv_text.specs.Readings.{Gives}
 use Rattle.rv_dot.specs.Dot.{machine_of}
-use Rattle.rv_dot.specs.Held.{sayings_claims}
+use Rattle.rv_dot.specs.inner.Held.{sayings_claims}
 use Rattle.rv_dot.proofs.WholeLaws.{long_refused, short_read}
 use Rattle.rv_dot.proofs.reading.read_dot.Goals as goal
 

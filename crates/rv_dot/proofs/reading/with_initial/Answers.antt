@@ -6,8 +6,8 @@ use Rattle.std.specs.Option.{is_some}
 use Rattle.std.specs.Ordering.{nat_cmp}
 use Rattle.std.specs.Str.{bytes_eq}
 use Rattle.rv_dot.specs.Gathered.{states_in}
-use Rattle.rv_text.specs.Ascending.{Ascends}
-use Rattle.rv_dot.specs.Held.{sayings_claims, arc, bytes_of}
+use Rattle.rv_text.specs.inner.Ascending.{Ascends}
+use Rattle.rv_dot.specs.inner.Held.{sayings_claims, arc, bytes_of}
 use Rattle.rv_dot.specs.Sets.{stands_in}
 use Rattle.rv_dot.proofs.InitialLaws.{first_refused, first_stands, states_are, none_test, some_test, events_up, others_up}
 use Rattle.rv_dot.proofs.NameSets.{set_ascends}

@@ -2,10 +2,10 @@ use Rattle.std.proofs.Common.{◌≡◌, ◌≤◌, map, length, false, sym, ap,
 use Rattle.std.specs.Prelude.{Ok}
 use Rattle.std.proofs.lemmas.List.{length-map}
 use Rattle.rv_model.specs.WellFormed.{IsAutomaton}
-use Rattle.rv_dot.specs.Held.{bytes_of, sayings_claims, arc}
+use Rattle.rv_dot.specs.inner.Held.{bytes_of, sayings_claims, arc}
 use Rattle.rv_dot.specs.Moves.{moves_of, arc_move}
-use Rattle.rv_dot.specs.Clashes.{has_clash}
-use Rattle.rv_dot.specs.Numberings.{states_by, events_by}
+use Rattle.rv_dot.specs.inner.Clashes.{has_clash}
+use Rattle.rv_dot.specs.inner.Numberings.{states_by, events_by}
 use Rattle.rv_dot.proofs.InitialLaws.{ends_refused, is_drawn, clash_refused, states_refused, events_refused, machine_given, machine_keeps, machine_is, many_states, few_states_of}
 use Rattle.rv_dot.proofs.reading.with_numbering.Goals as goal
 

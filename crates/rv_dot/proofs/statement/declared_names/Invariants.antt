@@ -1,7 +1,7 @@
 use Rattle.std.proofs.Common.{◌≡◌, take}
 use Rattle.std.specs.Prelude.{map}
 use Rattle.std.specs.Option.{option_map}
-use Rattle.rv_dot.specs.Held.{lexeme, lexemes, claims}
+use Rattle.rv_dot.specs.inner.Held.{lexeme, lexemes, claims}
 use Rattle.rv_dot.specs.Statements.{declares, value_held}
 use Rattle.rv_dot.specs.Names.{name_of}
 use Rattle.rv_dot.proofs.statement.declared_names.Given as goal

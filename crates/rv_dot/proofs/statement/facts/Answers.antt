@@ -1,6 +1,6 @@
 use Rattle.std.proofs.Common.{subst, ap, ◌∙◌}
-use Rattle.rv_text.specs.Unreads.{IsReadAs}
-use Rattle.rv_dot.specs.Held.{lexemes, claims}
+use Rattle.rv_text.specs.inner.Unreads.{IsReadAs}
+use Rattle.rv_dot.specs.inner.Held.{lexemes, claims}
 use Rattle.rv_dot.specs.Statements.{claims_of}
 use Rattle.rv_dot.proofs.StatementsAgain.{file_again}
 use Rattle.rv_dot.proofs.FilesTake.{is_found}

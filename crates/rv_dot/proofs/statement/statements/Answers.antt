@@ -2,7 +2,7 @@ use Rattle.std.proofs.Common.{◌≡◌, ◌++◌, refl, sym, ap, ◌∙◌, ari
 use Rattle.std.proofs.lemmas.List.{map-append}
 use Rattle.std.proofs.lemmas.Result.{err_from_is_err_and}
 use Rattle.rv_dot.specs.declared.token.Mark.TheVariants.{CloseBrace, Semicolon}
-use Rattle.rv_dot.specs.Held.{lexemes, claim, claims}
+use Rattle.rv_dot.specs.inner.Held.{lexemes, claim, claims}
 use Rattle.rv_dot.specs.Marks.{past_mark}
 use Rattle.rv_dot.specs.Statements.{statement_at}
 use Rattle.rv_dot.proofs.ListLoops.{at_front, goes_on, fails, is_done}

@@ -2,7 +2,7 @@ use Rattle.std.proofs.Common.{length}
 use Rattle.rv_dot.specs.declared.token.Mark.TheVariants.{CloseBrace, Semicolon}
 use Rattle.rv_dot.specs.Marks.{past_mark}
 use Rattle.rv_dot.specs.Statements.{statement_at}
-use Rattle.rv_dot.specs.Held.{claims}
+use Rattle.rv_dot.specs.inner.Held.{claims}
 use Rattle.rv_dot.proofs.ListLoops.{IsUnderWay}
 use Rattle.rv_dot.proofs.statement.statements.Given as goal
 

@@ -2,7 +2,7 @@ use Rattle.std.proofs.Common.{◌≡◌, ◌++◌, length, arith, sym}
 use Rattle.std.specs.Option.{option_map, option_to_list}
 use Rattle.std.proofs.lemmas.List.{map_push, append-nil}
 use Rattle.rv_dot.specs.Tokens.{tokens_of}
-use Rattle.rv_dot.specs.Held.{lexeme, lexemes}
+use Rattle.rv_dot.specs.inner.Held.{lexeme, lexemes}
 use Rattle.rv_dot.proofs.TokenLoop.{goes_on, ends, is_done, from_nothing}
 use Rattle.rv_dot.proofs.token.all.Goals as goal
 use Rattle.rv_dot.proofs.token.all.Goals.{in-Some-token+in_ok-push, in_default-token}

@@ -1,6 +1,6 @@
 use Rattle.std.proofs.Common.{◌≡◌, ◌≤◌, ℕ, length}
 use Rattle.rv_dot.specs.Tokens.{tokens_within, tokens_of}
-use Rattle.rv_dot.specs.Held.{lexemes}
+use Rattle.rv_dot.specs.inner.Held.{lexemes}
 use Rattle.rv_dot.proofs.Scans.{with_front}
 use Rattle.rv_dot.proofs.token.all.Given as goal
 

@@ -1,6 +1,6 @@
 use Rattle.std.proofs.Common.{subst}
-use Rattle.rv_text.specs.Unreads.{IsReadAs}
-use Rattle.rv_dot.specs.Held.{lexemes}
+use Rattle.rv_text.specs.inner.Unreads.{IsReadAs}
+use Rattle.rv_dot.specs.inner.Held.{lexemes}
 use Rattle.rv_dot.proofs.TextLaws.{tokens_are_found, tokens_are_read}
 use Rattle.rv_dot.proofs.token.tokens.Goals as goal
 

@@ -2,9 +2,10 @@
 use Rattle.std.proofs.Common.{Bool, [], ◌∷◌, sym, ◌∙◌, subst}
 use Rattle.rv_model.specs.declared.work.Delivery.{Delivery}
 use Rattle.rv_core.specs.Deliveries.{FitsDelivery}
-use Rattle.rv_feed.specs.Feeding.{FeedsDelivery}
+use Rattle.rv_feed.specs.inner.Feeding.{FeedsDelivery}
 use Rattle.rv_feed.specs.Kept.{record_on}
-use Rattle.rv_feed.specs.Lane.{panics_of, AddsRecords}
+use Rattle.rv_feed.specs.Lane.{panics_of}
+use Rattle.rv_feed.specs.inner.Lane.{AddsRecords}
 use Rattle.rv_feed.proofs.FeedLemmas.{delivery-goes, delivery-ends}
 use Rattle.rv_feed.proofs.PlaceLemmas.{of-found}
 use Rattle.rv_feed.proofs.feeder.deliver.Goals as goal

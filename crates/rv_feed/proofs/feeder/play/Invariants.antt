@@ -1,5 +1,5 @@
 -- The turns so far are a script that goes on.
-use Rattle.rv_feed.specs.Feeding.{FedSoFar}
+use Rattle.rv_feed.specs.inner.Feeding.{FedSoFar}
 use Rattle.rv_feed.specs.Lane.{panics_of}
 use Rattle.rv_feed.proofs.feeder.play.Given as goal
 

@@ -3,7 +3,7 @@ use Rattle.std.proofs.Common.{◌≡◌, ℕ, Bool, true, false, sym, ◌∙◌,
 use Rattle.rv_model.specs.declared.work.Delivery.{Delivery}
 use Rattle.rv_model.specs.Numbers.{has_bit}
 use Rattle.rv_core.specs.Deliveries.{FitsDelivery}
-use Rattle.rv_feed.specs.Feeding.{FeedsDelivery, FeedsPart}
+use Rattle.rv_feed.specs.inner.Feeding.{FeedsDelivery, FeedsPart}
 use Rattle.rv_feed.specs.Lane.{panics_of}
 use Rattle.rv_feed.proofs.FeedLemmas.{part-start, turn-off, part-hidden, part-shown, part-ends, part-all}
 use Rattle.rv_feed.proofs.PlaceLemmas.{place-inside, at-place, holds-at, room-left, of-found}

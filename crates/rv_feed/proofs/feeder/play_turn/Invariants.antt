@@ -1,5 +1,5 @@
 -- The look and the deliveries so far are a part of the turn.
-use Rattle.rv_feed.specs.Feeding.{FeedsPart}
+use Rattle.rv_feed.specs.inner.Feeding.{FeedsPart}
 use Rattle.rv_feed.specs.Lane.{panics_of}
 use Rattle.rv_feed.proofs.feeder.play_turn.Given as goal
 

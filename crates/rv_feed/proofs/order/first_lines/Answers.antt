@@ -1,7 +1,7 @@
 -- A lane more has its line.
 use Rattle.std.proofs.Common.{◌≡◌, ◌-◌, ◌<◌, ℕ, ◌+◌, length, replicate, set, get_or, arith, refl, sym, subst, ap, ◌∙◌, length-set}
 use Rattle.rv_feed.specs.Lane.{LaneValue}
-use Rattle.rv_feed.specs.SoFar.{HasLine}
+use Rattle.rv_feed.specs.inner.SoFar.{HasLine}
 use Rattle.rv_feed.proofs.LineLemmas.{HasLinesTo, lines-more}
 use Rattle.rv_feed.proofs.order.first_lines.Goals as goal
 

@@ -1,5 +1,5 @@
 use Rattle.std.proofs.Common.{◌≤◌, ◌^◌, ℕ, List}
-use Rattle.rv_feed.specs.SoFar.{HasLines}
+use Rattle.rv_feed.specs.inner.SoFar.{HasLines}
 use Rattle.rv_feed.proofs.LineLemmas.{IsBest}
 use Rattle.rv_feed.proofs.order.least.Given as goal
 

@@ -4,7 +4,7 @@ use Rattle.std.proofs.lemmas.List.Elements.{All-get_or}
 use Rattle.std.specs.Prelude.{AllPairs}
 use Rattle.rv_core.specs.Core.{CoreValue}
 use Rattle.rv_feed.specs.Lane.{LaneValue, panics_of}
-use Rattle.rv_feed.specs.SoFar.{RunSoFar, LaneSoFar, PlaysNext, IsPending, next_line, HasLine, HasLines}
+use Rattle.rv_feed.specs.inner.SoFar.{RunSoFar, LaneSoFar, PlaysNext, IsPending, next_line, HasLine, HasLines}
 use Rattle.rv_feed.proofs.LaneLemmas.{pairs-to, pairs-from}
 use Rattle.rv_feed.proofs.LineLemmas.{lines-played}
 use Rattle.rv_feed.proofs.RunLemmas.{run-start, run-next, run-end, is-next, from-le}

@@ -1,6 +1,6 @@
 use Rattle.std.proofs.Common.{◌≡◌, ◌-◌, ◌^◌, length}
 use Rattle.rv_feed.specs.Lane.{panics_of}
-use Rattle.rv_feed.specs.SoFar.{RunSoFar, HasLines}
+use Rattle.rv_feed.specs.inner.SoFar.{RunSoFar, HasLines}
 use Rattle.rv_feed.proofs.order.run_in_order.Given as goal
 
 abbrev pub invariant-loop-places : goal.invariant-loop-places

@@ -9,8 +9,9 @@ use Rattle.rv_core.specs.Advance.{FitsHit}
 use Rattle.rv_core.specs.Deliveries.{FitsDelivery}
 use Rattle.rv_core.specs.Setup.{FitsAct, table_at}
 use Rattle.rv_feed.specs.Kept.{record_on}
-use Rattle.rv_feed.specs.Lane.{panics_of, AddsRecords}
-use Rattle.rv_feed.specs.Turns.{DeliversRecorded}
+use Rattle.rv_feed.specs.Lane.{panics_of}
+use Rattle.rv_feed.specs.inner.Lane.{AddsRecords}
+use Rattle.rv_feed.specs.inner.Turns.{DeliversRecorded}
 use Rattle.rv_feed.proofs.ActLemmas.{fits-hit}
 use Rattle.rv_feed.proofs.PlaceLemmas.{of-found}
 use Rattle.rv_feed.proofs.TurnLemmas.{made-on, made-last}

@@ -7,7 +7,7 @@ use Rattle.rv_model.specs.Setups.{Setup}
 use Rattle.rv_core.specs.Core.{CoreValue}
 use Rattle.rv_core.specs.Deliveries.{FitsDelivery}
 use Rattle.rv_feed.specs.Lane.{panics_of}
-use Rattle.rv_feed.specs.Turns.{DeliversRecorded, PartDone}
+use Rattle.rv_feed.specs.inner.Turns.{DeliversRecorded, PartDone}
 use Rattle.rv_feed.proofs.PlaceLemmas.{place-inside, at-place, holds-at, room-left, of-found}
 use Rattle.rv_feed.proofs.TurnLemmas.{done-start, done-hidden, done-shown, done-ends, done-all, done-halted}
 use Rattle.rv_feed.proofs.turn.play_turn.Goals as goal

@@ -1,9 +1,9 @@
 use Rattle.std.proofs.Common.{◌≡◌, ◌++◌, ◌∙◌, ℕ, List, [], map, ap, get_or}
 use Rattle.std.specs.List.{flat_map}
-use Rattle.rv_dot.specs.Held.{bytes_of}
+use Rattle.rv_dot.specs.inner.Held.{bytes_of}
 use Rattle.rv_dot.specs.Gathered.{Arc}
 use Rattle.rv_dot.specs.Canonical.{State, Drawing, head_lines, marker_line, initial_line, arc_line, state_line, node_line, last_line, drawing_text}
-use Rattle.rv_header.specs.Taking.{marked_by, rows_arcs}
+use Rattle.rv_header.specs.inner.Taking.{marked_by, rows_arcs}
 use Rattle.rv_header.proofs.Written.{grown}
 use Rattle.rv_header.proofs.drawing.drawn.Goals as goal
 

@@ -1,8 +1,8 @@
 use Rattle.std.proofs.Common.{◌++◌, ◌∙◌, ℕ, List, map, ap}
 use Rattle.std.specs.List.{flat_map}
-use Rattle.rv_dot.specs.Held.{bytes_of}
+use Rattle.rv_dot.specs.inner.Held.{bytes_of}
 use Rattle.rv_dot.specs.Canonical.{arc_line}
-use Rattle.rv_header.specs.Taking.{row_arcs}
+use Rattle.rv_header.specs.inner.Taking.{row_arcs}
 use Rattle.rv_header.proofs.drawing.put_members.Goals as goal
 
 pub returns : goal.returns

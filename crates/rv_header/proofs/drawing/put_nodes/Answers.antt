@@ -2,9 +2,9 @@ use Rattle.std.proofs.Common.{◌++◌, ◌∙◌, ℕ, List, map, ap, sym, arit
 use Rattle.std.specs.List.{zip}
 use Rattle.std.proofs.lemmas.List.{length-map}
 use Rattle.std.proofs.lemmas.List.Folds.{flat_map-map}
-use Rattle.rv_dot.specs.Held.{bytes_of}
+use Rattle.rv_dot.specs.inner.Held.{bytes_of}
 use Rattle.rv_dot.specs.Canonical.{State, node_line}
-use Rattle.rv_header.specs.Taking.{state_by}
+use Rattle.rv_header.specs.inner.Taking.{state_by}
 use Rattle.rv_header.proofs.Zips.{zipped_more, zipped_all}
 use Rattle.rv_header.proofs.drawing.put_nodes.Goals as goal
 

@@ -1,6 +1,6 @@
 use Rattle.std.proofs.Common.{◌≡◌, ◌++◌, ℕ, List, drop, map}
 use Rattle.std.specs.List.{flat_map, zip}
-use Rattle.rv_dot.specs.Held.{bytes_of}
+use Rattle.rv_dot.specs.inner.Held.{bytes_of}
 use Rattle.rv_dot.specs.Canonical.{node_line}
 use Rattle.rv_header.proofs.drawing.put_nodes.Given as goal
 

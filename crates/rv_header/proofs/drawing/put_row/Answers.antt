@@ -1,10 +1,10 @@
 use Rattle.std.proofs.Common.{◌++◌, ◌∙◌, ℕ, List, [], map, ap, sym, arith, get_or}
 use Rattle.std.specs.List.{flat_map, zip}
 use Rattle.std.proofs.lemmas.List.{length-map}
-use Rattle.rv_dot.specs.Held.{bytes_of}
+use Rattle.rv_dot.specs.inner.Held.{bytes_of}
 use Rattle.rv_dot.specs.Gathered.{Arc}
 use Rattle.rv_dot.specs.Canonical.{arc_line}
-use Rattle.rv_header.specs.Taking.{cell_arcs}
+use Rattle.rv_header.specs.inner.Taking.{cell_arcs}
 use Rattle.rv_header.proofs.Zips.{zipped_more, zipped_all, flat_flat}
 use Rattle.rv_header.proofs.drawing.put_row.Goals as goal
 

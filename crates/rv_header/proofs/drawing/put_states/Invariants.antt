@@ -1,8 +1,8 @@
 use Rattle.std.proofs.Common.{◌≡◌, ◌++◌, ℕ, List, drop, map}
 use Rattle.std.specs.List.{flat_map, zip}
-use Rattle.rv_dot.specs.Held.{bytes_of}
+use Rattle.rv_dot.specs.inner.Held.{bytes_of}
 use Rattle.rv_dot.specs.Canonical.{state_line}
-use Rattle.rv_header.specs.Taking.{state_by}
+use Rattle.rv_header.specs.inner.Taking.{state_by}
 use Rattle.rv_header.proofs.drawing.put_states.Given as goal
 
 abbrev pub invariant-states : goal.invariant-states

@@ -1,6 +1,6 @@
 use Rattle.std.proofs.Common.{◌≡◌, ◌∙◌, ℕ, true, List, [], map, ap, sym, get_or, drop}
-use Rattle.rv_dot.specs.Held.{bytes_of}
-use Rattle.rv_header.specs.Taking.{pieces, piece_from, quoted_in, members_in, state_names_in, events_in, rows_in, marks_in, are_few}
+use Rattle.rv_dot.specs.inner.Held.{bytes_of}
+use Rattle.rv_header.specs.inner.Taking.{pieces, piece_from, quoted_in, members_in, state_names_in, events_in, rows_in, marks_in, are_few}
 use Rattle.rv_header.proofs.FilesTaken.{many_states, many_events, file_is}
 use Rattle.rv_header.proofs.reading.file_in.Goals as goal
 use Rattle.rv_header.proofs.reading.file_in.Goals.{then-not-are_few-via-then-not-are_few, then-not-are_few-via-else-not-are_few+then-not-are_few-2}

@@ -1,7 +1,7 @@
 use Rattle.std.proofs.Common.{◌≡◌, length, map}
 use Rattle.std.specs.Prelude.{nat_le}
 use Rattle.std.specs.List.{list_all}
-use Rattle.rv_dot.specs.Held.{bytes_of}
+use Rattle.rv_dot.specs.inner.Held.{bytes_of}
 use Rattle.rv_header.proofs.taking.are_short.Given as goal
 
 abbrev pub invariant-loop-rest : goal.invariant-loop-rest

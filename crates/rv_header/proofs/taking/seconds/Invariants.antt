@@ -1,6 +1,6 @@
 use Rattle.std.proofs.Common.{◌≡◌, ◌++◌, length, map}
-use Rattle.rv_dot.specs.Held.{bytes_of}
-use Rattle.rv_header.specs.Taking.{seconds}
+use Rattle.rv_dot.specs.inner.Held.{bytes_of}
+use Rattle.rv_header.specs.inner.Taking.{seconds}
 use Rattle.rv_header.proofs.taking.seconds.Given as goal
 
 abbrev pub invariant-loop-rest : goal.invariant-loop-rest

@@ -3,8 +3,9 @@ use Rattle.std.proofs.Common.{◌≡◌, ◌<◌, ◌∷◌, ◌++◌, [], ℕ, 
 use Rattle.rv_model.specs.Table.{Table}
 use Rattle.rv_table.specs.Rows.{IsRows}
 use Rattle.rv_core.specs.Setup.{table_at}
-use Rattle.rv_journal.specs.CountedWords.{FitsCountedWord, counted_word}
-use Rattle.rv_journal.specs.Openings.{OpensCounted}
+use Rattle.rv_journal.specs.CountedWords.{FitsCountedWord}
+use Rattle.rv_journal.specs.inner.CountedWords.{counted_word}
+use Rattle.rv_journal.specs.inner.Openings.{OpensCounted}
 use Rattle.rv_journal.proofs.CountedOpeningLemmas.{counted_opening, counted_openings, counted-opens-none, counted-opens-more, opening-narrow, opens-counted}
 use Rattle.rv_journal.proofs.board.opening_words.Goals as goal
 

@@ -5,7 +5,7 @@ use Rattle.rv_model.specs.declared.work.Delivery.{Delivery}
 use Rattle.rv_model.specs.declared.work.Turn.{Turn}
 use Rattle.rv_model.specs.Scripts.{is_enabled_by}
 use Rattle.rv_model.specs.Works.{Work, IsWork}
-use Rattle.rv_journal.proofs.ShownLemmas.{may-show, shown-next, shown-whole}
+use Rattle.rv_journal.proofs.EnabledLemmas.{may-show, shown-next, shown-whole}
 use Rattle.rv_journal.proofs.enabled.enabled_work.Goals as goal
 
 -- the turn that a read past the end gives

@@ -1,5 +1,5 @@
 use Rattle.std.proofs.Common.{◌≡◌, length, take}
-use Rattle.rv_journal.proofs.ShownLemmas.{IsShownSoFar}
+use Rattle.rv_journal.proofs.EnabledLemmas.{IsShownSoFar}
 use Rattle.rv_journal.proofs.enabled.enabled_work.Given as goal
 
 -- the turns so far were shown

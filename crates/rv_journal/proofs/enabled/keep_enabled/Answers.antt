@@ -1,5 +1,5 @@
 use Rattle.std.proofs.Common.{arith}
-use Rattle.rv_journal.proofs.ShownLemmas.{kept-fits}
+use Rattle.rv_journal.proofs.EnabledLemmas.{kept-fits}
 use Rattle.rv_journal.proofs.enabled.keep_enabled.Goals as goal
 
 pub overflow_cast-result : goal.overflow_cast-result

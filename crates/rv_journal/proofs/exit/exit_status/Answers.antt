@@ -3,7 +3,7 @@ use Rattle.std.specs.Prelude.{if◌then◌else◌}
 use Rattle.std.specs.List.{list_any}
 use Rattle.rv_model.specs.declared.entry.Entry.{Entry}
 use Rattle.rv_laws.specs.Exits.{has_stop}
-use Rattle.rv_journal.specs.Whole.{is_failed_entry}
+use Rattle.rv_journal.specs.inner.Whole.{is_failed_entry}
 use Rattle.rv_journal.proofs.ExitLemmas.{exit-shown}
 use Rattle.rv_journal.proofs.exit.exit_status.Goals as goal
 

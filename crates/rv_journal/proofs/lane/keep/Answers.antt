@@ -1,6 +1,7 @@
 -- There is room, so the push succeeds.
 use Rattle.std.proofs.Common.{refl, subst}
-use Rattle.rv_journal.specs.CountedLanes.{CountedLaneValue, KeepsObserved}
+use Rattle.rv_journal.specs.CountedLanes.{CountedLaneValue}
+use Rattle.rv_journal.specs.inner.CountedLanes.{KeepsObserved}
 use Rattle.rv_journal.proofs.lane.keep.Goals as goal
 
 pub returns : goal.returns

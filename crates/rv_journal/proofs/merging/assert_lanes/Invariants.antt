@@ -1,7 +1,7 @@
 use Rattle.std.proofs.Common.{take}
 use Rattle.std.specs.Prelude.{All}
 use Rattle.rv_model.specs.Works.{IsWork}
-use Rattle.rv_journal.specs.Merging.{NumbersFit}
+use Rattle.rv_journal.specs.inner.Merging.{NumbersFit}
 use Rattle.rv_journal.proofs.merging.assert_lanes.Given as goal
 
 abbrev pub invariant-loop-lane : goal.invariant-loop-lane

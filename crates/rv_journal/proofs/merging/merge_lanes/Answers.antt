@@ -1,5 +1,5 @@
 -- Where no lane's next step is ready, all is placed.
-use Rattle.rv_journal.specs.MergeRuns.{merge_run}
+use Rattle.rv_journal.specs.inner.MergeRuns.{merge_run}
 use Rattle.rv_journal.proofs.FinishLemmas.{done}
 use Rattle.rv_journal.proofs.merging.merge_lanes.Goals as goal
 

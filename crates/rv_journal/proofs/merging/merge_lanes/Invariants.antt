@@ -1,4 +1,4 @@
-use Rattle.rv_journal.specs.MergeRuns.{merge_run, IsMerging, steps_left}
+use Rattle.rv_journal.specs.inner.MergeRuns.{merge_run, IsMerging, steps_left}
 use Rattle.rv_journal.proofs.merging.merge_lanes.Given as goal
 
 abbrev pub ghost-new : goal.ghost-new

@@ -2,7 +2,7 @@
 use Rattle.std.proofs.Common.{◌≡◌, sym, subst}
 use Rattle.std.specs.Prelude.{MatchOption, []}
 use Rattle.rv_journal.specs.CountedLanes.{CountedLaneValue}
-use Rattle.rv_journal.specs.MergeSteps.{IsCursor, GoesTo, rest_of}
+use Rattle.rv_journal.specs.inner.MergeSteps.{IsCursor, GoesTo, rest_of}
 use Rattle.rv_journal.proofs.ReadyLemmas.{lane-read}
 use Rattle.rv_journal.proofs.merging.next_from.Goals as goal
 

@@ -2,8 +2,8 @@
 use Rattle.std.proofs.Common.{subst, arith}
 use Rattle.std.specs.Prelude.{All}
 use Rattle.std.proofs.lemmas.List.Elements.{All-more}
-use Rattle.rv_journal.specs.Merging.{NumbersFit}
-use Rattle.rv_journal.proofs.WaitLemmas.{all-taken}
+use Rattle.rv_journal.specs.inner.Merging.{NumbersFit}
+use Rattle.rv_journal.proofs.PendingLemmas.{all-taken}
 use Rattle.rv_journal.proofs.observed.assert_observed.Goals as goal
 
 pub loop-item-preserved : goal.loop-item-preserved

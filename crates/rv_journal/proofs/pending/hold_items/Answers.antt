@@ -1,6 +1,6 @@
 -- One item more.
 use Rattle.std.proofs.Common.{arith}
-use Rattle.rv_journal.proofs.WaitLemmas.{grown-more}
+use Rattle.rv_journal.proofs.PendingLemmas.{grown-more}
 use Rattle.rv_journal.proofs.pending.hold_items.Goals as goal
 
 pub loop-item-preserved : goal.loop-item-preserved

@@ -1,5 +1,5 @@
 use Rattle.std.proofs.Common.{◌≡◌, None, rules}
-use Rattle.rv_journal.specs.PieceReadings.{number_in}
+use Rattle.rv_journal.specs.inner.PieceReadings.{number_in}
 use Rattle.rv_journal.proofs.ThenLemmas.{first-none, first-reads}
 use Rattle.rv_journal.proofs.pieces.next_number.Goals as goal
 

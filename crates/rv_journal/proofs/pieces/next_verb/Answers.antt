@@ -1,5 +1,5 @@
 use Rattle.std.proofs.Common.{◌≡◌, None, rules}
-use Rattle.rv_journal.specs.PieceReadings.{verb_in}
+use Rattle.rv_journal.specs.inner.PieceReadings.{verb_in}
 use Rattle.rv_journal.proofs.ThenLemmas.{first-none, first-reads}
 use Rattle.rv_journal.proofs.pieces.next_verb.Goals as goal
 

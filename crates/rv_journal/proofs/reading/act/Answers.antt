@@ -2,8 +2,8 @@ use Rattle.std.proofs.Common.{◌≡◌, Some, None, rules, ap, ◌∙◌}
 use Rattle.rv_model.specs.declared.entry.Act.TheVariants.{Stop, Raise, Lower, Clear, End}
 use Rattle.rv_journal.specs.declared.names.ActVerb.{ActVerb}
 use Rattle.rv_journal.specs.declared.names.ActVerb.TheVariants as verbs
-use Rattle.rv_journal.specs.PieceReadings.{first_by, verb_in}
-use Rattle.rv_journal.specs.EntryReadings.{act_from, act_of}
+use Rattle.rv_journal.specs.inner.PieceReadings.{first_by, verb_in}
+use Rattle.rv_journal.specs.inner.EntryReadings.{act_from, act_of}
 use Rattle.rv_journal.proofs.ThenLemmas.{then-some, then-none, gives-none, reads-then}
 use Rattle.rv_journal.proofs.reading.act.Goals as goal
 

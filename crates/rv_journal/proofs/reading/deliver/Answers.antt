@@ -1,6 +1,6 @@
 use Rattle.std.proofs.Common.{◌≡◌, Some, None, rules, ◌∙◌}
 use Rattle.rv_model.specs.declared.entry.Act.TheVariants.{Deliver}
-use Rattle.rv_journal.specs.EntryReadings.{deliver_from, hit_from, run_from}
+use Rattle.rv_journal.specs.inner.EntryReadings.{deliver_from, hit_from, run_from}
 use Rattle.rv_journal.proofs.ThenLemmas.{then-some, then-none, gives-none}
 use Rattle.rv_journal.proofs.reading.deliver.Goals as goal
 

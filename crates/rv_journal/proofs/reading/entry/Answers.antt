@@ -1,6 +1,6 @@
 use Rattle.std.proofs.Common.{◌≡◌, None, rules, sym, ap, ◌∙◌}
 use Rattle.rv_model.specs.declared.entry.Entry.{Entry}
-use Rattle.rv_journal.specs.EntryReadings.{acted_from, before_from, after_from, all_words_read}
+use Rattle.rv_journal.specs.inner.EntryReadings.{acted_from, before_from, after_from, all_words_read}
 use Rattle.rv_journal.proofs.ThenLemmas.{then-some, then-none}
 use Rattle.rv_journal.proofs.reading.entry.Goals as goal
 

@@ -1,5 +1,5 @@
 use Rattle.std.proofs.Common.{ap, ◌∙◌}
-use Rattle.rv_journal.specs.EntryReadings.{entry_from}
+use Rattle.rv_journal.specs.inner.EntryReadings.{entry_from}
 use Rattle.rv_journal.proofs.ReadingLemmas.{line-is, line-fits, line-reads}
 use Rattle.rv_journal.proofs.reading.read_entry.Goals as goal
 

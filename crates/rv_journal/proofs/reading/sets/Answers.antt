@@ -1,6 +1,6 @@
 use Rattle.std.proofs.Common.{◌≡◌, Some, None, rules, ◌∙◌}
 use Rattle.rv_model.specs.declared.hit.What.TheVariants.{Ltl}
-use Rattle.rv_journal.specs.EntryReadings.{sets_from, off_from, pulse_from}
+use Rattle.rv_journal.specs.inner.EntryReadings.{sets_from, off_from, pulse_from}
 use Rattle.rv_journal.proofs.ThenLemmas.{then-some, then-none, gives-none}
 use Rattle.rv_journal.proofs.reading.sets.Goals as goal
 

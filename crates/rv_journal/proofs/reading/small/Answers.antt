@@ -1,5 +1,5 @@
 use Rattle.std.proofs.Common.{◌≡◌, None, rules}
-use Rattle.rv_journal.specs.PieceReadings.{number_from, most_32}
+use Rattle.rv_journal.specs.inner.PieceReadings.{number_from, most_32}
 use Rattle.rv_journal.proofs.ThenLemmas.{gives-none}
 use Rattle.rv_journal.proofs.reading.small.Goals as goal
 

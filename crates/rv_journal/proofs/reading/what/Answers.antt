@@ -1,8 +1,8 @@
 use Rattle.std.proofs.Common.{◌≡◌, Some, None, rules, ap, ◌∙◌}
 use Rattle.rv_journal.specs.declared.names.LetterKind.{LetterKind}
 use Rattle.rv_journal.specs.declared.names.LetterKind.TheVariants as kinds
-use Rattle.rv_journal.specs.PieceReadings.{first_by, kind_in}
-use Rattle.rv_journal.specs.EntryReadings.{what_from, what_of}
+use Rattle.rv_journal.specs.inner.PieceReadings.{first_by, kind_in}
+use Rattle.rv_journal.specs.inner.EntryReadings.{what_from, what_of}
 use Rattle.rv_journal.proofs.ThenLemmas.{then-none, gives-none, reads-then}
 use Rattle.rv_journal.proofs.reading.what.Goals as goal
 

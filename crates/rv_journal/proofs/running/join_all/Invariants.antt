@@ -2,7 +2,7 @@
 use Rattle.std.proofs.Common.{◌≡◌, List, vec_len}
 use Rattle.rv_board.proofs.RunSeatLemmas.{JoinedSoFar}
 use Rattle.rv_journal.specs.declared.feeding.CountedFeeder.{CountedFeeder}
-use Rattle.rv_journal.specs.Running.{lanes_in}
+use Rattle.rv_journal.specs.inner.Running.{lanes_in}
 use Rattle.rv_journal.proofs.running.join_all.Given as goal
 
 abbrev pub invariant-loop-feeder : goal.invariant-loop-feeder

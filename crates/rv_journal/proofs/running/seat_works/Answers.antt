@@ -3,7 +3,7 @@ use Rattle.std.proofs.Common.{List, [], ◌∷◌, ◌++◌, sym, subst}
 use Rattle.rv_model.specs.Works.{Work}
 use Rattle.rv_board.specs.Seats.{SeatValue}
 use Rattle.rv_journal.specs.declared.feeding.CountedFeeder.{CountedFeeder}
-use Rattle.rv_journal.specs.Running.{AreCountedSeated}
+use Rattle.rv_journal.specs.inner.Running.{AreCountedSeated}
 use Rattle.rv_journal.proofs.SeatWorkLemmas.{CanSeatWorks, works-seated-none, works-can-start, last-work-fits, last-work-below, works-can-more, works-seated-more}
 use Rattle.rv_journal.proofs.running.seat_works.Goals as goal
 

@@ -1,6 +1,6 @@
 -- The works that are left can be seated, and the others are.
 use Rattle.std.proofs.Common.{vec_len}
-use Rattle.rv_journal.specs.Running.{AreCountedSeated}
+use Rattle.rv_journal.specs.inner.Running.{AreCountedSeated}
 use Rattle.rv_journal.proofs.SeatWorkLemmas.{CanSeatWorks}
 use Rattle.rv_journal.proofs.running.seat_works.Given as goal
 

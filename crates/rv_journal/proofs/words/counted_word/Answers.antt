@@ -1,7 +1,7 @@
 -- The word takes 32 bits, so none is lost.
 use Rattle.std.proofs.Common.{◌≡◌, ◌+◌, ◌*◌, ◌^◌, refl}
-use Rattle.rv_journal.specs.CountedWords.{word_in_32}
-use Rattle.rv_journal.proofs.NarrowLemmas.{word_in_32-lt, packs}
+use Rattle.rv_journal.specs.inner.CountedWords.{word_in_32}
+use Rattle.rv_journal.proofs.CountsFitLemmas.{word_in_32-lt, packs}
 use Rattle.rv_journal.proofs.words.counted_word.Goals as goal
 
 pub overflow_add-narrow : goal.overflow_add-narrow

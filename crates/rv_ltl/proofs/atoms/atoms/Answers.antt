@@ -1,6 +1,6 @@
 use Rattle.std.proofs.Common.{length}
-use Rattle.rv_ltl.specs.Machine.{defs}
-use Rattle.rv_ltl.specs.Collected.{is_free}
+use Rattle.rv_ltl.specs.inner.Machine.{defs}
+use Rattle.rv_ltl.specs.inner.Collected.{is_free}
 use Rattle.rv_ltl.proofs.Collecting.{atoms_fail}
 use Rattle.rv_ltl.proofs.atoms.atoms.Goals as goal
 

@@ -1,6 +1,6 @@
 use Rattle.std.proofs.Common.{◌≡◌, ◌≤◌, length}
-use Rattle.rv_ltl.specs.Machine.{defs}
-use Rattle.rv_ltl.specs.Collected.{is_free, atoms_from}
+use Rattle.rv_ltl.specs.inner.Machine.{defs}
+use Rattle.rv_ltl.specs.inner.Collected.{is_free, atoms_from}
 use Rattle.rv_ltl.proofs.atoms.atoms.Given as goal
 
 abbrev pub invariant-loop-i : goal.invariant-loop-i

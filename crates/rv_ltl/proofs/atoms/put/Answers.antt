@@ -1,5 +1,5 @@
 use Rattle.std.proofs.Common.{ℕ, List, true, sym, ap, ◌∙◌, arith}
-use Rattle.rv_ltl.specs.Collected.{stands, count_below}
+use Rattle.rv_ltl.specs.inner.Collected.{stands, count_below}
 use Rattle.rv_ltl.proofs.Inserting.{put_there, put_new, length-inserted_new}
 use Rattle.rv_ltl.proofs.atoms.put.Goals as goal
 

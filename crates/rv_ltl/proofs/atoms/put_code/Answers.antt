@@ -1,5 +1,5 @@
-use Rattle.rv_ltl.specs.Machine.{defs}
-use Rattle.rv_ltl.specs.Collected.{is_free}
+use Rattle.rv_ltl.specs.inner.Machine.{defs}
+use Rattle.rv_ltl.specs.inner.Collected.{is_free}
 use Rattle.rv_ltl.proofs.Collecting.{code_fails}
 use Rattle.rv_ltl.proofs.atoms.put_code.Goals as goal
 

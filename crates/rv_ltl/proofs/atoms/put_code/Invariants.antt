@@ -1,6 +1,6 @@
 use Rattle.std.proofs.Common.{◌≡◌, ◌≤◌, length, drop}
-use Rattle.rv_ltl.specs.Machine.{defs}
-use Rattle.rv_ltl.specs.Collected.{is_free, code_into}
+use Rattle.rv_ltl.specs.inner.Machine.{defs}
+use Rattle.rv_ltl.specs.inner.Collected.{is_free, code_into}
 use Rattle.rv_ltl.proofs.atoms.put_code.Given as goal
 
 abbrev pub invariant-code : goal.invariant-code

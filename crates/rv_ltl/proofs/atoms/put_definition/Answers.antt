@@ -1,7 +1,7 @@
 use Rattle.std.proofs.Common.{List, ℕ, subst}
 use Rattle.std.specs.Prelude.{IfOk}
-use Rattle.rv_ltl.specs.Machine.{defs}
-use Rattle.rv_ltl.specs.Collected.{is_free, Puts}
+use Rattle.rv_ltl.specs.inner.Machine.{defs}
+use Rattle.rv_ltl.specs.inner.Collected.{is_free, Puts}
 use Rattle.rv_ltl.proofs.Collecting.{def_code}
 use Rattle.rv_ltl.proofs.atoms.put_definition.Goals as goal
 

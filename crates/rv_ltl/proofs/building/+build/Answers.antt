@@ -1,6 +1,6 @@
 use Rattle.std.proofs.Common.{◌-◌, sym, ◌∙◌, arith}
-use Rattle.rv_ltl.specs.Machine.{defs}
-use Rattle.rv_ltl.specs.Collected.{built, ltls}
+use Rattle.rv_ltl.specs.inner.Machine.{defs}
+use Rattle.rv_ltl.specs.inner.Collected.{built, ltls}
 use Rattle.rv_ltl.proofs.BuiltFormulas.{last_formula, no_formula, built_code}
 use Rattle.rv_ltl.proofs.building.+build.Goals as goal
 

@@ -1,8 +1,8 @@
 use Rattle.std.proofs.Common.{◌≡◌, ◌+◌, ◌*◌, ◌-◌, [], drop}
 use Rattle.std.specs.Prelude.{map, reverse}
 use Rattle.rv_model.specs.Formulas.{ltl}
-use Rattle.rv_ltl.specs.Machine.{defs, run}
-use Rattle.rv_ltl.specs.Collected.{built, ltls}
+use Rattle.rv_ltl.specs.inner.Machine.{defs, run}
+use Rattle.rv_ltl.specs.inner.Collected.{built, ltls}
 use Rattle.rv_ltl.proofs.building.+build.Given as goal
 
 abbrev pub decreases-step : goal.decreases-step

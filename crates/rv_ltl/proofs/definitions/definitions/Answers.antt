@@ -1,6 +1,6 @@
 use Rattle.std.proofs.Common.{◌++◌, ◌∷◌, [], List, refl, sym, ap, ◌∙◌}
 use Rattle.rv_ltl.specs.declared.token.CodeStep.{CodeStep}
-use Rattle.rv_ltl.specs.Postfix.{code}
+use Rattle.rv_ltl.specs.inner.Postfix.{code}
 use Rattle.std.proofs.lemmas.Result.{err_from_is_err_and}
 use Rattle.std.proofs.lemmas.Bool.{eqb-true, eqb-false}
 use Rattle.rv_ltl.specs.File.{Def}

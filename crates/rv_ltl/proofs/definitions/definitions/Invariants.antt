@@ -1,6 +1,6 @@
 use Rattle.std.proofs.Common.{◌≡◌, List}
 use Rattle.rv_ltl.specs.File.{Def, defs_at}
-use Rattle.rv_ltl.specs.Postfix.{AreCodes}
+use Rattle.rv_ltl.specs.inner.Postfix.{AreCodes}
 use Rattle.rv_ltl.proofs.FileLaws.{with_front}
 use Rattle.rv_ltl.proofs.definitions.definitions.Given as goal
 

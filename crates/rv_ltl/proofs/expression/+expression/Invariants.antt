@@ -2,7 +2,7 @@ use Rattle.std.proofs.Common.{◌+◌, ◌*◌, ◌≡◌}
 use Rattle.rv_ltl.proofs.expression.+expression.Given as goal
 use Rattle.rv_ltl.specs.Parse.{chain_at, expr_by, term_at}
 use Rattle.rv_ltl.specs.Grammar.{Expr}
-use Rattle.rv_ltl.specs.Postfix.{code}
+use Rattle.rv_ltl.specs.inner.Postfix.{code}
 use Rattle.std.proofs.Common.{◌++◌}
 
 abbrev pub decreases-term : goal.decreases-term

@@ -1,5 +1,5 @@
 use Rattle.std.proofs.Common.{ap, sym}
-use Rattle.rv_ltl.specs.Texts.{texts}
+use Rattle.rv_ltl.specs.inner.Texts.{texts}
 use Rattle.rv_ltl.specs.Names.{names_of}
 use Rattle.rv_ltl.proofs.NameSets.{gathers_name, gathers_none}
 use Rattle.rv_ltl.proofs.names.gathered.Goals as goal

@@ -1,4 +1,4 @@
-use Rattle.rv_ltl.specs.Reached.{Joins}
+use Rattle.rv_ltl.specs.inner.Reached.{Joins}
 use Rattle.rv_ltl.proofs.reached.join.Given as goal
 
 abbrev pub invariant-loop-i : goal.invariant-loop-i

@@ -1,5 +1,5 @@
 use Rattle.std.proofs.Common.{◌≡◌, ◌<◌, length, true, false, sym, ap, subst, ◌∙◌, arith, List, Bool}
-use Rattle.rv_ltl.specs.Reached.{flag_at, Joins}
+use Rattle.rv_ltl.specs.inner.Reached.{flag_at, Joins}
 use Rattle.rv_ltl.proofs.Rows.{read_row}
 use Rattle.rv_ltl.proofs.Reaching.{way_on, undone-set}
 use Rattle.rv_ltl.proofs.reached.reached.Goals as goal

@@ -1,4 +1,4 @@
-use Rattle.rv_ltl.specs.Reached.{IsUnderWay, undone}
+use Rattle.rv_ltl.specs.inner.Reached.{IsUnderWay, undone}
 use Rattle.rv_ltl.proofs.reached.reached.Given as goal
 
 abbrev pub invariant-loop-i : goal.invariant-loop-i

@@ -4,8 +4,8 @@ use Rattle.std.proofs.lemmas.Result.{err_from_is_err_and}
 use Rattle.rv_ltl.specs.declared.token.Token.{Token}
 use Rattle.std.specs.Cmp.Lexicographic.{slice_cmp}
 use Rattle.std.specs.Ordering.{nat_cmp}
-use Rattle.rv_ltl.specs.Texts.{texts}
-use Rattle.rv_text.specs.Ascending.{Ascends}
+use Rattle.rv_ltl.specs.inner.Texts.{texts}
+use Rattle.rv_text.specs.inner.Ascending.{Ascends}
 use Rattle.rv_ltl.proofs.NameSets.{names_ascend}
 use Rattle.rv_ltl.proofs.ReadingSteps.{reads_definitions, no_tokens}
 use Rattle.rv_ltl.proofs.reading.definitions_in.Goals as goal

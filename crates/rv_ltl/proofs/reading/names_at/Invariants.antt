@@ -1,6 +1,6 @@
 use Rattle.std.proofs.Common.{◌≡◌, take}
 use Rattle.std.specs.Prelude.{map}
-use Rattle.rv_ltl.specs.Texts.{texts}
+use Rattle.rv_ltl.specs.inner.Texts.{texts}
 use Rattle.rv_ltl.specs.Atoms.{name_at}
 use Rattle.rv_ltl.proofs.reading.names_at.Given as goal
 

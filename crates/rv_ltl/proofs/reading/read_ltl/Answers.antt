@@ -1,11 +1,11 @@
 use Rattle.std.proofs.Common.{◌≡◌, List, ℕ, Some, Bor, sym, ap, subst, ◌∙◌}
 use Rattle.std.specs.Cmp.Lexicographic.{slice_cmp}
 use Rattle.std.specs.Ordering.{nat_cmp}
-use Rattle.rv_ltl.specs.Texts.{texts}
-use Rattle.rv_text.specs.Ascending.{Ascends}
+use Rattle.rv_ltl.specs.inner.Texts.{texts}
+use Rattle.rv_text.specs.inner.Ascending.{Ascends}
 use Rattle.rv_ltl.specs.Names.{names_of}
 use Rattle.rv_ltl.specs.declared.definitions.Definition.{Definition}
-use Rattle.rv_ltl.specs.Machine.{defs}
+use Rattle.rv_ltl.specs.inner.Machine.{defs}
 use Rattle.rv_ltl.proofs.NameSets.{names_ascend}
 use Rattle.rv_ltl.proofs.ReadingSteps.{too_long, no_pieces, no_definitions, the_rule}
 use Rattle.rv_ltl.proofs.reading.read_ltl.Goals as goal

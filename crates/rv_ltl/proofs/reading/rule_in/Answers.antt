@@ -3,11 +3,11 @@ use Rattle.std.specs.Prelude.{map}
 use Rattle.std.proofs.lemmas.List.{length-map}
 use Rattle.rv_model.specs.Ltl.{Ltl}
 use Rattle.rv_model.specs.Formulas.{RuleValue, IsRule, ltl}
-use Rattle.rv_ltl.specs.Texts.{texts}
+use Rattle.rv_ltl.specs.inner.Texts.{texts}
 use Rattle.rv_ltl.specs.Names.{place_in}
-use Rattle.rv_ltl.specs.Machine.{defs}
+use Rattle.rv_ltl.specs.inner.Machine.{defs}
 use Rattle.rv_ltl.specs.Atoms.{Has, formula_over, name_at}
-use Rattle.rv_ltl.specs.Collected.{built}
+use Rattle.rv_ltl.specs.inner.Collected.{built}
 use Rattle.rv_ltl.specs.RuleFile.{atoms_of}
 use Rattle.rv_ltl.proofs.Elements.{length-defs}
 use Rattle.rv_ltl.proofs.RuleKept.{is_rule}

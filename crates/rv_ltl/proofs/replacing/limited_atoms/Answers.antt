@@ -1,7 +1,7 @@
 use Rattle.std.proofs.Common.{List, length, sym, ap, ◌∙◌, arith}
 use Rattle.rv_ltl.specs.declared.weight.Weight.{Weight}
-use Rattle.rv_ltl.specs.Machine.{defs}
-use Rattle.rv_ltl.specs.Weights.{known_at}
+use Rattle.rv_ltl.specs.inner.Machine.{defs}
+use Rattle.rv_ltl.specs.inner.Weights.{known_at}
 use Rattle.rv_ltl.proofs.Elements.{length-defs}
 use Rattle.rv_ltl.proofs.Settling.{body_at}
 use Rattle.rv_ltl.proofs.Ruling.{once_distinct, no_rule, twice, cyclic}

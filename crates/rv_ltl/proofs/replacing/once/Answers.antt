@@ -1,8 +1,8 @@
 use Rattle.std.proofs.Common.{◌≡◌, ℕ, Some, sym, ap, ◌∙◌, below_more, arith}
 use Rattle.rv_ltl.specs.declared.definitions.Definition.{Definition}
 use Rattle.rv_ltl.specs.File.{Def}
-use Rattle.rv_ltl.specs.Machine.{defs}
-use Rattle.rv_ltl.specs.Weights.{index_of}
+use Rattle.rv_ltl.specs.inner.Machine.{defs}
+use Rattle.rv_ltl.specs.inner.Weights.{index_of}
 use Rattle.rv_ltl.proofs.Elements.{read_def, length-defs}
 use Rattle.rv_ltl.proofs.Ruling.{distinct_once, not_once}
 use Rattle.rv_ltl.proofs.replacing.once.Goals as goal

@@ -1,6 +1,6 @@
 use Rattle.std.proofs.Common.{◌≡◌, ◌<◌, ℕ, Some}
-use Rattle.rv_ltl.specs.Machine.{defs}
-use Rattle.rv_ltl.specs.Weights.{index_of, def_at}
+use Rattle.rv_ltl.specs.inner.Machine.{defs}
+use Rattle.rv_ltl.specs.inner.Weights.{index_of, def_at}
 use Rattle.rv_ltl.proofs.replacing.once.Given as goal
 
 abbrev pub invariant-loop-i : goal.invariant-loop-i

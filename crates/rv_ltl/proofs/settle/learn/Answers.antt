@@ -1,9 +1,9 @@
 use Rattle.std.proofs.Common.{◌≡◌, ◌<◌, List, Bool, true, length, refl, sym, ap, ◌∙◌, arith}
 use Rattle.rv_ltl.specs.declared.weight.Weight.{Weight}
 use Rattle.rv_ltl.specs.declared.weight.Weight.TheVariants.{Open}
-use Rattle.rv_ltl.specs.Machine.{defs, value, computed}
-use Rattle.rv_ltl.specs.Weights.{weights_by, weight_at, def_at, known_at}
-use Rattle.rv_ltl.specs.Reached.{row_at, flag_at}
+use Rattle.rv_ltl.specs.inner.Machine.{defs, value, computed}
+use Rattle.rv_ltl.specs.inner.Weights.{weights_by, weight_at, def_at, known_at}
+use Rattle.rv_ltl.specs.inner.Reached.{row_at, flag_at}
 use Rattle.std.proofs.Math.ListN.{set}
 use Rattle.std.proofs.lemmas.Bool.{false≢true}
 use Rattle.rv_ltl.proofs.Elements.{value_at, any_default}

@@ -1,6 +1,6 @@
 use Rattle.std.proofs.Common.{Bool, true, false, subst, arith}
-use Rattle.rv_ltl.specs.Machine.{defs}
-use Rattle.rv_ltl.specs.Weights.{Learns}
+use Rattle.rv_ltl.specs.inner.Machine.{defs}
+use Rattle.rv_ltl.specs.inner.Weights.{Learns}
 use Rattle.rv_ltl.proofs.Elements.{length-defs}
 use Rattle.rv_ltl.proofs.Learning.{learnt, nothing_learnt}
 use Rattle.rv_ltl.proofs.settle.pass.Goals as goal

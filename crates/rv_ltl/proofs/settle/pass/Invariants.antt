@@ -1,5 +1,5 @@
-use Rattle.rv_ltl.specs.Machine.{defs}
-use Rattle.rv_ltl.specs.Weights.{Passes}
+use Rattle.rv_ltl.specs.inner.Machine.{defs}
+use Rattle.rv_ltl.specs.inner.Weights.{Passes}
 use Rattle.rv_ltl.proofs.settle.pass.Given as goal
 
 abbrev pub invariant-loop-i : goal.invariant-loop-i

@@ -1,6 +1,6 @@
 use Rattle.std.proofs.Common.{ℕ, length, sym, subst, ◌∙◌}
-use Rattle.rv_ltl.specs.Machine.{defs}
-use Rattle.rv_ltl.specs.Weights.{IsStuck}
+use Rattle.rv_ltl.specs.inner.Machine.{defs}
+use Rattle.rv_ltl.specs.inner.Weights.{IsStuck}
 use Rattle.rv_ltl.proofs.Elements.{length-defs}
 use Rattle.rv_ltl.proofs.Learning.{settled}
 use Rattle.rv_ltl.proofs.settle.settle.Goals as goal

@@ -1,8 +1,8 @@
 use Rattle.std.proofs.Common.{◌≡◌, ◌+◌, ℕ, false, length}
 use Rattle.rv_model.specs.Numbers.{one_if}
 use Rattle.rv_ltl.specs.declared.weight.Weight.TheVariants.{Open}
-use Rattle.rv_ltl.specs.Machine.{defs}
-use Rattle.rv_ltl.specs.Weights.{IsSure, IsStuck, open_count, known_count, known_at}
+use Rattle.rv_ltl.specs.inner.Machine.{defs}
+use Rattle.rv_ltl.specs.inner.Weights.{IsSure, IsStuck, open_count, known_count, known_at}
 use Rattle.rv_ltl.proofs.settle.settle.Given as goal
 
 abbrev pub invariant-loop : goal.invariant-loop

@@ -1,5 +1,5 @@
 use Rattle.std.proofs.Common.{◌≡◌, ℕ, false, length}
-use Rattle.rv_ltl.specs.Reached.{flag_at}
+use Rattle.rv_ltl.specs.inner.Reached.{flag_at}
 use Rattle.rv_ltl.proofs.uses.all_false.Given as goal
 
 abbrev pub invariant-loop : goal.invariant-loop

@@ -1,7 +1,7 @@
 use Rattle.std.proofs.Common.{sym, ap, ◌∙◌, below_more, arith}
 use Rattle.rv_ltl.specs.declared.definitions.Definition.{Definition}
 use Rattle.rv_ltl.specs.File.{Def}
-use Rattle.rv_ltl.specs.Machine.{defs}
+use Rattle.rv_ltl.specs.inner.Machine.{defs}
 use Rattle.rv_ltl.proofs.Elements.{read_def, length-defs, index_first, index_nowhere}
 use Rattle.rv_ltl.proofs.uses.index.Goals as goal
 

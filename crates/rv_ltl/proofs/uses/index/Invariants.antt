@@ -1,4 +1,4 @@
-use Rattle.rv_ltl.specs.Machine.{defs}
+use Rattle.rv_ltl.specs.inner.Machine.{defs}
 use Rattle.rv_ltl.proofs.Elements.{IsNoneBefore}
 use Rattle.rv_ltl.proofs.uses.index.Given as goal
 

@@ -1,4 +1,4 @@
-use Rattle.rv_ltl.specs.Machine.{defs}
+use Rattle.rv_ltl.specs.inner.Machine.{defs}
 use Rattle.rv_ltl.proofs.Rows.{row_step}
 use Rattle.rv_ltl.proofs.uses.row.Goals as goal
 

@@ -1,7 +1,7 @@
 use Rattle.std.proofs.Common.{sym, ap, ◌∙◌}
 use Rattle.rv_ltl.specs.File.{Def}
-use Rattle.rv_ltl.specs.Machine.{defs}
-use Rattle.rv_ltl.specs.Postfix.{code}
+use Rattle.rv_ltl.specs.inner.Machine.{defs}
+use Rattle.rv_ltl.specs.inner.Postfix.{code}
 use Rattle.rv_ltl.proofs.Elements.{read_def, coded_at}
 use Rattle.rv_ltl.proofs.Rows.{uses_more}
 use Rattle.rv_ltl.proofs.uses.uses.Goals as goal

@@ -1,5 +1,5 @@
-use Rattle.rv_ltl.specs.Machine.{defs}
-use Rattle.rv_ltl.specs.Reached.{AreUses}
+use Rattle.rv_ltl.specs.inner.Machine.{defs}
+use Rattle.rv_ltl.specs.inner.Reached.{AreUses}
 use Rattle.rv_ltl.proofs.uses.uses.Given as goal
 
 abbrev pub invariant-definitions : goal.invariant-definitions

@@ -1,5 +1,5 @@
 use Rattle.std.proofs.Common.{◌≡◌, drop}
-use Rattle.rv_ltl.specs.Texts.{texts}
+use Rattle.rv_ltl.specs.inner.Texts.{texts}
 use Rattle.rv_ltl.specs.Tokens.{tokens_of}
 use Rattle.rv_ltl.proofs.TokenSteps.{before}
 use Rattle.rv_ltl.proofs.words.tokens.Given as goal

@@ -1,5 +1,5 @@
 use Rattle.std.proofs.Common.{◌≡◌, ◌+◌, drop}
-use Rattle.rv_nnf.specs.Entering.{same_part}
+use Rattle.rv_nnf.specs.inner.Entering.{same_part}
 use Rattle.rv_nnf.specs.Views.{part_value, part_values}
 use Rattle.rv_nnf.specs.Lists.{place}
 use Rattle.rv_nnf.proofs.entering.place.Given as goal

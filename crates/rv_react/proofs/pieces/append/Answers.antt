@@ -1,6 +1,6 @@
 use Rattle.std.proofs.Common.{take, drop, ◌∙◌}
 use Rattle.std.proofs.lemmas.Result.{err_from_is_err_and}
-use Rattle.rv_react.specs.Parts.{joined}
+use Rattle.rv_react.specs.inner.Parts.{joined}
 use Rattle.rv_react.proofs.AppendLemmas.{joined-next, joined-split}
 use Rattle.rv_react.proofs.pieces.append.Goals as goal
 

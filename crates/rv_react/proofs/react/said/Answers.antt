@@ -3,7 +3,7 @@ use Rattle.std.proofs.lemmas.Result.{err_from_is_err_and}
 use Rattle.rv_model.specs.Reports.{said_text}
 use Rattle.rv_react.specs.Appending.{Appends}
 use Rattle.rv_react.specs.Reactions.{shown_fault}
-use Rattle.rv_react.specs.Parts.{begun_text, ended_text}
+use Rattle.rv_react.specs.inner.Parts.{begun_text, ended_text}
 use Rattle.rv_react.proofs.AppendLemmas.{Appends-front, Appends-later, line-parts}
 use Rattle.rv_react.proofs.react.said.Goals as goal
 

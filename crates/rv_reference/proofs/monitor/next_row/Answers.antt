@@ -1,6 +1,6 @@
 use Rattle.std.proofs.Common.{◌≤◌, sym, ap, ◌∙◌, length, arith}
 use Rattle.rv_model.specs.Machine.{Machine}
-use Rattle.rv_model.specs.EventTables.{entry}
+use Rattle.rv_model.specs.inner.EventTables.{entry}
 use Rattle.rv_model.specs.Table.{table_of}
 use Rattle.rv_reference.proofs.EntryLemmas.{entry-past, entry-no_event, entry-in}
 use Rattle.rv_reference.proofs.monitor.next_row.Goals as goal

@@ -3,7 +3,7 @@ use Rattle.std.specs.Prelude.{option_map}
 use Rattle.rv_model.specs.declared.automaton.Edge.{Edge}
 use Rattle.rv_model.specs.declared.hit.Letter.TheVariants.{Event}
 use Rattle.rv_model.specs.Machine.{Machine}
-use Rattle.rv_reference.specs.Edges.{is_edge_by}
+use Rattle.rv_reference.specs.inner.Edges.{is_edge_by}
 use Rattle.rv_reference.proofs.PathLemmas.{no_edge}
 use Rattle.rv_reference.proofs.EntryLemmas.{find-here, find-none}
 use Rattle.rv_reference.proofs.monitor.row_after.Goals as goal

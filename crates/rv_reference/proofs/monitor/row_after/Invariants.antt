@@ -1,6 +1,6 @@
 use Rattle.std.proofs.Common.{ℕ, ◌<◌, ◌≡◌, false}
 use Rattle.rv_model.specs.declared.hit.Letter.TheVariants.{Event}
-use Rattle.rv_reference.specs.Edges.{is_edge_by}
+use Rattle.rv_reference.specs.inner.Edges.{is_edge_by}
 use Rattle.rv_reference.proofs.PathLemmas.{edge_at}
 use Rattle.rv_reference.proofs.monitor.row_after.Given as goal
 

@@ -5,7 +5,7 @@ use Rattle.std.proofs.lemmas.List.{take_all}
 use Rattle.rv_model.specs.declared.record.Record.{Record}
 use Rattle.rv_model.specs.Reports.{Reported, record_text, summaries_text}
 use Rattle.rv_report.specs.Reported.{reported_of}
-use Rattle.rv_report.specs.Tallies.{AreTallies}
+use Rattle.rv_report.specs.inner.Tallies.{AreTallies}
 use Rattle.rv_report.proofs.PrintedLemmas.{printed-text}
 use Rattle.rv_report.proofs.lines.report_found.Goals as goal
 

@@ -9,7 +9,7 @@ use Rattle.rv_feed.specs.Lane.{LaneValue}
 use Rattle.rv_feed.specs.One.{lane_records}
 use Rattle.rv_report.specs.Exit.{IsStatus}
 use Rattle.rv_report.specs.Reported.{reported, reported_of}
-use Rattle.rv_report.specs.Tallies.{IsFound}
+use Rattle.rv_report.specs.inner.Tallies.{IsFound}
 use Rattle.rv_feed.proofs.OneLemmas.{status-sorted}
 use Rattle.rv_report.proofs.ExitLemmas.{status-is}
 use Rattle.rv_report.proofs.FoundLemmas.{lanes-more}

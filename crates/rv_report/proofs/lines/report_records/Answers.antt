@@ -6,7 +6,7 @@ use Rattle.rv_model.specs.declared.record.Record.{Record}
 use Rattle.rv_model.specs.Reports.{report_text}
 use Rattle.rv_report.specs.Exit.{IsStatus}
 use Rattle.rv_report.specs.Reported.{reported, reported_of}
-use Rattle.rv_report.specs.Tallies.{IsFound}
+use Rattle.rv_report.specs.inner.Tallies.{IsFound}
 use Rattle.rv_report.proofs.ExitLemmas.{status-is}
 use Rattle.rv_report.proofs.lines.report_records.Goals as goal
 

@@ -1,7 +1,8 @@
 use Rattle.std.proofs.Common.{◌≡◌, ap, ◌∙◌, map, Some}
 use Rattle.std.specs.Prelude.{option_map}
 use Rattle.rv_bind.specs.RuleValues.{OnValue}
-use Rattle.rv_route.specs.Events.{tested_fields, names_in_set}
+use Rattle.rv_route.specs.Events.{tested_fields}
+use Rattle.rv_route.specs.inner.Events.{names_in_set}
 use Rattle.rv_route.proofs.EventLemmas.{places-grown, extends-then}
 use Rattle.rv_route.proofs.event.asked_of.Goals as goal
 

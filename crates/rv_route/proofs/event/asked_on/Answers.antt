@@ -2,7 +2,8 @@ use Rattle.std.proofs.Common.{◌≡◌, ◌<◌, true, false, length, take, Som
 use Rattle.std.specs.Prelude.{filter, slice_get}
 use Rattle.std.proofs.lemmas.Option.{slice_get-get_or}
 use Rattle.rv_bind.specs.RuleValues.{OnValue}
-use Rattle.rv_route.specs.Events.{names_in_set, IsAsked, is_on_event}
+use Rattle.rv_route.specs.Events.{IsAsked, is_on_event}
+use Rattle.rv_route.specs.inner.Events.{names_in_set}
 use Rattle.rv_route.proofs.EventLemmas.{asked-more, on-more}
 use Rattle.rv_route.proofs.event.asked_on.Goals.{then-has_value+in_ok-asked_of+in_ok-push, else-has_value}
 use Rattle.rv_route.proofs.event.asked_on.Goals as goal

@@ -1,7 +1,8 @@
 use Rattle.std.proofs.Common.{take}
 use Rattle.std.specs.Prelude.{filter}
 use Rattle.std.specs.List.{AllZip}
-use Rattle.rv_route.specs.Events.{names_in_set, IsAsked, is_on_event}
+use Rattle.rv_route.specs.Events.{IsAsked, is_on_event}
+use Rattle.rv_route.specs.inner.Events.{names_in_set}
 use Rattle.rv_route.proofs.event.asked_on.Given as goal
 
 abbrev pub invariant-loop-place : goal.invariant-loop-place

@@ -1,6 +1,7 @@
 use Rattle.std.proofs.Common.{◌≡◌, map, Some, ap, ◌∙◌, sym, take, arith}
 use Rattle.std.specs.Prelude.{slice_get}
-use Rattle.rv_route.specs.Events.{tested_field, tested_fields, names_in_set}
+use Rattle.rv_route.specs.Events.{tested_field, tested_fields}
+use Rattle.rv_route.specs.inner.Events.{names_in_set}
 use Rattle.rv_route.proofs.EventLemmas.{places-more, extends-then, names-more}
 use Rattle.rv_route.proofs.event.test_places.Goals as goal
 

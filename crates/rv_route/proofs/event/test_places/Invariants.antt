@@ -1,6 +1,7 @@
 use Rattle.std.proofs.Common.{◌≡◌, map, take, Some}
 use Rattle.std.specs.Prelude.{slice_get}
-use Rattle.rv_route.specs.Events.{tested_fields, names_in_set, Extends}
+use Rattle.rv_route.specs.Events.{tested_fields}
+use Rattle.rv_route.specs.inner.Events.{names_in_set, Extends}
 use Rattle.rv_route.proofs.event.test_places.Given as goal
 
 abbrev pub invariant-loop-test : goal.invariant-loop-test

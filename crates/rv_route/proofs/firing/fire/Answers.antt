@@ -7,8 +7,10 @@ use Rattle.std.proofs.lemmas.Result.{err_from_is_err_and}
 use Rattle.rv_text.specs.declared.refusals.Refusal.{Refusal}
 use Rattle.rv_trace.specs.Fields.{field_of}
 use Rattle.rv_route.specs.declared.event.Asked.{Asked}
-use Rattle.rv_route.specs.Asking.{text_at, ask_on}
-use Rattle.rv_route.specs.Events.{is_on_event, IsAsked, HasFound}
+use Rattle.rv_route.specs.Asking.{text_at}
+use Rattle.rv_route.specs.inner.Asking.{ask_on}
+use Rattle.rv_route.specs.Events.{is_on_event, IsAsked}
+use Rattle.rv_route.specs.inner.Events.{HasFound}
 use Rattle.rv_route.specs.Routing.{Routes, line_routes}
 use Rattle.rv_text.specs.Readings.{and_then}
 use Rattle.rv_route.proofs.EventLemmas.{asked_at, asked-many, has_found, itself}

@@ -1,6 +1,6 @@
 use Rattle.std.proofs.Common.{nat_eq, cond, ◌++◌, ◌∷◌, [], Some, ap, ◌∙◌}
 use Rattle.std.specs.HashMap.{get}
-use Rattle.rv_route.specs.Events.{events_of}
+use Rattle.rv_route.specs.inner.Events.{events_of}
 use Rattle.rv_route.proofs.NotedLemmas.{put-back, taken-out}
 use Rattle.rv_route.proofs.index.add.Goals as goal
 

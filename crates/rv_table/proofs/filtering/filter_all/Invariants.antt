@@ -1,6 +1,6 @@
 use Rattle.std.proofs.Common.{◌≡◌, ℕ, ◌<◌, ◌&&◌, take}
 use Rattle.rv_model.specs.Numbers.{has_bit}
-use Rattle.rv_table.specs.Numbered.{row_passes}
+use Rattle.rv_table.specs.inner.Numbered.{row_passes}
 use Rattle.rv_table.proofs.filtering.filter_all.Given as goal
 
 abbrev pub invariant-loop-label : goal.invariant-loop-label

@@ -1,7 +1,7 @@
 -- The row is put among those that have the label.
 use Rattle.std.proofs.Common.{◌≡◌, ◌<◌, ◌==◌, length, subst}
 use Rattle.rv_model.specs.Formulas.{ltl}
-use Rattle.rv_table.specs.Numbered.{label_at}
+use Rattle.rv_table.specs.inner.Numbered.{label_at}
 use Rattle.rv_table.proofs.KeepLemmas.{Keeps-set}
 use Rattle.rv_table.proofs.PassLemmas.{row_passes-put}
 use Rattle.rv_table.proofs.label.enter.Goals as goal

@@ -2,7 +2,7 @@
 use Rattle.std.proofs.Common.{◌≡◌, ◌+◌, [], ◌∷◌, ◌++◌, map, take, ap, sym, ◌∙◌, subst}
 use Rattle.std.proofs.lemmas.List.{map_more}
 use Rattle.rv_model.specs.Formulas.{ltl}
-use Rattle.rv_table.specs.Numbered.{AreEntered}
+use Rattle.rv_table.specs.inner.Numbered.{AreEntered}
 use Rattle.rv_table.proofs.NumberedRows.{AreEntered-more}
 use Rattle.rv_table.proofs.label.enter_all.Goals as goal
 

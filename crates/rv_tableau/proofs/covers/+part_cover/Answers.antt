@@ -3,7 +3,7 @@ use mathlib.Core.Path.{ap₂}
 use Rattle.std.proofs.lemmas.Result.{IfOk-weaker}
 use Rattle.rv_nnf.specs.Views.{part_value, part_values}
 use Rattle.rv_tableau.specs.Cover.{part_cover}
-use Rattle.rv_tableau.specs.Covering.{cover_from}
+use Rattle.rv_tableau.specs.inner.Covering.{cover_from}
 use Rattle.rv_tableau.proofs.EmptyCovers.{empty_cover}
 use Rattle.rv_tableau.proofs.PartAt.{operands_at, cover_at, both_below, from_both, from_none}
 use Rattle.rv_tableau.proofs.covers.+part_cover.Goals as goal

@@ -1,7 +1,7 @@
 use Rattle.std.proofs.Common.{◌+◌, Bool, drop, sym, ap, ◌∙◌, arith}
 use Rattle.std.specs.Prelude.{◌&&◌}
 use Rattle.rv_tool.specs.CountsFit.{monitors_fit_counts}
-use Rattle.rv_tool.proofs.NarrowLemmas.{other-long, narrow-step, none-left}
+use Rattle.rv_tool.proofs.CountsFitLemmas.{other-long, narrow-step, none-left}
 use Rattle.rv_tool.proofs.counts_fit.monitors_fit_counts.Goals as goal
 
 pub returns-then-monitors-tables : goal.returns-then-monitors-tables

@@ -1,6 +1,6 @@
 use Rattle.std.proofs.Common.{◌≡◌, ◌∷◌, rules}
 use Rattle.std.specs.Vec.Iter.{into_iter_items}
-use Rattle.rv_tool.proofs.ReadyLemmas.{lane_added, lanes_new}
+use Rattle.rv_tool.proofs.PreparedLemmas.{lane_added, lanes_new}
 use Rattle.rv_tool.proofs.input.lanes.Goals as goal
 
 pub loop-work-preserved : goal.loop-work-preserved

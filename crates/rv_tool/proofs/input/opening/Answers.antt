@@ -1,5 +1,5 @@
 use Rattle.std.proofs.Common.{◌∙◌}
-use Rattle.rv_tool.proofs.ReadyLemmas.{shape_fits}
+use Rattle.rv_tool.proofs.PreparedLemmas.{shape_fits}
 use Rattle.rv_tool.proofs.input.opening.Goals as goal
 
 pub invariant_of-result : goal.invariant_of-result

@@ -5,7 +5,7 @@ use Rattle.rv_feed.specs.Changes.{IsBelowHalt}
 use Rattle.rv_model.specs.Setups.{Setup}
 use Rattle.rv_bind.specs.declared.bindings.Monitor.{Monitor}
 use Rattle.rv_route.specs.Fitting.{FromRules}
-use Rattle.rv_tool.proofs.ReadyLemmas.{ready_made}
+use Rattle.rv_tool.proofs.PreparedLemmas.{ready_made}
 use Rattle.rv_tool.proofs.input.prepare.Goals as goal
 
 pub returns-clause-ready : goal.returns-clause-ready

@@ -1,8 +1,8 @@
 use Rattle.std.proofs.lemmas.Result.{err_from_is_err_and}
 use Rattle.rv_bind.specs.BoundViews.{bound_value}
 use Rattle.rv_route.specs.Routed.{routed_value}
-use Rattle.rv_tool.specs.Prepared.{prepared_value}
-use Rattle.rv_tool.proofs.NamedLemmas.{input_behind_reads}
+use Rattle.rv_tool.specs.inner.Prepared.{prepared_value}
+use Rattle.rv_tool.proofs.BlamesLemmas.{input_behind_reads}
 use Rattle.rv_tool.proofs.input.read_input.Goals as goal
 
 pub returns-in_err-routed-clause-reads : goal.returns-in_err-routed-clause-reads

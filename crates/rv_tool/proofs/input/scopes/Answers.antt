@@ -1,4 +1,4 @@
-use Rattle.rv_tool.proofs.ReadyLemmas.{one_more, all_made}
+use Rattle.rv_tool.proofs.PreparedLemmas.{one_more, all_made}
 use Rattle.rv_tool.proofs.input.scopes.Goals as goal
 
 pub loop-monitor-preserved : goal.loop-monitor-preserved

@@ -2,7 +2,7 @@ use Rattle.std.proofs.Common.{◌≡◌, List, ℕ, ap, ◌∙◌, subst}
 use Rattle.std.specs.Prelude.{Option}
 use Rattle.rv_text.specs.declared.refusals.Refused.{Refused}
 use Rattle.rv_trace.specs.Streams.{Stream, part_read}
-use Rattle.rv_tool.specs.Pieces.{passed_text, IsRouted}
+use Rattle.rv_tool.specs.inner.Pieces.{passed_text, IsRouted}
 use Rattle.rv_tool.proofs.PiecesLemmas.{late-refused}
 use Rattle.rv_tool.proofs.routing.route_rest.Goals as goal
 

@@ -2,7 +2,7 @@
 use Rattle.std.proofs.Common.{◌≡◌, ◌-◌, length}
 use Rattle.rv_text.specs.TextLines.{lines_of}
 use Rattle.rv_trace.specs.Streams.{part_read}
-use Rattle.rv_tool.specs.Pieces.{passed_text, IsRouted}
+use Rattle.rv_tool.specs.inner.Pieces.{passed_text, IsRouted}
 use Rattle.rv_tool.proofs.routing.route_taken.Given as goal
 
 abbrev pub invariant-loop-line : goal.invariant-loop-line

@@ -1,8 +1,8 @@
-use Rattle.rv_tool.specs.Commands.{IsOneReport, IsVerdictReport, IsSessionText}
+use Rattle.rv_tool.specs.inner.Commands.{IsOneReport, IsVerdictReport, IsSessionText}
 use Rattle.rv_tool.specs.Inputs.{run_input}
-use Rattle.rv_tool.specs.Prepared.{prepared_value}
+use Rattle.rv_tool.specs.inner.Prepared.{prepared_value}
 use Rattle.rv_tool.specs.Sessions.{control_in}
-use Rattle.rv_tool.specs.SessionValues.{session_value}
+use Rattle.rv_tool.specs.inner.SessionValues.{session_value}
 use Rattle.rv_tool.proofs.CommandLemmas.{done_comes, run_comes}
 use Rattle.rv_tool.proofs.OneLemmas.{runs_one}
 use Rattle.rv_tool.proofs.VerdictLemmas.{runs_verdicts}

@@ -2,10 +2,10 @@ use Rattle.std.proofs.Common.{subst}
 use Rattle.std.specs.Prelude.{Some, codes}
 use Rattle.rv_io.specs.Files.{Files}
 use Rattle.rv_bind.specs.Outcomes.{Outcome}
-use Rattle.rv_tool.specs.Commands.{ComesTo, IsVerdictReport}
+use Rattle.rv_tool.specs.inner.Commands.{ComesTo, IsVerdictReport}
 use Rattle.rv_tool.specs.Inputs.{InputValue, run_input}
 use Rattle.rv_tool.specs.Loaded.{named_files}
-use Rattle.rv_tool.specs.Prepared.{prepared_value}
+use Rattle.rv_tool.specs.inner.Prepared.{prepared_value}
 use Rattle.rv_tool.proofs.CommandLemmas.{run_comes}
 use Rattle.rv_tool.proofs.VerdictLemmas.{runs_verdicts}
 use Rattle.rv_tool.proofs.top.run_load.Goals as goal

@@ -1,5 +1,5 @@
 use Rattle.rv_tool.specs.Calls.{Call, call}
-use Rattle.rv_tool.specs.Words.{command_value}
+use Rattle.rv_tool.specs.inner.Words.{command_value}
 use Rattle.rv_tool.proofs.AnswerLemmas.{usage_answered, command_answered, words_answered}
 use Rattle.rv_tool.proofs.top.rv.Goals as goal
 

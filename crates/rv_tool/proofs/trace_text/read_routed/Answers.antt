@@ -4,10 +4,10 @@ use Rattle.rv_bind.specs.BoundViews.{bound_value}
 use Rattle.rv_route.specs.Routed.{routed_value}
 use Rattle.rv_route.specs.Routing.{RoutedValue, route_of}
 use Rattle.rv_trace.specs.Traces.{trace_of}
-use Rattle.rv_tool.specs.Faults.{IsOutcome}
+use Rattle.rv_tool.specs.inner.Faults.{IsOutcome}
 use Rattle.rv_tool.specs.Inputs.{routed_in}
-use Rattle.rv_tool.proofs.ComesLemmas.{routed_comes}
-use Rattle.rv_tool.proofs.NamedLemmas.{tells_named}
+use Rattle.rv_tool.proofs.RefinesLemmas.{routed_comes}
+use Rattle.rv_tool.proofs.BlamesLemmas.{tells_named}
 use Rattle.rv_tool.proofs.FrontLemmas.{of_file-and_then}
 use Rattle.rv_tool.proofs.trace_text.read_routed.Goals as goal
 

@@ -1,7 +1,7 @@
 -- What was fed so far is the front of the file, and its lines were routed.
 use Rattle.std.proofs.Common.{◌-◌, ◌≡◌, ◌≤◌, length}
 use Rattle.rv_io.specs.declared.store.TheConstants.{READ_LIMIT}
-use Rattle.rv_tool.specs.Feeding.{MayBeFed, IsFileFed}
+use Rattle.rv_tool.specs.inner.Feeding.{MayBeFed, IsFileFed}
 use Rattle.rv_tool.proofs.trace_text.take_pieces.Given as goal
 
 abbrev pub invariant-loop-place : goal.invariant-loop-place

@@ -4,8 +4,8 @@ use Rattle.rv_model.specs.Setups.{Setup}
 use Rattle.rv_model.specs.Table.{Table}
 use Rattle.rv_bind.specs.WellFormed.{kinds_of, HaveTables}
 use Rattle.rv_tool.specs.CountsFit.{monitors_fit_counts}
-use Rattle.rv_tool.proofs.NarrowLemmas.{narrow-at}
-use Rattle.rv_tool.proofs.ReadyLemmas.{tables_counted}
+use Rattle.rv_tool.proofs.CountsFitLemmas.{narrow-at}
+use Rattle.rv_tool.proofs.PreparedLemmas.{tables_counted}
 use Rattle.rv_tool.proofs.WidthLemmas.{have-at, widths-next}
 use Rattle.rv_tool.proofs.widths.widths_of.Goals as goal
 

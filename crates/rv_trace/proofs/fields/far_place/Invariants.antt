@@ -1,5 +1,5 @@
 use Rattle.std.proofs.Common.{◌≡◌, ◌-◌, ◌<◌, ◌≤◌, length}
-use Rattle.rv_trace.specs.FieldPlaces.{StandsNot}
+use Rattle.rv_trace.specs.inner.FieldPlaces.{StandsNot}
 use Rattle.rv_trace.proofs.fields.far_place.Given as goal
 
 abbrev pub invariant-loop-place : goal.invariant-loop-place

@@ -1,6 +1,6 @@
 use Rattle.std.proofs.Common.{◌≡◌, ◌<◌, ◌+◌, length, ℕ, sym, ◌∙◌, subst, arith, true}
 use Rattle.rv_trace.specs.Fields.{is_open}
-use Rattle.rv_trace.specs.FieldPlaces.{StandsNot}
+use Rattle.rv_trace.specs.inner.FieldPlaces.{StandsNot}
 use Rattle.rv_trace.proofs.FieldLemmas.{stands-first, stands-nowhere, stands-more, open-next}
 use Rattle.rv_trace.proofs.fields.near_place.Goals as goal
 

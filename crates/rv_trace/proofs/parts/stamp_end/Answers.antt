@@ -1,7 +1,7 @@
 use Rattle.std.proofs.Common.{◌∙◌, ap}
 use Rattle.rv_text.specs.Places.{run_end}
 use Rattle.rv_text.specs.declared.runs.ByteClass.TheVariants as kinds
-use Rattle.rv_trace.specs.LineParts.{end_from}
+use Rattle.rv_trace.specs.inner.LineParts.{end_from}
 use Rattle.rv_trace.proofs.StampLemmas.{first-end, second-end}
 use Rattle.rv_trace.proofs.parts.stamp_end.Goals as goal
 

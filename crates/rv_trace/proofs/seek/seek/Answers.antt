@@ -6,7 +6,7 @@ use Rattle.rv_text.specs.declared.refusals.Refusal.{Refusal}
 use Rattle.rv_trace.specs.declared.line.TraceLine.{TraceLine}
 use Rattle.rv_trace.specs.declared.trace.TheConstants.{MAX_BYTES}
 use Rattle.rv_trace.specs.Held.{IsPieceOf}
-use Rattle.rv_trace.specs.Seeking.{EndsAt, HasNoLineEnd}
+use Rattle.rv_trace.specs.inner.Seeking.{EndsAt, HasNoLineEnd}
 use Rattle.rv_trace.specs.Lines.{LiesIn}
 use Rattle.rv_trace.specs.Streams.{AnswersLine, IsPassed, part_read}
 use Rattle.rv_trace.proofs.SeekLemmas.{open-is, Tells, tells}

@@ -3,7 +3,7 @@ use Rattle.std.proofs.lemmas.Result.{err_from_is_err_and}
 use Rattle.std.proofs.lemmas.List.Elements.{All-rest}
 use Rattle.std.specs.Prelude.{option_to_list}
 use Rattle.rv_text.specs.TextLines.{line_text}
-use Rattle.rv_text.specs.LinePlaces.{StandsIn}
+use Rattle.rv_text.specs.inner.LinePlaces.{StandsIn}
 use Rattle.rv_text.proofs.LinesStand.{lines_of-stand}
 use Rattle.rv_trace.specs.Traces.{all_read, trace_of}
 use Rattle.rv_text.specs.Readings.{onto}

@@ -1,6 +1,6 @@
 use Rattle.std.proofs.Common.{◌≡◌, length}
 use Rattle.std.specs.List.{All}
-use Rattle.rv_text.specs.LinePlaces.{StandsIn}
+use Rattle.rv_text.specs.inner.LinePlaces.{StandsIn}
 use Rattle.rv_trace.specs.Traces.{all_read, trace_of}
 use Rattle.rv_text.specs.Readings.{onto}
 use Rattle.rv_trace.proofs.trace.read_trace.Given as goal

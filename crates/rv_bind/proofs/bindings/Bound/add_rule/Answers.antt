@@ -2,7 +2,7 @@ use Rattle.std.proofs.Common.{◌≡◌, ◌<◌, length, Some, sym, ap, ◌∙�
 use Rattle.std.specs.Prelude.{position, slice_get}
 use Rattle.std.proofs.lemmas.Option.{slice_get-get_or}
 use Rattle.rv_bind.specs.Bound.{is_called, monitor_named}
-use Rattle.rv_ltl.specs.Texts.{texts}
+use Rattle.rv_ltl.specs.inner.Texts.{texts}
 use Rattle.rv_bind.specs.Changes.{brought}
 use Rattle.rv_bind.specs.BoundViews.{bound_value}
 use Rattle.rv_bind.proofs.BoundLemmas.{rule_added}

@@ -1,5 +1,5 @@
 use Rattle.std.proofs.Common.{◌<◌, sym, ap, ◌∙◌, arith, subst}
-use Rattle.rv_board.specs.Steps.{Ours}
+use Rattle.rv_board.specs.inner.Steps.{Ours}
 use Rattle.rv_board.proofs.JoinLemmas.{joins}
 use Rattle.rv_board.proofs.CallLemmas.{joins-by}
 use Rattle.rv_board.proofs.MeetLemmas.{meets}

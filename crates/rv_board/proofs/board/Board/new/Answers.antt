@@ -1,7 +1,7 @@
 use Rattle.std.proofs.Common.{ℕ, List, [], sym, subst}
 use Rattle.atomic_table.specs.Table.{opening}
 use Rattle.rv_model.specs.declared.entry.Act.{Act}
-use Rattle.rv_board.specs.Rule.{KeptPlainly, first_view}
+use Rattle.rv_board.specs.inner.Rule.{KeptPlainly, first_view}
 use Rattle.rv_board.proofs.SplitLemmas.{opens}
 use Rattle.rv_board.proofs.WordSteps.{opening-of}
 use Rattle.rv_board.proofs.CallLemmas.{usable_first}

@@ -2,8 +2,8 @@
 use Rattle.std.proofs.Common.{◌≡◌, ◌<◌, length, refl, sym, subst, arith, true, false}
 use Rattle.rv_model.specs.Works.{Work}
 use Rattle.rv_check.specs.declared.next.Next.{Next}
-use Rattle.rv_check.specs.Nexts.{MayEnd}
-use Rattle.rv_check.specs.Standing.{AllPlayed}
+use Rattle.rv_check.specs.inner.Nexts.{MayEnd}
+use Rattle.rv_check.specs.inner.Standing.{AllPlayed}
 use Rattle.rv_check.proofs.RunLemmas.{not-whole, all-end}
 use Rattle.rv_check.proofs.run.Run.is_whole.Goals as goal
 

@@ -1,7 +1,7 @@
 -- The scripts before the place may end.
 use Rattle.std.proofs.Common.{◌<◌, ℕ, get_or}
 use Rattle.rv_check.specs.declared.next.Next.TheVariants as next
-use Rattle.rv_check.specs.Nexts.{MayEnd}
+use Rattle.rv_check.specs.inner.Nexts.{MayEnd}
 use Rattle.rv_check.proofs.RunLemmas.{no_work}
 use Rattle.rv_check.proofs.run.Run.is_whole.Given as goal
 

@@ -5,7 +5,7 @@ use Rattle.rv_model.specs.declared.entry.Entry.{Entry}
 use Rattle.rv_model.specs.Works.{Work}
 use Rattle.rv_check.specs.declared.next.Next.{Next}
 use Rattle.rv_check.specs.declared.next.Next.TheVariants.{Look}
-use Rattle.rv_check.specs.Standing.{IsRun}
+use Rattle.rv_check.specs.inner.Standing.{IsRun}
 use Rattle.rv_check.proofs.RunLemmas.{run-opens}
 use Rattle.rv_check.proofs.run.Run.new.Goals as goal
 

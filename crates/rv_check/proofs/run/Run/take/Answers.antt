@@ -7,9 +7,9 @@ use Rattle.rv_model.specs.Numbers.{has_bit}
 use Rattle.rv_core.specs.Setup.{FitsAct, word_index}
 use Rattle.rv_check.specs.declared.next.Next.{Next}
 use Rattle.rv_check.specs.declared.next.Next.TheVariants as next
-use Rattle.rv_check.specs.Nexts.{Allows, Moves}
+use Rattle.rv_check.specs.inner.Nexts.{Allows, Moves}
 use Rattle.rv_check.specs.Run.{RunValue, BeginsRun}
-use Rattle.rv_check.specs.Standing.{IsRun}
+use Rattle.rv_check.specs.inner.Standing.{IsRun}
 use Rattle.rv_check.proofs.RunLemmas.{IsAt, found-work, stand-at, fits-at}
 use Rattle.rv_check.proofs.AllowedLemmas.{allowed-fits, has-place, can-move}
 use Rattle.rv_check.proofs.BegunLemmas.{begun-allowed, begun-before, begun-after, place-in}

@@ -1,7 +1,7 @@
 use Rattle.std.proofs.Common.{◌≡◌, length, map}
 use Rattle.std.specs.List.{list_all}
-use Rattle.rv_dot.specs.Held.{arc}
-use Rattle.rv_dot.specs.Numberings.{states_by}
+use Rattle.rv_dot.specs.inner.Held.{arc}
+use Rattle.rv_dot.specs.inner.Numberings.{states_by}
 use Rattle.rv_dot.specs.Dot.{ends_declared}
 use Rattle.rv_dot.proofs.numbering.Numbering.are_declared.Given as goal
 

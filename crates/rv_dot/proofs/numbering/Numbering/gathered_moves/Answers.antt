@@ -1,5 +1,5 @@
 use Rattle.rv_dot.specs.Moves.{moves_of}
-use Rattle.rv_dot.specs.Numberings.{states_by, events_by}
+use Rattle.rv_dot.specs.inner.Numberings.{states_by, events_by}
 use Rattle.rv_dot.proofs.MoveSets.{moves_more}
 use Rattle.rv_dot.proofs.numbering.Numbering.gathered_moves.Goals as goal
 

@@ -1,6 +1,6 @@
 use Rattle.std.proofs.Common.{◌≡◌, map, take}
-use Rattle.rv_dot.specs.Held.{arc}
-use Rattle.rv_dot.specs.Numberings.{states_by, events_by}
+use Rattle.rv_dot.specs.inner.Held.{arc}
+use Rattle.rv_dot.specs.inner.Numberings.{states_by, events_by}
 use Rattle.rv_dot.specs.Moves.{moves_of, arc_move}
 use Rattle.rv_dot.proofs.numbering.Numbering.gathered_moves.Given as goal
 

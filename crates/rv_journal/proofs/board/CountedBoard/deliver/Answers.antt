@@ -9,8 +9,9 @@ use Rattle.rv_board.specs.declared.view.View.{View}
 use Rattle.rv_board.specs.Seats.{BoardId}
 use Rattle.rv_board.proofs.MeetLemmas.{meets}
 use Rattle.rv_board.proofs.RaceLemmas.{at_same, at_other}
-use Rattle.rv_journal.specs.CountedWords.{IsBelow, word_in, count_in, rows_at}
-use Rattle.rv_journal.specs.CountedSteps.{MadeCounted}
+use Rattle.rv_journal.specs.CountedWords.{IsBelow, rows_at}
+use Rattle.rv_journal.specs.inner.CountedWords.{word_in, count_in}
+use Rattle.rv_journal.specs.inner.CountedSteps.{MadeCounted}
 use Rattle.rv_journal.specs.CountedSeats.{CountedValue, IsCountedSeat}
 use Rattle.rv_journal.proofs.CountedCallLemmas.{seat-seen, seat-made}
 use Rattle.rv_journal.proofs.CountedDeliveryLemmas.{tried, counted-made-is, counted-given-up}

@@ -1,10 +1,10 @@
 use Rattle.std.proofs.Common.{◌<◌, sym, ap, ◌∙◌, arith, subst}
-use Rattle.rv_board.specs.Steps.{Ours}
+use Rattle.rv_board.specs.inner.Steps.{Ours}
 use Rattle.rv_board.proofs.JoinLemmas.{joins_with}
 use Rattle.rv_board.proofs.CallLemmas.{joins-by}
 use Rattle.rv_board.proofs.MeetLemmas.{meets}
-use Rattle.rv_journal.specs.CountedWords.{counted_at, also_counted}
-use Rattle.rv_journal.specs.CountedSteps.{SawCounted}
+use Rattle.rv_journal.specs.inner.CountedWords.{counted_at, also_counted}
+use Rattle.rv_journal.specs.inner.CountedSteps.{SawCounted}
 use Rattle.rv_journal.specs.CountedSeats.{CountedValue}
 use Rattle.rv_journal.proofs.CountedCallLemmas.{saw-plain}
 use Rattle.rv_journal.proofs.CountedSeatLemmas.{seat-joined}

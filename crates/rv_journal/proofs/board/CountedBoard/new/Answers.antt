@@ -1,8 +1,8 @@
 use Rattle.std.proofs.Common.{ℕ, List, [], sym, subst}
 use Rattle.atomic_table.specs.Table.{opening}
 use Rattle.rv_model.specs.declared.entry.Act.{Act}
-use Rattle.rv_board.specs.Rule.{first_view}
-use Rattle.rv_journal.specs.CountedWords.{KeptCounted}
+use Rattle.rv_board.specs.inner.Rule.{first_view}
+use Rattle.rv_journal.specs.inner.CountedWords.{KeptCounted}
 use Rattle.rv_journal.proofs.CountedOpeningLemmas.{opens-by}
 use Rattle.rv_journal.proofs.CountedSeatLemmas.{seat-first}
 use Rattle.rv_journal.proofs.board.CountedBoard.new.Goals as goal

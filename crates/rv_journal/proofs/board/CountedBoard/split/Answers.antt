@@ -2,7 +2,7 @@
 use Rattle.std.proofs.Common.{ap, arith}
 use Rattle.rv_board.proofs.MeetLemmas.{cut_range}
 use Rattle.rv_board.proofs.SplitLemmas.{splits_with}
-use Rattle.rv_journal.specs.CountedWords.{counted_at, also_counted}
+use Rattle.rv_journal.specs.inner.CountedWords.{counted_at, also_counted}
 use Rattle.rv_journal.specs.CountedSeats.{CountedValue}
 use Rattle.rv_journal.proofs.CountedSeatLemmas.{seat-below, seat-above}
 use Rattle.rv_journal.proofs.board.CountedBoard.split.Goals as goal

@@ -1,6 +1,6 @@
 -- The test tells whether it is ready.
 use Rattle.std.proofs.Common.{sym, ◌∙◌}
-use Rattle.rv_journal.specs.MergeRuns.{merge_run}
+use Rattle.rv_journal.specs.inner.MergeRuns.{merge_run}
 use Rattle.rv_journal.proofs.ReadyLemmas.{read-in_slots, ready-there, unready-there}
 use Rattle.rv_journal.proofs.merging.Merging.is_ready_at.Goals as goal
 

@@ -2,7 +2,7 @@
 use Rattle.std.proofs.Common.{◌≡◌, ℕ, List, length, replicate, get_or, sym, ap, subst, ◌∙◌, arith}
 use Rattle.std.proofs.lemmas.List.{get_or-replicate, length-replicate}
 use Rattle.rv_model.specs.declared.entry.Entry.{Entry}
-use Rattle.rv_journal.specs.MergeRuns.{merge_run, IsMerging, NewLanes}
+use Rattle.rv_journal.specs.inner.MergeRuns.{merge_run, IsMerging, NewLanes}
 use Rattle.rv_journal.proofs.FinishLemmas.{begins}
 use Rattle.rv_journal.proofs.merging.Merging.new.Goals as goal
 

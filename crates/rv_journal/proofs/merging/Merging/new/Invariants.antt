@@ -1,4 +1,4 @@
-use Rattle.rv_journal.specs.MergeRuns.{NewLanes}
+use Rattle.rv_journal.specs.inner.MergeRuns.{NewLanes}
 use Rattle.rv_journal.proofs.merging.Merging.new.Given as goal
 
 abbrev pub invariant-loop-lane : goal.invariant-loop-lane

@@ -1,10 +1,10 @@
 -- The step is placed, and all that was held for it is released.
 use Rattle.std.proofs.Common.{◌≡◌, ◌++◌, ◌∷◌, [], ℕ, List, set, sym, ap, subst, ◌∙◌, arith}
 use Rattle.rv_model.specs.declared.entry.Entry.{Entry}
-use Rattle.rv_journal.specs.MergeSteps.{step_entry}
-use Rattle.rv_journal.specs.MergePending.{changes_after}
+use Rattle.rv_journal.specs.inner.MergeSteps.{step_entry}
+use Rattle.rv_journal.specs.inner.MergePending.{changes_after}
 use Rattle.rv_journal.specs.Merging.{seat_of}
-use Rattle.rv_journal.specs.MergeRuns.{merge_run, lane_at, IsMerging}
+use Rattle.rv_journal.specs.inner.MergeRuns.{merge_run, lane_at, IsMerging}
 use Rattle.rv_journal.proofs.RunLemmas.{enough-waits, next-merging, fewer-steps}
 use Rattle.rv_journal.proofs.ReadyLemmas.{goes-there, may-there, read-in_slots, changes-few}
 use Rattle.rv_journal.proofs.merging.Merging.place.Goals as goal

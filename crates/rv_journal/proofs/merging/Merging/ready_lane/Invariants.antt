@@ -1,6 +1,6 @@
 use Rattle.std.proofs.Common.{ℕ, ◌<◌}
 use Rattle.std.specs.Prelude.{MatchOption}
-use Rattle.rv_journal.specs.MergeRuns.{lane_at, IsReadyAt, CannotGoAt}
+use Rattle.rv_journal.specs.inner.MergeRuns.{lane_at, IsReadyAt, CannotGoAt}
 use Rattle.rv_journal.proofs.merging.Merging.ready_lane.Given as goal
 
 abbrev pub ghost-is_ready_at : goal.ghost-is_ready_at

@@ -3,7 +3,7 @@ use Rattle.std.proofs.Common.{arith, sym, ap, ◌∙◌, subst, ◌+◌}
 use Rattle.rv_model.specs.declared.work.Turn.{Turn}
 use Rattle.rv_journal.specs.declared.counted.Counted.{Counted}
 use Rattle.rv_journal.specs.declared.steps.MergeStep.TheVariants.{Item}
-use Rattle.rv_journal.specs.MergeSteps.{GoesTo}
+use Rattle.rv_journal.specs.inner.MergeSteps.{GoesTo}
 use Rattle.rv_journal.proofs.MergeStepLemmas.{NoTurn, no-turn_left, no-turn_yet, opens-next, end-next, item-next}
 use Rattle.rv_journal.proofs.steps.LaneProgress.next.Goals as goal
 use Rattle.rv_journal.proofs.steps.LaneProgress.next.Goals.{then-self-turn_count+else-turn_at-self, else-self-turn_count}

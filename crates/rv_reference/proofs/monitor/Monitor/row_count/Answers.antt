@@ -3,7 +3,7 @@ use Rattle.rv_model.specs.declared.formula.Spec.TheVariants.{Da}
 use Rattle.rv_model.specs.Machine.{Machine}
 use Rattle.rv_model.specs.WellFormed.{IsAutomaton}
 use Rattle.rv_reference.specs.Monitors.{table_from}
-use Rattle.rv_reference.specs.PlainParts.{BelowCount}
+use Rattle.rv_reference.specs.inner.PlainParts.{BelowCount}
 use Rattle.rv_reference.proofs.EntryLemmas.{automaton-below}
 use Rattle.rv_reference.proofs.monitor.Monitor.row_count.Goals as goal
 

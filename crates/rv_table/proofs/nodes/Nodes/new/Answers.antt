@@ -5,7 +5,7 @@ use Rattle.std.proofs.lemmas.List.Elements.{All-get_or}
 use Rattle.rv_model.specs.Formulas.{ltl}
 use Rattle.rv_model.specs.Table.{Node}
 use Rattle.rv_model.specs.Labels.{IsLabel}
-use Rattle.rv_table.specs.Numbered.{AreEntered}
+use Rattle.rv_table.specs.inner.Numbered.{AreEntered}
 use Rattle.rv_table.proofs.LabelLemmas.{All-ltl}
 use Rattle.rv_table.proofs.NumberedRows.{rows-more}
 use Rattle.rv_table.proofs.nodes.Nodes.new.Goals as goal

@@ -1,5 +1,5 @@
 use Rattle.std.proofs.Common.{◌≡◌, ◌+◌, length, take}
-use Rattle.rv_table.specs.Numbered.{AreNumberedRows, nodes_by}
+use Rattle.rv_table.specs.inner.Numbered.{AreNumberedRows, nodes_by}
 use Rattle.rv_table.specs.Rows.{node_rows}
 use Rattle.rv_table.proofs.nodes.Nodes.new.Given as goal
 

@@ -1,7 +1,7 @@
 use Rattle.std.proofs.Common.{List, ℕ, refl, sym, ap, subst}
 use Rattle.std.specs.Prelude.{None}
 use Rattle.rv_trace.specs.Streams.{Stream}
-use Rattle.rv_tool.specs.Pieces.{passed_text, IsRouted}
+use Rattle.rv_tool.specs.inner.Pieces.{passed_text, IsRouted}
 use Rattle.rv_tool.proofs.PiecesLemmas.{none-routed}
 use Rattle.rv_tool.proofs.routing.Routing.new.Goals as goal
 

@@ -1,0 +1,3 @@
+pub mod FormViews
+pub mod FormsAhead
+pub mod LineReads

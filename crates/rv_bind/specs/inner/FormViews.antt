@@ -1,0 +1,32 @@
+-- The reader's forms as plain values, and what their lines make of the bindings.
+use Rattle.std.specs.Prelude.{ℕ, List, Result}
+use Rattle.std.specs.Option.{option_copied}
+use Rattle.rv_ltl.specs.inner.Texts.{texts}
+use Rattle.rv_io.specs.Files.{Files}
+use Rattle.rv_bind.specs.declared.forms.Form.{Form}
+use Rattle.rv_bind.specs.declared.forms.MonitorForm.{MonitorForm}
+use Rattle.rv_bind.specs.declared.forms.OnForm.{OnForm}
+use Rattle.rv_bind.specs.Bound.{monitor_bound, monitor_named}
+use Rattle.rv_bind.specs.MonitorLines.{rule_bound}
+use Rattle.rv_bind.specs.Outcomes.{Outcome}
+use Rattle.rv_bind.specs.Values.{BoundValue}
+use Rattle.rv_bind.specs.declared.forms.Form.TheVariants as forms
+use Rattle.rv_bind.specs.Forms.{FormValue, skipped, container, monitor, on, react, off, begin}
+
+-- a borrowed text as its bytes
+abbrev pub form_value : Form → FormValue
+form_value forms.Skipped = skipped
+form_value (forms.Container name) = container name.now
+form_value (forms.Monitor m) = monitor m.name.now m.scope m.kind m.file.now (option_copied m.holder)
+form_value (forms.On o) = on o.monitor.now o.event.now (option_copied o.by) o.tests.items o.mode (texts o.words.items)
+form_value (forms.React name reactor) = react name.now reactor
+form_value (forms.Off name) = off name.now
+form_value (forms.Begin name atom) = begin name.now atom.now
+
+-- a monitor's line
+abbrev pub monitor_said : Files → List ℕ → ℕ → BoundValue → MonitorForm → Outcome BoundValue
+monitor_said files here line bound m = monitor_bound files here line bound m.name.now m.scope m.kind m.file.now (option_copied m.holder)
+
+-- a rule's line
+abbrev pub rule_said : BoundValue → OnForm → Result BoundValue ℕ
+rule_said bound o = rule_bound bound (monitor_named bound o.monitor.now) o.event.now (option_copied o.by) o.tests.items o.mode (texts o.words.items)

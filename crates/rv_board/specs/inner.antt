@@ -1,0 +1,4 @@
+pub mod Known
+pub mod Rule
+pub mod Seats
+pub mod Steps

@@ -1,0 +1,94 @@
+-- What each kind of step tells the seat that takes it.
+use Rattle.std.specs.Prelude.{◌≡◌, ℕ, ◌-◌, ◌==◌, List, [], ◌∷◌, ◌++◌, reverse, MatchBool}
+use Rattle.std.specs.Int.{bit_not, w64}
+use mathlib.Core.Option.{Option, some, none}
+use Rattle.atomic_table.specs.Table.{Me, Step}
+use Rattle.rv_model.specs.declared.entry.Act.{Act}
+use Rattle.rv_model.specs.declared.entry.Act.TheVariants.{Stop, Look, Raise, Lower, Clear, End}
+use Rattle.rv_model.specs.declared.entry.Entry.{Entry}
+use Rattle.rv_model.specs.Setups.{Setup}
+use Rattle.rv_model.specs.SharedWords.{answer_at}
+use Rattle.rv_model.specs.Histories.{IsSound}
+use Rattle.rv_core.specs.Advance.{acted}
+use Rattle.rv_core.specs.Setup.{judges_of, word_index, table_of_act, start_of_act}
+use Rattle.rv_board.specs.declared.view.View.{View}
+use Rattle.rv_model.specs.Seats.{entries_of}
+use Rattle.rv_board.specs.inner.Known.{knows, Begun}
+use Rattle.rv_board.specs.inner.Rule.{word_at, with_seen}
+
+-- the history so far was seen, with no entry of the seat's own
+pub record Saw (code : Setup → List Entry → ℕ → ℕ) (v w : View) (place found : ℕ) : Type 0 where
+  pub same : w ≡ with_seen v w.part.seen
+  pub rest : List Entry
+  pub list : w.part.seen ≡ v.part.seen ++ rest
+  pub none : entries_of (knows v.part) rest ≡ []
+  pub word : found ≡ code v.setup w.part.seen place
+  pub sound : IsSound v.setup (judges_of v.setup) w.part.seen
+  pub left : Begun w.part.seen v.left
+  pub right : Begun w.part.seen v.right
+
+-- the entry that a seat makes of an act on a word
+abbrev pub entry_made : Setup → ℕ → Act → ℕ → Entry
+entry_made s seat act word = record { seat = seat; act = act; before = word; after = (acted (table_of_act s act) (start_of_act s act) word act).1 }
+
+-- the entry of the act after this history
+abbrev pub made_after : Setup → ℕ → Act → List Entry → Entry
+made_after s seat act history = entry_made s seat act (word_at s history (word_index act))
+
+-- the history so far was seen, and the seat's act was added to it
+pub record Made (code : Setup → List Entry → ℕ → ℕ) (v w : View) (act : Act) (found : ℕ) : Type 0 where
+  pub same : w ≡ with_seen v w.part.seen
+  pub rest : List Entry
+  pub list : w.part.seen ≡ (v.part.seen ++ rest) ++ made_after v.setup v.part.number act (v.part.seen ++ rest) ∷ []
+  pub none : entries_of (knows v.part) rest ≡ []
+  pub word : found ≡ code v.setup (v.part.seen ++ rest) (word_index act)
+  pub sound : IsSound v.setup (judges_of v.setup) w.part.seen
+  pub answer : (acted (table_of_act v.setup act) (start_of_act v.setup act) (word_at v.setup (v.part.seen ++ rest) (word_index act)) act).0
+      ≡ answer_at v.setup (judges_of v.setup) (reverse (v.part.seen ++ rest)) (made_after v.setup v.part.number act (v.part.seen ++ rest)) act
+
+-- a seat's view, and nothing that it holds
+abbrev pub Ours : Type 0
+Ours = Me Act View
+
+-- the act that a step announces
+abbrev pub step_answer : Option Act → Act
+step_answer (some act) = act
+step_answer none = Look
+
+-- ---- the kinds of step of a board
+
+-- a load
+abbrev pub IsLoadStep : Step Act → Ours → ℕ → Ours → Type 0
+IsLoadStep st m found m' = Saw word_at m.0 m'.0 st.word found × (m'.1 ≡ m.1)
+
+-- a step that is one act, whatever it finds
+abbrev pub IsActStep : Act → Ours → ℕ → Ours → Type 0
+IsActStep act m found m' = Made word_at m.0 m'.0 act found × (m'.1 ≡ m.1)
+
+-- a compare-exchange that won, or lost
+abbrev pub IsExchangeStep : Step Act → Ours → ℕ → Ours → Type 0
+IsExchangeStep st m found m' = MatchBool (found == st.first) (Made word_at m.0 m'.0 (step_answer st.said) found) (Saw word_at m.0 m'.0 st.word found) × (m'.1 ≡ m.1)
+
+-- a swap of 0 into the word of a slot, which is the word behind it
+abbrev pub IsStopStep : Step Act → Ours → ℕ → Ours → Type 0
+IsStopStep st = IsActStep (Stop (st.word - 1))
+
+-- a load of the switches
+abbrev pub IsLookStep : Step Act → Ours → ℕ → Ours → Type 0
+IsLookStep st = IsActStep Look
+
+-- an `or` of the switches with bits
+abbrev pub IsRaiseStep : Step Act → Ours → ℕ → Ours → Type 0
+IsRaiseStep st = IsActStep (Raise st.first)
+
+-- an `and` of the switches with all other bits
+abbrev pub IsLowerStep : Step Act → Ours → ℕ → Ours → Type 0
+IsLowerStep st = IsActStep (Lower (bit_not w64 st.first))
+
+-- a swap of the opening word into the word of a slot
+abbrev pub IsClearStep : Step Act → Ours → ℕ → Ours → Type 0
+IsClearStep st = IsActStep (Clear (st.word - 1))
+
+-- the same by a CPU, whose event ends the instance
+abbrev pub IsEndStep : Step Act → Ours → ℕ → Ours → Type 0
+IsEndStep st = IsActStep (End (st.word - 1))

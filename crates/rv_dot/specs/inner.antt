@@ -1,0 +1,4 @@
+pub mod Clashes
+pub mod Gathering
+pub mod Held
+pub mod Numberings

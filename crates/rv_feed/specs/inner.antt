@@ -1,0 +1,4 @@
+pub mod Feeding
+pub mod Lane
+pub mod SoFar
+pub mod Turns

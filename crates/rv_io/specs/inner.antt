@@ -1,0 +1,2 @@
+pub mod MemStores
+pub mod Reading

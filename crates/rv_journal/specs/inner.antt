@@ -1,0 +1,13 @@
+pub mod CountedLanes
+pub mod CountedSteps
+pub mod CountedWords
+pub mod EntryReadings
+pub mod MergePending
+pub mod MergeRuns
+pub mod MergeStates
+pub mod MergeSteps
+pub mod Merging
+pub mod Openings
+pub mod PieceReadings
+pub mod Running
+pub mod Whole

@@ -1,0 +1,10 @@
+pub mod Collected
+pub mod Fronts
+pub mod Lengths
+pub mod Machine
+pub mod Postfix
+pub mod Reached
+pub mod Rules
+pub mod Texts
+pub mod Uses
+pub mod Weights

@@ -1,0 +1,3 @@
+pub mod EventTables
+pub mod Histories
+pub mod ScriptParts

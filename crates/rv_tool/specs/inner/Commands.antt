@@ -1,0 +1,85 @@
+-- What a command comes to before it is put, and how that is put.
+use Rattle.std.specs.Prelude.{◌≡◌, ℕ, List, [], Option, Some, Result, Ok, Err}
+use Rattle.std.specs.declared.alloc.AllocError.{AllocError}
+use Rattle.rv_io.specs.Files.{Files}
+use Rattle.rv_model.specs.declared.entry.Entry.{Entry}
+use Rattle.rv_model.specs.Histories.{IsOneHistory, IsLegal}
+use Rattle.rv_bind.specs.declared.fault.BindFault.{BindFault}
+use Rattle.rv_bind.specs.declared.fault.BindFault.TheVariants as faults
+use Rattle.rv_bind.specs.FilePieces.{FaultRefines, FaultBlamesReached}
+use Rattle.rv_bind.specs.Outcomes.{Outcome, accepted}
+use Rattle.rv_tool.specs.declared.replay.FinishedRun.{FinishedRun}
+use Rattle.rv_tool.specs.Changes.{input_beside}
+use Rattle.rv_tool.specs.Checks.{IsCheckReport, checked_input}
+use Rattle.rv_tool.specs.HeaderFiles.{header_of_text, header_in}
+use Rattle.rv_tool.specs.Headline.{Ending, GivesUp, PrintsText, IsReported}
+use Rattle.rv_tool.specs.Inputs.{InputValue, run_input}
+use Rattle.rv_tool.specs.Journals.{IsJournalReport, recordable_input}
+use Rattle.rv_tool.specs.Loaded.{generated_files}
+use Rattle.rv_tool.specs.Output.{IsWritten, refusal_text, missing_text}
+use Rattle.rv_tool.specs.Sessions.{Printed, IsSession, control_in}
+use Rattle.rv_tool.specs.SomeTexts.{IsOfSomeText}
+use Rattle.rv_tool.specs.Tables.{table_text, table_in}
+use Rattle.rv_tool.specs.Verdicts.{HasOneVerdict, HasVerdicts}
+use Rattle.rv_tool.specs.Watched.{watched_input}
+use Rattle.rv_tool.specs.WatchReports.{IsWatchReport}
+use Rattle.rv_tool.specs.Words.{CommandValue, replay, feed, feed_beside, journal, check, watch, table, header, control, load}
+use Rattle.std.specs.Prelude.{codes}
+
+-- ---- what goes with a history, a text and a status
+
+-- the report of the one history, with its verdict
+abbrev pub IsOneReport : InputValue → List Entry → List ℕ → ℕ → Type 0
+IsOneReport i h text status = IsReported IsOneHistory i h text status × HasOneVerdict i h text status
+
+-- the report of a legal history, with its verdicts
+abbrev pub IsVerdictReport : InputValue → List Entry → List ℕ → ℕ → Type 0
+IsVerdictReport i h text status = IsReported IsLegal i h text status × HasVerdicts i h text status
+
+-- this text and this status, and no history
+abbrev pub IsText : List ℕ → ℕ → List Entry → List ℕ → ℕ → Type 0
+IsText told said h text status = (text ≡ told) × (status ≡ said) × (h ≡ [])
+
+-- the text is one of these, and is printed
+abbrev pub IsSomeText : (List ℕ → Type 0) → List ℕ → List Entry → List ℕ → ℕ → Type 0
+IsSomeText Is told h text status = Is told × IsText told 0 h text status
+
+-- the session is one of the script
+abbrev pub IsSessionText : List ℕ → Printed → List Entry → List ℕ → ℕ → Type 0
+IsSessionText script p h text status = IsSession script p × IsText p.text p.status h text status
+
+-- ---- what a command comes to
+
+-- what was done goes with what the files come to, where the store tells them, and with something on any store; or a fault is that of the files
+abbrev pub ComesTo : {Y : Type 0} → (Y → List Entry → List ℕ → ℕ → Type 0) → (Files → Outcome Y) → Option Files → ℕ → ℕ → Result FinishedRun BindFault → Type 0
+ComesTo {Y} Goes outcome told before now (Ok done) =
+    ((files : Files) → told ≡ Some files → (y : Y) × (outcome files ≡ accepted y) × Goes y done.closed done.text.items done.status)
+    × ((y : Y) × Goes y done.closed done.text.items done.status)
+ComesTo Goes outcome told before now (Err fault) = FaultRefines told before now fault outcome × FaultBlamesReached told fault outcome
+
+-- by what the words ask for; the generated input is read from a store of its own
+abbrev pub CommandComes : CommandValue → Option Files → ℕ → ℕ → Result FinishedRun BindFault → Type 0
+CommandComes (replay bindings trace) = ComesTo IsOneReport (λ files. run_input files bindings trace)
+CommandComes (feed bindings trace) = ComesTo IsVerdictReport (λ files. run_input files bindings trace)
+CommandComes (feed_beside bindings trace script) = ComesTo (IsReported IsLegal) (λ files. input_beside files bindings trace script)
+CommandComes (watch bindings trace monitor instance) = ComesTo IsWatchReport (λ files. watched_input files bindings trace monitor instance)
+CommandComes (journal bindings trace) = ComesTo IsJournalReport (λ files. recordable_input files bindings trace)
+CommandComes (check bindings trace judged) = ComesTo IsCheckReport (λ files. checked_input files bindings trace judged)
+CommandComes (load blocks) = λ told before now. ComesTo IsVerdictReport (λ files. run_input files (codes "gen.rv") (codes "gen.txt")) (Some (generated_files blocks)) 0 0
+CommandComes (table kind file) = ComesTo (IsSomeText (IsOfSomeText (table_text kind))) (λ files. table_in files kind file)
+CommandComes (header name file) = ComesTo (IsSomeText (IsOfSomeText (header_of_text name))) (λ files. header_in files name file)
+CommandComes (control bindings script) = ComesTo (IsSessionText script) (λ files. control_in files bindings script)
+
+-- it is what was done, or its want of memory as a fault
+abbrev pub IsFinished : Result FinishedRun AllocError → Result FinishedRun BindFault → Type 0
+IsFinished (Ok done) result = result ≡ Ok done
+IsFinished (Err none) result = result ≡ Err faults.Memory
+
+-- ---- how that is put
+
+-- what was done is put, or why there is nothing to put
+abbrev pub IsPut : Result FinishedRun BindFault → Ending
+IsPut (Ok done) c = IsWritten c.before c.after done.text.items done.status c.status × (c.history ≡ done.closed)
+IsPut (Err faults.Memory) c = GivesUp c
+IsPut (Err (faults.Refused file refusal)) c = PrintsText (refusal_text (Some file) refusal) 2 c
+IsPut (Err (faults.Unread file)) c = PrintsText (missing_text file) 3 c

@@ -1,0 +1,9 @@
+-- What private clauses and proofs speak of, beside CountsFit.
+use Rattle.std.specs.Prelude.{◌≤◌, length}
+use Rattle.rv_model.specs.declared.formula.Spec.{Spec}
+use Rattle.rv_model.specs.declared.formula.Spec.TheVariants as specs
+
+-- an automaton has a state
+abbrev pub HasState : Spec → Type 0
+HasState (specs.Da automaton) = 1 ≤ length automaton.states
+HasState (specs.Ltl rule) = Unit {0}

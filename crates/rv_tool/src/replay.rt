@@ -1,0 +1,62 @@
+//! A run on one thread.
+ghost use Rattle.std.specs.Prelude.{◌≡◌, [], IfOk};
+ghost use Rattle.rv_model.specs.Histories.{IsOneHistory};
+ghost use Rattle.rv_feed.specs.One.{lane_records};
+ghost use Rattle.rv_tool.specs.Headline.{IsReported};
+ghost use Rattle.rv_tool.specs.inner.LaneReports.{ReportsLanes};
+ghost use Rattle.rv_tool.specs.inner.Prepared.{prepared_value, IsPrepared};
+
+use crate::input::Prepared;
+use rv_bind::Bindings;
+use rv_feed::{Lane, replay};
+use rv_model::Closed;
+use rv_report::{Report, report_lanes};
+use rv_slots::Tasks;
+use std::alloc::{AllocError, Global};
+
+/// What a command came to, before anything is put.
+#[derive(Drop)]
+pub(crate) struct FinishedRun {
+    pub(crate) status: u8,
+    pub(crate) text: Vec<u8>,
+    pub(crate) closed: Closed,
+}
+
+/// The report of the lanes of a run, and its history.
+pub(crate) fn report(
+    alloc: Global,
+    bindings: &Bindings,
+    tasks: &Tasks,
+    lanes: &[Lane],
+    closed: Closed,
+) -> Result<FinishedRun, AllocError>
+    ensures { IfOk result (ReportsLanes bindings.now tasks.now (lane_records lanes.now) closed) }
+{
+    let Report { text, status } = report_lanes(alloc, bindings, tasks, lanes)?;
+    Ok(FinishedRun {
+        status,
+        text,
+        closed,
+    })
+}
+
+/// The whole run, its scripts in the order of the trace, and its report.
+pub(crate) fn replayed(alloc: Global, mut ready: Prepared) -> Result<FinishedRun, AllocError>
+    requires ready { IsPrepared ready }
+    requires unchanged { ready.changes.items ≡ [] }
+    ensures { IfOk result (λ done. IsReported IsOneHistory (prepared_value ready) done.closed done.text.items done.status) }
+{
+    let closed = replay(
+        alloc,
+        ready.setup,
+        ready.reactors.as_slice(),
+        ready.lanes.as_mut_slice(),
+    )?;
+    report(
+        alloc,
+        &ready.bindings,
+        &ready.tasks,
+        ready.lanes.as_slice(),
+        closed,
+    )
+}

@@ -1,0 +1,4 @@
+pub mod FieldPlaces
+pub mod LineParts
+pub mod Runs
+pub mod Seeking
