@@ -11,7 +11,7 @@ use Rattle.rv_bind.proofs.OutcomeLemmas.{of_name-reading}
 use Rattle.rv_bind.proofs.ReachedLemmas.{bound-local, step_named}
 use Rattle.rv_bind.proofs.ReadsLemmas.{step_reads, later_reads, behind_reads}
 use Rattle.rv_route.specs.Routing.{RoutedValue}
-use Rattle.rv_tool.specs.declared.words.Kind.{Kind}
+use Rattle.rv_model.specs.declared.kind.SpecKind.{SpecKind}
 use Rattle.rv_tool.specs.inner.Faults.{IsOutcome}
 use Rattle.rv_tool.specs.Inputs.{InputValue, routed_text, routed_in, run_input}
 use Rattle.rv_tool.specs.Sessions.{Printed, session_text, session_in, control_in}
@@ -32,7 +32,7 @@ module _ (told : Option Files) where
       step_named X Z told fault (λ files. of_name files trace accepted) (λ files text. routed_text trace bound text) (λ files. routed_in files trace bound) (λ files. of_name-reading files trace (routed_text trace bound))
 
   -- a specification whose table is asked for is read by its file
-  pub table_named : (X Z : Type 0) (kind : Kind) (file : List ℕ) (fault : BindFault) → BlamesReached {X = X} told (Err fault) (λ files. of_name files file accepted) → BlamesReached {X = Z} told (Err fault) (λ files. table_in files kind file)
+  pub table_named : (X Z : Type 0) (kind : SpecKind) (file : List ℕ) (fault : BindFault) → BlamesReached {X = X} told (Err fault) (λ files. of_name files file accepted) → BlamesReached {X = Z} told (Err fault) (λ files. table_in files kind file)
   table_named X Z kind file fault =
       step_named X Z told fault (λ files. of_name files file accepted) (λ files text. of_file file (table_text kind text)) (λ files. table_in files kind file) (λ files. of_name-reading files file (λ text. of_file file (table_text kind text)))
 

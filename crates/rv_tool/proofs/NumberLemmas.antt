@@ -23,8 +23,8 @@ use Rattle.rv_control.specs.declared.script.Numbered.{Numbered}
 use Rattle.rv_control.specs.Trees.{ControlValue}
 use Rattle.rv_control.specs.Scripts.{line_said, commands_of_lines, script_of}
 use Rattle.rv_header.specs.HeaderText.{header_of}
-use Rattle.rv_tool.specs.declared.words.Kind.{Kind}
-use Rattle.rv_tool.specs.declared.words.Kind.TheVariants as kinds
+use Rattle.rv_model.specs.declared.kind.SpecKind.{SpecKind}
+use Rattle.rv_model.specs.declared.kind.SpecKind.TheVariants as kinds
 use Rattle.rv_tool.specs.Changes.{asked, asked_in, in_line, changes_of}
 use Rattle.rv_tool.specs.inner.Faults.{IsOutcome}
 use Rattle.rv_tool.specs.HeaderFiles.{header_of_text}
@@ -125,7 +125,7 @@ changes_numbered tree (n ∷ ns) = then_numbered (asked_in tree n) _ (asked_numb
 -- ---- specifications, and a watched slot
 
 -- the printed table of a specification
-pub table_numbered : (kind : Kind) (bytes : List ℕ) → IfErr (table_text kind bytes) IsRefusal
+pub table_numbered : (kind : SpecKind) (bytes : List ℕ) → IfErr (table_text kind bytes) IsRefusal
 table_numbered kinds.Da bytes = then_numbered _ _ (dot_numbered bytes) (λ automaton. tt)
 table_numbered kinds.Ltl bytes =
     then_numbered _ rule_text (ltl_numbered bytes) (λ rule. then_numbered _ _ (normal_numbered rule.formula) (λ parts. then_numbered _ _ (tableau_numbered parts) (λ table. tt)))

@@ -6,12 +6,11 @@ ghost use Rattle.rv_tool.specs.inner.Faults.{IsOutcome};
 ghost use Rattle.rv_tool.specs.SomeTexts.{IsOfSomeText};
 ghost use Rattle.rv_tool.specs.Tables.{rule_text, table_text, table_in};
 
-use crate::words::Kind;
 use rv_bind::{BindFault, read_file, refused};
 use rv_dot::read_dot;
 use rv_io::Store;
 use rv_ltl::read_ltl;
-use rv_model::Rule;
+use rv_model::{Rule, SpecKind};
 use rv_nnf::normal;
 use rv_report::{automaton_text, nodes_text};
 use rv_tableau::tableau;
@@ -20,7 +19,7 @@ use std::alloc::Global;
 
 /// The table of an automaton file.
 fn da_text(alloc: Global, bytes: &[u8]) -> Result<Vec<u8>, Refused>
-    ensures { Gives (λ text. text.items) result (table_text Kind.Da bytes.now) }
+    ensures { Gives (λ text. text.items) result (table_text SpecKind.Da bytes.now) }
 {
     let automaton = read_dot(alloc, bytes)?;
     Ok(automaton_text(alloc, &automaton)?)
@@ -38,25 +37,25 @@ fn rule_text(alloc: Global, rule: &Rule) -> Result<Vec<u8>, Refused>
 
 /// The table of a rule file.
 fn ltl_text(alloc: Global, bytes: &[u8]) -> Result<Vec<u8>, Refused>
-    ensures { Gives (λ text. text.items) result (table_text Kind.Ltl bytes.now) }
+    ensures { Gives (λ text. text.items) result (table_text SpecKind.Ltl bytes.now) }
 {
     let rule = read_ltl(alloc, bytes)?;
     rule_text(alloc, &rule)
 }
 
 /// The table of a specification's text.
-fn table_text(alloc: Global, kind: Kind, bytes: &[u8]) -> Result<Vec<u8>, Refused>
+fn table_text(alloc: Global, kind: SpecKind, bytes: &[u8]) -> Result<Vec<u8>, Refused>
     ensures { Gives (λ text. text.items) result (table_text kind bytes.now) }
 {
     match kind {
-        Kind::Da => da_text(alloc, bytes),
-        Kind::Ltl => ltl_text(alloc, bytes),
+        SpecKind::Da => da_text(alloc, bytes),
+        SpecKind::Ltl => ltl_text(alloc, bytes),
     }
 }
 
 /// The same, with the file in its fault.
 #[tactic(auto, using(crate::proofs::NumberLemmas::table_numbered, crate::proofs::NumberLemmas::fault_tells))]
-fn named_text(alloc: Global, kind: Kind, name: &str, bytes: &[u8]) -> Result<Vec<u8>, BindFault>
+fn named_text(alloc: Global, kind: SpecKind, name: &str, bytes: &[u8]) -> Result<Vec<u8>, BindFault>
     ensures { IsOutcome (λ text. text.items) result (of_file name.now (table_text kind bytes.now)) }
 {
     match table_text(alloc, kind, bytes) {
@@ -70,7 +69,7 @@ fn named_text(alloc: Global, kind: Kind, name: &str, bytes: &[u8]) -> Result<Vec
 pub(crate) fn read_table<S: Store>(
     alloc: Global,
     store: &mut S,
-    kind: Kind,
+    kind: SpecKind,
     name: &str,
 ) -> Result<Vec<u8>, BindFault>
     ensures reads { ReadsOutcome (λ text. text.items) (S.files store.old) (S.files store.new) (S.faults store.old) (S.faults store.new) result (λ files. table_in files kind name.now) }

@@ -1,38 +1,13 @@
 //! What the words of the command line ask for.
-ghost use Rattle.rv_tool.specs.Words.{load, load_of, verb_of, command_with, command_of, kind_word, header_command, texts_of};
+ghost use Rattle.rv_tool.specs.Words.{load, load_of, command_of, table_command, header_command, texts_of};
 ghost use Rattle.rv_tool.specs.inner.Words.{command_value, IsWellNamed};
 ghost use Rattle.std.specs.Prelude.{◌≡◌, ◌∷◌, [], Some, option_map, bytes_eq, IfSome};
 ghost use Rattle.rv_text.specs.Decimal.{decimal_of};
 
 use rv_gen::MAX_BLOCKS;
 use rv_header::is_header_name;
+use rv_model::SpecKind;
 use rv_text::decimal;
-
-/// The kinds of specifications.
-#[derive(Clone, Copy, Drop)]
-pub enum Kind {
-    /// An automaton.
-    Da,
-    /// A rule.
-    Ltl,
-}
-
-/// What the first word asks for.
-#[derive(Clone, Copy, Drop)]
-pub enum Verb {
-    /// All scripts on one thread.
-    Replay,
-    /// All scripts at once.
-    Feed,
-    /// All scripts at once, each entry with a number.
-    Journal,
-    /// A script on the control files.
-    Control,
-    /// The table of a specification.
-    Table,
-    /// The C tables of an automaton.
-    Header,
-}
 
 /// A command, and the files that it names.
 #[derive(Clone, Copy, Drop)]
@@ -70,7 +45,7 @@ pub(crate) enum ToolCommand<'a> {
         script: &'a str,
     },
     Table {
-        kind: Kind,
+        kind: SpecKind,
         file: &'a str,
     },
     Header {
@@ -89,40 +64,6 @@ fn is(word: &str, said: &str) -> bool
     word == said
 }
 
-/// The kind that the word is, if it is one.
-fn kind_word(word: &str) -> Option<Kind>
-    ensures { result ≡ kind_word word.now }
-{
-    if is(word, "da") {
-        Some(Kind::Da)
-    } else if is(word, "ltl") {
-        Some(Kind::Ltl)
-    } else {
-        None
-    }
-}
-
-/// What the first word asks for, if it asks for something.
-fn verb_of(word: &str) -> Option<Verb>
-    ensures { result ≡ verb_of word.now }
-{
-    if is(word, "replay") {
-        Some(Verb::Replay)
-    } else if is(word, "feed") {
-        Some(Verb::Feed)
-    } else if is(word, "journal") {
-        Some(Verb::Journal)
-    } else if is(word, "control") {
-        Some(Verb::Control)
-    } else if is(word, "table") {
-        Some(Verb::Table)
-    } else if is(word, "header") {
-        Some(Verb::Header)
-    } else {
-        None
-    }
-}
-
 /// The command `header`, if the word may be the name of C tables.
 fn header_with<'a>(name: &'a str, file: &'a str) -> Option<ToolCommand<'a>>
     ensures value { option_map command_value result ≡ header_command name.now file.now }
@@ -134,33 +75,39 @@ fn header_with<'a>(name: &'a str, file: &'a str) -> Option<ToolCommand<'a>>
     Some(ToolCommand::Header { name, file })
 }
 
-/// The command of two further words, if they make one.
-fn command_with<'a>(verb: Verb, first: &'a str, second: &'a str) -> Option<ToolCommand<'a>>
-    ensures value { option_map command_value result ≡ command_with (Some verb) first.now second.now }
+/// The command `table`, if the word is a kind of specification.
+fn table_with<'a>(kind: &str, file: &'a str) -> Option<ToolCommand<'a>>
+    ensures value { option_map command_value result ≡ table_command kind.now file.now }
     ensures named { IfSome result IsWellNamed }
 {
-    match verb {
-        Verb::Replay => Some(ToolCommand::Replay {
-            bindings: first,
-            trace: second,
-        }),
-        Verb::Feed => Some(ToolCommand::Feed {
-            bindings: first,
-            trace: second,
-        }),
-        Verb::Journal => Some(ToolCommand::Journal {
-            bindings: first,
-            trace: second,
-        }),
-        Verb::Control => Some(ToolCommand::Control {
-            bindings: first,
-            script: second,
-        }),
-        Verb::Table => match kind_word(first) {
-            Some(kind) => Some(ToolCommand::Table { kind, file: second }),
-            None => None,
-        },
-        Verb::Header => header_with(first, second),
+    match SpecKind::from_name(kind.as_bytes()) {
+        Some(kind) => Some(ToolCommand::Table { kind, file }),
+        None => None,
+    }
+}
+
+/// The command of two further words, if they make one.
+fn with_second<'a>(word: &str, first: &'a str, second: &'a str) -> Option<ToolCommand<'a>>
+    ensures value { option_map command_value result ≡ command_of (word.now ∷ first.now ∷ second.now ∷ []) }
+    ensures named { IfSome result IsWellNamed }
+{
+    let bindings = first;
+    let trace = second;
+    let script = second;
+    if is(word, "replay") {
+        Some(ToolCommand::Replay { bindings, trace })
+    } else if is(word, "feed") {
+        Some(ToolCommand::Feed { bindings, trace })
+    } else if is(word, "journal") {
+        Some(ToolCommand::Journal { bindings, trace })
+    } else if is(word, "control") {
+        Some(ToolCommand::Control { bindings, script })
+    } else if is(word, "table") {
+        table_with(first, second)
+    } else if is(word, "header") {
+        header_with(first, second)
+    } else {
+        None
     }
 }
 
@@ -262,11 +209,8 @@ pub(crate) fn read_words(words: &[String]) -> Option<ToolCommand<'_>>
             words[4].as_str(),
         );
     }
-    if words.len() != 3 {
-        return None;
+    if words.len() == 3 {
+        return with_second(words[0].as_str(), words[1].as_str(), words[2].as_str());
     }
-    match verb_of(words[0].as_str()) {
-        Some(verb) => command_with(verb, words[1].as_str(), words[2].as_str()),
-        None => None,
-    }
+    None
 }

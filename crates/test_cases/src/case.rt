@@ -6,8 +6,8 @@
 use crate::fault::CaseFault;
 use crate::marks::{Piece, pieces};
 use crate::outcome::is_outcome;
-use crate::words::{joined, words_of};
-use rv_io::{Disk, MemStore, Store};
+use crate::words::{text_in, words_of};
+use rv_io::{MemStore, Store};
 use rv_text::{Cursor, decimal};
 use std::alloc::Global;
 use std::fs::Files;
@@ -58,14 +58,8 @@ impl Case<'_> {
         let mut store = MemStore::new(alloc);
         add_files(alloc, &mut store, self.shared)?;
         let output = add_files(alloc, &mut store, self.own)?;
-        is_outcome(
-            rt,
-            alloc,
-            words.as_slice(),
-            &mut store,
-            status,
-            output.as_slice(),
-        )
+        let words = words.as_slice();
+        is_outcome(rt, alloc, words, &mut store, status, output.as_slice())
     }
 }
 
@@ -75,8 +69,7 @@ pub(crate) fn run<R: Files + Threads + Sync>(
     alloc: Global,
     name: &[u8],
 ) -> Result<bool, CaseFault> {
-    let path = joined(alloc, &["cases/", std::str::from_utf8(name)?, ".txt"])?;
-    let text = Disk::new(rt).read(alloc, path.as_str())?;
+    let text = text_in(rt, alloc, "cases", name)?;
     let own = pieces(alloc, text.as_slice())?;
     let case = Case {
         head: text.as_slice(),

@@ -25,12 +25,6 @@ pub(crate) fn run<R: Files + Threads + Sync>(
     let report = joined(alloc, &["examples/", name, "/report.txt"])?;
     let mut disk = Disk::new(rt);
     let report = disk.read(alloc, report.as_str())?;
-    is_outcome(
-        rt,
-        alloc,
-        words.as_slice(),
-        &mut disk,
-        status,
-        report.as_slice(),
-    )
+    let words = words.as_slice();
+    is_outcome(rt, alloc, words, &mut disk, status, report.as_slice())
 }

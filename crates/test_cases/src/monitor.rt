@@ -58,12 +58,6 @@ pub(crate) fn run<R: Files + Threads + Sync>(
     for word in ["replay", bindings, trace] {
         words.push(String::from_str(alloc, word)?)?;
     }
-    is_outcome(
-        rt,
-        alloc,
-        words.as_slice(),
-        &mut store,
-        status,
-        report.as_slice(),
-    )
+    let words = words.as_slice();
+    is_outcome(rt, alloc, words, &mut store, status, report.as_slice())
 }

@@ -7,8 +7,7 @@ use crate::case::Case;
 use crate::fault::CaseFault;
 use crate::marks::{Piece, pieces};
 use crate::tell;
-use crate::words::joined;
-use rv_io::{Disk, Store};
+use crate::words::text_in;
 use std::alloc::Global;
 use std::fs::Files;
 use std::io::Print;
@@ -28,8 +27,7 @@ pub(crate) fn run<R: Files + Print + Threads + Sync>(
     alloc: Global,
     name: &[u8],
 ) -> Result<u32, CaseFault> {
-    let path = joined(alloc, &["tables/", std::str::from_utf8(name)?, ".txt"])?;
-    let text = Disk::new(rt).read(alloc, path.as_str())?;
+    let text = text_in(rt, alloc, "tables", name)?;
     let pieces = pieces(alloc, text.as_slice())?;
     let mut count: u32 = 0;
     for (place, piece) in pieces.iter().enumerate() {

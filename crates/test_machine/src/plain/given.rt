@@ -1,6 +1,6 @@
 //! What the tests share: formulas from their text, steps of a history, and the check of each step.
 use rv_gen::{wip, wwnr};
-use rv_model::{Act, Answer, Entry, Formula, Hit, Mode, Spec, What};
+use rv_model::{Act, Answer, Automaton, Entry, Formula, Hit, Mode, Spec, What};
 use rv_reference::worked::{has_atoms_below, rule};
 use rv_reference::{Monitor, Node, Plan};
 use std::alloc::{AllocError, Global};
@@ -102,23 +102,21 @@ pub fn check_all(
     Ok(())
 }
 
+/// A monitor of an automaton, with so many instances.
+fn of_automaton(alloc: Global, automaton: Automaton, slots: u32) -> Monitor {
+    Monitor {
+        spec: Spec::Da(automaton),
+        nodes: Vec::new(alloc),
+        start: 0,
+        slots,
+    }
+}
+
 /// A plan of two instances of wip and one of wwnr, with both enabled, monitoring and reacting on.
 pub fn two_automata(alloc: Global) -> Result<Plan, AllocError> {
     let mut monitors = Vec::new(alloc);
-    let first = Monitor {
-        spec: Spec::Da(wip(alloc)?),
-        nodes: Vec::new(alloc),
-        start: 0,
-        slots: 2,
-    };
-    monitors.push(first)?;
-    let second = Monitor {
-        spec: Spec::Da(wwnr(alloc)?),
-        nodes: Vec::new(alloc),
-        start: 0,
-        slots: 1,
-    };
-    monitors.push(second)?;
+    monitors.push(of_automaton(alloc, wip(alloc)?, 2))?;
+    monitors.push(of_automaton(alloc, wwnr(alloc)?, 1))?;
     Ok(Plan {
         monitors,
         switches: OPENING,
