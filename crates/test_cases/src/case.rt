@@ -7,7 +7,7 @@ use crate::fault::CaseFault;
 use crate::marks::{Piece, pieces};
 use crate::outcome::is_outcome;
 use crate::words::{text_in, words_of};
-use rv_io::{MemStore, Store};
+use rv_io::MemStore;
 use rv_text::{Cursor, decimal};
 use std::alloc::Global;
 use std::fs::Files;

@@ -27,9 +27,9 @@ pub(crate) fn run<R: Files + Print + Threads + Sync>(
     alloc: Global,
     name: &[u8],
 ) -> Result<u32, CaseFault> {
+    let mut count: u32 = 0;
     let text = text_in(rt, alloc, "tables", name)?;
     let pieces = pieces(alloc, text.as_slice())?;
-    let mut count: u32 = 0;
     for (place, piece) in pieces.iter().enumerate() {
         if piece.begins_case() {
             let case = Case {
