@@ -2,6 +2,7 @@
 ghost use Rattle.std.specs.Prelude.{◌≡◌, ◌++◌, ◌∷◌, [], List};
 ghost use Rattle.rv_model.specs.declared.record.Record.{Record};
 ghost use Rattle.rv_model.specs.Records.{status_of};
+ghost use Rattle.rv_report.specs.Exit.{IsStatus};
 
 use rv_model::{Answer, Delivered, Record};
 
@@ -23,4 +24,15 @@ pub(crate) fn status_with(status: u8, made: &Record) -> u8
         Delivered::Racing if status == CLEAN => STOPPED_SOME,
         _ => status,
     }
+}
+
+/// The status of records.
+pub fn status(records: &[Record]) -> u8
+    ensures { IsStatus records.now result }
+{
+    let mut status = CLEAN;
+    for record in records {
+        status = status_with(status, record);
+    }
+    status
 }

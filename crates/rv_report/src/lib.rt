@@ -13,5 +13,6 @@ mod summary;
 mod tally;
 
 pub use automaton_table::automaton_text;
+pub use exit::status;
 pub use formula_table::nodes_text;
-pub use lines::{Report, report_lanes, report_records};
+pub use lines::{RunReport, report, report_lanes};

@@ -18,9 +18,9 @@ use rv_slots::Tasks;
 use rv_text::Line;
 use std::alloc::{AllocError, Global};
 
-/// What is told of a run's records.
+/// What is told of a run's records, in one walk of them.
 #[derive(Drop)]
-pub struct Report {
+pub struct RunReport {
     /// A line for each reaction that is printed, in the order of the records, and then a line for each monitor.
     pub text: Vec<u8>,
     /// 1 where a delivery failed, 6 where none did and an instance was stopped, and else 0.
@@ -33,7 +33,7 @@ fn report_found(
     bindings: &Bindings,
     tasks: &Tasks,
     found: &Found,
-) -> Result<Report, AllocError>
+) -> Result<RunReport, AllocError>
     requires { length found.now.tallies.items ≡ length bindings.now.monitors.items }
     ensures text { IfOk result (λ report. (rs : List Record) → IsFound (reported_of bindings.now) tasks.now rs found.now → report.text.items ≡ report_text (reported_of bindings.now) tasks.now rs) }
     ensures status { IfOk result (λ report. report.status ≡ found.now.status) }
@@ -43,25 +43,25 @@ fn report_found(
         react_to(alloc, &mut out, bindings, tasks, record)?;
     }
     summaries(&mut out, bindings, found.tallies.as_slice())?;
-    Ok(Report {
+    Ok(RunReport {
         text: out.into_bytes(),
         status: found.status,
     })
 }
 
 /// The report of records that stand in their order.
-pub fn report_records(
+pub fn report(
     alloc: Global,
     bindings: &Bindings,
     tasks: &Tasks,
     records: &[Record],
-) -> Result<Report, AllocError>
-    ensures text { IfOk result (λ report. report.text.items ≡ report_text (reported_of bindings.now) tasks.now records.now) }
-    ensures status { IfOk result (λ report. IsStatus records.now report.status) }
+) -> Result<Vec<u8>, AllocError>
+    ensures { IfOk result (λ text. text.items ≡ report_text (reported_of bindings.now) tasks.now records.now) }
 {
     let mut found = Found::new(alloc, bindings, tasks)?;
     found.add_all(bindings, records)?;
-    report_found(alloc, bindings, tasks, &found)
+    let done = report_found(alloc, bindings, tasks, &found)?;
+    Ok(done.text)
 }
 
 /// The report of all lanes' records, in the order of the trace.
@@ -70,7 +70,7 @@ pub fn report_lanes(
     bindings: &Bindings,
     tasks: &Tasks,
     lanes: &[Lane],
-) -> Result<Report, AllocError>
+) -> Result<RunReport, AllocError>
     ensures text { IfOk result (λ report. report.text.items ≡ report_text (reported_of bindings.now) tasks.now (sort_records (lane_records lanes.now))) }
     ensures status { IfOk result (λ report. IsStatus (lane_records lanes.now) report.status) }
 {

@@ -10,7 +10,7 @@ use crate::input::Prepared;
 use rv_bind::Bindings;
 use rv_feed::{Lane, replay};
 use rv_model::Closed;
-use rv_report::{Report, report_lanes};
+use rv_report::{RunReport, report_lanes};
 use rv_slots::Tasks;
 use std::alloc::{AllocError, Global};
 
@@ -32,7 +32,7 @@ pub(crate) fn report(
 ) -> Result<FinishedRun, AllocError>
     ensures { IfOk result (ReportsLanes bindings.now tasks.now (lane_records lanes.now) closed) }
 {
-    let Report { text, status } = report_lanes(alloc, bindings, tasks, lanes)?;
+    let RunReport { text, status } = report_lanes(alloc, bindings, tasks, lanes)?;
     Ok(FinishedRun {
         status,
         text,

@@ -2,7 +2,7 @@
 use crate::files::{BINDINGS, store_of};
 use rv_bind::read_bindings;
 use rv_model::{Answer, Delivered, Hit, Mode, Record, What};
-use rv_report::report_records;
+use rv_report::report;
 use rv_slots::Tasks;
 use std::test::Fail;
 
@@ -26,11 +26,11 @@ fn a_failure_is_reported(rt: HostRuntime) -> Result<(), Fail> {
         reacting: true,
     };
     let tasks = Tasks::new(rt.alloc());
-    let report = report_records(rt.alloc(), &bound.bindings, &tasks, &[record])?;
+    let text = report(rt.alloc(), &bound.bindings, &tasks, &[record])?;
     let wanted =
         "rv: monitor wip[cpu 0] does not allow event sched_waking on state preemptive (line 5)
 wip: instances 1, deliveries 1, failures 1, stopped 0
 ";
-    assert!(rt; report.text.as_slice() == wanted.as_bytes());
+    assert!(rt; text.as_slice() == wanted.as_bytes());
     Ok(())
 }
