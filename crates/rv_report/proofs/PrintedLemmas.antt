@@ -1,15 +1,16 @@
 -- Records whose reaction is not printed have no text.
 use Rattle.std.proofs.Common.{◌≡◌, ℕ, Bool, true, false, List, [], ◌∷◌, ◌++◌, ◌⊎◌, inl, inr, refl, sym, ap, ◌∙◌}
-use Rattle.std.specs.Prelude.{filter, flat_map, Option, Some, None, slice_get}
+use Rattle.std.specs.Prelude.{is_some, filter, flat_map, Option, Some, None, slice_get}
+use Rattle.std.specs.Option.{option_map_or}
 use Rattle.std.proofs.lemmas.List.Concat.{flat_map-cons}
 use Rattle.rv_model.specs.declared.entry.Answer.TheVariants.{Passed, Started, Kept, Failed, Stopped, Cleared, Ended, Looked, Switched}
 use Rattle.rv_model.specs.declared.reactor.Reactor.{Reactor}
-use Rattle.rv_model.specs.declared.reactor.Reactor.TheVariants.{Nop, Printk, Panic}
 use Rattle.rv_model.specs.declared.record.Delivered.{Delivered}
 use Rattle.rv_model.specs.declared.record.Delivered.TheVariants.{Done, Racing}
 use Rattle.rv_model.specs.declared.record.Record.{Record}
 use Rattle.rv_model.specs.declared.record.Task.{Task}
-use Rattle.rv_model.specs.Reports.{Reported, failed_text, record_text}
+use Rattle.rv_model.specs.Reactors.{reaction_front}
+use Rattle.rv_model.specs.Reports.{Reported, said_text, reaction_text, fault_text, instance_text, failed_text, record_text}
 use Rattle.rv_report.specs.inner.Printed.{set_if, is_loud, is_printing, is_printed}
 
 -- a test has two answers
@@ -17,16 +18,19 @@ yes_or_no : (b : Bool) → (b ≡ true) ⊎ (b ≡ false)
 yes_or_no true = inl refl
 yes_or_no false = inr refl
 
--- a reactor that does not print
-nop-is : (reactor : Reactor) → is_loud reactor ≡ false → reactor ≡ Nop
-nop-is Nop e = refl
-nop-is Printk e = absurd (let no : true ≡ false = e in cc)
-nop-is Panic e = absurd (let no : true ≡ false = e in cc)
+-- what is not there has no text
+none-quiet : (text : List ℕ → List ℕ) (front : Option (List ℕ)) → is_some front ≡ false → option_map_or text front [] ≡ []
+none-quiet text None e = refl
+none-quiet text (Some front) e = absurd (let no : true ≡ false = e in cc)
+
+-- a reactor that does not print has no text
+silent-text : (reactor : Reactor) (instance fault : List ℕ) (line : ℕ) → is_loud reactor ≡ false → reaction_text reactor instance fault line ≡ []
+silent-text reactor instance fault line e = none-quiet (λ front. front ++ said_text instance fault line) (reaction_front reactor) e
 
 -- a record of a monitor
 failed-quiet : (m : Reported) (tasks : List Task) (r : Record) (d : Delivered) → is_printing (set_if r.reacting d) (Some m) ≡ false → failed_text m tasks r d ≡ []
 failed-quiet m tasks r (Done (Failed set)) quiet = elim (yes_or_no r.reacting) [
-  | inl on ↦ let nop : m.reactor ≡ Nop = nop-is m.reactor (rw on at quiet) in rw (on, nop) refl
+  | inl on ↦ rw on (silent-text m.reactor (instance_text tasks m r.instance) (fault_text m.spec r.hit.what set) r.line (rw on at quiet))
   | inr off ↦ rw off refl
 ]
 failed-quiet m tasks r (Done Passed) quiet = refl

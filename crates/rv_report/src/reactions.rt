@@ -84,7 +84,7 @@ fn failed_set(made: &Record) -> Option<u32>
 fn is_loud(reactor: Reactor) -> bool
     ensures { result ≡ is_loud reactor }
 {
-    !matches!(reactor, Reactor::Nop)
+    reactor.front().is_some()
 }
 
 /// Whether the record has a reaction that is printed.

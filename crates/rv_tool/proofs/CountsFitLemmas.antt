@@ -21,9 +21,8 @@ at_most n most e = grind (arith, nat_tests)
 
 -- a reactor that the test finds to be another than panic is another
 other_reactor : (r : Reactor) → not (is_panic_reactor (Some r)) ≡ true → r ≢ reactors.Panic
-other_reactor reactors.Nop e p = cc
-other_reactor reactors.Printk e p = cc
 other_reactor reactors.Panic e p = absurd (cc)
+other_reactor _ e p = cc
 
 -- there is room for its rows and its atoms
 pub narrow-room : (m : Monitor) (t : Table) → monitor_fits_counts m t ≡ true → row_count t + atom_count m.spec ≤ 32

@@ -34,9 +34,8 @@ use Rattle.rv_tool.proofs.CpuLemmas.{FitCpus, ready_routed, cpu_is_lone, all_are
 
 -- another reactor is not panic
 calm-one : (r : Reactor) → r ≢ reactors.Panic → is_panic_reactor (Some r) ≡ false
-calm-one reactors.Nop other = refl
-calm-one reactors.Printk other = refl
 calm-one reactors.Panic other = absurd (other refl)
+calm-one _ other = refl
 
 -- where no reactor is panic, none of a number is
 pub calm : (monitors : List Monitor) → All (λ (m : Monitor). m.reactor ≢ reactors.Panic) monitors → (number : ℕ) → panics_of (map (λ (m : Monitor). m.reactor) monitors) number ≡ false

@@ -1,12 +1,12 @@
 -- Which records have a reaction that is printed, and its text.
-use Rattle.std.specs.Prelude.{ℕ, Bool, true, false, List, Option, Some, None, slice_get, if◌then◌else◌}
+use Rattle.std.specs.Prelude.{ℕ, Bool, false, is_some, List, Option, Some, None, slice_get, if◌then◌else◌}
 use Rattle.rv_model.specs.declared.entry.Answer.TheVariants.{Failed}
 use Rattle.rv_model.specs.declared.reactor.Reactor.{Reactor}
-use Rattle.rv_model.specs.declared.reactor.Reactor.TheVariants.{Nop, Printk, Panic}
 use Rattle.rv_model.specs.declared.record.Delivered.{Delivered}
 use Rattle.rv_model.specs.declared.record.Delivered.TheVariants.{Done}
 use Rattle.rv_model.specs.declared.record.Record.{Record}
 use Rattle.rv_model.specs.declared.record.Task.{Task}
+use Rattle.rv_model.specs.Reactors.{reaction_front}
 use Rattle.rv_model.specs.Reports.{Reported, instance_text, fault_text, reaction_text}
 
 -- the rows in which the letter was not allowed, where the turn's look showed reacting on
@@ -20,9 +20,7 @@ failed_set r = set_if r.reacting r.outcome
 
 -- the reactor prints
 abbrev pub is_loud : Reactor → Bool
-is_loud Nop = false
-is_loud Printk = true
-is_loud Panic = true
+is_loud reactor = is_some (reaction_front reactor)
 
 -- some rows in which the letter was not allowed, and a monitor whose reactor prints
 abbrev pub is_printing : Option ℕ → Option Reported → Bool
