@@ -10,14 +10,14 @@ pub record SinkState : Type 0 where
   pub taken : Option (List ℕ)
   pub faults : ℕ
 
--- of the end of a call: the sink before it and after it, the status, and the history
+-- what a call did to its sink: the sink before the call and after it, the status, and the history
 pub record CallEnd : Type 0 where
   pub before : SinkState
   pub after : SinkState
   pub status : ℕ
   pub history : List Entry
 
--- of the top call: the store's counts of faults before it and after it, and its end
+-- of the top call: the store's counts of faults before it and after it, and what it did to its sink
 pub record Call : Type 0 where
   pub faults_before : ℕ
   pub faults_after : ℕ
@@ -35,4 +35,4 @@ call_end sink old new finished = record { before = sink_state sink old; after = 
 
 -- a store and a sink before and after a call that answered this
 abbrev pub call : {S K : Type 0} → stores.Ghosts S → sinks.Ghosts K → S → S → K → K → Finished → Call
-call store sink old new before after finished = record { faults_before = store.faults old; faults_after = store.faults new; end = call_end sink before after finished }
+call store sink store_old store_new old new finished = record { faults_before = store.faults store_old; faults_after = store.faults store_new; end = call_end sink old new finished }

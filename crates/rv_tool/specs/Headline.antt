@@ -1,4 +1,4 @@
--- What the top call promises: the bytes and the status are the report of one history of what the words and files come to.
+-- What the top call promises: what it puts and its status are the report of one history of the run that the words and files describe, or say why there is none.
 use Rattle.std.specs.Prelude.{◌≡◌, ◌⊎◌, ℕ, List, [], map, Some}
 use Rattle.rv_text.specs.declared.refusals.Refusal.{Refusal}
 use Rattle.rv_model.specs.declared.entry.Entry.{Entry}
@@ -16,7 +16,7 @@ use Rattle.rv_tool.specs.Output.{IsWritten, refusal_text, missing_text}
 abbrev pub Histories : Type 1
 Histories = Input → List Judge → List Entry → Type 0
 
--- by judges of the specifications this is such a history of the input, the text its report, and the status that of its records
+-- by some judges of the specifications this is such a history of the input, the text is its report, and the status that of its records
 pub record IsReported (Is : Histories) (i : InputValue) (h : List Entry) (text : List ℕ) (status : ℕ) : Type 0 where
   pub judges : List Judge
   pub are_judges : AreJudges (run_of i).specs (run_of i).setup.tables judges
@@ -32,19 +32,19 @@ Ending = CallEnd → Type 0
 abbrev pub GivesUp : Ending
 GivesUp c = (c.status ≡ 5) × (c.after ≡ c.before) × (c.history ≡ [])
 
--- without a run a text goes with the status, and there is no history
+-- without a run a text goes with the status, and there is no history; or memory ran out
 abbrev pub PrintsText : List ℕ → ℕ → Ending
 PrintsText text said c = (IsWritten c.before c.after text said c.status × (c.history ≡ [])) ⊎ GivesUp c
 
--- there is a text that goes with a status and the history, and it was told
+-- there is a text that goes with a status and the history, and it was put; or memory ran out
 abbrev pub PrintsSome : (List Entry → List ℕ → ℕ → Type 0) → Ending
 PrintsSome Goes c = ((text : List ℕ) × (said : ℕ) × Goes c.history text said × IsWritten c.before c.after text said c.status) ⊎ GivesUp c
 
--- an accepted input is run
+-- the report of such a history of the input is put
 abbrev pub Reports : Histories → InputValue → Ending
 Reports Is i = PrintsSome (IsReported Is i)
 
--- a refusal of a file is said, by one of the refusals' numbers
+-- a refusal of a file is said, by one of the refusals' numbers; or memory ran out
 abbrev pub PrintsRefusal : List ℕ → Refusal → Ending
 PrintsRefusal file refusal c = (IsRefusal refusal × IsWritten c.before c.after (refusal_text (Some file) refusal) 2 c.status × (c.history ≡ [])) ⊎ GivesUp c
 

@@ -1,4 +1,4 @@
--- What the top call answers whatever the store tells of its files, as where they change while they are read.
+-- What the top call answers on a store that does not tell its files, as where they change while they are read.
 use Rattle.std.specs.Prelude.{◌⊎◌, ℕ, List, Option, Some, None}
 use Rattle.rv_text.specs.declared.numbers.TheConstants.{USAGE}
 use Rattle.rv_text.specs.declared.refusals.Refusal.{Refusal}

@@ -19,7 +19,7 @@ use Rattle.rv_tool.specs.Watched.{watched_input}
 use Rattle.rv_tool.specs.WatchReports.{Watches}
 use Rattle.rv_tool.specs.Words.{CommandValue, replay, feed, feed_beside, journal, check, watch, table, header, control, load}
 
--- a table is printed
+-- this text is printed, with status 0
 abbrev pub Prints : List ℕ → Ending
 Prints text = PrintsText text 0
 
@@ -27,7 +27,7 @@ Prints text = PrintsText text 0
 abbrev pub PrintsSession : Printed → Ending
 PrintsSession p = PrintsText p.text p.status
 
--- where the store's count of faults rose, a file may be called unread that the order of the reading comes to
+-- the store's count of faults rose, and a file that the reading comes to is said to be unread
 abbrev pub MayReportUnread : {Y : Type 0} → (Files → Outcome Y) → Files → Call → Type 0
 MayReportUnread outcome files c = Rose c.faults_before c.faults_after × (file : List ℕ) × IsReached outcome files file × PrintsText (missing_text file) 3 c.end
 
@@ -35,7 +35,7 @@ MayReportUnread outcome files c = Rose c.faults_before c.faults_after × (file :
 abbrev pub AnswersBy : {Y : Type 0} → (Y → Ending) → (Files → Outcome Y) → Files → Call → Type 0
 AnswersBy Accepted outcome files c = Ends Accepted (outcome files) c.end ⊎ MayReportUnread outcome files c
 
--- by what the words ask for: on one thread there is the one history of the input, and at once a legal one
+-- by what the words ask for: on one thread there is the one history of the input, and on several a legal one
 abbrev pub Answers : Option CommandValue → Files → Call → Type 0
 Answers None files c = PrintsText (refusal_text None (record { number = USAGE; line = 0 })) 2 c.end
 Answers (Some (replay bindings trace)) files c = AnswersBy (Reports IsOneHistory) (λ files. run_input files bindings trace) files c

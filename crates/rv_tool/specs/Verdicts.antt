@@ -1,4 +1,4 @@
--- What is told of a history: on one thread that the input determines it, and of a run at once what one thread tells of slots that only one CPU has deliveries for.
+-- What is told of a history: on one thread that the input determines it, and of a run on several what one thread tells of slots that only one CPU has deliveries for.
 use Rattle.std.specs.Prelude.{◌≡◌, ◌≢◌, ◌<◌, ℕ, List, Option, Some, All}
 use Rattle.rv_io.specs.Files.{Files}
 use Rattle.rv_model.specs.declared.entry.Act.TheVariants.{Stop}
@@ -34,7 +34,7 @@ HasNoPanic i = All (λ m. m.reactor ≢ Panic) i.bound.monitors
 abbrev pub AllHaveCpus : InputValue → Type 0
 AllHaveCpus i = All (λ m. m.scope ≡ Cpu) i.bound.monitors
 
--- a CPU delivers to its own instance alone of a monitor by CPU, and nothing stops it; without panic its records are those of one thread; and where all monitors are by CPU the text and the status are too, which is never 6
+-- a CPU delivers to its own instance alone of a monitor by CPU; such an instance is never stopped, and without panic its records are those of one thread; where all monitors are by CPU the status is not 6, and without panic the text and the status are those of one thread
 pub record HasCpuVerdicts (i : InputValue) (h : List Entry) (text : List ℕ) (status : ℕ) : Type 0 where
   pub own : (monitor : ℕ) → HasCpus i.bound.monitors monitor → IsByCpu (run_of i).works monitor
   pub not_stopped : (monitor cpu : ℕ) → HasCpus i.bound.monitors monitor → cpu < CPUS → AtEach (λ before e. ¬ (e.act ≡ Stop (slot_of (run_of i).setup.shape monitor cpu))) h
@@ -57,7 +57,7 @@ ReportsOne i = PrintsSome (λ h text status. IsReported IsOneHistory i h text st
 
 -- ---- all of them
 
--- nothing stops a lone slot; without panic its records are those of one thread; and where all slots are lone the text and the status are too, which is never 6
+-- a slot that one CPU alone delivers to is never stopped, and without panic its records are those of one thread; where all slots are such the status is not 6, and without panic the text and the status are those of one thread
 pub record HasVerdicts (i : InputValue) (h : List Entry) (text : List ℕ) (status : ℕ) : Type 0 where
   pub not_stopped : (slot : ℕ) → HasOneWriterIn i slot → AtEach (λ before e. ¬ (e.act ≡ Stop slot)) h
   pub not_six : ((slot : ℕ) → HasOneWriterIn i slot) → status ≢ 6
@@ -65,11 +65,11 @@ pub record HasVerdicts (i : InputValue) (h : List Entry) (text : List ℕ) (stat
   pub all : HasNoPanic i → ((slot : ℕ) → HasOneWriterIn i slot) → (k : List Entry) (other : List ℕ) (said : ℕ) → IsReported IsOneHistory i k other said → (text ≡ other) × (status ≡ said)
   pub by_cpu : HasCpuVerdicts i h text status
 
--- a run at once is reported, and has these verdicts
+-- a run on several threads is reported, and has these verdicts
 abbrev pub ReportsVerdicts : InputValue → Ending
 ReportsVerdicts i = PrintsSome (λ h text status. IsReported IsLegal i h text status × HasVerdicts i h text status)
 
--- what the commands that report a run answer
+-- what `replay`, `feed` and `load` answer besides; of other commands nothing is said here
 abbrev pub Verdicts : Option CommandValue → Files → Call → Type 0
 Verdicts (Some (replay bindings trace)) files c = AnswersBy ReportsOne (λ files. run_input files bindings trace) files c
 Verdicts (Some (feed bindings trace)) files c = AnswersBy ReportsVerdicts (λ files. run_input files bindings trace) files c

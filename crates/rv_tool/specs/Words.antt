@@ -46,7 +46,7 @@ abbrev pub load_of : Option ℕ → Option CommandValue
 load_of None = None
 load_of (Some blocks) = if nat_lt 0 blocks && not (nat_lt MAX_BLOCKS blocks) then Some (load blocks) else None
 
--- a command is its first word and the words that it takes; what is none of these is no command
+-- `load N`; `replay`, `feed` or `journal BINDINGS TRACE`; `control BINDINGS SCRIPT`; `table da FILE` or `table ltl FILE`; `header NAME FILE`; `feed BINDINGS TRACE SCRIPT`; `check BINDINGS TRACE JOURNAL`; `watch BINDINGS TRACE MONITOR INSTANCE`
 abbrev pub command_of : List (List ℕ) → Option CommandValue
 command_of (word ∷ number ∷ []) = if bytes_eq word (codes "load") then load_of (decimal_of number) else None
 command_of (word ∷ first ∷ second ∷ []) =

@@ -48,13 +48,14 @@ const NO_MEMORY: u8 = 5;
 /// What a call came to.
 #[derive(Drop)]
 pub struct Finished {
-    /// 0 clean, 1 a failure, 2 refused, 3 a file that cannot be read, 4 a put that failed, 5 no memory, 6 an instance was stopped.
+    /// 0 clean, 1 a failure or a journal that is not the run's, 2 refused, 3 a file that cannot be read, 4 a put that failed, 5 no memory, 6 an instance was stopped.
     pub status: u8,
     /// The history of the run, which only contracts see. It is empty where nothing ran.
     pub closed: Closed,
 }
 
-/// Does what the words ask for: reads the files from the store and puts the output into the sink.
+/// Does what the words ask for: reads the files from the store and puts the output into the sink. `answers` and
+/// `verdicts` speak of a store that tells its files, `opaque` of one that does not, as the disk.
 pub fn rv<R: Threads + Sync, S: Store, K: Sink, G: Gate + Send>(
     rt: &R,
     alloc: Global,
@@ -164,7 +165,7 @@ fn run_load<R: Threads + Sync, G: Gate + Send>(
     ended(fed(rt, alloc, gate, ready))
 }
 
-/// Names want of memory as a fault.
+/// What was done; want of memory becomes a fault.
 fn ended(done: Result<FinishedRun, AllocError>) -> Result<FinishedRun, BindFault>
     ensures { IsFinished done result }
 {
@@ -174,7 +175,7 @@ fn ended(done: Result<FinishedRun, AllocError>) -> Result<FinishedRun, BindFault
     }
 }
 
-/// A text that no run stands behind.
+/// What came without a run: a text and a status, and no history.
 fn without_run(text: Vec<u8>, status: u8) -> FinishedRun
     ensures { IsText text.items status result.closed result.text.items result.status }
 {

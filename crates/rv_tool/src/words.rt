@@ -209,8 +209,8 @@ pub(crate) fn read_words(words: &[String]) -> Option<ToolCommand<'_>>
             words[4].as_str(),
         );
     }
-    if words.len() == 3 {
-        return with_second(words[0].as_str(), words[1].as_str(), words[2].as_str());
+    if words.len() != 3 {
+        return None;
     }
-    None
+    with_second(words[0].as_str(), words[1].as_str(), words[2].as_str())
 }
