@@ -23,3 +23,4 @@ pub mod SomeTextLemmas
 pub mod VerdictLemmas
 pub mod WatchLemmas
 pub mod WidthLemmas
+pub mod WordLemmas
