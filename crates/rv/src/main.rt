@@ -2,16 +2,11 @@
 #![tactic(auto)]
 
 use rv_io::{Disk, OpenGate, Stdout};
+use rv_text::{NO_MEMORY, REFUSED};
 use rv_tool::rv;
 use std::alloc::AllocError;
 use std::process::ExitCode;
 use std::{env, io};
-
-/// Words that are no text are refused.
-const REFUSED: u8 = 2;
-
-/// Want of memory.
-const NO_MEMORY: u8 = 5;
 
 /// The words behind the program's name.
 fn words(rt: &HostRuntime) -> io::Result<Vec<String>> {

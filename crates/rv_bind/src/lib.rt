@@ -15,5 +15,5 @@ mod words;
 pub use bindings::{Bindings, Bound, Item, Monitor, On, Test};
 pub use fault::BindFault;
 pub use files::{fetch, read_file, refused};
-pub use limits::{MAX_CONTAINERS, MAX_MONITORS, MAX_RULES, TEXT_LIMIT};
+pub use limits::{MAX_CONTAINERS, MAX_MONITORS, MAX_RULES, TEXT_LIMIT, limits_are_numerals};
 pub use reader::read_bindings;

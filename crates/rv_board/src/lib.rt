@@ -4,12 +4,14 @@
 
 mod board;
 mod delivery;
+mod limits;
 mod rule;
 mod seat;
 mod sharing;
 mod view;
 
 pub use board::{Board, BoardStart};
+pub use limits::limits_are_numerals;
 pub use rule::{Cut, Cutting, Joining};
 pub use rv_model::Delivered;
 pub use seat::{SEATS, Seat};

@@ -2,6 +2,7 @@
 #![tactic(auto)]
 
 mod control;
+mod limits;
 mod opening;
 mod orders;
 mod paths;
@@ -12,6 +13,7 @@ mod watched;
 mod writes;
 
 pub use control::Control;
+pub use limits::limits_are_numerals;
 pub use opening::opening_switches;
 pub use paths::is_joined;
 pub use script::{Command, Numbered, SCRIPT_LIMIT, read_script};

@@ -3,7 +3,9 @@
 
 mod automata;
 mod files;
+mod limits;
 mod trace;
 
 pub use automata::{wip, wwnr};
 pub use files::{Generated, MAX_BLOCKS, generate};
+pub use limits::limits_are_numerals;

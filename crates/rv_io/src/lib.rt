@@ -5,6 +5,7 @@
 mod calls;
 mod disk;
 mod gate;
+mod limits;
 mod mem_sink;
 mod mem_store;
 mod piece;
@@ -14,6 +15,7 @@ mod store;
 
 pub use disk::Disk;
 pub use gate::{Gate, OpenGate};
+pub use limits::limits_are_numerals;
 pub use mem_sink::MemSink;
 pub use mem_store::MemStore;
 pub use piece::piece_of;

@@ -9,16 +9,8 @@ ghost use Rattle.rv_journal.specs.Whole.{IsWholeRun};
 ghost use Rattle.rv_journal.specs.inner.Whole.{is_failed_entry, shows_failure};
 
 use rv_model::{Act, Entry, Mode};
+use rv_text::{CLEAN, FAILURE, STOPPED_SOME};
 use rv_word::set_of;
-
-/// Nothing failed, and no instance was stopped.
-const CLEAN: u8 = 0;
-
-/// A delivery failed.
-const FAILURE: u8 = 1;
-
-/// None failed, and an instance was stopped.
-const STOPPED_SOME: u8 = 6;
 
 /// Whether a hit of the mode, which found one word and left another, failed. A set with no row is stopped, row 0 alone
 /// waits.

@@ -6,11 +6,13 @@ mod cube;
 mod expanding;
 mod joining;
 mod laws;
+mod limits;
 mod masks;
 mod sizes;
 mod truth;
 
 pub use cube::Cube;
 pub use laws::{cubes_say_the_label, lists_are_within_their_sizes};
+pub use limits::limits_are_numerals;
 pub use masks::Masks;
 pub use sizes::MOST_CUBES;

@@ -5,15 +5,7 @@ ghost use Rattle.rv_model.specs.Records.{status_of};
 ghost use Rattle.rv_report.specs.Exit.{IsStatus};
 
 use rv_model::{Answer, Delivered, Record};
-
-/// Nothing failed, and no instance was stopped.
-pub(crate) const CLEAN: u8 = 0;
-
-/// A delivery failed.
-const FAILURE: u8 = 1;
-
-/// None failed, and an instance was stopped.
-const STOPPED_SOME: u8 = 6;
+use rv_text::{CLEAN, FAILURE, STOPPED_SOME};
 
 /// The status of records and one more, from that of the records.
 pub(crate) fn status_with(status: u8, made: &Record) -> u8

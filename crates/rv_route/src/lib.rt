@@ -8,12 +8,14 @@ mod firing;
 mod index;
 mod lanes;
 mod laws;
+mod limits;
 mod routed;
 mod router;
 mod tracing;
 
 pub use deliveries::MAX_DELIVERIES;
 pub use laws::{lines_are_routed_alike, works_are_from_rules};
+pub use limits::limits_are_numerals;
 pub use routed::Routed;
 pub use router::Router;
 pub use tracing::route;

@@ -3,17 +3,20 @@
 
 mod cursor;
 mod decimals;
+mod laws;
 mod line;
 mod lists;
 mod numbers;
 mod pieces;
 mod refusals;
 mod runs;
+mod statuses;
 mod unread;
 mod words;
 
 pub use cursor::{Cursor, TextLine, line_end, next_number, past_line_end};
 pub use decimals::decimal;
+pub use laws::numbers_are_numerals;
 pub use line::Line;
 pub use lists::push_some;
 pub use numbers::{
@@ -27,5 +30,6 @@ pub use numbers::{
 pub use pieces::Pieces;
 pub use refusals::{Refusal, Refused};
 pub use runs::{ByteClass, run_end};
+pub use statuses::{CLEAN, FAILURE, NO_MEMORY, REFUSED, STOPPED_SOME, UNREAD, UNWRITTEN};
 pub use unread::Unread;
 pub use words::Words;

@@ -17,7 +17,7 @@ use rv_core::Setup;
 use rv_feed::Lane;
 use rv_io::Store;
 use rv_model::{CpuWork, Reactor};
-use rv_text::Line;
+use rv_text::{CLEAN, FAILURE, Line};
 use std::alloc::{AllocError, Global};
 
 /// How many bytes of a journal are read at a time.
@@ -44,8 +44,8 @@ pub(crate) fn verdict_status(verdict: Verdict) -> u8
     ensures { result ≡ verdict_status verdict }
 {
     match verdict {
-        Verdict::Yes => 0,
-        Verdict::No { .. } => 1,
+        Verdict::Yes => CLEAN,
+        Verdict::No { .. } => FAILURE,
     }
 }
 

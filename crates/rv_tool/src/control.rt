@@ -15,14 +15,8 @@ use crate::output::refusal_line;
 use rv_bind::{BindFault, Bound, read_bindings, read_file, refused};
 use rv_control::{Command, Control, Numbered, read_script};
 use rv_io::Store;
-use rv_text::{Line, Refusal, Refused};
+use rv_text::{CLEAN, Line, REFUSED, Refusal, Refused};
 use std::alloc::{AllocError, Global};
-
-/// Every command was accepted.
-const ACCEPTED: u8 = 0;
-
-/// A command was refused.
-const REFUSED: u8 = 2;
 
 /// What the commands of a script came to.
 #[derive(Drop)]
@@ -102,7 +96,7 @@ fn run_commands(
     }
     Ok(Session {
         text: out.into_bytes(),
-        status: if is_refused { REFUSED } else { ACCEPTED },
+        status: if is_refused { REFUSED } else { CLEAN },
     })
 }
 

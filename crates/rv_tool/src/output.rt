@@ -4,11 +4,8 @@ ghost use Rattle.rv_tool.specs.Calls.{sink_state};
 ghost use Rattle.rv_tool.specs.Output.{refusal_text, missing_text, in_file_text, in_line_text, IsWritten};
 
 use rv_io::{PutFault, Sink, put_all};
-use rv_text::{Line, Refusal};
+use rv_text::{Line, Refusal, UNWRITTEN};
 use std::alloc::{AllocError, Global};
-
-/// A put failed.
-pub(crate) const PUT_FAILED: u8 = 4;
 
 /// The line of a refusal, which names its file and its line where it has them.
 pub(crate) fn refusal_line(
@@ -60,12 +57,12 @@ pub(crate) fn missing_line(alloc: Global, file: &[u8]) -> Result<Vec<u8>, AllocE
     Ok(line.into_bytes())
 }
 
-/// Puts a text, and answers the status that goes with it, or `PUT_FAILED` where a put failed.
+/// Puts a text, and answers the status that goes with it, or `UNWRITTEN` where a put failed.
 pub(crate) fn put_text<K: Sink>(out: &mut K, text: &[u8], status: u8) -> u8
     ensures { IsWritten (sink_state K.Sink out.old) (sink_state K.Sink out.new) text.now status result }
 {
     match put_all(out, text) {
         Ok(()) => status,
-        Err(PutFault) => PUT_FAILED,
+        Err(PutFault) => UNWRITTEN,
     }
 }

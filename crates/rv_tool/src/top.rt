@@ -29,21 +29,9 @@ use rv_bind::BindFault;
 use rv_check::Verdict;
 use rv_io::{Gate, Sink, Store};
 use rv_model::Closed;
-use rv_text::{Refusal, USAGE};
+use rv_text::{CLEAN, NO_MEMORY, REFUSED, Refusal, UNREAD, USAGE};
 use std::alloc::{AllocError, Global};
 use std::thread::Threads;
-
-/// A text was put.
-const PRINTED: u8 = 0;
-
-/// The words or a file are refused.
-const REFUSED: u8 = 2;
-
-/// A file is missing, or a read failed.
-const UNREAD: u8 = 3;
-
-/// Want of memory.
-const NO_MEMORY: u8 = 5;
 
 /// What a call came to.
 #[derive(Drop)]
@@ -135,11 +123,11 @@ fn run<R: Threads + Sync, S: Store, G: Gate + Send>(
         }
         ToolCommand::Table { kind, file } => {
             let text = read_table(alloc, store, kind, file)?;
-            Ok(without_run(text, PRINTED))
+            Ok(without_run(text, CLEAN))
         }
         ToolCommand::Header { name, file } => {
             let text = read_header(alloc, store, name, file)?;
-            Ok(without_run(text, PRINTED))
+            Ok(without_run(text, CLEAN))
         }
         ToolCommand::Control { bindings, script } => {
             let session = read_control(alloc, store, bindings, script)?;

@@ -4,6 +4,7 @@
 mod fields;
 mod head;
 mod laws;
+mod limits;
 mod line;
 mod lines;
 mod parts;
@@ -16,6 +17,7 @@ pub use laws::{
     heads_by_places, lines_move, lines_stay, refusals_stay, stamps_by_places, takes_the_trace,
     traces_ascend,
 };
+pub use limits::limits_are_numerals;
 pub use line::{LAST_CPU, LAST_PID, Span, TraceLine, read_line};
 pub use lines::Lines;
 pub use trace::{MAX_BYTES, MAX_LINES, read_trace};
