@@ -11,6 +11,7 @@ use rv_model::{Act, Answer};
 use rv_word::STOPPED;
 
 /// The place of an act's word: the switches, and then a word for each slot.
+#[inline(always)]
 pub fn word_index(act: &Act) -> usize
     ensures { result ≡ word_index act.now }
 {
@@ -37,6 +38,7 @@ fn opened(setup: &Setup, slot: u32, answer: Answer) -> Step
 }
 
 /// The word after the act, and the answer.
+#[inline(always)]
 pub fn act_on(setup: &Setup, word: u64, act: &Act) -> Step
     requires { FitsAct setup.now act.now }
     ensures answer { result.answer ≡ (acted (table_of_act setup.now act.now) (start_of_act setup.now act.now) word act.now).0 }

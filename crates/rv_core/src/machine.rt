@@ -82,6 +82,7 @@ impl Core {
     }
 
     /// Does the act, whatever acts came before, and adds its entry to the history.
+    #[inline(always)]
     pub fn step(&mut self, seat: u32, act: &Act) -> Answer
         requires { FitsAct self.old.setup act.now }
         ensures { Steps self.old self.new seat act.now result }

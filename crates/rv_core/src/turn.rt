@@ -57,6 +57,7 @@ fn from_waiting(table: &Table, mode: Mode, letter: Letter) -> Turned
 }
 
 /// Of an instance that is not stopped.
+#[inline(always)]
 pub fn turn(table: &Table, set: u32, mode: Mode, letter: Letter) -> Turned
     ensures answer { result.answer ≡ (set_turn table.now set mode letter).0 }
     ensures set { result.set ≡ (set_turn table.now set mode letter).1 }

@@ -15,6 +15,7 @@ pub struct Step {
 }
 
 /// The next word and the answer to a hit.
+#[inline(always)]
 pub fn advance(table: &Table, word: u64, hit: &Hit) -> Step
     requires { FitsTable table.now hit.now }
     ensures answer { result.answer ≡ (advanced table.now word hit.now).0 }

@@ -21,6 +21,7 @@ pub(crate) fn halts(reactors: &[Reactor], word: u64, monitor: u8, answer: Answer
 }
 
 /// What the hit is to do to its slot.
+#[inline(always)]
 fn hit_act(slot: u32, hit: &Hit) -> Act
     ensures { result ≡ hit_act slot hit.now }
 {
@@ -32,6 +33,7 @@ fn hit_act(slot: u32, hit: &Hit) -> Act
 }
 
 /// Reads the switches.
+#[inline(always)]
 fn look(core: &mut Core, seat: u32) -> u64
     ensures { LooksAt core.old core.new seat result }
 {

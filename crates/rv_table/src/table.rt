@@ -103,6 +103,7 @@ impl Table {
     }
 
     /// The rows that follow a row of the set by the letter. Bits that name no row reach nothing.
+    #[inline(always)]
     pub fn step(&self, set: u32, letter: Letter) -> u32
         ensures { result ≡ step_set self.now set letter }
     {

@@ -112,7 +112,7 @@ fn stamp_end(text: &[u8], place: usize) -> Option<usize>
 }
 
 /// Where the timestamp ends that is the word behind the one that begins here.
-#[inline(never)]
+#[inline(always)]
 fn second_stamp(text: &[u8], first: usize) -> Option<usize>
     requires { first ≤ length text.now }
     ensures value { result ≡ end_from text.now (run_end kinds.Blank text.now (run_end kinds.Word text.now first)) }

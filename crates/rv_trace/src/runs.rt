@@ -213,7 +213,7 @@ pub(crate) fn digits_end(text: &[u8], from: usize) -> usize
 }
 
 /// The same, at more than one blank.
-#[inline(never)]
+#[inline(always)]
 fn far_blanks_end(text: &[u8], from: usize) -> usize
     requires { from ≤ length text.now }
     ensures value { result ≡ run_end kinds.Blank text.now from }
