@@ -1,4 +1,4 @@
-//! One turn of a script.
+//! One turn of a script, on one thread.
 ghost use Rattle.std.specs.Prelude.{◌≡◌, ◌+◌, ◌<◌, ◌≤◌, ◌&&◌, ◌++◌, ◌∷◌, [], length, slice_index_or, All};
 ghost use Rattle.rv_model.specs.declared.work.Delivery.{Delivery};
 ghost use Rattle.rv_model.specs.Numbers.{has_bit};
@@ -20,7 +20,7 @@ pub(crate) fn halts(reactors: &[Reactor], word: u64, monitor: u8, answer: Answer
     fails(answer) && (is_panic(reactors, monitor) && has_bit(word, REACTING))
 }
 
-/// What the hit is to do to its slot.
+/// The act of a hit on its slot: an end, or a delivery.
 fn hit_act(slot: u32, hit: &Hit) -> Act
     ensures { result ≡ hit_act slot hit.now }
 {
@@ -31,7 +31,7 @@ fn hit_act(slot: u32, hit: &Hit) -> Act
     }
 }
 
-/// Reads the switches.
+/// Makes a look, and gives the switches that it found.
 fn look(core: &mut Core, seat: u32) -> u64
     ensures { LooksAt core.old core.new seat result }
 {
@@ -41,7 +41,8 @@ fn look(core: &mut Core, seat: u32) -> u64
     }
 }
 
-/// The delivery at this place, which a look shows on, and its record. True where the script ends here.
+/// Makes the delivery at the index `place`, keeps its record, halts the run where a failure asks for it, and says
+/// whether the script ends with it.
 fn deliver(
     core: &mut Core,
     seat: u32,
@@ -73,7 +74,7 @@ fn deliver(
     ends
 }
 
-/// One turn: a look, and the deliveries that it shows on. True where the script ends here.
+/// Plays one turn, a look and the deliveries that it enables, and says whether the script ends within it.
 pub(crate) fn play_turn(core: &mut Core, reactors: &[Reactor], lane: &mut Lane, turn: &Turn) -> bool
     requires fit { All (FitsDelivery core.old.setup) lane.old.work.deliveries }
     requires order { turn.now.from ≤ turn.now.to }
