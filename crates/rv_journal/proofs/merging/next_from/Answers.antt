@@ -1,4 +1,4 @@
--- The lane that is read is the one at the place.
+-- The lane that is read is the one at the index.
 use Rattle.std.proofs.Common.{◌≡◌, sym, subst}
 use Rattle.std.specs.Prelude.{MatchOption, []}
 use Rattle.rv_journal.specs.CountedLanes.{CountedLaneValue}

@@ -1,4 +1,4 @@
--- The test tells whether it is ready.
+-- The test of the lane's next step decides whether it is ready.
 use Rattle.std.proofs.Common.{sym, ◌∙◌}
 use Rattle.rv_journal.specs.inner.MergeRuns.{merge_run}
 use Rattle.rv_journal.proofs.ReadyLemmas.{read-in_slots, ready-there, unready-there}
