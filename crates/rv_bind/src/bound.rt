@@ -83,12 +83,12 @@ fn owned(alloc: Global, field: Option<&[u8]>) -> Result<Option<Name>, AllocError
     }
 }
 
-/// Adds the monitor at the index `place` to the items, unless it is in a container.
-fn add_item(items: &mut Vec<Item>, container: Option<u8>, place: u8) -> Result<(), AllocError>
-    ensures { OnOk result (items.new.items ≡ items.old.items ++ items_of container place) }
+/// Adds the monitor at `index` to the items, unless it is in a container.
+fn add_item(items: &mut Vec<Item>, container: Option<u8>, index: u8) -> Result<(), AllocError>
+    ensures { OnOk result (items.new.items ≡ items.old.items ++ items_of container index) }
 {
     if container.is_none() {
-        items.push(Item::Monitor(place))?;
+        items.push(Item::Monitor(index))?;
     }
     Ok(())
 }

@@ -135,11 +135,11 @@ pub(crate) fn allows_hit(
     allows_what(alloc, spec, mode, words)
 }
 
-fn bit(place: usize) -> u32
-    requires { place < 32 }
-    ensures { result ≡ 2 ^ place }
+fn bit(index: usize) -> u32
+    requires { index < 32 }
+    ensures { result ≡ 2 ^ index }
 {
-    1 << place
+    1 << index
 }
 
 /// Whether one of the words is this sign and the atom's name.
@@ -156,13 +156,13 @@ fn any_says(sign: u8, atom: &[u8], words: &[&[u8]]) -> bool
     false
 }
 
-/// The set, which gains the bit at the index `place`, above all its own, if `is_in` says so.
-fn with_place(set: u32, place: usize, is_in: bool) -> u32
-    requires place { place < 32 }
-    requires below { set < 2 ^ place }
-    ensures { result ≡ (if is_in then 1 else 0) * 2 ^ place + set }
+/// The set, which gains the bit at `index`, above all its own, if `is_in` says so.
+fn with_place(set: u32, index: usize, is_in: bool) -> u32
+    requires index { index < 32 }
+    requires below { set < 2 ^ index }
+    ensures { result ≡ (if is_in then 1 else 0) * 2 ^ index + set }
 {
-    if is_in { bit(place) + set } else { set }
+    if is_in { bit(index) + set } else { set }
 }
 
 /// The set of the atoms that a word names with this sign, a bit for each atom's index.

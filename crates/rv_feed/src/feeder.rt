@@ -55,7 +55,7 @@ fn serve<G: Gate>(
     board.deliver(seat, cpu, slot, &delivery.hit, gate)
 }
 
-/// Makes the delivery at the index `place`, keeps its record, halts the run where a failure asks for it, and says
+/// Makes the delivery at `index`, keeps its record, halts the run where a failure asks for it, and says
 /// whether the script ends with it.
 fn deliver<G: Gate>(
     board: &Board,
@@ -63,19 +63,19 @@ fn deliver<G: Gate>(
     reactors: &[Reactor],
     word: u64,
     line: u32,
-    place: u32,
+    index: u32,
     lane: &mut Lane,
     gate: &mut G,
 ) -> bool
     requires board { seat.old.board ≡ board.now }
-    requires place { place < length lane.old.work.deliveries }
-    requires fits { (d : Delivery) → FitsDelivery board.now.setup (slice_index_or lane.old.work.deliveries place d) }
+    requires index { index < length lane.old.work.deliveries }
+    requires fits { (d : Delivery) → FitsDelivery board.now.setup (slice_index_or lane.old.work.deliveries index d) }
     requires room { length lane.old.records < lane.old.room }
-    ensures { (d : Delivery) → FeedsDelivery seat.old seat.new (panics_of reactors.now) word line (slice_index_or lane.old.work.deliveries place d) lane.old lane.new result }
+    ensures { (d : Delivery) → FeedsDelivery seat.old seat.new (panics_of reactors.now) word line (slice_index_or lane.old.work.deliveries index d) lane.old lane.new result }
 {
-    let delivery = delivery_at(lane, place);
+    let delivery = delivery_at(lane, index);
     let outcome = serve(board, seat, cpu_of(lane), &delivery, gate);
-    keep(lane, place, line, outcome, has_bit(word, REACTING));
+    keep(lane, index, line, outcome, has_bit(word, REACTING));
     let ends = ends(reactors, word, delivery.monitor, outcome);
     if ends {
         board.halt(seat);

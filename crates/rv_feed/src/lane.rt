@@ -80,14 +80,14 @@ pub(crate) fn assert_invariant(lane: &Lane)
     let _ = &lane.work.turns;
 }
 
-/// Keeps the record of the delivery at the index `place` of the work, for which there is room.
-pub(crate) fn keep(lane: &mut Lane, place: u32, line: u32, outcome: Delivered, reacting: bool)
-    requires place { place < length lane.old.work.deliveries }
+/// Keeps the record of the delivery at `index` in the work, for which there is room.
+pub(crate) fn keep(lane: &mut Lane, index: u32, line: u32, outcome: Delivered, reacting: bool)
+    requires index { index < length lane.old.work.deliveries }
     requires room { length lane.old.records < lane.old.room }
-    ensures { (d : Delivery) → AddsRecords lane.old lane.new (record_on line outcome reacting (slice_index_or lane.old.work.deliveries place d) ∷ []) }
+    ensures { (d : Delivery) → AddsRecords lane.old lane.new (record_on line outcome reacting (slice_index_or lane.old.work.deliveries index d) ∷ []) }
 {
     let kept = Kept {
-        place,
+        place: index,
         line,
         outcome: Outcome::of(outcome),
         reacting,
@@ -121,11 +121,11 @@ pub(crate) fn cpu_of(lane: &Lane) -> u32
     lane.work.cpu as u32
 }
 
-pub(crate) fn delivery_at(lane: &Lane, place: u32) -> Delivery
-    requires { place < length lane.now.work.deliveries }
-    ensures { (d : Delivery) → result ≡ slice_index_or lane.now.work.deliveries place d }
+pub(crate) fn delivery_at(lane: &Lane, index: u32) -> Delivery
+    requires { index < length lane.now.work.deliveries }
+    ensures { (d : Delivery) → result ≡ slice_index_or lane.now.work.deliveries index d }
 {
-    lane.work.deliveries[place as usize]
+    lane.work.deliveries[index as usize]
 }
 
 pub(crate) fn turn_count(lane: &Lane) -> usize
@@ -134,9 +134,9 @@ pub(crate) fn turn_count(lane: &Lane) -> usize
     lane.work.turns.len()
 }
 
-pub(crate) fn turn_at(lane: &Lane, place: usize) -> Turn
-    requires { place < length lane.now.work.turns }
-    ensures { (t : Turn) → result ≡ slice_index_or lane.now.work.turns place t }
+pub(crate) fn turn_at(lane: &Lane, index: usize) -> Turn
+    requires { index < length lane.now.work.turns }
+    ensures { (t : Turn) → result ≡ slice_index_or lane.now.work.turns index t }
 {
-    lane.work.turns[place]
+    lane.work.turns[index]
 }

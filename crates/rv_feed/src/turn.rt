@@ -41,7 +41,7 @@ fn look(core: &mut Core, seat: u32) -> u64
     }
 }
 
-/// Makes the delivery at the index `place`, keeps its record, halts the run where a failure asks for it, and says
+/// Makes the delivery at `index`, keeps its record, halts the run where a failure asks for it, and says
 /// whether the script ends with it.
 fn deliver(
     core: &mut Core,
@@ -49,20 +49,20 @@ fn deliver(
     reactors: &[Reactor],
     word: u64,
     line: u32,
-    place: u32,
+    index: u32,
     lane: &mut Lane,
 ) -> bool
-    requires place { place < length lane.old.work.deliveries }
-    requires fits { (d : Delivery) → FitsDelivery core.old.setup (slice_index_or lane.old.work.deliveries place d) }
+    requires index { index < length lane.old.work.deliveries }
+    requires fits { (d : Delivery) → FitsDelivery core.old.setup (slice_index_or lane.old.work.deliveries index d) }
     requires room { length lane.old.records < lane.old.room }
-    ensures { (d : Delivery) → DeliversRecorded core.old core.new (panics_of reactors.now) seat word line (slice_index_or lane.old.work.deliveries place d) lane.old lane.new result }
+    ensures { (d : Delivery) → DeliversRecorded core.old core.new (panics_of reactors.now) seat word line (slice_index_or lane.old.work.deliveries index d) lane.old lane.new result }
 {
-    let delivery = delivery_at(lane, place);
+    let delivery = delivery_at(lane, index);
     let slot = core.shape().slot(delivery.monitor, delivery.instance);
     let answer = core.step(seat, &hit_act(slot, &delivery.hit));
     keep(
         lane,
-        place,
+        index,
         line,
         Delivered::Done(answer),
         has_bit(word, REACTING),

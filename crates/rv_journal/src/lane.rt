@@ -46,11 +46,11 @@ pub(crate) fn assert_invariant(lane: &CountedLane)
 }
 
 /// Keeps what a delivery observed, for which there is room.
-pub(crate) fn keep(lane: &mut CountedLane, told: Counted)
+pub(crate) fn keep(lane: &mut CountedLane, observed: Counted)
     requires { length lane.old.counted < lane.old.room }
-    ensures { KeepsObserved lane.old lane.new told }
+    ensures { KeepsObserved lane.old lane.new observed }
 {
-    match lane.counted.push(told) {
+    match lane.counted.push(observed) {
         Ok(()) => (),
         Err(_) => unreachable!(),
     }
@@ -62,11 +62,11 @@ pub(crate) fn cpu_of(lane: &CountedLane) -> u32
     lane.work.cpu as u32
 }
 
-pub(crate) fn delivery_at(lane: &CountedLane, place: u32) -> Delivery
-    requires { place < length lane.now.work.deliveries }
-    ensures { (d : Delivery) → result ≡ slice_index_or lane.now.work.deliveries place d }
+pub(crate) fn delivery_at(lane: &CountedLane, index: u32) -> Delivery
+    requires { index < length lane.now.work.deliveries }
+    ensures { (d : Delivery) → result ≡ slice_index_or lane.now.work.deliveries index d }
 {
-    lane.work.deliveries[place as usize]
+    lane.work.deliveries[index as usize]
 }
 
 pub(crate) fn turn_count(lane: &CountedLane) -> usize
@@ -75,9 +75,9 @@ pub(crate) fn turn_count(lane: &CountedLane) -> usize
     lane.work.turns.len()
 }
 
-pub(crate) fn turn_at(lane: &CountedLane, place: usize) -> Turn
-    requires { place < length lane.now.work.turns }
-    ensures { (t : Turn) → result ≡ slice_index_or lane.now.work.turns place t }
+pub(crate) fn turn_at(lane: &CountedLane, index: usize) -> Turn
+    requires { index < length lane.now.work.turns }
+    ensures { (t : Turn) → result ≡ slice_index_or lane.now.work.turns index t }
 {
-    lane.work.turns[place]
+    lane.work.turns[index]
 }

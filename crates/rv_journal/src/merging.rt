@@ -67,38 +67,38 @@ fn count(changes: &mut Vec<u64>, step: &MergeStep)
     }
 }
 
-/// The next step of the lane at the index `place`, which has come as far as the cursor.
-fn next_from(cursor: &LaneProgress, lanes: &[CountedLane], place: usize) -> Option<NextStep>
-    requires low { place < length lanes.now }
-    requires cursor { IsCursor (lane_at lanes.now place) cursor.now }
-    ensures { MatchOption result (rest_of (lane_at lanes.now place) cursor.now ≡ []) (λ next. GoesTo (lane_at lanes.now place) cursor.now next.step next.cursor) }
+/// The next step of the lane at `index`, which has come as far as the cursor.
+fn next_from(cursor: &LaneProgress, lanes: &[CountedLane], index: usize) -> Option<NextStep>
+    requires low { index < length lanes.now }
+    requires cursor { IsCursor (lane_at lanes.now index) cursor.now }
+    ensures { MatchOption result (rest_of (lane_at lanes.now index) cursor.now ≡ []) (λ next. GoesTo (lane_at lanes.now index) cursor.now next.step next.cursor) }
 {
-    cursor.next(&lanes[place])
+    cursor.next(&lanes[index])
 }
 
-fn cpu_at(lanes: &[CountedLane], place: usize) -> u32
-    requires { place < length lanes.now }
-    ensures { result ≡ (lane_at lanes.now place).work.cpu }
+fn cpu_at(lanes: &[CountedLane], index: usize) -> u32
+    requires { index < length lanes.now }
+    ensures { result ≡ (lane_at lanes.now index).work.cpu }
 {
-    cpu_of(&lanes[place])
+    cpu_of(&lanes[index])
 }
 
-fn seat_at(lanes: &[CountedLane], place: usize) -> u32
-    requires { place < length lanes.now }
-    ensures { result ≡ seat_of (lane_at lanes.now place) }
+fn seat_at(lanes: &[CountedLane], index: usize) -> u32
+    requires { index < length lanes.now }
+    ensures { result ≡ seat_of (lane_at lanes.now index) }
 {
-    seat_of(&lanes[place])
+    seat_of(&lanes[index])
 }
 
-/// Whether the lane at the index `place` is of a lower CPU than the lane at the index `found`, if one was found.
-fn is_lower(lanes: &[CountedLane], place: usize, found: Option<usize>) -> bool
-    requires place { place < length lanes.now }
+/// Whether the lane at `index` is of a lower CPU than the lane at `found`, if one was found.
+fn is_lower(lanes: &[CountedLane], index: usize, found: Option<usize>) -> bool
+    requires index { index < length lanes.now }
     requires found { MatchOption found ⊤ (λ l. l < length lanes.now) }
-    ensures { (result ≡ true) ↔ MatchOption found ⊤ (λ l. (lane_at lanes.now place).work.cpu < (lane_at lanes.now l).work.cpu) }
+    ensures { (result ≡ true) ↔ MatchOption found ⊤ (λ l. (lane_at lanes.now index).work.cpu < (lane_at lanes.now l).work.cpu) }
 {
     match found {
         None => true,
-        Some(found) => cpu_at(lanes, place) < cpu_at(lanes, found),
+        Some(found) => cpu_at(lanes, index) < cpu_at(lanes, found),
     }
 }
 
@@ -142,15 +142,15 @@ impl Merging {
         }
     }
 
-    /// Whether the lane at the index `place` has a next step, and it may be placed now.
-    fn is_ready_at(&self, _setup: &Setup, lanes: &[CountedLane], place: usize) -> bool
+    /// Whether the lane at `index` has a next step, and it may be placed now.
+    fn is_ready_at(&self, _setup: &Setup, lanes: &[CountedLane], index: usize) -> bool
         ghost seen: { List Entry }
         requires merging { IsMerging (merge_run _setup.now seen) lanes.now self.now.placed.items self.now.cursors.items self.now.changes.items self.now.waits }
-        requires low { place < length lanes.now }
-        ensures ready { result ≡ true → IsReadyAt lanes.now self.now.placed.items self.now.cursors.items place }
-        ensures unready { result ≡ false → CannotGoAt lanes.now self.now.placed.items self.now.cursors.items place }
+        requires low { index < length lanes.now }
+        ensures ready { result ≡ true → IsReadyAt lanes.now self.now.placed.items self.now.cursors.items index }
+        ensures unready { result ≡ false → CannotGoAt lanes.now self.now.placed.items self.now.cursors.items index }
     {
-        match next_from(&self.cursors[place], lanes, place) {
+        match next_from(&self.cursors[index], lanes, index) {
             Some(next) => self.is_ready(&next.step),
             None => false,
         }
@@ -171,28 +171,28 @@ impl Merging {
         lowest
     }
 
-    /// Places the next step of the lane at the index `place`, which is ready, and releases what was pending for it.
+    /// Places the next step of the lane at `index`, which is ready, and releases what was pending for it.
     fn place(
         &mut self,
         setup: &Setup,
         lanes: &[CountedLane],
-        place: usize,
+        index: usize,
     ) -> Result<(), AllocError>
         ghost seen: { List Entry }
         requires merging { IsMerging (merge_run setup.now seen) lanes.now self.old.placed.items self.old.cursors.items self.old.changes.items self.old.waits }
-        requires ready { IsReadyAt lanes.now self.old.placed.items self.old.cursors.items place }
+        requires ready { IsReadyAt lanes.now self.old.placed.items self.old.cursors.items index }
         ensures merging { OnOk result (IsMerging (merge_run setup.now seen) lanes.now self.new.placed.items self.new.cursors.items self.new.changes.items self.new.waits) }
         ensures fewer { OnOk result (steps_left lanes.now self.new.cursors.items < steps_left lanes.now self.old.cursors.items) }
     {
-        let Some(next) = next_from(&self.cursors[place], lanes, place) else {
+        let Some(next) = next_from(&self.cursors[index], lanes, index) else {
             unreachable!()
         };
-        let then = next_from(&next.cursor, lanes, place);
+        let then = next_from(&next.cursor, lanes, index);
         release_pending(&mut self.waits, &next.step, &then)?;
-        let seat = seat_at(lanes, place);
+        let seat = seat_at(lanes, index);
         self.placed
             .push(entry_of(&next.step, seat, switches_of(setup)))?;
-        self.cursors[place] = next.cursor;
+        self.cursors[index] = next.cursor;
         count(&mut self.changes, &next.step);
         Ok(())
     }

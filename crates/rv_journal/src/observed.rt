@@ -77,9 +77,9 @@ pub(crate) fn item_count(lane: &CountedLane) -> usize
     lane.counted.len()
 }
 
-pub(crate) fn item_at(lane: &CountedLane, place: usize) -> Counted
-    requires { place < length lane.now.counted }
-    ensures { (c : Counted) → result ≡ slice_index_or lane.now.counted place c }
+pub(crate) fn item_at(lane: &CountedLane, index: usize) -> Counted
+    requires { index < length lane.now.counted }
+    ensures { (c : Counted) → result ≡ slice_index_or lane.now.counted index c }
 {
-    lane.counted[place]
+    lane.counted[index]
 }
