@@ -1,4 +1,4 @@
--- Lists of monitors and names.
+-- A name is found in a list, and what a line about the monitor of that name adds.
 use Rattle.std.proofs.Common.{◌≡◌, ℕ, zero, suc, ◌<◌, ◌≤◌, true, false, ◌⊎◌, inl, inr, ◌+◌, List, [], ◌∷◌, ◌++◌, length, get_or, set, sym, ap, ◌∙◌, arith}
 use Rattle.std.specs.Prelude.{Option, Some, slice_get, slice_index_or, bytes_eq, nat_lt, Ok}
 use Rattle.std.specs.List.{position_or_len}

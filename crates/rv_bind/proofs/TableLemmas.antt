@@ -1,4 +1,4 @@
--- The tables of specifications.
+-- The table of a rule is the one that its formula's parts give, and means the rule.
 use Rattle.std.proofs.Common.{◌≡◌, List, sym, ap, ◌∙◌, subst}
 use Rattle.std.specs.Prelude.{Result, Ok, Err, IfOk}
 use Rattle.rv_text.specs.declared.refusals.Refusal.{Refusal}

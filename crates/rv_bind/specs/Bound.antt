@@ -1,4 +1,4 @@
--- What a bindings file says (this project's choice: docs/FORMATS.md, "Bindings").
+-- What the lines of a bindings file make of the bindings (this project's choice: docs/FORMATS.md, "Bindings").
 use Rattle.std.specs.Prelude.{ℕ, Bool, true, ◌||◌, List, [], ◌∷◌, ◌++◌, length, nat_lt, bytes_eq, position, is_some, Option, Some, None, option_map, Result, Ok, Err, if◌then◌else◌}
 use Rattle.rv_text.specs.declared.numbers.TheConstants.{BIND_SYNTAX, NAME_TWICE, TOO_MANY_MONITORS}
 use Rattle.rv_text.specs.TextLines.{LineText, lines_of}
@@ -22,32 +22,32 @@ use Rattle.rv_bind.specs.MonitorLines.{begin_bound, change_bound, disabled, reac
 
 -- ---- one line
 
--- the monitor has this name
+-- whether the monitor has this name
 abbrev pub is_called : List ℕ → Monitor → Bool
 is_called name m = bytes_eq m.name name
 
--- a container or a monitor has the name
+-- whether a container or a monitor has the name
 abbrev pub is_taken : BoundValue → List ℕ → Bool
 is_taken bound name = is_some (position (is_called name) bound.monitors) || is_some (position (λ other. bytes_eq other name) bound.containers)
 
--- the monitor's place
+-- the index of the first monitor of this name, if there is one
 abbrev pub monitor_named : BoundValue → List ℕ → Option ℕ
 monitor_named bound name = position (is_called name) bound.monitors
 
--- the place of the container, where one is named
+-- the index of the container that a line names, or none where it names none; an unknown name is of no form
 abbrev pub holder_named : List (List ℕ) → Option (List ℕ) → Result (Option ℕ) ℕ
 holder_named containers None = Ok None
 holder_named containers (Some name) = or_syntax (option_map Some (position (λ other. bytes_eq other name) containers))
 
--- the name is free, and there is room for one more monitor
+-- nothing where the name is free and there is room for one more monitor, and else why not
 abbrev pub room_for : BoundValue → List ℕ → Result Unit ℕ
 room_for bound name = if is_taken bound name then Err NAME_TWICE else if nat_lt (length bound.monitors) MAX_MONITORS then Ok tt else Err TOO_MANY_MONITORS
 
--- the monitor's container, where there is room for the monitor
+-- the index of a new monitor's container, or none where it has none; refused where the monitor has no room
 abbrev pub place_for : BoundValue → List ℕ → Option (List ℕ) → Result (Option ℕ) ℕ
 place_for bound name holder = after (holder_named bound.containers holder) (λ place. after (room_for bound name) (λ free. Ok place))
 
--- a monitor in a container is no item by itself
+-- the items that a new monitor adds: itself, or none where it is in a container
 abbrev pub items_of : Option ℕ → ℕ → List Item
 items_of None place = items.Monitor place ∷ []
 items_of (Some holder) place = []
@@ -56,7 +56,7 @@ items_of (Some holder) place = []
 abbrev pub new_monitor : List ℕ → Option ℕ → Scope → List ℕ → Spec → Monitor
 new_monitor name holder scope file spec = record { name = name; container = holder; scope = scope; spec = spec; file = file; starting = 0; reactor = reactors.Nop; enabled = true }
 
--- one more monitor, with its table
+-- the bindings with one more monitor at the end, and its table
 abbrev pub with_monitor : BoundValue → List ℕ → Option ℕ → Scope → List ℕ → Compiled → BoundValue
 with_monitor bound name holder scope file compiled = record bound {
   monitors = bound.monitors ++ new_monitor name holder scope file compiled.spec ∷ [];
@@ -64,23 +64,23 @@ with_monitor bound name holder scope file compiled = record bound {
   tables = bound.tables ++ compiled.table ∷ [];
 }
 
--- what the specification's file is compiled to
+-- what the specification's file is compiled to, or its refusal, or that it is missing
 abbrev pub compiled_in : Files → SpecKind → List ℕ → Outcome Compiled
 compiled_in files kind file = of_name files file (λ text. of_file file (compiled_of kind text))
 
--- the specification's file is read and compiled where there is room for the monitor
+-- what a monitor's line makes of the bindings: its file is read only where there is room for the monitor
 abbrev pub monitor_bound : Files → List ℕ → ℕ → BoundValue → List ℕ → Scope → SpecKind → List ℕ → Option (List ℕ) → Outcome BoundValue
 monitor_bound files here line bound name scope kind file holder =
     reading (of_line here line (place_for bound name holder)) (λ place. reading (compiled_in files kind file) (λ compiled. accepted (with_monitor bound name place scope file compiled)))
 
--- one more container; a 33rd is of no form, also where its name is taken
+-- the bindings with one more container; a 33rd is of no form, also where its name is taken
 abbrev pub container_bound : BoundValue → List ℕ → Result BoundValue ℕ
 container_bound bound name =
     if nat_lt (length bound.containers) MAX_CONTAINERS
     then (if is_taken bound name then Err NAME_TWICE else Ok (record bound { containers = bound.containers ++ name ∷ []; items = bound.items ++ items.Container (length bound.containers) ∷ [] }))
     else Err BIND_SYNTAX
 
--- what a line of this form makes of the bindings
+-- what a line of this form makes of the bindings, by the files that it may name
 abbrev pub form_bound : Files → List ℕ → ℕ → BoundValue → FormValue → Outcome BoundValue
 form_bound files here line bound skipped = accepted bound
 form_bound files here line bound (container name) = of_line here line (container_bound bound name)
@@ -90,22 +90,22 @@ form_bound files here line bound (react name reactor) = of_line here line (chang
 form_bound files here line bound (off name) = of_line here line (change_bound bound (monitor_named bound name) disabled)
 form_bound files here line bound (begin name atom) = of_line here line (begin_bound bound (monitor_named bound name) atom)
 
--- a line that ends past the limit is of no form, whatever it says
+-- the form of a line; one that ends past the limit is of no form, whatever it says
 abbrev pub form_in : LineText → Result FormValue ℕ
 form_in line = if nat_lt TEXT_LIMIT line.end then Err BIND_SYNTAX else form_of (words_of line.bytes)
 
--- what a line makes of the bindings, or its refusal
+-- what a line makes of the bindings, or its refusal, or a missing file
 abbrev pub line_bound : Files → List ℕ → BoundValue → LineText → Outcome BoundValue
 line_bound files here bound line = reading (of_line here line.number (form_in line)) (form_bound files here line.number bound)
 
 -- ---- the whole file
 
--- the lines in order, up to the first refusal or missing file
+-- what the lines make of the bindings, in order, up to the first refusal or missing file
 abbrev pub lines_bound : Files → List ℕ → BoundValue → List LineText → Outcome BoundValue
 lines_bound files here bound [] = accepted bound
 lines_bound files here bound (line ∷ lines) = reading (line_bound files here bound line) (λ next. lines_bound files here next lines)
 
--- no line was read yet
+-- the bindings before the first line
 abbrev pub nothing_bound : BoundValue
 nothing_bound = record { containers = []; monitors = []; rules = []; items = []; tables = [] }
 

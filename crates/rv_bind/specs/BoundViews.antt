@@ -1,8 +1,8 @@
--- The program's bindings as plain values.
+-- The program's bindings as contracts see them.
 use Rattle.rv_bind.specs.declared.bindings.Bound.{Bound}
 use Rattle.rv_bind.specs.Values.{BoundValue}
 
--- the containers, monitors, rules and items of the bindings, and the tables beside them
+-- the bindings and their tables as one plain value
 abbrev pub bound_value : Bound → BoundValue
 bound_value b = record {
   containers = b.bindings.containers;

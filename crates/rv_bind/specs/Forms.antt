@@ -12,23 +12,23 @@ use Rattle.rv_model.specs.Reactors.{reactor_named}
 use Rattle.rv_model.specs.Words.{kind_named, scope_named}
 use Rattle.rv_bind.specs.LineWords.{Read, Words, no_word_left, is_field, is_name, mode_named, or_syntax, test_of, when, word_at, after}
 
--- a line by its form
+-- what a bindings line says, by its form
 pub data FormValue : Type 0 where
   skipped : FormValue
-  -- its name
+  -- the container's name
   container : List ℕ → FormValue
-  -- its name, scope, kind and file, and its container
+  -- the monitor's name, scope, kind of specification and file, and its container's name
   monitor : List ℕ → Scope → SpecKind → List ℕ → Option (List ℕ) → FormValue
   -- the monitor, the event, the field that has the pid, the tests, the mode, and the words that say what is brought
   on : List ℕ → List ℕ → Option (List ℕ) → List Test → Mode → Words → FormValue
   -- the monitor and its reactor
   react : List ℕ → Reactor → FormValue
-  -- the monitor
+  -- the monitor, which is not enabled when a run begins
   off : List ℕ → FormValue
-  -- the monitor and the atom
+  -- the monitor and the atom, which starts true
   begin : List ℕ → List ℕ → FormValue
 
--- NAME
+-- after `container`: NAME
 abbrev pub container_form : Words → Result FormValue ℕ
 container_form words =
     after (word_at words) (λ name.
@@ -36,7 +36,7 @@ container_form words =
     after (no_word_left name.1) (λ done.
     Ok (container called))))
 
--- [in CONTAINER]
+-- at the end of a monitor's line: [in CONTAINER]
 abbrev pub holder_at : Words → Result (Option (List ℕ)) ℕ
 holder_at [] = Ok None
 holder_at (word ∷ words) =
@@ -45,7 +45,7 @@ holder_at (word ∷ words) =
     after (no_word_left name.1) (λ done.
     Ok (Some name.0))))
 
--- NAME SCOPE KIND FILE [in CONTAINER]
+-- after `monitor`: NAME SCOPE KIND FILE [in CONTAINER]
 abbrev pub monitor_form : Words → Result FormValue ℕ
 monitor_form words =
     after (word_at words) (λ name.
@@ -59,7 +59,7 @@ monitor_form words =
     after (holder_at file.1) (λ holder.
     Ok (monitor called reach language text holder))))))))))
 
--- MONITOR REACTOR
+-- after `react`: MONITOR REACTOR
 abbrev pub react_form : Words → Result FormValue ℕ
 react_form words =
     after (word_at words) (λ name.
@@ -68,11 +68,11 @@ react_form words =
     after (no_word_left reactor.1) (λ done.
     Ok (react name.0 chosen)))))
 
--- MONITOR
+-- after `off`: MONITOR
 abbrev pub off_form : Words → Result FormValue ℕ
 off_form words = after (word_at words) (λ name. after (no_word_left name.1) (λ done. Ok (off name.0)))
 
--- MONITOR ATOM
+-- after `begin`: MONITOR ATOM
 abbrev pub begin_form : Words → Result FormValue ℕ
 begin_form words =
     after (word_at words) (λ name.
@@ -80,24 +80,24 @@ begin_form words =
     after (no_word_left atom.1) (λ done.
     Ok (begin name.0 atom.0))))
 
--- [by FIELD]
+-- after an event: [by FIELD]
 abbrev pub by_at : Words → Read (Option (List ℕ))
 by_at [] = Ok (None, [])
 by_at (word ∷ words) = if bytes_eq word (codes "by") then after (word_at words) (λ field. after (when (is_field field.0) field.0) (λ name. Ok (Some name, field.1))) else Ok (None, word ∷ words)
 
--- a test, and then the later ones
+-- a test, and then the tests that are read after it, or their refusal
 abbrev pub with_test : Test → Read (List Test) → Read (List Test)
 with_test test (Ok later) = Ok (test ∷ later.0, later.1)
 with_test test (Err number) = Err number
 
--- {if TEST}
+-- after an event and its field: {if TEST}
 abbrev pub tests_at : Words → Read (List Test)
 tests_at [] = Ok ([], [])
 tests_at (word ∷ []) = if bytes_eq word (codes "if") then Err BIND_SYNTAX else Ok ([], word ∷ [])
 tests_at (word ∷ test ∷ words) =
     if bytes_eq word (codes "if") then after (or_syntax (test_of test)) (λ first. with_test first (tests_at words)) else Ok ([], word ∷ test ∷ words)
 
--- : MODE {WHAT}
+-- after the tests: `:` MODE {WHAT}
 abbrev pub hit_form : (Mode → Words → FormValue) → Words → Result FormValue ℕ
 hit_form made words =
     after (word_at words) (λ colon.
@@ -106,7 +106,7 @@ hit_form made words =
     after (or_syntax (mode_named mode.0)) (λ chosen.
     Ok (made chosen mode.1)))))
 
--- MONITOR EVENT [by FIELD] {if TEST} : MODE {WHAT}
+-- after `on`: MONITOR EVENT [by FIELD] {if TEST} : MODE {WHAT}
 abbrev pub on_form : Words → Result FormValue ℕ
 on_form words =
     after (word_at words) (λ name.
@@ -118,7 +118,7 @@ on_form words =
 
 -- ---- all forms
 
--- a line without a word, or whose first word begins with `#`, is skipped
+-- the form of a line; one without a word, or whose first word begins with `#`, is skipped
 abbrev pub form_of : Words → Result FormValue ℕ
 form_of [] = Ok skipped
 form_of (word ∷ words) =

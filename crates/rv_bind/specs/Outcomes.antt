@@ -8,48 +8,49 @@ use Rattle.rv_io.specs.Files.{Files, Rose, front_read}
 use Rattle.rv_bind.specs.declared.fault.BindFault.{BindFault}
 use Rattle.rv_bind.specs.declared.fault.BindFault.TheVariants as faults
 
--- a value, or a refusal with its file, or a missing file
+-- what files come to: a value, a refusal with its file, or a missing file
 pub data Outcome (Y : Type 0) : Type 0 where
   accepted : Y → Outcome Y
-  -- the file and the refusal
+  -- the name of the file, and the refusal of its text
   refused : List ℕ → Refusal → Outcome Y
-  -- the file
+  -- the name of the file that is missing
   missing : List ℕ → Outcome Y
 
--- reads on from the value; the first refusal or missing file is the whole's
+-- goes on from the value, or keeps the first refusal or missing file
 abbrev pub reading : {X Y : Type 0} → Outcome X → (X → Outcome Y) → Outcome Y
 reading (accepted x) next = next x
 reading (refused file refusal) next = refused file refusal
 reading (missing file) next = missing file
 
--- a refusal of this file's text
+-- what a file's text comes to: a value, or a refusal with the file
 abbrev pub of_file : {X : Type 0} → List ℕ → Result X Refusal → Outcome X
 of_file file (Ok x) = accepted x
 of_file file (Err refusal) = refused file refusal
 
--- a refusal of this line of the file
+-- what a line of a file comes to: a value, or a refusal with the file and the line
 abbrev pub of_line : {X : Type 0} → List ℕ → ℕ → Result X ℕ → Outcome X
 of_line file line (Ok x) = accepted x
 of_line file line (Err number) = refused file (record { number = number; line = line })
 
--- what is read of a text, which is missing where there is none
+-- what is read of a text, or the missing file where there is none
 abbrev pub of_text : {X : Type 0} → List ℕ → Option (List ℕ) → (List ℕ → Outcome X) → Outcome X
 of_text file None read = missing file
 of_text file (Some text) read = read text
 
--- what is read of a file
+-- what is read of the file of this name, of which a store gives no more bytes than its limit
 abbrev pub of_name : {X : Type 0} → Files → List ℕ → (List ℕ → Outcome X) → Outcome X
 of_name files file read = of_text file (option_map front_read (files file)) read
 
--- the number is one of the refusals', of which `USAGE` is the first and `NO_INSTANCE` the last
+-- the number is that of a refusal: `USAGE` is the first and `NO_INSTANCE` the last
 abbrev pub IsNumber : ℕ → Type 0
 IsNumber number = (USAGE ≤ number) × (number ≤ NO_INSTANCE)
 
--- the refusal has one of these numbers
+-- the refusal's number is one that refusals have
 abbrev pub IsRefusal : Refusal → Type 0
 IsRefusal refusal = IsNumber refusal.number
 
--- what a reader answered is the outcome on what the store tells, and a refusal has one of the numbers on any store. Where its count of faults rose it may say that a file is unread
+-- what a reader answers is the outcome on the known files, and on any store a refusal has one of the numbers; where the
+-- count of faults rose, a file may be unread though it is not missing
 abbrev pub Refines : {X Y : Type 0} → (X → Y) → Option Files → ℕ → ℕ → Result X BindFault → (Files → Outcome Y) → Type 0
 Refines view told before now (Ok x) outcome = (files : Files) → told ≡ Some files → outcome files ≡ accepted (view x)
 Refines view told before now (Err faults.Memory) outcome = Unit {0}
@@ -58,22 +59,24 @@ Refines view told before now (Err (faults.Unread file)) outcome = ((files : File
 
 -- ---- which file is named
 
--- the files without this one
+-- the files, but for `file`, which is missing
 abbrev pub files_without : List ℕ → Files → Files
 files_without file files name = if bytes_eq name file then None else files name
 
--- the order of the reading comes to this file, with no refusal and no missing file before it: of the files without it, it is what is missing
+-- the reading comes to this file, with no refusal and no missing file before it: if it were missing, it would be the
+-- outcome
 abbrev pub IsReached : {Y : Type 0} → (Files → Outcome Y) → Files → List ℕ → Type 0
 IsReached outcome files file = outcome (files_without file files) ≡ missing file
 
--- a file that is said to be unread is reached on what the store tells
+-- a file that is said to be unread is reached by the reading of the known files
 abbrev pub BlamesReached : {X Y : Type 0} → Option Files → Result X BindFault → (Files → Outcome Y) → Type 0
 BlamesReached told (Ok x) outcome = Unit {0}
 BlamesReached told (Err faults.Memory) outcome = Unit {0}
 BlamesReached told (Err (faults.Refused file refusal)) outcome = Unit {0}
 BlamesReached told (Err (faults.Unread file)) outcome = (files : Files) → told ≡ Some files → IsReached outcome files file
 
--- what a reader of files answers: what is told of the files stays, the count of faults does not fall, the answer is the outcome, and a file that is said to be unread is reached
+-- what a reader of files answers: what is known of the files stays, the count of faults does not fall, the answer is
+-- the outcome, and a file that is said to be unread is reached
 pub record ReadsOutcome {X Y : Type 0} (view : X → Y) (told left : Option Files) (before now : ℕ) (result : Result X BindFault) (outcome : Files → Outcome Y) : Type 0 where
   pub kept : left ≡ told
   pub later : before ≤ now
@@ -82,13 +85,13 @@ pub record ReadsOutcome {X Y : Type 0} (view : X → Y) (told left : Option File
 
 -- ---- the faults of a file
 
--- a fault in the place of a refusal, unless memory ran out
+-- the fault is this refusal of this file, unless memory ran out
 abbrev pub IsFaultOf : BindFault → List ℕ → Refusal → Type 0
 IsFaultOf faults.Memory file refusal = Unit {0}
 IsFaultOf (faults.Refused named given) file refusal = (named ≡ file) × (given ≡ refusal)
 IsFaultOf (faults.Unread named) file refusal = ⊥
 
--- a reader's refusal with its file, or want of memory
+-- the fault is a reader's refusal with its file, or want of memory
 abbrev pub IsFaultIn : List ℕ → Refused → BindFault → Type 0
 IsFaultIn file refuseds.Memory fault = fault ≡ faults.Memory
 IsFaultIn file (refuseds.Because refusal) fault = IsFaultOf fault file refusal

@@ -1,4 +1,4 @@
--- What accepted bindings keep, whatever the store tells.
+-- What accepted bindings keep, on any store.
 use Rattle.std.specs.Prelude.{◌≡◌, ◌≢◌, ℕ, ◌^◌, ◌<◌, ◌≤◌, true, List, [], ◌∷◌, map, length, All, MatchBool, Option, Some, None, slice_get}
 use Rattle.rv_model.specs.declared.hit.Hit.{Hit}
 use Rattle.rv_model.specs.declared.hit.Mode.TheVariants as modes
@@ -16,7 +16,7 @@ use Rattle.rv_bind.specs.Values.{OnValue, BoundValue}
 use Rattle.rv_bind.specs.Compiling.{Compiles}
 use Rattle.rv_bind.specs.MonitorLines.{allows_by}
 
--- what a monitor's table and rules go by
+-- what the table and the rules of a monitor have to fit
 pub record MonitorKind : Type 0 where
   pub scope : Scope
   pub spec : Spec
@@ -30,19 +30,19 @@ kind_of m = record { scope = m.scope; spec = m.spec; starting = m.starting }
 abbrev pub kinds_of : List Monitor → List MonitorKind
 kinds_of monitors = map kind_of monitors
 
--- it is an event, and one of so many
+-- what is brought is an event, one of the first `count`
 abbrev pub FitsEvents : ℕ → What → Type 0
 FitsEvents count (whats.Da event) = event < count
 FitsEvents count (whats.Ltl on off pulse) = ⊥
 FitsEvents count whats.Nothing = ⊥
 
--- sets of atoms that there are
+-- what is brought are sets of the first `count` atoms
 abbrev pub FitsAtoms : ℕ → What → Type 0
 FitsAtoms count (whats.Da event) = ⊥
 FitsAtoms count whats.Nothing = ⊥
 FitsAtoms count (whats.Ltl on off pulse) = (on < 2 ^ count) × (off < 2 ^ count) × (pulse < 2 ^ count)
 
--- a hit of the specification's kind, in range; a start whose event is not run is an automaton's alone
+-- the hit brings what the specification takes, in range; a start that does not run its event is an automaton's alone
 abbrev pub FitsSpec : Spec → Hit → Type 0
 FitsSpec (specs.Da automaton) hit = FitsEvents (length automaton.events) hit.what
 FitsSpec (specs.Ltl rule) hit = (hit.mode ≢ modes.Start) × FitsAtoms (length rule.atoms) hit.what
@@ -56,35 +56,36 @@ abbrev pub StartsIn : Spec → ℕ → Type 0
 StartsIn (specs.Da automaton) starting = starting ≡ 0
 StartsIn (specs.Ltl rule) starting = starting < 2 ^ length rule.atoms
 
--- the table is the specification's and means it, and the starting value fits it
+-- the table is the one of the specification and means it, and the starting value fits the specification
 pub record HasTable (kind : MonitorKind) (t : Table) : Type 0 where
   pub compiles : Compiles kind.spec t
   pub starting : StartsIn kind.spec kind.starting
 
--- in order, each kind has its table, and there is no table more
+-- each kind has its table, in order, and there is no further table
 abbrev pub HaveTables : List MonitorKind → List Table → Type 0
 HaveTables [] [] = Unit {0}
 HaveTables [] (t ∷ tables) = ⊥
 HaveTables (kind ∷ kinds) [] = ⊥
 HaveTables (kind ∷ kinds) (t ∷ tables) = HasTable kind t × HaveTables kinds tables
 
--- the rule is of a monitor that there is, whose specification its hit fits where it is no end
+-- the rule is of a monitor that there is, its hit fits the monitor, and a field with a pid is named for a task monitor
+-- alone
 pub record FitsKind (kinds : List MonitorKind) (r : OnValue) : Type 0 where
   pub kind : MonitorKind
   pub there : slice_get kinds r.monitor ≡ Some kind
   pub hit : FitsRule kind.spec r.hit
   pub by : allows_by kind.scope r.by ≡ true
 
--- the containers of the monitors
+-- the index of each monitor's container, or none where it has none
 abbrev pub holders_of : List Monitor → List (Option ℕ)
 holders_of monitors = map (λ m. m.container) monitors
 
--- a container that there is, or none
+-- the index of a container, if there is one, is below their number
 abbrev pub IsHolder : ℕ → Option ℕ → Type 0
 IsHolder containers None = Unit {0}
 IsHolder containers (Some place) = place < containers
 
--- a monitor or a container that there is, of so many
+-- the index of the item is below the number of monitors, or of containers
 abbrev pub IsItem : ℕ → ℕ → Item → Type 0
 IsItem monitors containers (items.Monitor place) = place < monitors
 IsItem monitors containers (items.Container place) = place < containers

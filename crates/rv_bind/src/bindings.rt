@@ -1,27 +1,28 @@
-//! What a bindings file says, as plain data.
+//! What a bindings file says, as plain data (docs/FORMATS.md, "Bindings").
 
 use rv_model::{Hit, Name, Names, Reactor, Scope, Spec};
 use rv_table::Table;
 use std::marker::Model;
 
-/// A condition on a field of a trace line.
+/// A condition on a field of a trace line. It fails where the line does not have the field.
 #[derive(Drop)]
 pub enum Test {
     /// The field has this value.
     Is { field: Name, value: Name },
-    /// The field has a value, and it is another.
+    /// The field has another value, maybe an empty one.
     IsNot { field: Name, value: Name },
 }
 
-/// A rule: which lines hit a monitor's instance, and how. Contracts see the tests as a list.
+/// An `on` line: which trace lines hit a monitor's instance, and how. Contracts see the tests as a list.
 #[derive(Drop)]
 pub struct On {
-    /// The monitor's place in the list.
+    /// The index of the monitor.
     pub monitor: u8,
     /// The name of the trace event.
     pub event: Name,
-    /// The field that has the task's pid, in place of the line's own.
+    /// For a task monitor: the field whose value is the task's pid; else the line's own pid counts.
     pub by: Option<Name>,
+    /// All of them have to hold.
     pub tests: Vec<Test>,
     pub hit: Hit,
 }
@@ -38,32 +39,35 @@ impl Model for On {
 #[derive(Drop)]
 pub struct Monitor {
     pub name: Name,
-    /// The container's place in the list.
+    /// The index of the container, if the monitor is in one.
     pub container: Option<u8>,
     pub scope: Scope,
     pub spec: Spec,
     /// The specification's file, as the bindings spell it.
     pub file: Name,
-    /// The set of a rule's atoms that start true; 0 for an automaton.
+    /// The atoms of a rule that start true, a bit for each atom's index; 0 for an automaton.
     pub starting: u32,
     pub reactor: Reactor,
+    /// Whether it is enabled when a run begins.
     pub enabled: bool,
 }
 
-/// A container, or a monitor outside containers, by its place in its list.
+/// An item at the top of the bindings: a container, or a monitor that is in none.
 #[derive(Clone, Copy, Debug, Drop, PartialEq, Eq)]
 pub enum Item {
+    /// The index of the container.
     Container(u8),
+    /// The index of the monitor.
     Monitor(u8),
 }
 
-/// All that a bindings file says.
+/// All that a bindings file says. Each list is in the order of its lines.
 #[derive(Drop)]
 pub struct Bindings {
     pub containers: Names,
     pub monitors: Vec<Monitor>,
     pub rules: Vec<On>,
-    /// In order of their lines.
+    /// The containers and the monitors outside containers, in the order of their lines.
     pub items: Vec<Item>,
 }
 
@@ -71,5 +75,6 @@ pub struct Bindings {
 #[derive(Drop)]
 pub struct Bound {
     pub bindings: Bindings,
+    /// At each index the table of the monitor at that index.
     pub tables: Vec<Table>,
 }

@@ -1,4 +1,4 @@
-//! What was bound so far, and what a line adds to it.
+//! The bindings of the lines so far, and what a line adds to them.
 ghost use Rattle.std.specs.Prelude.{◌≡◌, ◌≤◌, ◌<◌, ◌++◌, ℕ, List, Option, Some, None, Bool, length, position, bytes_eq, option_copied, IfOk, IfSome, OnOk};
 ghost use Rattle.std.specs.List.{position_or_len};
 ghost use Rattle.rv_bind.specs.inner.LineReads.{ReadsValue};
@@ -21,7 +21,7 @@ use rv_model::{Hit, Name, Names, Reactor, Scope, Spec};
 use rv_text::{NAME_TWICE, TOO_MANY_MONITORS, TOO_MANY_RULES};
 use std::alloc::{AllocError, Global};
 
-/// The name's place in the list, or the list's length.
+/// The index at which the list has the name first, or the list's length.
 fn place_or_len(names: &Names, name: &[u8]) -> usize
     ensures { result ≡ position_or_len (λ other. bytes_eq other name.now) names.now }
 {
@@ -33,27 +33,26 @@ fn place_or_len(names: &Names, name: &[u8]) -> usize
     names.len()
 }
 
-/// The name's place in the list.
+/// The index at which the list has the name first, if it has it.
 pub(crate) fn place_in(names: &Names, name: &[u8]) -> Option<usize>
     ensures value { result ≡ position (λ other. bytes_eq other name.now) names.now }
     ensures within { IfSome result (λ place. place < length names.now) }
 {
-    let place = place_or_len(names, name);
-    if place < names.len() {
-        Some(place)
+    let index = place_or_len(names, name);
+    if index < names.len() {
+        Some(index)
     } else {
         None
     }
 }
 
-/// Whether a monitor is called so.
 fn is_called(monitor: &Monitor, name: &[u8]) -> bool
     ensures { result ≡ is_called name.now monitor.now }
 {
     monitor.name.bytes() == name
 }
 
-/// The place of the monitor of this name.
+/// The index of the first monitor that has the name, if there is one.
 fn place_of(monitors: &[Monitor], name: &[u8]) -> Option<usize>
     ensures value { result ≡ position (is_called name.now) monitors.now }
     ensures within { IfSome result (λ place. place < length monitors.now) }
@@ -61,7 +60,7 @@ fn place_of(monitors: &[Monitor], name: &[u8]) -> Option<usize>
     monitors.iter().position(|monitor| is_called(monitor, name))
 }
 
-/// Whether a monitor of the scope may have a rule that names the field of its pid.
+/// Whether a rule of a monitor of this scope may name a field that has the pid.
 fn allows_by(scope: Scope, by: Option<&[u8]>) -> bool
     ensures { result ≡ allows_by scope (option_copied by.entry) }
 {
@@ -74,7 +73,7 @@ fn allows_by(scope: Scope, by: Option<&[u8]>) -> bool
     }
 }
 
-/// The name of a field, if one is given.
+/// A copy of the name of a field, if one is given.
 fn owned(alloc: Global, field: Option<&[u8]>) -> Result<Option<Name>, AllocError>
     ensures { IfOk result (λ name. name ≡ option_copied field.entry) }
 {
@@ -84,17 +83,17 @@ fn owned(alloc: Global, field: Option<&[u8]>) -> Result<Option<Name>, AllocError
     }
 }
 
-/// One more item, where a monitor stands in no container.
-fn add_item(items: &mut Vec<Item>, container: Option<u8>, place: u8) -> Result<(), AllocError>
-    ensures { OnOk result (items.new.items ≡ items.old.items ++ items_of container place) }
+/// Adds the monitor at `index` to the items, unless it is in a container.
+fn add_item(items: &mut Vec<Item>, container: Option<u8>, index: u8) -> Result<(), AllocError>
+    ensures { OnOk result (items.new.items ≡ items.old.items ++ items_of container index) }
 {
     if container.is_none() {
-        items.push(Item::Monitor(place))?;
+        items.push(Item::Monitor(index))?;
     }
     Ok(())
 }
 
-/// The monitor of a line.
+/// The monitor of a line: enabled, with no atom that starts true, and the reactor that does nothing.
 fn new_monitor(
     alloc: Global,
     form: MonitorForm<'_>,
@@ -118,7 +117,7 @@ fn new_monitor(
 }
 
 impl Bound {
-    /// Nothing is bound.
+    /// The bindings before the first line.
     #[tactic(auto, using(crate::proofs::WellFormedLemmas::nothing_formed))]
     pub(crate) fn new(alloc: Global) -> Bound
         ensures nothing { bound_value result ≡ nothing_bound }
@@ -135,14 +134,15 @@ impl Bound {
         }
     }
 
-    /// One more container.
+    /// Adds a container at the end. A 33rd is refused as a line without a form, and else a name that is taken. Want of
+    /// memory may leave a part of it.
     pub(crate) fn add_container(&mut self, alloc: Global, name: &[u8]) -> Result<(), LineFault>
         requires { IsWellFormed (bound_value self.old) }
         ensures formed { OnOk result (IsWellFormed (bound_value self.new)) }
         ensures container { ReadsValue (λ done. bound_value self.new) result (container_bound (bound_value self.old) name.now) }
     {
-        let place = self.bindings.containers.len();
-        if place >= MAX_CONTAINERS {
+        let index = self.bindings.containers.len();
+        if index >= MAX_CONTAINERS {
             return Err(SYNTAX);
         }
         if self.is_taken(name) {
@@ -150,7 +150,7 @@ impl Bound {
         }
         let name = Name::new(alloc, name)?;
         self.bindings.containers.push(name)?;
-        self.bindings.items.push(Item::Container(place as u8))?;
+        self.bindings.items.push(Item::Container(index as u8))?;
         Ok(())
     }
 
@@ -162,7 +162,7 @@ impl Bound {
             || place_in(&self.bindings.containers, name).is_some()
     }
 
-    /// Whether the name is free, and there is room for one more monitor.
+    /// Refuses a name that is taken, and else a monitor too many.
     fn room_for(&self, name: &[u8]) -> Result<(), LineFault>
         ensures { ReadsValue (λ done. tt) result (room_for (bound_value self.now) name.now) }
     {
@@ -175,7 +175,7 @@ impl Bound {
         }
     }
 
-    /// The place of the container, where one is named.
+    /// The index of the container that a monitor's line names, if it names one. An unknown name is refused.
     fn holder(&self, holder: Option<&[u8]>) -> Result<Option<u8>, LineFault>
         requires { length (bound_value self.now).containers ≤ 32 }
         ensures place { ReadsValue (λ place. place) result (holder_named (bound_value self.now).containers (option_copied holder.entry)) }
@@ -185,12 +185,13 @@ impl Bound {
             return Ok(None);
         };
         match place_in(&self.bindings.containers, name) {
-            Some(place) => Ok(Some(place as u8)),
+            Some(index) => Ok(Some(index as u8)),
             None => Err(SYNTAX),
         }
     }
 
-    /// The container of a monitor that there is room for.
+    /// The index of a new monitor's container, if it has one. Refuses an unknown container, a name that is taken, and a
+    /// monitor too many, in this order.
     pub(crate) fn place_for(
         &self,
         name: &[u8],
@@ -206,7 +207,7 @@ impl Bound {
         Ok(container)
     }
 
-    /// One more monitor, with its table.
+    /// Adds a monitor at the end, with its table. Want of memory may leave a part of it.
     pub(crate) fn add_monitor(
         &mut self,
         alloc: Global,
@@ -221,16 +222,17 @@ impl Bound {
         ensures monitor { OnOk result (bound_value self.new ≡ with_monitor (bound_value self.old) form.entry.name.now container form.entry.scope form.entry.file.now compiled) }
         ensures formed { OnOk result (IsWellFormed (bound_value self.new)) }
     {
-        let place = self.bindings.monitors.len() as u8;
+        let index = self.bindings.monitors.len() as u8;
         let Compiled { spec, table } = compiled;
         let monitor = new_monitor(alloc, form, container, spec)?;
         self.tables.push(table)?;
-        add_item(&mut self.bindings.items, container, place)?;
+        add_item(&mut self.bindings.items, container, index)?;
         self.bindings.monitors.push(monitor)?;
         Ok(())
     }
 
-    /// One more rule.
+    /// Adds a rule at the end, or refuses it, first for its monitor and its form, then as a rule too many, and last for
+    /// an unknown event or atom.
     pub(crate) fn add_rule(&mut self, alloc: Global, on: OnForm<'_>) -> Result<(), LineFault>
         requires { IsWellFormed (bound_value self.old) }
         ensures formed { OnOk result (IsWellFormed (bound_value self.new)) }
@@ -266,7 +268,7 @@ impl Bound {
         Ok(())
     }
 
-    /// The monitor of this name has this reactor from now on.
+    /// Gives the monitor of this name another reactor, or refuses an unknown monitor.
     pub(crate) fn choose(&mut self, monitor: &[u8], reactor: Reactor) -> Result<(), LineFault>
         requires { IsWellFormed (bound_value self.old) }
         ensures formed { OnOk result (IsWellFormed (bound_value self.new)) }
@@ -279,7 +281,7 @@ impl Bound {
         Ok(())
     }
 
-    /// The monitor of this name is not enabled when a run begins.
+    /// Lets the monitor of this name not be enabled when a run begins, or refuses an unknown monitor.
     pub(crate) fn disable(&mut self, monitor: &[u8]) -> Result<(), LineFault>
         requires { IsWellFormed (bound_value self.old) }
         ensures formed { OnOk result (IsWellFormed (bound_value self.new)) }
@@ -292,7 +294,8 @@ impl Bound {
         Ok(())
     }
 
-    /// The atom of this name starts true.
+    /// Lets one more atom of the monitor of this name start true, or refuses an unknown monitor or atom, or an
+    /// automaton.
     pub(crate) fn begin(&mut self, monitor: &[u8], atom: &[u8]) -> Result<(), LineFault>
         requires { IsWellFormed (bound_value self.old) }
         ensures formed { OnOk result (IsWellFormed (bound_value self.new)) }

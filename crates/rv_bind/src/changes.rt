@@ -28,7 +28,7 @@ fn is_change(word: &[u8]) -> bool
     }
 }
 
-/// The name behind the sign.
+/// The atom's name, which is the word without its sign.
 fn atom_in(word: &[u8]) -> &[u8]
     ensures { result.now ≡ atom_in word.now }
 {
@@ -48,7 +48,6 @@ fn is_signed_name(sign: u8, atom: &[u8], word: &[u8]) -> bool
     }
 }
 
-/// Whether each word is a sign and a name.
 fn are_changes(words: &[&[u8]]) -> bool
     ensures { result ≡ list_all is_change (texts words.now) }
 {
@@ -62,7 +61,7 @@ fn are_changes(words: &[&[u8]]) -> bool
     true
 }
 
-/// Whether two words have one name behind their signs.
+/// Whether two of the words change one atom, whatever their signs.
 fn stands_twice(alloc: Global, words: &[&[u8]]) -> Result<bool, AllocError>
     ensures { IfOk result (λ twice. twice ≡ stands_twice (texts words.now)) }
 {
@@ -95,7 +94,7 @@ fn is_one(words: &[&[u8]]) -> bool
     }
 }
 
-/// Whether a mode that is no end, and its words, have the form that is the specification's.
+/// Whether the words are what the specification takes in a mode that is no end.
 fn allows_what(alloc: Global, spec: &Spec, mode: Mode, words: &[&[u8]]) -> Result<bool, AllocError>
     ensures { IfOk result (λ allowed. allowed ≡ allows_what spec.now mode (texts words.now)) }
 {
@@ -120,7 +119,7 @@ fn may_end(scope: Scope) -> bool
     }
 }
 
-/// Whether a rule's mode and words have the form that is its monitor's.
+/// Whether a rule of the scope and the specification may have the mode and the words.
 pub(crate) fn allows_hit(
     alloc: Global,
     scope: Scope,
@@ -136,15 +135,14 @@ pub(crate) fn allows_hit(
     allows_what(alloc, spec, mode, words)
 }
 
-/// The set of one atom.
-fn bit(place: usize) -> u32
-    requires { place < 32 }
-    ensures { result ≡ 2 ^ place }
+fn bit(index: usize) -> u32
+    requires { index < 32 }
+    ensures { result ≡ 2 ^ index }
 {
-    1 << place
+    1 << index
 }
 
-/// Whether a word is this sign and the atom's name.
+/// Whether one of the words is this sign and the atom's name.
 fn any_says(sign: u8, atom: &[u8], words: &[&[u8]]) -> bool
     ensures { result ≡ list_any (is_signed_name sign atom.now) (texts words.now) }
 {
@@ -158,16 +156,16 @@ fn any_says(sign: u8, atom: &[u8], words: &[&[u8]]) -> bool
     false
 }
 
-/// The set with one more place, which is in it or not.
-fn with_place(set: u32, place: usize, is_in: bool) -> u32
-    requires place { place < 32 }
-    requires below { set < 2 ^ place }
-    ensures { result ≡ (if is_in then 1 else 0) * 2 ^ place + set }
+/// The set, which gains the bit at `index`, above all its own, if `is_in` says so.
+fn with_place(set: u32, index: usize, is_in: bool) -> u32
+    requires index { index < 32 }
+    requires below { set < 2 ^ index }
+    ensures { result ≡ (if is_in then 1 else 0) * 2 ^ index + set }
 {
-    if is_in { bit(place) + set } else { set }
+    if is_in { bit(index) + set } else { set }
 }
 
-/// The set of the atoms that stand behind this sign.
+/// The set of the atoms that a word names with this sign, a bit for each atom's index.
 fn atoms_signed(sign: u8, atoms: &Names, words: &[&[u8]]) -> u32
     requires { length atoms.now ≤ 32 }
     ensures { result ≡ atoms_signed sign atoms.now (texts words.now) }
@@ -180,14 +178,13 @@ fn atoms_signed(sign: u8, atoms: &Names, words: &[&[u8]]) -> u32
     set
 }
 
-/// Whether the word names an atom.
 fn names_one(atoms: &Names, word: &[u8]) -> bool
     ensures { result ≡ is_some (place_named atoms.now (atom_in word.now)) }
 {
     place_in(atoms, atom_in(word)).is_some()
 }
 
-/// Whether each word names an atom.
+/// Whether each word names an atom of the rule.
 fn are_known(atoms: &Names, words: &[&[u8]]) -> bool
     ensures { result ≡ are_known atoms.now (texts words.now) }
 {
@@ -201,7 +198,7 @@ fn are_known(atoms: &Names, words: &[&[u8]]) -> bool
     true
 }
 
-/// What becomes of the atoms.
+/// The atoms that go on, that go off, and that are true for the event alone. An unknown one is refused.
 fn atoms_change(rule: &Rule, words: &[&[u8]]) -> Result<What, LineFault>
     ensures { ReadsValue (λ what. what) result (atoms_change rule.now.atoms (texts words.now)) }
 {
@@ -216,17 +213,17 @@ fn atoms_change(rule: &Rule, words: &[&[u8]]) -> Result<What, LineFault>
     })
 }
 
-/// The event of this name.
+/// The event of this name, by its index. An unknown one is refused.
 fn event_named(automaton: &Automaton, name: &[u8]) -> Result<What, LineFault>
     ensures { ReadsValue (λ what. what) result (event_what (place_named automaton.now.events name.now)) }
 {
     match place_in(&automaton.events, name) {
-        Some(place) => Ok(What::Da { event: place as u8 }),
+        Some(index) => Ok(What::Da { event: index as u8 }),
         None => Err(LineFault::Number(UNKNOWN_EVENT)),
     }
 }
 
-/// The one event of the words.
+/// The event that the one word names. No word, or a second, is refused as a line without a form.
 fn event_of(automaton: &Automaton, words: &[&[u8]]) -> Result<What, LineFault>
     ensures { ReadsValue (λ what. what) result (event_of automaton.now.events (texts words.now)) }
 {
@@ -236,7 +233,6 @@ fn event_of(automaton: &Automaton, words: &[&[u8]]) -> Result<What, LineFault>
     }
 }
 
-/// What the words bring, where the mode is no end.
 fn what_of(spec: &Spec, words: &[&[u8]]) -> Result<What, LineFault>
     ensures { ReadsValue (λ what. what) result (what_of spec.now (texts words.now)) }
 {
@@ -246,7 +242,7 @@ fn what_of(spec: &Spec, words: &[&[u8]]) -> Result<What, LineFault>
     }
 }
 
-/// What the hit brings.
+/// What a hit brings: an end nothing, and any other what its words say. An unknown event or atom is refused.
 pub(crate) fn brought(spec: &Spec, mode: Mode, words: &[&[u8]]) -> Result<What, LineFault>
     ensures { ReadsValue (λ what. what) result (brought spec.now mode (texts words.now)) }
 {
@@ -256,17 +252,16 @@ pub(crate) fn brought(spec: &Spec, mode: Mode, words: &[&[u8]]) -> Result<What, 
     what_of(spec, words)
 }
 
-/// The set of one atom of a rule.
 fn bit_of(rule: &Rule, atom: &[u8]) -> Result<u32, LineFault>
     ensures { ReadsValue (λ bit. bit) result (bit_at_place (place_named rule.now.atoms atom.now)) }
 {
     match place_in(&rule.atoms, atom) {
-        Some(place) => Ok(bit(place)),
+        Some(index) => Ok(bit(index)),
         None => Err(LineFault::Number(UNKNOWN_ATOM)),
     }
 }
 
-/// The set of the atom of this name, where the specification is a rule.
+/// The set of the atom of this name alone. An unknown atom is refused, and so is an automaton, which has none.
 pub(crate) fn atom_bit(spec: &Spec, atom: &[u8]) -> Result<u32, LineFault>
     ensures { ReadsValue (λ bit. bit) result (atom_bit spec.now atom.now) }
 {

@@ -1,4 +1,4 @@
-//! A specification by its text, and the table that means it.
+//! From a specification's text to the specification, and the table that means it.
 ghost use Rattle.std.specs.Prelude.{IfOk};
 ghost use Rattle.rv_text.specs.Readings.{Gives};
 ghost use Rattle.rv_model.specs.declared.formula.Spec.TheVariants.{Ltl};
@@ -15,14 +15,13 @@ use rv_tableau::{table_means_rule, tableau};
 use rv_text::Refused;
 use std::alloc::Global;
 
-/// A specification and its table.
+/// A specification, and the table that means it.
 #[derive(Drop)]
 pub(crate) struct Compiled {
     pub(crate) spec: Spec,
     pub(crate) table: Table,
 }
 
-/// The automaton of a text.
 fn compile_automaton(alloc: Global, text: &[u8]) -> Result<Compiled, Refused>
     ensures gives { Gives (λ compiled. compiled) result (compiled_of kinds.Da text.now) }
     ensures compiles { IfOk result (λ compiled. Compiles compiled.spec compiled.table) }
@@ -35,7 +34,6 @@ fn compile_automaton(alloc: Global, text: &[u8]) -> Result<Compiled, Refused>
     })
 }
 
-/// The table of a rule.
 fn rule_table(alloc: Global, rule: &Rule) -> Result<Table, Refused>
     ensures gives { Gives (λ table. table) result (formula_table rule.now.formula) }
     ensures means { IfOk result (λ table. Means table (Ltl rule.now)) }
@@ -45,7 +43,6 @@ fn rule_table(alloc: Global, rule: &Rule) -> Result<Table, Refused>
     tableau(alloc, &parts)
 }
 
-/// The rule of a text.
 fn compile_rule(alloc: Global, text: &[u8]) -> Result<Compiled, Refused>
     ensures gives { Gives (λ compiled. compiled) result (compiled_of kinds.Ltl text.now) }
     ensures compiles { IfOk result (λ compiled. Compiles compiled.spec compiled.table) }
@@ -58,7 +55,7 @@ fn compile_rule(alloc: Global, text: &[u8]) -> Result<Compiled, Refused>
     })
 }
 
-/// The specification of a text of this kind, with its table.
+/// Reads a text of this kind as a specification, and makes its table. A refusal is the text's first one.
 pub(crate) fn compile(alloc: Global, kind: SpecKind, text: &[u8]) -> Result<Compiled, Refused>
     ensures gives { Gives (λ compiled. compiled) result (compiled_of kind text.now) }
     ensures compiles { IfOk result (λ compiled. Compiles compiled.spec compiled.table) }

@@ -7,22 +7,24 @@ use rv_text::Refusal;
 use std::alloc::{AllocError, AllocFailed};
 use thiserror::Error;
 
-/// Why there are no bindings.
+/// Why files gave no bindings, or no other value that was to be read of them.
 #[derive(Debug, Drop, Error)]
 pub enum BindFault {
-    /// The bindings or a specification are not accepted.
+    /// The text of the file is not accepted.
     #[error("{refusal}")]
     Refused { file: Name, refusal: Refusal },
-    /// The file is missing, or a read failed.
+    /// The file is missing, or the store could not read it.
     #[error("a file cannot be read")]
     Unread { file: Name },
+    /// Memory ran out, which no contract rules out.
     #[error("out of memory")]
     Memory,
 }
 
-/// Why a line is not bound. The number is one of `rv_text`.
+/// Why a line is not bound.
 #[derive(Clone, Copy, Debug, Drop)]
 pub(crate) enum LineFault {
+    /// The number of the refusal, one of those of `rv_text`.
     Number(u8),
     Memory,
 }

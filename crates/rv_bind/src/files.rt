@@ -1,4 +1,4 @@
-//! The files that bindings name, and the faults that name a file.
+//! Reading the files that bindings name, with the file in each fault.
 ghost use Rattle.std.specs.Prelude.{◌≡◌, ◌≤◌, ◌⊎◌, ℕ, Option, Result, IfOk, length};
 ghost use Rattle.rv_bind.specs.FilePieces.{FailsAs, IsFilePiece};
 ghost use Rattle.rv_bind.specs.inner.LineReads.{InLine};
@@ -14,7 +14,7 @@ use rv_model::{Name, SpecKind};
 use rv_text::{Refusal, Refused};
 use std::alloc::Global;
 
-/// The bytes of a file, which is unread where it is missing or a read failed.
+/// The bytes of a file, up to the most that a store reads. It is unread where it is missing or a read failed.
 #[tactic(auto, using(crate::proofs::ReachedLemmas::unread_named))]
 pub fn read_file<S: Store>(alloc: Global, store: &mut S, name: &str) -> Result<Vec<u8>, BindFault>
     ensures { ReadsOutcome (λ text. text.items) (S.files store.old) (S.files store.new) (S.faults store.old) (S.faults store.new) result (λ files. of_name files name.now accepted) }
@@ -26,7 +26,8 @@ pub fn read_file<S: Store>(alloc: Global, store: &mut S, name: &str) -> Result<V
     }
 }
 
-/// Puts the bytes of a file from a place on into the front of the buffer, and answers how many.
+/// Reads a piece of a file, from the offset `place` on, into the front of the buffer, and gives its length. That is 0
+/// only at the end of the file, or where the buffer is empty.
 #[tactic(auto, using(crate::proofs::ReachedLemmas::unread_named))]
 pub fn fetch<S: Store>(
     alloc: Global,
@@ -47,7 +48,6 @@ pub fn fetch<S: Store>(
     }
 }
 
-/// The fault that names an unread file.
 fn unread(alloc: Global, name: &str) -> BindFault
     ensures { (result ≡ faults.Unread name.now) ⊎ (result ≡ faults.Memory) }
 {
@@ -57,7 +57,7 @@ fn unread(alloc: Global, name: &str) -> BindFault
     }
 }
 
-/// A reader's refusal of this file.
+/// The fault that is a reader's refusal of the file `name`, or want of memory.
 pub fn refused(alloc: Global, name: &str, fault: Refused) -> BindFault
     ensures { IsFaultIn name.now fault result }
 {
@@ -70,7 +70,7 @@ pub fn refused(alloc: Global, name: &str, fault: Refused) -> BindFault
     }
 }
 
-/// What came of a line of a file, with the line and the file in its fault.
+/// What came of a line, with the file and the line put into its fault.
 pub(crate) fn in_line(
     alloc: Global,
     name: &str,
@@ -90,7 +90,7 @@ pub(crate) fn in_line(
     }
 }
 
-/// The specification in a file, with its table.
+/// The specification in a file, with its table. A refusal or an unread file is named by the specification's file.
 #[tactic(auto, using(crate::proofs::ReachedLemmas::spec_named, crate::proofs::ReachedLemmas::file_named))]
 pub(crate) fn read_spec<S: Store>(
     alloc: Global,

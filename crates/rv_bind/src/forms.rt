@@ -1,4 +1,4 @@
-//! A bindings line by its form.
+//! A bindings line by its form (docs/FORMATS.md, "Bindings").
 ghost use Rattle.std.specs.Prelude.{◌≡◌, ◌∷◌, option_copied, IfOk};
 ghost use Rattle.rv_ltl.specs.inner.Texts.{texts};
 ghost use Rattle.rv_text.specs.Words.{words_of};
@@ -16,9 +16,10 @@ use rv_model::{Mode, Reactor, Scope, SpecKind};
 use rv_text::Words;
 use std::alloc::{AllocError, Global};
 
+/// What a line says. Names are borrowed from the line, and not looked up.
 #[derive(Drop)]
 pub(crate) enum Form<'a> {
-    /// Nothing is said.
+    /// A line without a word, or one that begins with `#`.
     Skipped,
     Container { name: &'a [u8] },
     Monitor(MonitorForm<'a>),
@@ -28,18 +29,18 @@ pub(crate) enum Form<'a> {
     Begin { monitor: &'a [u8], atom: &'a [u8] },
 }
 
-/// What is watched, and by which specification.
+/// What a monitor's line says: what is watched, and by which specification.
 #[derive(Drop)]
 pub(crate) struct MonitorForm<'a> {
     pub(crate) name: &'a [u8],
     pub(crate) scope: Scope,
     pub(crate) kind: SpecKind,
     pub(crate) file: &'a str,
-    /// The container's name.
+    /// The container's name, if one is given.
     pub(crate) holder: Option<&'a [u8]>,
 }
 
-/// Which lines hit which instance, and how.
+/// What an `on` line says: which lines hit which instance, and how.
 #[derive(Drop)]
 pub(crate) struct OnForm<'a> {
     pub(crate) monitor: &'a [u8],
@@ -47,11 +48,11 @@ pub(crate) struct OnForm<'a> {
     pub(crate) by: Option<&'a [u8]>,
     pub(crate) tests: Vec<Test>,
     pub(crate) mode: Mode,
-    /// What is brought: an event, or a change of an atom in each.
+    /// What is brought: an event, or in each word a change of an atom.
     pub(crate) words: Vec<&'a [u8]>,
 }
 
-/// The form of a line.
+/// The form of a line, or the refusal of one that has none.
 #[tactic(auto, using(crate::proofs::FormLemmas::on_read_is_form))]
 pub(crate) fn read_form<'a>(alloc: Global, line: &'a [u8]) -> Result<Form<'a>, LineFault>
     ensures { ReadsValue form_value result (form_of (words_of line.now)) }
@@ -105,7 +106,7 @@ fn begin_line<'a>(words: &mut Words<'a>) -> Result<Form<'a>, LineFault>
     Ok(Form::Begin { monitor, atom })
 }
 
-/// The container's name, where one is named at the line's end.
+/// The container's name, if the line goes on with `in`. Then the line has to end.
 fn holder<'a>(words: &mut Words<'a>) -> Result<Option<&'a [u8]>, LineFault>
     ensures { ReadsValue option_copied result (holder_at words.old) }
 {
@@ -166,7 +167,6 @@ fn on_line<'a>(alloc: Global, words: &mut Words<'a>) -> Result<Form<'a>, LineFau
     }))
 }
 
-/// The words that are left.
 #[tactic(auto, using(crate::proofs::FormLemmas::all_taken, crate::proofs::FormLemmas::one_taken))]
 fn rest<'a>(alloc: Global, words: &mut Words<'a>) -> Result<Vec<&'a [u8]>, AllocError>
     ensures { IfOk result (λ taken. texts taken.items ≡ words.old) }
@@ -178,7 +178,7 @@ fn rest<'a>(alloc: Global, words: &mut Words<'a>) -> Result<Vec<&'a [u8]>, Alloc
     Ok(taken)
 }
 
-/// The field that has the pid, where one is named, and the word behind.
+/// The field that has the pid, if the line goes on with `by`; and the word after it.
 fn by_field<'a>(words: &mut Words<'a>) -> Result<(Option<&'a [u8]>, &'a [u8]), LineFault>
     ensures { ReadsOn (λ by. (option_copied by.0, by.1.now)) result words.new (with_next (by_at words.old)) }
 {
@@ -191,7 +191,7 @@ fn by_field<'a>(words: &mut Words<'a>) -> Result<(Option<&'a [u8]>, &'a [u8]), L
     Ok((Some(field), word(words)?))
 }
 
-/// A test, and the word behind it.
+/// A test, and the word after it.
 fn one_test<'a>(alloc: Global, words: &mut Words<'a>) -> Result<(Test, &'a [u8]), LineFault>
     ensures { ReadsOn (λ test. (test.0, test.1.now)) result words.new (test_next words.old) }
 {
@@ -199,7 +199,7 @@ fn one_test<'a>(alloc: Global, words: &mut Words<'a>) -> Result<(Test, &'a [u8])
     Ok((made, word(words)?))
 }
 
-/// The tests from the word `next` on, and the word behind them.
+/// The tests of a line whose next word is `next`, and the word after them.
 #[tactic(auto, using(crate::proofs::TestLemmas::tests_fault, crate::proofs::TestLemmas::tests_end))]
 fn tests<'a>(
     alloc: Global,

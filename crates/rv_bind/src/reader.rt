@@ -1,4 +1,4 @@
-//! From a bindings file, and the files that it names, to bindings.
+//! From a bindings file, and the files that it names, to bindings with tables.
 ghost use Rattle.std.specs.Prelude.{IfOk, OnOk};
 ghost use Rattle.rv_text.specs.TextLines.{line_text};
 ghost use Rattle.rv_bind.specs.inner.LineReads.{ReadsValue};
@@ -18,7 +18,8 @@ use rv_io::Store;
 use rv_text::{Cursor, TextLine};
 use std::alloc::{AllocError, Global};
 
-/// Reads the bindings, and each specification as its line is reached.
+/// Reads the bindings of a file, line by line, and each specification when its line is reached. The first refusal or
+/// unread file decides, and the fault names its file. The refusal of a specification has no line (0).
 #[tactic(auto, using(crate::proofs::ReachedLemmas::bindings_named, crate::proofs::ReachedLemmas::lines_begin, crate::proofs::ReachedLemmas::rest_named))]
 pub fn read_bindings<S: Store>(alloc: Global, store: &mut S, name: &str) -> Result<Bound, BindFault>
     ensures formed { IfOk result (λ bound. IsWellFormed (bound_value bound)) }
@@ -33,7 +34,7 @@ pub fn read_bindings<S: Store>(alloc: Global, store: &mut S, name: &str) -> Resu
     Ok(bound)
 }
 
-/// The form of a line that ends in time.
+/// The form of a line. One that ends past the limit has none, whatever it says.
 fn form_in<'a>(alloc: Global, line: &TextLine<'a>) -> Result<Form<'a>, LineFault>
     ensures { ReadsValue form_value result (form_in (line_text line.now)) }
 {
@@ -43,7 +44,7 @@ fn form_in<'a>(alloc: Global, line: &TextLine<'a>) -> Result<Form<'a>, LineFault
     read_form(alloc, line.bytes)
 }
 
-/// Adds what the line says.
+/// Adds what a line says to the bindings, or gives its fault with the file `here`.
 #[tactic(auto, using(crate::proofs::OutcomeLemmas::line_goes_on, crate::proofs::ReachedLemmas::line_named, crate::proofs::ReachedLemmas::goes_on_named))]
 fn bind_line<S: Store>(
     alloc: Global,
@@ -62,7 +63,7 @@ fn bind_line<S: Store>(
     }
 }
 
-/// Adds what a form says.
+/// Adds what a form says to the bindings, or gives its fault with the file `here` and the line.
 #[tactic(auto, using(crate::proofs::NumberLemmas::container_numbered, crate::proofs::NumberLemmas::rule_numbered, crate::proofs::NumberLemmas::change_numbered, crate::proofs::NumberLemmas::begin_numbered, crate::proofs::OutcomeLemmas::line_comes, crate::proofs::OutcomeLemmas::line_done, crate::proofs::ReachedLemmas::line_named))]
 fn bind_form<S: Store>(
     alloc: Global,
@@ -92,7 +93,7 @@ fn bind_form<S: Store>(
     }
 }
 
-/// Adds a monitor, whose specification is read where there is room for it.
+/// Adds a monitor to the bindings. Its specification is read only where there is room for it.
 #[tactic(auto, using(crate::proofs::NumberLemmas::place_numbered, crate::proofs::OutcomeLemmas::line_fault, crate::proofs::ReachedLemmas::line_named, crate::proofs::ReachedLemmas::monitor_named))]
 fn bind_monitor<S: Store>(
     alloc: Global,

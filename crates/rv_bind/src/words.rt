@@ -13,17 +13,16 @@ use rv_model::{Mode, Name, Reactor, Scope, SpecKind};
 use rv_text::{BIND_SYNTAX, Words};
 use std::alloc::Global;
 
-/// A line that has none of the forms.
+/// The refusal of a line that has none of the forms.
 pub(crate) const SYNTAX: LineFault = LineFault::Number(BIND_SYNTAX);
 
-/// Whether the word is this one.
 pub(crate) fn is(word: &[u8], said: &str) -> bool
     ensures { result ≡ bytes_eq word.now said.now }
 {
     word == said.as_bytes()
 }
 
-/// The next word.
+/// The next word, or the refusal of a line that ends too early.
 pub(crate) fn word<'a>(words: &mut Words<'a>) -> Result<&'a [u8], LineFault>
     ensures { ReadsOn (λ word. word.now) result words.new (word_at words.old) }
 {
@@ -33,7 +32,7 @@ pub(crate) fn word<'a>(words: &mut Words<'a>) -> Result<&'a [u8], LineFault>
     }
 }
 
-/// No word is left.
+/// Refuses a line that has one more word.
 pub(crate) fn end(words: &mut Words<'_>) -> Result<(), LineFault>
     ensures { ReadsValue (λ done. tt) result (no_word_left words.old) }
 {
@@ -61,21 +60,21 @@ fn has_name_bytes(word: &[u8]) -> bool
     word.iter().all(|byte| is_name_byte(*byte))
 }
 
-/// At most 32 lower-case letters, digits and `_`.
+/// Whether the word may name a container or a monitor: at most 32 lower-case letters, digits and `_`.
 pub(crate) fn is_name(word: &[u8]) -> bool
     ensures { result ≡ is_name word.now }
 {
     word.len() <= 32 && has_name_bytes(word)
 }
 
-/// Letters, digits and `_`.
+/// Whether the word may name a field: letters, digits and `_`.
 pub(crate) fn is_field(word: &[u8]) -> bool
     ensures { result ≡ is_field word.now }
 {
     word.iter().all(|byte| is_field_byte(*byte))
 }
 
-/// The word, if it passes.
+/// The word where it passes, and else the refusal of a line without a form.
 pub(crate) fn allowed(word: &[u8], passes: bool) -> Result<&[u8], LineFault>
     ensures { ReadsValue (λ word. word.now) result (when passes word.now) }
 {
@@ -116,7 +115,7 @@ pub(crate) fn reactor(word: &[u8]) -> Result<Reactor, LineFault>
     Reactor::from_name(word).ok_or(SYNTAX)
 }
 
-/// The word as text.
+/// The word as text, or the refusal of one that is not UTF-8.
 pub(crate) fn text(word: &[u8]) -> Result<&str, LineFault>
     ensures { ReadsValue (λ text. text.now) result (when (is_utf8 word.now) word.now) }
 {
@@ -126,7 +125,7 @@ pub(crate) fn text(word: &[u8]) -> Result<&str, LineFault>
     }
 }
 
-/// Where the name of a field ends.
+/// The offset at which the name of a field ends, if the word goes on after it.
 fn field_end(word: &[u8]) -> Option<usize>
     ensures value { result ≡ position (λ byte. not (is_field_byte byte)) word.now }
     ensures within { IfSome result (λ end. end ≤ length word.now) }
@@ -134,7 +133,7 @@ fn field_end(word: &[u8]) -> Option<usize>
     word.iter().position(|byte| !is_field_byte(*byte))
 }
 
-/// `=` and a value, or `!=` and a value.
+/// The test of a field's name and what follows it: `=` or `!=`, and a value of one byte or more.
 fn test_behind(alloc: Global, field: &[u8], rest: &[u8]) -> Result<Test, LineFault>
     ensures { ReadsValue (λ test. test) result (or_syntax (test_behind field.now rest.now)) }
 {
@@ -151,7 +150,7 @@ fn test_behind(alloc: Global, field: &[u8], rest: &[u8]) -> Result<Test, LineFau
     }
 }
 
-/// A test: `F=W` or `F!=W`.
+/// The test that a word says, `F=W` or `F!=W`, or the refusal of a word that says none.
 pub(crate) fn test(alloc: Global, word: &[u8]) -> Result<Test, LineFault>
     ensures { ReadsValue (λ test. test) result (or_syntax (test_of word.now)) }
 {

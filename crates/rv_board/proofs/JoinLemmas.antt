@@ -1,4 +1,4 @@
--- Seats that are joined.
+-- The rule allows that one seat is joined into another.
 use Rattle.std.proofs.Common.{◌≡◌, ◌≢◌, ◌⊎◌, inl, inr, ⊎_elim, ℕ, ◌<◌, ◌≤◌, nat_lt, Bool, true, false, List, [], ◌∷◌, ◌++◌, length, set, refl, ap, sym, ◌∙◌, subst, arith, true≢false, length-append}
 use mathlib.Core.Option.{some}
 use lib.ListN.{get_elem?}

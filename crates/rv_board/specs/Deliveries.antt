@@ -1,4 +1,4 @@
--- What a delivery does.
+-- What a delivery adds to its seat's list: its own entry, or that of a stop.
 use Rattle.std.specs.Prelude.{◌≡◌, ℕ, ◌≤◌, List, [], ◌∷◌, ◌++◌, filter, length, reverse}
 use Rattle.rv_model.specs.declared.entry.Act.TheVariants.{Deliver, Stop}
 use Rattle.rv_model.specs.declared.entry.Answer.{Answer}
@@ -12,7 +12,7 @@ use Rattle.rv_model.specs.SharedWords.{answer_at}
 use Rattle.rv_core.specs.Setup.{judges_of}
 use Rattle.rv_board.specs.Seats.{SeatValue, Acts}
 
--- the list grows by the delivery, at its end, and the answer is the one that the entries before it give
+-- the seat's list grows by the delivery, at its end, and the answer is the one that the entries before it give
 pub record IsMade (old new : SeatValue) (slot : ℕ) (hit : Hit) (answer : Answer) : Type 0 where
   pub entry : Entry
   pub acts : Acts old new (Deliver slot hit) entry
@@ -20,7 +20,8 @@ pub record IsMade (old new : SeatValue) (slot : ℕ) (hit : Hit) (answer : Answe
   pub list : new.part.seen ≡ before ++ entry ∷ []
   pub answer_is : answer ≡ answer_at old.board.setup (judges_of old.board.setup) (reverse before) entry entry.act
 
--- the list grows by the stop, at its end, and before it by entries of other seats alone, of which three changed the slot's word
+-- the seat's list grows by a stop, at its end, and before it by entries of other seats alone, three of which changed
+-- the slot's word
 pub record IsGivenUp (old new : SeatValue) (slot : ℕ) : Type 0 where
   pub entry : Entry
   pub acts : Acts old new (Stop slot) entry
@@ -29,7 +30,7 @@ pub record IsGivenUp (old new : SeatValue) (slot : ℕ) : Type 0 where
   pub others : entries_of (known_of old.part) added ≡ []
   pub three : 3 ≤ length (filter (changed slot) added)
 
--- the delivery was made, or the slot was stopped
+-- with the outcome `Done` the delivery was made, and with `Racing` the slot was stopped
 abbrev pub DeliversOrStops : SeatValue → SeatValue → ℕ → Hit → Delivered → Type 0
 DeliversOrStops old new slot hit (Done answer) = IsMade old new slot hit answer
 DeliversOrStops old new slot hit Racing = IsGivenUp old new slot

@@ -1,4 +1,4 @@
-//! The words that threads share.
+//! A board: the words that threads share, and the atomic steps that seats take on them.
 ghost use Rattle.std.specs.Prelude.{◌≡◌, ◌<◌, ◌^◌, [], IfOk, sum, reverse};
 ghost use Rattle.rv_model.specs.declared.entry.Act.TheVariants.{Look, Raise, Lower, Clear, End};
 ghost use Rattle.rv_model.specs.SharedWords.{word_of};
@@ -19,7 +19,8 @@ use std::marker::Model;
 /// The bit of the switches that halts a run.
 const HALTED: u64 = 1 << 34;
 
-/// The switches, and a word for each slot of the setup. Contracts see which board it is, and what it began with.
+/// The switches as word 0, then a word for each slot of the setup. Contracts see which board it is and its setup; the
+/// words are known by what seats have seen.
 #[derive(Drop)]
 pub struct Board {
     pub(crate) table: Table<Act, View, Setup, Law, Global>,
@@ -40,7 +41,7 @@ impl Model for Board {
     ghost invariant = { λ b. (b.table.shared.key ≡ b.setup) × (b.table.shared.table_id.words ≡ width b.setup) };
 }
 
-/// A new board, and its first seat, which has all numbers.
+/// A new board, and its first seat, which has all numbers, 0 to 66.
 #[derive(Drop)]
 pub struct BoardStart {
     pub board: Board,
@@ -48,7 +49,8 @@ pub struct BoardStart {
 }
 
 impl Board {
-    /// Every slot waits, and the seat has seen nothing.
+    /// A board on which every instance waits with its starting levels, and its first seat, which has all numbers and
+    /// has seen nothing. The one error is want of memory.
     pub fn new(alloc: Global, setup: Setup) -> Result<BoardStart, AllocError>
         ensures board { IfOk result (λ start. start.board.setup ≡ setup) }
         ensures seat { IfOk result (λ start. start.seat ≡ seat_value (part 0 67 [] []) start.board) }
@@ -65,14 +67,15 @@ impl Board {
         })
     }
 
-    /// The shape of its setup. It is no step.
+    /// How many slots each monitor has. No shared word is read.
     pub fn shape(&self) -> &Shape
         ensures { result.now ≡ self.now.setup.shape }
     {
         &self.setup.shape
     }
 
-    /// The switches.
+    /// The switches, by one load: bits 0 to 31 for the monitors that are enabled, 32 monitoring, 33 reacting, 34
+    /// halted.
     pub fn look(&self, seat: &mut Seat) -> u64
         requires { seat.old.board ≡ self.now }
         ensures { Looks seat.old seat.new result }
@@ -80,7 +83,7 @@ impl Board {
         self.table.shared.load::<LookStep>(&mut seat.token, 0)
     }
 
-    /// The halted switch goes on.
+    /// Turns on the halted switch, which no call turns off. Any seat may do so.
     pub fn halt(&self, seat: &mut Seat)
         requires { seat.old.board ≡ self.now }
         ensures { Does seat.old seat.new (Raise (2 ^ 34)) }
@@ -90,7 +93,7 @@ impl Board {
             .fetch_or::<RaiseStep>(&mut seat.token, 0, HALTED);
     }
 
-    /// These switches go on. Only the control actor calls it, and it does not halt.
+    /// Turns on the switches whose bits are set, all below the halted one. Only the control actor calls it.
     pub fn raise(&self, seat: &mut Seat, bits: u64)
         requires board { seat.old.board ≡ self.now }
         requires actor { seat.old.part.number ≡ 1 }
@@ -102,7 +105,7 @@ impl Board {
             .fetch_or::<RaiseStep>(&mut seat.token, 0, bits);
     }
 
-    /// These switches go off. Only the control actor calls it, and a run that is halted stays so.
+    /// Turns off the switches whose bits are set, all below the halted one. Only the control actor calls it.
     pub fn lower(&self, seat: &mut Seat, bits: u64)
         requires board { seat.old.board ≡ self.now }
         requires actor { seat.old.part.number ≡ 1 }
@@ -114,7 +117,8 @@ impl Board {
             .fetch_and::<LowerStep>(&mut seat.token, 0, !bits);
     }
 
-    /// The slot waits again, with its starting levels. Only the control actor calls it.
+    /// Lets the slot's instance wait again with its starting levels, also where it was stopped. Only the control actor
+    /// calls it.
     pub fn clear(&self, seat: &mut Seat, slot: u32)
         requires board { seat.old.board ≡ self.now }
         requires actor { seat.old.part.number ≡ 1 }
@@ -127,7 +131,8 @@ impl Board {
             .swap::<ClearStep>(&mut seat.token, slot as usize + 1, opening);
     }
 
-    /// The slot's instance ends: it waits again, with its starting levels, also where it was stopped.
+    /// Ends the slot's instance, as when its task is gone: it waits again with its starting levels, also where it was
+    /// stopped. Any seat may do so.
     pub fn end(&self, seat: &mut Seat, slot: u32)
         requires board { seat.old.board ≡ self.now }
         requires slot { slot < sum self.now.setup.shape }
@@ -139,7 +144,8 @@ impl Board {
             .swap::<EndStep>(&mut seat.token, slot as usize + 1, opening);
     }
 
-    /// The word of a slot, as the history that the seat has then seen gives it.
+    /// The word of a slot, by one load that makes no entry: the word after all entries that the seat has seen by then.
+    /// Which entries of other seats these are is left open.
     pub fn word(&self, seat: &mut Seat, slot: u32) -> u64
         requires board { seat.old.board ≡ self.now }
         requires slot { slot < sum self.now.setup.shape }

@@ -1,4 +1,5 @@
-//! A hit is delivered to an instance.
+//! A delivery takes three tries at most, and then stops its instance (this project's choice: docs/DECISIONS.md, "Three
+//! lost tries stop an instance").
 ghost use Rattle.std.specs.Prelude.{◌≡◌, ◌<◌, sum};
 ghost use Rattle.rv_core.specs.Advance.{FitsTable};
 ghost use Rattle.rv_core.specs.Setup.{table_at};
@@ -12,13 +13,13 @@ use rv_io::Gate;
 use rv_model::{Act, Delivered, Hit};
 use rv_word::STOPPED;
 
-/// How often a delivery is tried.
+/// How many compare-exchanges a delivery may lose before it stops its instance.
 const TRIES: u32 = 3;
 
 impl Board {
-    /// Tries three times to put the next word in the place of the word that was found, and stops the instance where
-    /// other seats changed the word each time. The gate is called before each try, with the number of lost
-    /// ones. At most five atomic steps are made, and none waits.
+    /// Replaces the word that was found by the instance's next word. Where other seats changed the word at each of
+    /// three tries, the instance is stopped. The gate is called before each try, with the number of tries lost so far.
+    /// At most five atomic steps are made, and none waits.
     pub fn deliver<G: Gate>(
         &self,
         seat: &mut Seat,

@@ -1,4 +1,4 @@
-//! The rule of the shared words, and what each kind of step tells the seat that takes it.
+//! The rule of the shared words, and what the seat that takes a step learns by it, for each kind of step.
 
 use crate::view::View;
 use atomic_table::{Join, Play, Split, TableRule};
@@ -6,7 +6,7 @@ use rv_core::Setup;
 use rv_model::Act;
 use std::marker::{Brand, PhantomData};
 
-/// There is one sound history, which gives the words, and each seat has seen a beginning of it.
+/// The rule of a board's words: one sound history gives them, and each seat has seen a beginning of it.
 pub struct Law;
 
 impl TableRule<Act, View, Setup> for Law {
@@ -26,7 +26,7 @@ impl Play<Act, View> for LoadStep {
     ghost then = { IsLoadStep };
 }
 
-/// A compare-exchange, which makes the act that it is told where it wins.
+/// A compare-exchange that adds the act passed to it where it wins, and no entry where it loses.
 pub(crate) struct ExchangeStep;
 
 impl Play<Act, View> for ExchangeStep {
@@ -35,7 +35,7 @@ impl Play<Act, View> for ExchangeStep {
     ghost then = { IsExchangeStep };
 }
 
-/// A swap of 0 into a slot's word.
+/// A swap of 0 into a slot's word, which stops the instance.
 pub(crate) struct StopStep;
 
 impl Play<Act, View> for StopStep {
@@ -44,7 +44,7 @@ impl Play<Act, View> for StopStep {
     ghost then = { IsStopStep };
 }
 
-/// A load of the switches.
+/// A load of the switches that counts as a look.
 pub(crate) struct LookStep;
 
 impl Play<Act, View> for LookStep {
@@ -53,7 +53,7 @@ impl Play<Act, View> for LookStep {
     ghost then = { IsLookStep };
 }
 
-/// Switches that go on.
+/// An `or` of the switches, which turns on the bits that it has.
 pub(crate) struct RaiseStep;
 
 impl Play<Act, View> for RaiseStep {
@@ -62,7 +62,7 @@ impl Play<Act, View> for RaiseStep {
     ghost then = { IsRaiseStep };
 }
 
-/// Switches that go off.
+/// An `and` of the switches, which turns off the bits that it lacks.
 pub(crate) struct LowerStep;
 
 impl Play<Act, View> for LowerStep {
@@ -71,7 +71,7 @@ impl Play<Act, View> for LowerStep {
     ghost then = { IsLowerStep };
 }
 
-/// A swap of the opening word into a slot's word.
+/// A swap of the opening word into a slot's word, by the control actor.
 pub(crate) struct ClearStep;
 
 impl Play<Act, View> for ClearStep {
@@ -89,7 +89,7 @@ impl Play<Act, View> for EndStep {
     ghost then = { IsEndStep };
 }
 
-/// The number at which a view is cut. Each call picks it.
+/// The number at which a seat is cut, known to proofs alone: each call of `cut` picks it.
 pub trait Cutting {
     ghost use Rattle.std.specs.Prelude.{ℕ};
 
@@ -100,7 +100,7 @@ impl Cutting for Brand {
     ghost at = { 0 };
 }
 
-/// A view is cut at a number.
+/// Cuts a view at the number of `N`: the numbers below it stay, and the others go to a new seat.
 pub struct Cut<N> {
     of: PhantomData<N>,
 }
@@ -113,7 +113,7 @@ impl<N: Cutting> Split<View> for Cut<N> {
     ghost right = { cut_right N.at };
 }
 
-/// A view takes in another.
+/// Joins one view into another, which takes over its numbers and what it has seen.
 pub struct Joining;
 
 impl Join<View> for Joining {

@@ -1,4 +1,4 @@
-//! A caller's token.
+//! A seat: the token by which one thread acts on a board.
 ghost use Rattle.std.specs.Prelude.{◌≡◌, ◌<◌, ◌≤◌};
 ghost use Rattle.rv_model.specs.Histories.{IsSound};
 ghost use Rattle.rv_core.specs.Setup.{judges_of};
@@ -9,11 +9,11 @@ use atomic_table::Seat as Token;
 use rv_model::{Act, Entry, Keeps};
 use std::marker::Model;
 
-/// All seats of a board have numbers below this one.
+/// How many numbers the seats of a board share: 0 to 66.
 pub const SEATS: u32 = 67;
 
-/// It has a number, and may hand on the numbers above it and below `end`. Contracts see what it knows too: the
-/// numbers that were joined into it, the entries that it has seen, and the board that it is of.
+/// The right to act on a board under a number, and to hand on the numbers above it and below `end`. Contracts see what
+/// the seat knows too: the numbers that were joined into it, the entries that it has seen, and its board.
 #[derive(Drop)]
 pub struct Seat {
     pub(crate) token: Token<Act, View>,
@@ -39,7 +39,8 @@ impl Keeps<Entry> for Seat {
 }
 
 impl Seat {
-    /// Its number: 0 is the run itself, 1 the control actor, 2 and more the CPUs, 66 a watcher.
+    /// The number under which the seat acts: 0 is the run itself, 1 the control actor, 2 to 65 the CPUs, 66 a watcher.
+    /// Some callers drop the answer, and want the clause `sound` alone.
     pub fn number(&self) -> u32
         ensures number { result ≡ self.now.part.number }
         ensures sound { IsSound self.now.board.setup (judges_of self.now.board.setup) self.now.part.seen }
@@ -47,7 +48,7 @@ impl Seat {
         self.number
     }
 
-    /// It may hand on the numbers below this one.
+    /// One past the last number that the seat may hand on.
     pub fn end(&self) -> u32
         ensures end { result ≡ self.now.part.end }
         ensures range { (self.now.part.number < result) × (result ≤ SEATS) }

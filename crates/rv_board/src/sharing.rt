@@ -14,8 +14,8 @@ use rv_core::Setup;
 use rv_model::{Act, Closed};
 use std::marker::Brand;
 
-/// The token keeps what is below the number that is picked, and the new one has the rest. It is for a board of any
-/// rule, which has to allow the cut.
+/// Cuts a token at a number: it keeps the numbers below, and the new token gets the others and has seen as much. Any
+/// board will do whose rule allows the cut.
 pub fn cut<N: Cutting, L: TableRule<Act, View, Setup>>(
     shared: &Shared<Act, View, Setup, L>,
     token: &mut Token<Act, View>,
@@ -31,7 +31,7 @@ pub fn cut<N: Cutting, L: TableRule<Act, View, Setup>>(
 }
 
 impl Board {
-    /// A new seat, which has the numbers from `number` on and has seen what the old one has.
+    /// Hands the numbers from `number` on to a new seat, which has seen what the old one has.
     pub fn split(&self, seat: &mut Seat, number: u32) -> Seat
         requires board { seat.old.board ≡ self.now }
         requires range { (seat.old.part.number < number) × (number < seat.old.part.end) }
@@ -44,7 +44,8 @@ impl Board {
         Seat { token, number, end }
     }
 
-    /// Takes in what another seat has seen, and its numbers, which are not used again.
+    /// Takes over another seat's numbers, under which nobody acts again, and what it has seen. Entries of further seats
+    /// may come in too.
     pub fn join(&self, into: &mut Seat, from: Seat)
         requires into { into.old.board ≡ self.now }
         requires from { from.board ≡ self.now }
@@ -60,7 +61,8 @@ impl Board {
         shared.load::<LoadStep>(&mut into.token, 0);
     }
 
-    /// The history, of which the seat had seen the beginning. It is whole where the seat knows all numbers.
+    /// Ends the board, and gives its history to contracts. It is whole where the seat knows all numbers; else entries
+    /// of other seats may be left out.
     pub fn close(self, mut seat: Seat) -> Closed
         requires { seat.board ≡ self }
         ensures { Closes seat result }

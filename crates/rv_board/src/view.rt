@@ -1,4 +1,4 @@
-//! What a seat's token has in proofs. No value of these types is made.
+//! The types that a seat's token carries for proofs alone: no program makes a value of them.
 
 use rv_core::Setup;
 use rv_model::Entry;
@@ -25,7 +25,8 @@ impl Model for Part {
     ghost view = { λ p. record { number = p.number; end = p.end; joined_in = p.joined_in; seen = p.seen } };
 }
 
-/// What one seat knows. Between the two loads of a join, `left` and `right` are what the two seats knew.
+/// What one seat knows, and the setup of its board. Between the two loads of a join, `left` and `right` are what the
+/// two seats knew.
 pub struct View {
     pub part: Part,
     pub left: Part,

@@ -1,4 +1,4 @@
--- The lines of the lanes' next turns, at the places of their CPUs.
+-- The lines of the lanes' next turns, at the indexes of their CPUs.
 use Rattle.std.proofs.Common.{◌≡◌, ◌≢◌, ℕ, ◌+◌, ◌^◌, ◌<◌, ◌≤◌, List, ◌⊎◌, length, map, inl, inr, arith, refl, sym, ap, ◌∙◌, subst, get_or, get_or-set_same, get_or-set_other, set, length-set, All}
 use Rattle.std.specs.Prelude.{AllPairs, slice_index}
 use Rattle.std.proofs.lemmas.List.{get_or_default}

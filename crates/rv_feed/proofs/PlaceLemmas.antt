@@ -1,4 +1,4 @@
--- A place of a turn: the delivery there, and what a look shows on of those before it.
+-- An index within a turn: the delivery there, and which of those before it a look enables.
 use Rattle.std.proofs.Common.{◌≡◌, ℕ, ◌+◌, ◌-◌, ◌<◌, ◌≤◌, Bool, true, false, List, [], ◌∷◌, ◌++◌, length, arith, refl, sym, ap, ◌∙◌, subst, append_assoc, append-nil, take, drop, get_or, length-drop, length-append}
 use Rattle.std.specs.Prelude.{All, filter, slice_range}
 use Rattle.std.proofs.lemmas.List.{take_more, take-take, take-append-drop, get_or-drop}
@@ -16,7 +16,7 @@ use Rattle.rv_feed.specs.inner.Lane.{AddsRecords}
 
 -- ---- records of a lane
 
--- the record of a delivery that a look shows on
+-- the record of a delivery that a look enables
 abbrev pub record-for : ℕ → ℕ → Delivery → Delivered → Record
 record-for line look d outcome = record_on line outcome (has_bit look 33) d
 
@@ -65,7 +65,7 @@ module _ {lane lane' : LaneValue} {rs : List Record} (turn : Turn) {place : ℕ}
       let count : length lane'.records ≡ length lane.records + length rs = ap length kept.records_are ∙ length-append lane.records rs in
       omega arith
 
--- ---- what a look shows on
+-- ---- what a look enables
 
 -- one more place
 slice-more : (ds : List Delivery) (from place : ℕ) (d : Delivery) → from ≤ place → place < length ds → slice_range ds from (place + 1) ≡ slice_range ds from place ++ get_or ds place d ∷ []
@@ -89,7 +89,7 @@ filter-one word d shown = rw shown refl
 filter-none : (word : ℕ) (d : Delivery) → is_enabled_by word d ≡ false → filter (is_enabled_by word) (d ∷ []) ≡ []
 filter-none word d hidden = rw hidden refl
 
--- what the look shows on of the turn's deliveries before a place
+-- what the look enables of the turn's deliveries before an index
 abbrev pub shown_to : ℕ → List Delivery → Turn → ℕ → List Delivery
 shown_to word ds turn place = filter (is_enabled_by word) (slice_range ds turn.from place)
 

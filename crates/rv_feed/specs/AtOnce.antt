@@ -1,4 +1,4 @@
--- A run of all scripts at once: its seats, and what it comes to.
+-- A run of all scripts at once: its input, what it comes to, and the seats of its feeders.
 use Rattle.std.specs.Prelude.{◌≡◌, ℕ, ◌<◌, Bool, true, List, ◌++◌, map, reverse, All, Any}
 use Rattle.std.proofs.Common.{◌⊎◌}
 use Rattle.rv_model.specs.declared.entry.Entry.{Entry}
@@ -17,11 +17,11 @@ use Rattle.rv_feed.specs.Runs.{IsRunOf}
 
 -- ---- the whole run
 
--- the input of a run at once
+-- the input of a run at once: the lanes' works, and the changes of the control actor
 abbrev pub input_with : Setup → List Spec → (ℕ → Bool) → List LaneValue → List Change → Input
 input_with s specs panics lanes changes = record { setup = s; specs = specs; panics = panics; works = works_of lanes; changes = changes }
 
--- by judges of the specifications the history is a legal one of the input, and these are its records
+-- by judges of the specifications the history is a legal one of the input, and the records are its own
 abbrev pub IsLegalOf : Input → List Record → List Entry → Type 0
 IsLegalOf = IsRunOf IsLegal
 
@@ -33,15 +33,15 @@ module _ {G : Type 0} where
     pub fits : FitsFeeder board f
     pub fresh : IsFresh f.seat
 
-  -- what the feeders have to do, the last one's first
+  -- the lanes of the feeders, in reverse order: feeders are made from the last lane to the first
   abbrev pub lanes_of : List (Feeder G) → List LaneValue
   lanes_of fs = reverse (map (λ f. f.lane) fs)
 
-  -- every number below this one is the first seat's or a feeder's
+  -- every number below `end` is the first seat's or a feeder's
   abbrev pub Cover : ℕ → SeatValue → List (Feeder G) → Type 0
   Cover end first fs = (n : ℕ) → n < end → (known_of first.part n ≡ true) ⊎ Any (λ f. known_of f.seat.part n ≡ true) fs
 
-  -- but for those that are left, the lanes have feeders, and these and the first seat have all numbers below this one
+  -- each lane but those in `left` has a feeder, and the feeders and the first seat have all numbers below `end`
   pub record AreSeated (board : BoardId) (end : ℕ) (first : SeatValue) (all left : List LaneValue) (fs : List (Feeder G)) : Type 0 where
     pub is_first : IsFirst board first
     pub seated : All (IsSeated board) fs

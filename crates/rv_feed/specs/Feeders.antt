@@ -1,4 +1,4 @@
--- What a run of all scripts at once begins with, and what it comes to.
+-- What feeders and the control actor's changer begin with, and what running them comes to.
 use Rattle.std.specs.Prelude.{◌≡◌, ℕ, ◌+◌, Bool, All, Option, None, Some}
 use Rattle.std.proofs.Common.{◌⊎◌, inl, inr}
 use denote.MutBor.{MutBor}
@@ -16,21 +16,21 @@ module _ {G : Type 0} where
     pub seat_is : f.seat.part.number ≡ 2 + f.lane.work.cpu
     pub lane_fits : CanFeed board f.lane
 
-  -- the feeder played the script of its work
+  -- the feeder's seat and records grow by a script of its lane's work
   abbrev pub RunsFeeder : (ℕ → Bool) → Feeder G → Feeder G → Type 0
   RunsFeeder panics old new = Feeds panics old.seat new.seat old.lane new.lane
 
-  -- the seat is the control actor's on this board, and no change names the halted bit
+  -- the seat is the control actor's on this board, and no change names a switch from the halted one on
   pub record FitsChanger (board : BoardId) (c : Changer G) : Type 0 where
     pub seat_is : CanChange board c.seat
     pub below_halt : All IsBelowHalt c.changes.items
 
-  -- the changer made its changes, which are as before
+  -- the changer's seat grows by the acts of its changes, and the changes are as before
   pub record RunsChanger (old new : Changer G) : Type 0 where
     pub does : DoesAll old.seat new.seat (control_acts old.seat.board.setup.shape old.changes.items)
     pub same : new.changes ≡ old.changes
 
--- where there is a value, the fact holds of it before and after
+-- where a value was lent, the fact `R` holds between what it was and what came back
 abbrev pub IfLent : {T : Type 0} → (T → T → Type 0) → Option (MutBor T) → Unit {0} ⊎ ((MutBor T × Unit {0}) ⊎ ⊥) → Type 0
 IfLent R None after = Unit {0}
 IfLent R (Some x) (inl u) = ⊥

@@ -10,11 +10,11 @@ use Rattle.rv_feed.specs.Turns.{entries_played}
 
 -- ---- entries of one seat
 
--- what the seat has played of the list that it has seen, by the board's tables as judges
+-- the seat's own entries in the list that it has seen, each with its answer, by the board's tables as judges
 abbrev pub played_by : SeatValue → List Played
 played_by seat = played seat.board.setup (judges_of seat.board.setup) seat.part.number (reverse seat.part.seen)
 
--- the seat's list grows by these entries of its own, which have these answers
+-- the seat's list grows by the entries of `ps`, all its own, and each has the answer that `ps` gives it
 pub record Adds (old new : SeatValue) (ps : List Played) : Type 0 where
   pub grows : SeatGrows old new (entries_played ps)
   pub played_is : played_by new ≡ played_by old ++ ps
@@ -26,7 +26,7 @@ pub record CanFeed (board : BoardId) (lane : LaneValue) : Type 0 where
   pub new_lane : IsNewLane lane.work lane
   pub fit : All (FitsDelivery board.setup) lane.work.deliveries
 
--- the seat's list grows by a script of the lane's work, and the lane has the script's records
+-- the seat's list grows by a script of the lane's work, whose records the lane then has
 pub record Feeds (panics : ℕ → Bool) (old new : SeatValue) (lane lane' : LaneValue) : Type 0 where
   pub script : List Played
   pub adds : Adds old new script

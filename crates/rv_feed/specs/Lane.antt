@@ -1,4 +1,4 @@
--- What one CPU has to do and did, and what a run in order begins with.
+-- What one CPU has to do and did, and what a run asks of its lanes.
 use Rattle.std.specs.Prelude.{◌≡◌, ◌≢◌, ℕ, ◌<◌, ◌≤◌, Bool, true, false, List, [], map, length, All, AllPairs, Option, Some, slice_get}
 use Rattle.rv_model.specs.declared.reactor.Reactor.{Reactor}
 use Rattle.rv_model.specs.declared.reactor.Reactor.TheVariants.{Panic}
@@ -8,39 +8,39 @@ use Rattle.rv_model.specs.Setups.{Setup}
 use Rattle.rv_model.specs.Works.{Work}
 use Rattle.rv_core.specs.Deliveries.{FitsDelivery}
 
--- a work, the records so far, and for how many the memory is there
+-- a CPU's work, the records of it so far, and for how many records there is room
 pub record LaneValue : Type 0 where
   pub work : Work
   pub records : List Record
   pub room : ℕ
 
--- no record, and room for one of each delivery
+-- the lane of this work has no record yet, and room for one of each delivery
 pub record IsNewLane (work : Work) (lane : LaneValue) : Type 0 where
   pub work_is : lane.work ≡ work
   pub no_records : lane.records ≡ []
   pub room : length work.deliveries ≤ lane.room
 
--- the reactor is panic
+-- whether there is a reactor, and it is panic
 abbrev pub is_panic_reactor : Option Reactor → Bool
 is_panic_reactor (Some Panic) = true
 is_panic_reactor _ = false
 
--- which monitors' reactor is panic
+-- whether a monitor's reactor is panic, which that of a monitor past the end of the list is not
 abbrev pub panics_of : List Reactor → ℕ → Bool
 panics_of reactors monitor = is_panic_reactor (slice_get reactors monitor)
 
--- the lane is new, its CPU is below 64, its lines ascend, and its deliveries fit
+-- the lane is new, its CPU is below 64, the lines of its turns ascend, and its deliveries fit the setup
 pub record FitsLane (s : Setup) (lane : LaneValue) : Type 0 where
   pub new_lane : IsNewLane lane.work lane
   pub cpu : lane.work.cpu < 64
   pub lines : AllPairs (λ t u. t.line < u.line) lane.work.turns
   pub fit : All (FitsDelivery s) lane.work.deliveries
 
--- what the lanes have to do
+-- the works of the lanes, in order
 abbrev pub works_of : List LaneValue → List Work
 works_of lanes = map (λ l. l.work) lanes
 
--- new lanes of different CPUs, and no line in two of them
+-- the lanes fit the setup, are of different CPUs, and no two of them have turns of one line
 pub record FitLanes (s : Setup) (lanes : List LaneValue) : Type 0 where
   pub fit : All (FitsLane s) lanes
   pub cpus : AllPairs (λ l m. l.work.cpu ≢ m.work.cpu) lanes

@@ -10,14 +10,15 @@ use Rattle.rv_core.specs.Core.{CoreValue}
 use Rattle.rv_core.specs.Setup.{judges_of}
 use Rattle.rv_feed.specs.Lane.{LaneValue, works_of}
 
--- the lane's seat played a whole script of its work, whose records the lane has
+-- the seat of the lane's CPU played a whole script of the lane's work, and the lane has the script's records
 pub record Whole (s : Setup) (panics : ℕ → Bool) (old new : List Entry) (lane : LaneValue) : Type 0 where
   pub script : List Played
   pub played_is : played s (judges_of s) (2 + lane.work.cpu) (reverse new) ≡ played s (judges_of s) (2 + lane.work.cpu) (reverse old) ++ script
   pub plays : Plays s panics lane.work script
   pub records : script_records lane.work.deliveries lane.work.turns script ≡ lane.records
 
--- the history grows by whole scripts of the lanes and by nothing else, and no entry's line is below an earlier one's
+-- the history grows by whole scripts of the lanes and by nothing else, without a stop, and the lines of its entries
+-- never descend
 pub record Ran (panics : ℕ → Bool) (old new : CoreValue) (lanes lanes' : List LaneValue) : Type 0 where
   pub more : List Entry
   pub grows : new ≡ record old { history = old.history ++ more }

@@ -6,7 +6,8 @@ use Rattle.rv_model.specs.Judging.{Judge}
 use Rattle.rv_model.specs.Histories.{Input, AreJudges}
 use Rattle.rv_model.specs.Records.{records_of, sort_records, status_of}
 
--- there are judges of the specifications by which this is said of the history, and these are its records
+-- there are judges of the specifications by which `Says` holds of the history, and `rs` are its records, up to their
+-- order
 pub record IsRunOf (Says : Input → List Judge → List Entry → Type 0) (input : Input) (rs : List Record) (h : List Entry) : Type 0 where
   pub judges : List Judge
   pub are_judges : AreJudges input.specs input.setup.tables judges

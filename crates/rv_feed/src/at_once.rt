@@ -1,4 +1,4 @@
-//! A whole run at once: a thread for each CPU, and one for the control actor.
+//! A whole run at once: a thread for each CPU, and one for the control actor where it has changes.
 ghost use Rattle.std.specs.Prelude.{◌≡◌, ◌+◌, ◌<◌, ◌≤◌, ◌∷◌, [], ◌++◌, List, length, All, AllPairs, IfOk};
 ghost use Rattle.rv_model.specs.declared.formula.Spec.{Spec};
 ghost use Rattle.rv_core.specs.Judged.{AllMean};
@@ -24,14 +24,15 @@ use std::thread::Threads;
 /// The number of the control actor's seat.
 const ACTOR: u32 = 1;
 
-/// What a run at once came to: the lanes as they came, with their records, and the history.
+/// What a run at once came to: the lanes, with their records and in the order in which they were given, and the
+/// history.
 #[derive(Drop)]
 pub struct FedLanes {
     pub lanes: Vec<Lane>,
     pub closed: Closed,
 }
 
-/// The lane's feeder, whose seat has all numbers from its own on that this one had.
+/// Makes the lane's feeder, whose new seat takes over the seat's numbers from that of the lane's CPU on.
 fn seat_lane<G: Gate>(board: &Board, seat: &mut Seat, lane: Lane, gate: &G) -> Feeder<G>
     requires board { seat.old.board ≡ board.now }
     requires range { (seat.old.part.number < 2 + lane.work.cpu) × (2 + lane.work.cpu < seat.old.part.end) }
@@ -48,7 +49,8 @@ fn seat_lane<G: Gate>(board: &Board, seat: &mut Seat, lane: Lane, gate: &G) -> F
     }
 }
 
-/// A feeder for each lane, from the last lane to the first. Their seats have the numbers that the first seat hands on.
+/// A feeder for each lane, from the last lane to the first, each with a new seat split off from the first one. All
+/// lanes are taken out of the vector, whose room stays for `join_all`. The one error is want of memory.
 pub fn seat_lanes<G: Gate>(
     alloc: Global,
     board: &Board,
@@ -71,7 +73,6 @@ pub fn seat_lanes<G: Gate>(
     Ok(feeders)
 }
 
-/// The lane is put behind the others, for which there is room.
 fn put_back(lanes: &mut Vec<Lane>, lane: Lane)
     requires { length lanes.old.items < lanes.old.cap }
     ensures lanes { lanes.new.items ≡ lanes.old.items ++ lane ∷ [] }
@@ -83,7 +84,8 @@ fn put_back(lanes: &mut Vec<Lane>, lane: Lane)
     }
 }
 
-/// The seats of all feeders are joined into this one, and their lanes come back.
+/// Joins the seats of all feeders into one, and appends their lanes to `lanes`, in the order that they had before
+/// `seat_lanes`. Asks for no memory.
 pub fn join_all<G: Gate>(
     board: &Board,
     into: &mut Seat,
@@ -109,8 +111,9 @@ pub fn join_all<G: Gate>(
     }
 }
 
-/// A legal history of the lanes' scripts and the changes at once, whose records the lanes then have. The lanes ascend
-/// by their CPUs.
+/// Runs the lanes' scripts and the changes at once, and gives the lanes with their records, and a legal history. Which
+/// one it is, the schedule decides. The lanes ascend by their CPUs. The one error is want of memory, before the first
+/// entry.
 pub fn feed<R: Threads + Sync, G: Gate + Send>(
     rt: &R,
     alloc: Global,

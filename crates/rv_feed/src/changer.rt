@@ -1,4 +1,4 @@
-//! The control actor's changes on a board.
+//! The control actor's changes on a board, in the order of their list.
 ghost use Rattle.std.specs.Prelude.{◌<◌, ◌^◌, All};
 ghost use Rattle.rv_model.specs.declared.entry.Act.TheVariants.{Lower, Raise};
 ghost use Rattle.rv_model.specs.Scripts.{bits_act, clears, change_acts, control_acts};
@@ -9,10 +9,10 @@ use rv_board::{Board, Seat};
 use rv_io::Gate;
 use rv_model::{Change, has_bit};
 
-/// The number of the control actor at its gate.
+/// The number under which the control actor passes a gate.
 pub(crate) const CONTROL: u32 = 64;
 
-/// The control actor's seat, its changes, and the gate that it passes.
+/// The control actor's seat, its changes in order, and the gate that it passes before each of them.
 #[derive(Drop)]
 pub struct Changer<G> {
     pub seat: Seat,
@@ -20,7 +20,6 @@ pub struct Changer<G> {
     pub gate: G,
 }
 
-/// These switches go off, if there are any.
 fn lower(board: &Board, seat: &mut Seat, bits: u64)
     requires seat { CanChange board.now seat.old }
     requires bits { bits < 2 ^ 34 }
@@ -32,7 +31,6 @@ fn lower(board: &Board, seat: &mut Seat, bits: u64)
     }
 }
 
-/// These switches go on, if there are any.
 fn raise(board: &Board, seat: &mut Seat, bits: u64)
     requires seat { CanChange board.now seat.old }
     requires bits { bits < 2 ^ 34 }
@@ -44,7 +42,7 @@ fn raise(board: &Board, seat: &mut Seat, bits: u64)
     }
 }
 
-/// The slots of these monitors wait again.
+/// Clears the slots of the monitors in the set, slot by slot.
 fn clear(board: &Board, seat: &mut Seat, set: u32)
     requires { CanChange board.now seat.old }
     ensures { DoesAll seat.old seat.new (clears board.now.setup.shape set) }
@@ -58,7 +56,7 @@ fn clear(board: &Board, seat: &mut Seat, set: u32)
     }
 }
 
-/// One change: what it lowers, what it clears, and what it raises.
+/// Makes one change: first what it turns off, then what it clears, and last what it turns on.
 fn make(board: &Board, seat: &mut Seat, change: &Change)
     requires seat { CanChange board.now seat.old }
     requires bits { IsBelowHalt change.now }
@@ -69,7 +67,6 @@ fn make(board: &Board, seat: &mut Seat, change: &Change)
     raise(board, seat, change.raise);
 }
 
-/// All changes.
 fn make_all<G: Gate>(board: &Board, seat: &mut Seat, changes: &[Change], gate: &mut G)
     requires seat { CanChange board.now seat.old }
     requires bits { All IsBelowHalt changes.now }
@@ -82,7 +79,6 @@ fn make_all<G: Gate>(board: &Board, seat: &mut Seat, changes: &[Change], gate: &
     }
 }
 
-/// The changer's changes.
 pub(crate) fn run_changer<G: Gate>(board: &Board, changer: &mut Changer<G>)
     requires { FitsChanger board.now changer.old }
     ensures { RunsChanger changer.old changer.new }

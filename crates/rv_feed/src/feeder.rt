@@ -1,4 +1,4 @@
-//! One CPU's script on a board.
+//! A feeder: one CPU's script on a board.
 ghost use Rattle.std.specs.Prelude.{◌≡◌, ◌&&◌, ◌<◌, ◌≤◌, length, slice_index_or, All};
 ghost use Rattle.rv_model.specs.declared.work.Delivery.{Delivery};
 ghost use Rattle.rv_model.specs.Numbers.{has_bit};
@@ -17,7 +17,7 @@ use rv_model::{
     Answer, Delivered, Delivery, HALTED, REACTING, Reactor, Turn, has_bit, is_enabled_by,
 };
 
-/// A CPU's seat, its lane, and the gate that it passes.
+/// A CPU's seat, its lane, and the gate that it passes before each turn and within each delivery.
 #[derive(Drop)]
 pub struct Feeder<G> {
     pub seat: Seat,
@@ -35,7 +35,7 @@ fn ends(reactors: &[Reactor], word: u64, monitor: u8, outcome: Delivered) -> boo
     }
 }
 
-/// A delivery to its slot, whose instance ends where the hit is an end.
+/// Makes a delivery to the slot of its instance, or ends that instance where the hit is an end.
 fn serve<G: Gate>(
     board: &Board,
     seat: &mut Seat,
@@ -55,26 +55,27 @@ fn serve<G: Gate>(
     board.deliver(seat, cpu, slot, &delivery.hit, gate)
 }
 
-/// The delivery at this place, which a look shows on, and its record. True where the script ends here.
+/// Makes the delivery at `index`, keeps its record, halts the run where a failure asks for it, and says
+/// whether the script ends with it.
 fn deliver<G: Gate>(
     board: &Board,
     seat: &mut Seat,
     reactors: &[Reactor],
     word: u64,
     line: u32,
-    place: u32,
+    index: u32,
     lane: &mut Lane,
     gate: &mut G,
 ) -> bool
     requires board { seat.old.board ≡ board.now }
-    requires place { place < length lane.old.work.deliveries }
-    requires fits { (d : Delivery) → FitsDelivery board.now.setup (slice_index_or lane.old.work.deliveries place d) }
+    requires index { index < length lane.old.work.deliveries }
+    requires fits { (d : Delivery) → FitsDelivery board.now.setup (slice_index_or lane.old.work.deliveries index d) }
     requires room { length lane.old.records < lane.old.room }
-    ensures { (d : Delivery) → FeedsDelivery seat.old seat.new (panics_of reactors.now) word line (slice_index_or lane.old.work.deliveries place d) lane.old lane.new result }
+    ensures { (d : Delivery) → FeedsDelivery seat.old seat.new (panics_of reactors.now) word line (slice_index_or lane.old.work.deliveries index d) lane.old lane.new result }
 {
-    let delivery = delivery_at(lane, place);
+    let delivery = delivery_at(lane, index);
     let outcome = serve(board, seat, cpu_of(lane), &delivery, gate);
-    keep(lane, place, line, outcome, has_bit(word, REACTING));
+    keep(lane, index, line, outcome, has_bit(word, REACTING));
     let ends = ends(reactors, word, delivery.monitor, outcome);
     if ends {
         board.halt(seat);
@@ -82,7 +83,7 @@ fn deliver<G: Gate>(
     ends
 }
 
-/// One turn: a look, and the deliveries that it shows on. True where the script ends here.
+/// Plays one turn, a look and the deliveries that it enables, and says whether the script ends within it.
 fn play_turn<G: Gate>(
     board: &Board,
     seat: &mut Seat,
@@ -114,7 +115,7 @@ fn play_turn<G: Gate>(
     false
 }
 
-/// All turns, or as many as come before the script ends.
+/// Plays the turns of a lane in order, up to the end of its script.
 fn play<G: Gate>(
     board: &Board,
     seat: &mut Seat,
@@ -138,7 +139,6 @@ fn play<G: Gate>(
     }
 }
 
-/// The feeder's script.
 pub(crate) fn run_feeder<G: Gate>(board: &Board, reactors: &[Reactor], feeder: &mut Feeder<G>)
     requires { FitsFeeder board.now feeder.old }
     ensures { RunsFeeder (panics_of reactors.now) feeder.old feeder.new }

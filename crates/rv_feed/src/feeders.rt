@@ -12,7 +12,8 @@ use rv_io::Gate;
 use rv_model::Reactor;
 use std::thread::{Threads, join_mut};
 
-/// The feeders' scripts, each half in a thread of its own.
+/// Runs the feeders' scripts at once: their list is halved until each has a thread of its own. Returns once all have
+/// ended.
 #[cycle(halves)]
 pub fn run_halves<R: Threads + Sync, G: Gate + Send>(
     rt: &R,
@@ -34,7 +35,6 @@ pub fn run_halves<R: Threads + Sync, G: Gate + Send>(
     run_both(rt, board, reactors, low, high);
 }
 
-/// Two halves at once.
 #[cycle(halves)]
 fn run_both<R: Threads + Sync, G: Gate + Send>(
     rt: &R,
@@ -60,7 +60,6 @@ fn run_both<R: Threads + Sync, G: Gate + Send>(
     join_mut(rt, &mut left, &mut right);
 }
 
-/// The control actor beside the feeders.
 fn run_beside<R: Threads + Sync, G: Gate + Send>(
     rt: &R,
     board: &Board,
@@ -84,7 +83,7 @@ fn run_beside<R: Threads + Sync, G: Gate + Send>(
     join_mut(rt, &mut left, &mut right);
 }
 
-/// All scripts at once, with the control actor beside them where it has changes.
+/// Runs all scripts at once, with the control actor beside them where it has changes.
 pub(crate) fn run_all<R: Threads + Sync, G: Gate + Send>(
     rt: &R,
     board: &Board,
@@ -105,7 +104,7 @@ pub(crate) fn run_all<R: Threads + Sync, G: Gate + Send>(
     }
 }
 
-/// All scripts at once, with the control actor beside them where there is one.
+/// Runs all scripts at once, with the control actor beside them where there is one. Returns once all have ended.
 pub fn run_feeders<R: Threads + Sync, G: Gate + Send>(
     rt: &R,
     board: &Board,

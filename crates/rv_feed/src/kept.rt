@@ -1,11 +1,11 @@
-//! What a lane keeps of a record. The rest of the record is its delivery's.
+//! What a lane keeps of a record, of which the rest is made again from the delivery.
 ghost use Rattle.std.specs.Prelude.{◌≡◌, ◌<◌, length};
 ghost use Rattle.rv_model.specs.declared.record.Delivered.TheVariants as delivered;
 ghost use Rattle.rv_feed.specs.Kept.{meant, record_kept};
 
 use rv_model::{Answer, Delivered, Delivery, Record};
 
-/// How a delivery ended, in half the room that `Delivered` takes.
+/// How a delivery ended, as `Delivered` says it, in half the room.
 #[derive(Clone, Copy, Drop)]
 pub(crate) enum Outcome {
     Passed,
@@ -15,13 +15,14 @@ pub(crate) enum Outcome {
     Stopped,
     Cleared,
     Ended,
-    /// The two halves of the switches.
+    /// The high and the low 32 bits of the switches.
     Looked { high: u32, low: u32 },
     Switched,
     Racing,
 }
 
-/// A delivery by its place among the lane's, and what came of it. It takes 24 bytes.
+/// What a lane keeps of a record, in 24 bytes: the delivery by its index among the lane's, its trace line, what came of
+/// it, and whether reacting was on.
 #[derive(Clone, Copy, Drop)]
 pub(crate) struct Kept {
     pub(crate) place: u32,
@@ -30,7 +31,6 @@ pub(crate) struct Kept {
     pub(crate) reacting: bool,
 }
 
-/// The outcome of an answer.
 fn answered(answer: Answer) -> Outcome
     ensures { meant result ≡ delivered.Done answer }
 {
@@ -51,7 +51,7 @@ fn answered(answer: Answer) -> Outcome
 }
 
 impl Outcome {
-    /// The same outcome.
+    /// The delivery's outcome as it is kept.
     pub(crate) fn of(delivered: Delivered) -> Outcome
         ensures { meant result ≡ delivered }
     {
@@ -61,7 +61,6 @@ impl Outcome {
         }
     }
 
-    /// The outcome that is meant.
     fn meant(self) -> Delivered
         ensures { result ≡ meant self }
     {
@@ -81,7 +80,7 @@ impl Outcome {
 }
 
 impl Kept {
-    /// Its record, among these deliveries.
+    /// The record that was kept, from the lane's deliveries.
     pub(crate) fn record(&self, deliveries: &[Delivery]) -> Record
         requires { self.now.place < length deliveries.now }
         ensures { result ≡ record_kept deliveries.now self.now }

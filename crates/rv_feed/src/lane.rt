@@ -1,4 +1,4 @@
-//! What one CPU has to do, and what it did.
+//! A lane: what one CPU has to do, and what came of it.
 ghost use Rattle.std.specs.Prelude.{◌≡◌, ◌+◌, ◌<◌, ◌∷◌, [], length, slice_index_or, IfOk};
 ghost use Rattle.rv_model.specs.declared.work.Delivery.{Delivery};
 ghost use Rattle.rv_model.specs.declared.work.Turn.{Turn};
@@ -13,7 +13,8 @@ use rv_model::{CpuWork, Delivered, Delivery, Reactor, Record, Turn};
 use std::alloc::{AllocError, Global};
 use std::marker::Model;
 
-/// The work of one CPU, and the records of its deliveries in the order in which they were made.
+/// The work of one CPU, and the records of its deliveries in the order in which they were made. Contracts see for how
+/// many records there is room.
 #[derive(Drop)]
 pub struct Lane {
     pub(crate) work: CpuWork,
@@ -33,7 +34,8 @@ impl Model for Lane {
 }
 
 impl Lane {
-    /// The lane of this work, with no record yet and room for one of each delivery.
+    /// The lane of this work, with no record yet, and room for one of each delivery, so that keeping one asks for no
+    /// memory.
     pub fn new(alloc: Global, work: CpuWork) -> Result<Lane, AllocError>
         ensures { IfOk result (λ lane. IsNewLane work lane) }
     {
@@ -41,21 +43,21 @@ impl Lane {
         Ok(Lane { work, kept })
     }
 
-    /// What the CPU has to do.
+    /// The work that the lane was made with.
     pub fn work(&self) -> &CpuWork
         ensures { result.now ≡ self.now.work }
     {
         &self.work
     }
 
-    /// How many records there are.
+    /// How many records there are so far.
     pub fn count(&self) -> usize
         ensures { result ≡ length self.now.records }
     {
         self.kept.len()
     }
 
-    /// The record at this place, from 0.
+    /// The record at an index, in the order in which the deliveries were made. It is made anew at each call.
     pub fn record(&self, place: usize) -> Record
         requires { place < length self.now.records }
         ensures { (r : Record) → result ≡ slice_index_or self.now.records place r }
@@ -63,7 +65,7 @@ impl Lane {
         self.kept[place].record(self.work.deliveries.as_slice())
     }
 
-    /// The work alone.
+    /// The work that the lane was made with, without its records.
     pub fn into_work(self) -> CpuWork
         ensures { result ≡ self.work }
     {
@@ -71,21 +73,21 @@ impl Lane {
     }
 }
 
-/// What is known of every lane.
+/// Does nothing, and gives a proof that the lane's work is well formed.
 pub(crate) fn assert_invariant(lane: &Lane)
     ensures { IsWork lane.now.work }
 {
     let _ = &lane.work.turns;
 }
 
-/// Keeps the record of the delivery at this place, for which there is room.
-pub(crate) fn keep(lane: &mut Lane, place: u32, line: u32, outcome: Delivered, reacting: bool)
-    requires place { place < length lane.old.work.deliveries }
+/// Keeps the record of the delivery at `index` in the work, for which there is room.
+pub(crate) fn keep(lane: &mut Lane, index: u32, line: u32, outcome: Delivered, reacting: bool)
+    requires index { index < length lane.old.work.deliveries }
     requires room { length lane.old.records < lane.old.room }
-    ensures { (d : Delivery) → AddsRecords lane.old lane.new (record_on line outcome reacting (slice_index_or lane.old.work.deliveries place d) ∷ []) }
+    ensures { (d : Delivery) → AddsRecords lane.old lane.new (record_on line outcome reacting (slice_index_or lane.old.work.deliveries index d) ∷ []) }
 {
     let kept = Kept {
-        place,
+        place: index,
         line,
         outcome: Outcome::of(outcome),
         reacting,
@@ -96,7 +98,7 @@ pub(crate) fn keep(lane: &mut Lane, place: u32, line: u32, outcome: Delivered, r
     }
 }
 
-/// Whether the monitor's reactor is panic.
+/// Whether the monitor's reactor is panic. A monitor past the end of the list has none that is.
 pub(crate) fn is_panic(reactors: &[Reactor], monitor: u8) -> bool
     ensures { result ≡ panics_of reactors.now monitor }
 {
@@ -106,39 +108,35 @@ pub(crate) fn is_panic(reactors: &[Reactor], monitor: u8) -> bool
     }
 }
 
-/// The seat of the lane's CPU.
+/// The number of the seat of the lane's CPU.
 pub(crate) fn seat_of(lane: &Lane) -> u32
     ensures { result ≡ 2 + lane.now.work.cpu }
 {
     2 + lane.work.cpu as u32
 }
 
-/// The lane's CPU.
 pub(crate) fn cpu_of(lane: &Lane) -> u32
     ensures { result ≡ lane.now.work.cpu }
 {
     lane.work.cpu as u32
 }
 
-/// The delivery at this place.
-pub(crate) fn delivery_at(lane: &Lane, place: u32) -> Delivery
-    requires { place < length lane.now.work.deliveries }
-    ensures { (d : Delivery) → result ≡ slice_index_or lane.now.work.deliveries place d }
+pub(crate) fn delivery_at(lane: &Lane, index: u32) -> Delivery
+    requires { index < length lane.now.work.deliveries }
+    ensures { (d : Delivery) → result ≡ slice_index_or lane.now.work.deliveries index d }
 {
-    lane.work.deliveries[place as usize]
+    lane.work.deliveries[index as usize]
 }
 
-/// How many turns there are.
 pub(crate) fn turn_count(lane: &Lane) -> usize
     ensures { result ≡ length lane.now.work.turns }
 {
     lane.work.turns.len()
 }
 
-/// The turn at this place.
-pub(crate) fn turn_at(lane: &Lane, place: usize) -> Turn
-    requires { place < length lane.now.work.turns }
-    ensures { (t : Turn) → result ≡ slice_index_or lane.now.work.turns place t }
+pub(crate) fn turn_at(lane: &Lane, index: usize) -> Turn
+    requires { index < length lane.now.work.turns }
+    ensures { (t : Turn) → result ≡ slice_index_or lane.now.work.turns index t }
 {
-    lane.work.turns[place]
+    lane.work.turns[index]
 }

@@ -11,7 +11,8 @@ use rv_core::{Core, Setup};
 use rv_model::{Closed, Reactor};
 use std::alloc::{AllocError, Global};
 
-/// The one history of the lanes' scripts on one thread, whose records the lanes then have.
+/// Runs the lanes' scripts on one thread in the order of the trace, and gives the one history of them; the lanes then
+/// have its records. The one error is want of memory, before the first entry.
 pub fn replay(
     alloc: Global,
     setup: Setup,

@@ -1,4 +1,4 @@
-//! All scripts on one thread. The lane whose next turn has the least line goes on.
+//! All scripts on one thread: again and again the lane goes on whose next turn has the least line.
 ghost use Rattle.rv_model.specs.declared.work.Turn.{Turn};
 ghost use Rattle.std.specs.Prelude.{◌≡◌, ◌≢◌, ℕ, ◌^◌, ◌<◌, ◌≤◌, true, List, length, replicate, All, AllPairs, slice_index, slice_index_or};
 ghost use Rattle.rv_core.specs.Deliveries.{FitsDelivery};
@@ -11,17 +11,17 @@ use crate::turn::play_turn;
 use rv_core::Core;
 use rv_model::Reactor;
 
-/// The line of no turn.
+/// A line that is larger than any turn's, for a lane without a next turn.
 const NO_LINE: u64 = 1 << 32;
 
-/// A lane, and the line of its next turn.
+/// A lane by its index, and the line of its next turn.
 #[derive(Clone, Copy, Drop)]
 pub(crate) struct NextTurn {
     pub lane: usize,
     pub line: u64,
 }
 
-/// The line of the lane's next turn, and no line where it has none.
+/// The line of the lane's next turn, or `NO_LINE`. `places` has the index of the next turn, by CPU.
 fn line_of(lane: &Lane, places: &[usize; 64]) -> u64
     requires { lane.now.work.cpu < 64 }
     ensures line { IsPending places.now lane.now → result ≡ next_line places.now lane.now }
@@ -37,7 +37,7 @@ fn line_of(lane: &Lane, places: &[usize; 64]) -> u64
     }
 }
 
-/// The line of each lane's first turn, at the place of its CPU.
+/// The line of each lane's first turn, at the index of its CPU.
 fn first_lines(lanes: &[Lane]) -> [u64; 64]
     requires cpu { All (λ l. l.work.cpu < 64) lanes.now }
     requires cpus { AllPairs (λ l m. l.work.cpu ≢ m.work.cpu) lanes.now }
@@ -53,7 +53,7 @@ fn first_lines(lanes: &[Lane]) -> [u64; 64]
     lines
 }
 
-/// The lane whose next turn has the least line. The lines are by CPU.
+/// The lane whose next turn has the least line. The lines are indexed by CPU.
 fn least(lanes: &[Lane], lines: &[u64; 64]) -> NextTurn
     requires { All (λ l. l.work.cpu < 64) lanes.now }
     ensures { (places : List ℕ) → HasLines places lines.now lanes.now → IsLeast places lanes.now result }
@@ -72,7 +72,7 @@ fn least(lanes: &[Lane], lines: &[u64; 64]) -> NextTurn
     best
 }
 
-/// Whether there is a lane at this place, and the line is its next turn's. The lines are by CPU.
+/// Whether there is a lane at the index `at`, and its next turn has this line. The lines are indexed by CPU.
 fn goes_on(lanes: &[Lane], lines: &[u64; 64], at: usize, line: u64) -> bool
     requires { All (λ l. l.work.cpu < 64) lanes.now }
     ensures within { result ≡ true → at < length lanes.now }
@@ -86,8 +86,9 @@ fn goes_on(lanes: &[Lane], lines: &[u64; 64], at: usize, line: u64) -> bool
     }
 }
 
-/// The lane whose next turn has the least line, where no next turn has a line below `from`.
-/// Mostly `from` is the next line of the lane that played last, or of the lane behind it.
+/// The lane whose next turn has the least line, where no next turn has a line below `from`. Two lanes are asked first
+/// whether they go on with the line `from`, as one of them mostly does: the lane that played last, and the one after
+/// it.
 fn next_lane(lanes: &[Lane], lines: &[u64; 64], last: usize, from: u64) -> NextTurn
     requires cpu { All (λ l. l.work.cpu < 64) lanes.now }
     requires few { from ≤ 2 ^ 32 }
@@ -110,7 +111,8 @@ fn next_lane(lanes: &[Lane], lines: &[u64; 64], last: usize, from: u64) -> NextT
     least(lanes, lines)
 }
 
-/// The lane's turn at this place, and then its next place.
+/// Plays the lane's turn at the index `place`, and gives the index of its next turn, which is past the end where the
+/// script has ended.
 fn play_next(core: &mut Core, reactors: &[Reactor], lane: &mut Lane, place: usize) -> usize
     requires place { place < length lane.old.work.turns }
     requires fit { All (FitsDelivery core.old.setup) lane.old.work.deliveries }
@@ -128,7 +130,7 @@ fn play_next(core: &mut Core, reactors: &[Reactor], lane: &mut Lane, place: usiz
     }
 }
 
-/// All scripts, their turns in the order of their lines.
+/// Runs all scripts on one thread, their turns in the order of their lines. Asks for no memory.
 pub fn run_in_order(core: &mut Core, reactors: &[Reactor], lanes: &mut [Lane])
     requires { FitLanes core.old.setup lanes.old }
     ensures { Ran (panics_of reactors.now) core.old core.new lanes.old lanes.new }

@@ -1,4 +1,4 @@
-//! One turn of a script.
+//! One turn of a script, on one thread.
 ghost use Rattle.std.specs.Prelude.{◌≡◌, ◌+◌, ◌<◌, ◌≤◌, ◌&&◌, ◌++◌, ◌∷◌, [], length, slice_index_or, All};
 ghost use Rattle.rv_model.specs.declared.work.Delivery.{Delivery};
 ghost use Rattle.rv_model.specs.Numbers.{has_bit};
@@ -20,8 +20,7 @@ pub(crate) fn halts(reactors: &[Reactor], word: u64, monitor: u8, answer: Answer
     fails(answer) && (is_panic(reactors, monitor) && has_bit(word, REACTING))
 }
 
-/// What the hit is to do to its slot.
-#[inline(always)]
+/// The act of a hit on its slot: an end, or a delivery.
 fn hit_act(slot: u32, hit: &Hit) -> Act
     ensures { result ≡ hit_act slot hit.now }
 {
@@ -32,8 +31,7 @@ fn hit_act(slot: u32, hit: &Hit) -> Act
     }
 }
 
-/// Reads the switches.
-#[inline(always)]
+/// Makes a look, and gives the switches that it found.
 fn look(core: &mut Core, seat: u32) -> u64
     ensures { LooksAt core.old core.new seat result }
 {
@@ -43,27 +41,28 @@ fn look(core: &mut Core, seat: u32) -> u64
     }
 }
 
-/// The delivery at this place, which a look shows on, and its record. True where the script ends here.
+/// Makes the delivery at `index`, keeps its record, halts the run where a failure asks for it, and says
+/// whether the script ends with it.
 fn deliver(
     core: &mut Core,
     seat: u32,
     reactors: &[Reactor],
     word: u64,
     line: u32,
-    place: u32,
+    index: u32,
     lane: &mut Lane,
 ) -> bool
-    requires place { place < length lane.old.work.deliveries }
-    requires fits { (d : Delivery) → FitsDelivery core.old.setup (slice_index_or lane.old.work.deliveries place d) }
+    requires index { index < length lane.old.work.deliveries }
+    requires fits { (d : Delivery) → FitsDelivery core.old.setup (slice_index_or lane.old.work.deliveries index d) }
     requires room { length lane.old.records < lane.old.room }
-    ensures { (d : Delivery) → DeliversRecorded core.old core.new (panics_of reactors.now) seat word line (slice_index_or lane.old.work.deliveries place d) lane.old lane.new result }
+    ensures { (d : Delivery) → DeliversRecorded core.old core.new (panics_of reactors.now) seat word line (slice_index_or lane.old.work.deliveries index d) lane.old lane.new result }
 {
-    let delivery = delivery_at(lane, place);
+    let delivery = delivery_at(lane, index);
     let slot = core.shape().slot(delivery.monitor, delivery.instance);
     let answer = core.step(seat, &hit_act(slot, &delivery.hit));
     keep(
         lane,
-        place,
+        index,
         line,
         Delivered::Done(answer),
         has_bit(word, REACTING),
@@ -75,7 +74,7 @@ fn deliver(
     ends
 }
 
-/// One turn: a look, and the deliveries that it shows on. True where the script ends here.
+/// Plays one turn, a look and the deliveries that it enables, and says whether the script ends within it.
 pub(crate) fn play_turn(core: &mut Core, reactors: &[Reactor], lane: &mut Lane, turn: &Turn) -> bool
     requires fit { All (FitsDelivery core.old.setup) lane.old.work.deliveries }
     requires order { turn.now.from ≤ turn.now.to }

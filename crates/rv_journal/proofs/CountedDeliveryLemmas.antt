@@ -1,4 +1,4 @@
--- What a counted delivery tells of its act.
+-- After some lost tries a counted delivery is made, or its slot is stopped.
 use Rattle.std.proofs.Common.{◌≡◌, ℕ, ◌+◌, ◌<◌, ◌≤◌, [], ◌∷◌, ◌++◌, sum, refl, ap, sym, ◌∙◌, subst}
 use Rattle.atomic_table.specs.Seated.{TableId}
 use Rattle.rv_model.specs.declared.entry.Act.{Act}

@@ -46,7 +46,7 @@ ends-as old new d observed Racing is counts given =
 pub none-more : (known : ℕ → Bool) (list more : List Entry) → entries_of known more ≡ [] → entries_of known (list ++ more) ≡ entries_of known list
 none-more known list more none = filter-append (λ (e : Entry). known e.seat) list more ∙ (ap (λ (z : List Entry). entries_of known list ++ z) none ∙ append-nil (entries_of known list))
 
--- what the board's call tells is so in the seat's list
+-- what the board's call observes is so in the seat's list
 pub fed-one : (old new : CountedValue) (d : Delivery) (observed : Counted) → Counts old.seat new.seat (slot_at old.seat.board.setup d) observed → DeliversOrStops old.seat new.seat (slot_at old.seat.board.setup d) d.hit observed.outcome → new.left + 1 ≡ old.left
     → FeedsCounted old new (d ∷ []) (observed ∷ [])
 fed-one old new d observed counts delivers left =
@@ -74,7 +74,7 @@ fed-one old new d observed counts delivers left =
 -- ---- one after another
 
 module _ (s : Setup) (known : ℕ → Bool) where
-  -- what was told is so in every list that goes on from the list
+  -- what was observed is so in every list that goes on from the list
   told-longer : (seen list more own : List Entry) (d : Delivery) (observed : Counted) → IsObserved s known seen list own d observed → IsObserved s known seen (list ++ more) own d observed
   told-longer seen list more own d observed i = record {
     earlier = i.earlier;
@@ -151,7 +151,7 @@ fed-more a b c ds cs d observed one two =
 
 -- ---- lanes
 
--- the deliveries before this place were made, and the lane has what they told
+-- the deliveries before this index were made, and the lane has what they observed
 pub record FedTo (old cur : CountedValue) (lane lane' : CountedLaneValue) (place : ℕ) : Type 0 where
   pub feeds : FeedsCounted old cur (take place lane.work.deliveries) lane'.counted
   pub work_is : lane'.work ≡ lane.work

@@ -1,4 +1,4 @@
--- What a counted delivery tells of its entry and its counts.
+-- What a counted delivery observes of its entry and its counts is so in its seat's list.
 use Rattle.std.proofs.Common.{◌≡◌, ℕ, ◌+◌, ◌<◌, ◌≤◌, List, [], ◌∷◌, ◌++◌, sum, ap, sym, ◌∙◌, subst, arith, append_assoc}
 use Rattle.atomic_table.specs.Seated.{TableId}
 use Rattle.rv_model.specs.declared.entry.Act.{Act}

@@ -1,4 +1,4 @@
--- What is shown of works whose deliveries fit the counted words.
+-- Of works whose deliveries fit the counted words, the enabled deliveries fit them too.
 use Rattle.std.proofs.Common.{◌≡◌, ℕ, ◌<◌, ◌≤◌, true, List, [], ◌∷◌, length, sym, subst, arith}
 use Rattle.std.specs.Prelude.{All, AllPairs}
 use Rattle.std.specs.List.{AllZip}
@@ -35,7 +35,7 @@ shown-ascends look works enabled ascend zip i j d lt within =
     let last = (AllZip-get_or (IsEnabledWork look) works enabled j d d zip (omega arith)).enabled_of.cpu in
     omega arith
 
--- the works are of the same CPUs, and their turns have what is shown on
+-- the works are of the same CPUs, and their turns have the deliveries that are enabled
 pub shown-of-each : (look : ℕ) (works enabled : List Work) → AllZip (IsEnabledWork look) works enabled → AllZip (IsEnabledOf look) works enabled
 shown-of-each look [] [] zip = tt
 shown-of-each look [] (v ∷ enabled) zip = absurd zip

@@ -1,4 +1,4 @@
--- What is read is an entry.
+-- The numbers of an entry that is read are in range, and its hit is no end.
 use Rattle.std.proofs.Common.{◌≡◌, ℕ, ◌≤◌, inl, inr, false, List, Some, codes, ap, subst, arith}
 use Rattle.rv_model.specs.declared.entry.Act.{Act}
 use Rattle.rv_model.specs.declared.entry.Act.TheVariants.{Deliver, Stop, Look, Raise, Lower, Clear, End}

@@ -1,4 +1,4 @@
--- The first item that is not placed: what is told at it, and that its rank is what its slot has.
+-- The first item that is not placed: what is known of it, and that its version is the one that its slot has.
 use Rattle.std.proofs.Common.{◌≡◌, ℕ, ◌+◌, ◌<◌, ◌≤◌, ◌==◌, Bool, true, false, List, ◌∷◌, ◌++◌, ◌⊎◌, inl, inr, length, map, refl, sym, ap, ◌∙◌, subst, arith}
 use Rattle.std.specs.Prelude.{filter}
 use Rattle.std.proofs.lemmas.Bool.Decides.{nat_tests}
@@ -21,11 +21,11 @@ use Rattle.rv_journal.proofs.PlaceLemmas.{changes-marks}
 module _ (s : Setup) (whole : List Counted) (lanes : Lanes) (observed : AreKnownItems s whole)
     (history : List Entry) (rest : ℕ → List MergeStep) (u : IsUnderWay s whole lanes history rest) where
   module _ (f : FirstOpen u.marks) where
-    -- what is told at a mark
+    -- what is known of the item of a mark
     pub told-at : (b : List Mark) (placed : Bool) (d : Counted) (a : List Mark) → u.marks ≡ b ++ mark placed d ∷ a → IsKnownItem s (entries_in (items_in b)) d
     told-at b placed d a eq = observed (items_in b) d (items_in a) (sym u.marks_are ∙ (ap items_in eq ∙ map-append (λ (x : Mark). x.item) b (mark placed d ∷ a)))
 
-    -- what is told at the item
+    -- what is known of the item
     pub told_is : IsKnownItem s (entries_in (items_in f.front)) f.item
     told_is = told-at f.front false f.item f.back f.is
 

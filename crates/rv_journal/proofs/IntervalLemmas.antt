@@ -1,4 +1,4 @@
--- No lane holds the gap that the first item that is not placed would close.
+-- Nothing is pending in the interval that the first item that is not placed would end.
 use Rattle.std.proofs.Common.{◌≡◌, ◌≢◌, ℕ, ◌<◌, ◌==◌, Bool, true, false, ◌&&◌, List, [], ◌∷◌, ◌++◌, refl, sym, ap, ◌∙◌, subst, arith, append_assoc}
 use Rattle.std.proofs.lemmas.Bool.Decides.{nat_tests}
 use Rattle.rv_model.specs.Numbers.{one_if}

@@ -1,4 +1,4 @@
--- What is known of the whole list is what a merge needs to be told.
+-- What is known of the list of all items is what a merge needs of it.
 use Rattle.std.proofs.Common.{◌≡◌, ℕ, ◌+◌, ◌^◌, ◌<◌, ◌==◌, Bool, true, false, List, [], ◌∷◌, ◌++◌, length, reverse, refl, sym, ap, ◌∙◌, subst, arith, append_assoc}
 use Rattle.std.specs.Prelude.{All}
 use Rattle.std.proofs.lemmas.Bool.Decides.{nat_tests}
@@ -109,7 +109,7 @@ module _ (s : Setup) (seen : List Entry) (lanes : List CountedLaneValue) (can : 
           let w' = whole' in
           omega arith
 
-  -- the whole list is told
+  -- every item of the whole list is known
   pub all-told : AreKnownItems s all_items
   all-told before c after eq =
       let known = (whole s seen lanes can k numbers).known before c after eq in

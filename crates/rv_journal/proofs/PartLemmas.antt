@@ -1,4 +1,4 @@
--- What a feeder's deliveries told is its CPU's part of every later history.
+-- What a feeder's deliveries observed is its CPU's part of every later history.
 use Rattle.std.proofs.Common.{◌≡◌, inl, inr, ℕ, ◌<◌, ◌≤◌, ◌==◌, Bool, true, false, true≢false, List, [], ◌∷◌, ◌++◌, length, refl, sym, ap, ◌∙◌, subst, arith, append_assoc, append-nil}
 use Rattle.std.specs.Prelude.{All, filter}
 use Rattle.std.proofs.lemmas.Bool.Decides.{nat_tests}
@@ -52,7 +52,7 @@ module _ (s : Setup) (known : ℕ → Bool) (seen list : List Entry) where
   all-served own (d ∷ ds) [] all = absurd all
   all-served own (d ∷ ds) (c ∷ cs) all = (serves-told s d (all.0.earlier ++ all.0.since) all.0.since c.entry c.outcome all.0.ends, all-served (own ++ c.entry ∷ []) ds cs all.1)
 
-  -- what one of them told is so in the list, behind the entries of those before it
+  -- what one of them observed is so in the list, after the entries of those before it
   pub told-at : (own : List Entry) (ds : List Delivery) (cs : List Counted) → AllObservedAfter s known seen list own ds cs → (front : List Counted) (c : Counted) (back : List Counted) → cs ≡ front ++ c ∷ back → (d : Delivery) × IsObserved s known seen list (own ++ entries_observed front) d c
   told-at own [] [] all [] c back eq = absurd (cc (eq))
   told-at own [] [] all (x ∷ front) c back eq = absurd (cc (eq))

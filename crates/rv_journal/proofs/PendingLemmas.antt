@@ -1,4 +1,4 @@
--- For how many things the gaps have to stay open: item by item, and when a step is placed.
+-- How many are pending in each interval: item by item, and when a step is placed.
 use Rattle.std.proofs.Common.{◌≡◌, ℕ, ◌+◌, ◌<◌, ◌≤◌, ◌==◌, Bool, true, false, List, [], ◌∷◌, ◌++◌, ◌⊎◌, inl, inr, length, take, get_or, refl, ap, ◌∙◌, subst, arith, add-one}
 use Rattle.std.proofs.lemmas.Bool.Decides.{nat_tests}
 use Rattle.std.specs.Prelude.{All}
@@ -16,7 +16,7 @@ pub leaving-append : (slot r : ℕ) (a b : List Counted) → leaving slot r (a +
 leaving-append slot r [] b = omega arith
 leaving-append slot r (c ∷ a) b = let rest = leaving-append slot r a b in omega arith
 
--- and so for the Stops that were lost from a gap on
+-- and so for the Stops that were lost from an interval on
 pub losing-append : (slot r : ℕ) (a b : List Counted) → losing slot r (a ++ b) ≡ losing slot r a + losing slot r b
 losing-append slot r [] b = omega arith
 losing-append slot r (c ∷ a) b = let rest = losing-append slot r a b in omega arith
@@ -33,9 +33,9 @@ lane_pending-more g items i c lt =
 pub grown-more : (g : VersionInterval) (items : List Counted) (i : ℕ) (c : Counted) (first had now : ℕ) → i < length items → had ≡ first + lane_pending g (take i items) → now ≡ had + item_pending g (get_or items i c) → now ≡ first + lane_pending g (take (i + 1) items)
 grown-more g items i c first had now lt so more = let sum = lane_pending-more g items i c lt in omega arith
 
--- ---- gaps
+-- ---- intervals
 
--- the same gap, or another one
+-- the same interval, or another one
 same-or_other : (a b : VersionInterval) → (a ≡ b) ⊎ (same_interval a b ≡ false)
 same-or_other a b = by (a.slot == b.slot) refl (a.version == b.version) refl
   where

@@ -1,4 +1,4 @@
--- What a merged history gains by one entry more: words that fit, and Stops that are earned.
+-- What a merged history gains by one entry more: words that fit, and Stops that are justified.
 use Rattle.std.proofs.Common.{◌≡◌, ◌≢◌, ℕ, ◌+◌, Bool, true, false, List, [], ◌∷◌, ◌++◌, length, map, reverse, refl, sym, ap, ◌∙◌, subst, arith, append_assoc}
 use Rattle.std.specs.Prelude.{filter}
 use Rattle.std.proofs.lemmas.Bool.Decides.{nat_tests}

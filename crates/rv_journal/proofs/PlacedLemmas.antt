@@ -66,7 +66,7 @@ module _ (s : Setup) (whole : List Counted) (lanes : Lanes) (observed : AreKnown
     cut : whole ≡ items_in first.front ++ c ∷ items_in first.back
     cut = sym u.marks_are ∙ (ap items_in first.is ∙ map-append (λ (x : Mark). x.item) first.front (mark false c ∷ first.back))
 
-    -- what is told at it
+    -- what is known of it
     told_is : IsKnownItem s (entries_in (items_in first.front)) c
     told_is = observed (items_in first.front) c (items_in first.back) cut
 

@@ -1,4 +1,4 @@
--- Which step is ready, and what is read at a lane's place.
+-- Which step is ready, and what is read at a lane's index.
 use Rattle.std.proofs.Common.{◌≡◌, ℕ, ◌<◌, ◌≤◌, ◌==◌, Bool, true, false, not, ◌||◌, List, ◌∷◌, ◌⊎◌, inl, inr, length, get_or, refl, sym, ◌∙◌, subst, arith, sum}
 use Rattle.std.proofs.lemmas.Bool.{and_parts}
 use Rattle.std.proofs.lemmas.Bool.Decides.{nat_tests}

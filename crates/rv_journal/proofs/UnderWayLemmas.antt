@@ -69,7 +69,7 @@ told-replays s items observed before e after eq =
     let t = observed r.front r.item r.back r.is in
     subst (λ (z : Entry). FitsWords s (judges_of s) before z) r.entry_is (subst (λ (z : List Entry). FitsWords s (judges_of s) z r.item.entry) r.front_is t.words)
 
--- ---- what holds a gap
+-- ---- what is pending in an interval
 
 -- fewer are lost behind the first
 losing-behind : (slot r : ℕ) (steps : List MergeStep) → losing slot r (items_of (behind steps)) ≤ losing slot r (items_of steps)

@@ -1,4 +1,5 @@
--- Words with a count, in which an instance's word takes 32 bits (this project's choice: docs/DECISIONS.md, "Counted words").
+-- Words with a count, in which an instance's word takes 32 bits (this project's choice: docs/DECISIONS.md, "Counted
+-- words").
 use Rattle.std.specs.Prelude.{ℕ, ◌-◌, ◌^◌, ◌<◌, ◌≤◌, ◌==◌, Bool, true, false, ◌&&◌, List, length, filter, reverse, sum}
 use Rattle.rv_model.specs.declared.entry.Act.{Act}
 use Rattle.rv_model.specs.declared.entry.Act.TheVariants.{Deliver}
@@ -16,23 +17,23 @@ use Rattle.rv_core.specs.Setup.{table_at, judges_of}
 
 -- ---- words
 
--- it takes no more, where the set takes so many bits
+-- an instance's word takes 32 bits: `wide` of them for its set of rows, and the others for its levels
 pub record FitsCountedWord (wide word : ℕ) : Type 0 where
   pub set : set_in word < 2 ^ wide
   pub levels : atoms_in word < 2 ^ (32 - wide)
 
 -- ---- histories
 
--- the entry delivers
+-- whether the act is a delivery
 abbrev pub is_deliver : Act → Bool
 is_deliver (Deliver slot hit) = true
 is_deliver _ = false
 
--- it delivers on the slot, and changed its word
+-- whether the entry is a delivery on the slot that changed its word
 abbrev pub counts : ℕ → Entry → Bool
 counts slot e = is_deliver e.act && changed slot e
 
--- how many entries did
+-- how many deliveries on the slot changed its word
 abbrev pub count_on : ℕ → List Entry → ℕ
 count_on slot history = length (filter (counts slot) history)
 
@@ -40,15 +41,15 @@ count_on slot history = length (filter (counts slot) history)
 abbrev pub rows_at : Setup → ℕ → ℕ
 rows_at s slot = row_count (table_at s slot)
 
--- how many entries a number has
+-- how many entries a seat number has
 abbrev pub entries_by : ℕ → List Entry → ℕ
 entries_by n history = length (entries_of (λ m. m == n) history)
 
--- the most entries that a number may have
+-- the most entries that one seat number may have
 abbrev pub most_entries : ℕ
 most_entries = 4000000
 
--- each slot's word takes 32 bits, and no number has too many entries, so no count is too large
+-- each slot's word takes 32 bits, and no number has more entries than it may, so no count is too large
 pub record FitsCounts (s : Setup) (history : List Entry) : Type 0 where
   pub rows : (slot : ℕ) → slot < sum s.shape → IsRows (table_at s slot)
   pub begins : (slot : ℕ) → slot < sum s.shape → first_row (table_at s slot) < rows_at s slot
@@ -57,7 +58,7 @@ pub record FitsCounts (s : Setup) (history : List Entry) : Type 0 where
 
 -- ---- hits
 
--- the sets of atoms that go on and off are below so many levels
+-- the atoms that a hit turns on, turns off or pulses are among the first `levels`
 abbrev pub IsBelow : ℕ → What → Type 0
 IsBelow levels (Da event) = Unit {0}
 IsBelow levels (Ltl on off pulse) = (on < 2 ^ levels) × (off < 2 ^ levels) × (pulse < 2 ^ levels)

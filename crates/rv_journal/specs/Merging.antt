@@ -1,4 +1,4 @@
--- Counted lists of CPUs, and the one legal history that they become.
+-- What lanes have to be for a merge, and the one legal history that they become.
 use Rattle.std.specs.Prelude.{◌≡◌, ◌≢◌, ◌⊎◌, ℕ, ◌+◌, ◌<◌, ◌≤◌, true, false, ◌==◌, not, List, [], ◌∷◌, ◌++◌, map, filter, length, All, Any, AllPairs, slice_index}
 use Rattle.rv_model.specs.declared.entry.Act.{Act}
 use Rattle.rv_model.specs.declared.entry.Act.TheVariants.{Deliver, Stop}
@@ -22,7 +22,7 @@ use Rattle.rv_journal.specs.MergeStates.{entries_in, StandsAs}
 
 -- ---- parts of a history
 
--- the count is that of the slot after some first entries; since then the seat has none, and three changed the slot's word
+-- `first` is the slot's count after some first entries; since then the seat has none, and three changed the slot's word
 pub record IsLost (slot seat first : ℕ) (before : List Entry) : Type 0 where
   pub until : List Entry
   pub since : List Entry
@@ -31,7 +31,8 @@ pub record IsLost (slot seat first : ℕ) (before : List Entry) : Type 0 where
   pub first_is : first ≡ count_on slot until
   pub three : 3 ≤ length (filter (changed slot) since)
 
--- the item's entry stands in the history behind these earlier ones of its seat, with the slot's count just before it; a Stop was lost since its `first`
+-- the item's entry is in the history, its seat's entries before it are `earlier`, and the slot's count just before it
+-- is the item's; a Stop was lost since its `first`
 pub record IsCountedIn (seen : List Entry) (seat : ℕ) (earlier : List Entry) (c : Counted) : Type 0 where
   pub before : List Entry
   pub after : List Entry
@@ -40,7 +41,7 @@ pub record IsCountedIn (seen : List Entry) (seat : ℕ) (earlier : List Entry) (
   pub count_is : c.count ≡ count_on (slot_in c.entry.act) before
   pub lost : (slot : ℕ) → c.entry.act ≡ Stop slot → IsLost slot seat c.first before
 
--- the items are the seat's part of the history, with its counts
+-- the items are the seat's part of the history, each with its slot's count just before it
 pub record IsSeatPartOf (seen : List Entry) (seat : ℕ) (items : List Counted) : Type 0 where
   pub entries_are : entries_in items ≡ entries_of (λ n. n == seat) seen
   pub each : (front : List Counted) (c : Counted) (back : List Counted) → items ≡ front ++ c ∷ back → IsCountedIn seen seat (entries_in front) c
@@ -57,18 +58,19 @@ pub record FitsSetup (s : Setup) (d : Delivery) : Type 0 where
 abbrev pub Serves : Setup → Delivery → Act → Type 0
 Serves s d act = (act ≡ Deliver (slot_of s.shape d.monitor d.instance) d.hit) ⊎ (act ≡ Stop (slot_of s.shape d.monitor d.instance))
 
--- there is one item for each delivery, in order, which serves it
+-- there are as many items as deliveries, and each serves the delivery at its index
 abbrev pub AllServed : Setup → List Delivery → List Counted → Type 0
 AllServed s [] [] = Unit {0}
 AllServed s [] (c ∷ items) = ⊥
 AllServed s (d ∷ deliveries) [] = ⊥
 AllServed s (d ∷ deliveries) (c ∷ items) = Serves s d c.entry.act × AllServed s deliveries items
 
--- the seat of a lane's CPU
+-- the number of the seat of a lane's CPU
 abbrev pub seat_of : CountedLaneValue → ℕ
 seat_of lane = 2 + lane.work.cpu
 
--- the lane's deliveries fit the setup, whose switches show them on; its items serve them, and are its CPU's part of the history
+-- the lane's deliveries fit the setup, whose switches enable them; its items serve them, and are its CPU's part of the
+-- history
 pub record FitsLane (s : Setup) (seen : List Entry) (lane : CountedLaneValue) : Type 0 where
   pub cpu : lane.work.cpu < 64
   pub fit : All (FitsSetup s) lane.work.deliveries
@@ -76,7 +78,8 @@ pub record FitsLane (s : Setup) (seen : List Entry) (lane : CountedLaneValue) : 
   pub served : AllServed s lane.work.deliveries lane.counted
   pub part : IsSeatPartOf seen (seat_of lane) lane.counted
 
--- a sound history has no other entries than those of the lanes, which are of different CPUs, and the switches have no halted bit
+-- the history is sound and has the entries of the lanes and no others; the lanes are of different CPUs, and the halted
+-- switch is off
 pub record CanMerge (s : Setup) (seen : List Entry) (lanes : List CountedLaneValue) : Type 0 where
   pub sound : IsSound s (judges_of s) seen
   pub fit : All (FitsLane s seen) lanes
@@ -86,14 +89,14 @@ pub record CanMerge (s : Setup) (seen : List Entry) (lanes : List CountedLaneVal
 
 -- ---- what it becomes
 
--- but for looks, the merged history has the entries of each seat in their order; so are on each slot the entries that changed its word,
--- and each entry lies between the same two of them
+-- but for looks, the merged history has each seat's entries in their order, and each slot's changes in theirs; each
+-- entry lies between the same two changes of its slot as in `seen`
 pub record MergedFrom (seen merged : List Entry) : Type 0 where
   pub seats : (seat : ℕ) → filter (λ e. not (is_look_act e.act)) (entries_of (λ n. n == seat) merged) ≡ entries_of (λ n. n == seat) seen
   pub changes : (slot : ℕ) → filter (changed slot) merged ≡ filter (changed slot) seen
   pub between : AtEach (StandsAs merged) seen
 
--- what the lanes had to do
+-- the works of the lanes, in order
 abbrev pub works_of : List CountedLaneValue → List Work
 works_of lanes = map (λ l. l.work) lanes
 
@@ -101,7 +104,8 @@ works_of lanes = map (λ l. l.work) lanes
 abbrev pub input_of : Setup → List CountedLaneValue → Input
 input_of s lanes = record { setup = s; specs = []; panics = λ _. false; works = works_of lanes; changes = [] }
 
--- the history is legal for the lanes' works, by the tables, its acts fit the setup, and it is merged from what was seen
+-- the merged history is legal for the lanes' works, by the tables; its acts fit the setup, and it is merged from what
+-- was seen
 pub record IsMergeOf (s : Setup) (seen : List Entry) (lanes : List CountedLaneValue) (merged : List Entry) : Type 0 where
   pub legal : IsLegal (input_of s lanes) (judges_of s) merged
   pub fits : AtEach (λ before e. FitsAct s e.act) merged

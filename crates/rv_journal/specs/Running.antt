@@ -1,4 +1,4 @@
--- A run of all counted feeders at once: its seats, and what it comes to.
+-- What a recorded run asks of its works, and what it comes to.
 use Rattle.std.specs.Prelude.{◌≡◌, ◌<◌, ◌≤◌, true, false, List, [], length, All}
 use Rattle.rv_model.specs.declared.entry.Entry.{Entry}
 use Rattle.rv_model.specs.declared.formula.Spec.{Spec}
@@ -10,22 +10,19 @@ use Rattle.rv_core.specs.Setup.{judges_of}
 use Rattle.rv_journal.specs.CountedLanes.{FitsCounted}
 use Rattle.rv_journal.specs.CountedWords.{most_entries}
 
--- ---- the whole run
-
--- the CPU has a seat, which may make so many entries; the deliveries fit the board, and the switches show each of them on
+-- the CPU has a seat, which may make an entry for each delivery; the deliveries fit the board, and the switches enable
+-- each
 pub record FitsCountedWork (s : Setup) (w : Work) : Type 0 where
   pub cpu : w.cpu < 64
   pub few : length w.deliveries ≤ most_entries
   pub fit : All (FitsCounted s) w.deliveries
   pub enabled : All (λ d. is_enabled_by s.switches d ≡ true) w.deliveries
 
--- the input of a run of these works, with no reactor that is panic and no changes
+-- the input of a run of the works, with no reactor that is panic and no changes
 abbrev pub recorded_input : Setup → List Spec → List Work → Input
 recorded_input s specs works = record { setup = s; specs = specs; panics = λ _. false; works = works; changes = [] }
 
--- the tables judge by these specifications, and by the tables the history is a legal one of the works
+-- the tables judge by the specifications, and by the tables the history is a legal one of the works
 pub record IsLegalBy (s : Setup) (specs : List Spec) (works : List Work) (h : List Entry) : Type 0 where
   pub are_judges : AreJudges specs s.tables (judges_of s)
   pub legal : IsLegal (recorded_input s specs works) (judges_of s) h
-
--- ---- its seats

@@ -1,4 +1,4 @@
--- What an entry shows of its answer, where it is one of a whole history of a counted run.
+-- A whole history of a recorded run.
 use Rattle.std.specs.Prelude.{List, [], All}
 use Rattle.rv_model.specs.declared.entry.Entry.{Entry}
 use Rattle.rv_model.specs.Histories.{IsLegal}
@@ -7,7 +7,8 @@ use Rattle.rv_model.specs.Works.{Work}
 use Rattle.rv_core.specs.Setup.{IsSetup, judges_of}
 use Rattle.rv_journal.specs.Running.{FitsCountedWork, recorded_input}
 
--- a whole history of works that fit the setup's counted words, and nothing else
+-- the history is a legal one of the works, which fit the setup's counted words, with no reactor that is panic and no
+-- changes
 pub record IsWholeRun (s : Setup) (works : List Work) (h : List Entry) : Type 0 where
   pub is_setup : IsSetup s
   pub fit : All (FitsCountedWork s) works

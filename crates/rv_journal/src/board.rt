@@ -1,4 +1,4 @@
-//! The counted words that threads share.
+//! A counted board: the words that threads share, where each slot's word counts its changes.
 ghost use Rattle.std.specs.Prelude.{◌≡◌, ◌<◌, [], IfOk, All, sum};
 ghost use Rattle.rv_board.specs.Known.{part};
 ghost use Rattle.rv_board.specs.Seats.{seat_value};
@@ -17,8 +17,8 @@ use rv_slots::Shape;
 use std::alloc::{AllocError, Global};
 use std::marker::Model;
 
-/// The switches, and a counted word for each slot of the setup. Contracts see which board it is, and what it began
-/// with.
+/// The switches as word 0, then a counted word for each slot of the setup. Contracts see which board it is and its
+/// setup.
 #[derive(Drop)]
 pub struct CountedBoard {
     pub(crate) table: Table<Act, View, Setup, CountedLaw, Global>,
@@ -39,7 +39,7 @@ impl Model for CountedBoard {
     ghost invariant = { λ b. (b.table.shared.key ≡ b.setup) × (b.table.shared.table_id.words ≡ width b.setup) };
 }
 
-/// A new board, and its first seat, which has all numbers.
+/// A new board, and its first seat, which has all numbers, 0 to 66.
 #[derive(Drop)]
 pub struct CountedStart {
     pub board: CountedBoard,
@@ -54,7 +54,7 @@ pub(crate) fn rows_of(setup: &Setup, slot: u32) -> u32
     setup.table(slot).rows() + 1
 }
 
-/// The switches, and then each slot's opening word, which no entry has changed.
+/// The words of a new board: the switches, then each slot's opening word with the count 0.
 fn opening_words(alloc: Global, setup: &Setup, _widths: &[Width]) -> Result<Vec<u64>, AllocError>
     requires { AreWidths setup.now _widths.now }
     ensures { IfOk result (λ words. OpensCounted setup.now words.items) }
@@ -73,8 +73,9 @@ fn opening_words(alloc: Global, setup: &Setup, _widths: &[Width]) -> Result<Vec<
 }
 
 impl CountedBoard {
-    /// Every slot waits, and the seat has seen nothing. There is a width for each monitor: the rows of its table and
-    /// its levels take 32 bits together.
+    /// A board on which every instance waits with its starting levels, and its first seat, which has all numbers and
+    /// has seen nothing. There is a width for each monitor, whose rows and atoms take 32 bits together at most. The one
+    /// error is want of memory.
     pub fn new(alloc: Global, setup: Setup, widths: Vec<Width>) -> Result<CountedStart, AllocError>
         requires { AreWidths setup widths.items }
         ensures board { IfOk result (λ start. start.board.setup ≡ setup) }
@@ -93,14 +94,14 @@ impl CountedBoard {
         })
     }
 
-    /// The setup that it was made with. It is no step.
+    /// The setup that the board was made with. No shared word is read.
     pub fn setup(&self) -> &Setup
         ensures { result.now ≡ self.now.setup }
     {
         &self.setup
     }
 
-    /// The shape of its setup. It is no step.
+    /// How many slots each monitor has. No shared word is read.
     pub fn shape(&self) -> &Shape
         ensures { result.now ≡ self.now.setup.shape }
     {

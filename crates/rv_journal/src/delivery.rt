@@ -1,4 +1,5 @@
-//! A hit is delivered to an instance, and counted.
+//! Counted deliveries, which are made as on a board without counts, and observe their slot's count (this project's
+//! choice: docs/DECISIONS.md, "Counted words").
 ghost use Rattle.std.specs.Prelude.{◌≡◌, ◌+◌, ◌-◌, ◌<◌, sum};
 ghost use Rattle.rv_core.specs.Advance.{FitsTable};
 ghost use Rattle.rv_core.specs.Setup.{table_at};
@@ -16,12 +17,13 @@ use rv_io::Gate;
 use rv_model::{Act, Delivered, Entry, Hit};
 use rv_word::STOPPED;
 
-/// How often a delivery is tried.
+/// How many compare-exchanges a delivery may lose before it stops its instance.
 const TRIES: u32 = 3;
 
 impl CountedBoard {
-    /// As for a board whose words have no count. The count of the slot's word grows with each delivery that changes
-    /// the word, and a stop leaves it.
+    /// Delivers a hit as a board without counts does, in three tries at most, and gives what it observed. The slot's
+    /// count grows with each delivery that changes the instance's word, and a Stop leaves it. So a word that was
+    /// changed and changed back is a lost try, too.
     pub fn deliver<G: Gate>(
         &self,
         seat: &mut CountedSeat,

@@ -1,4 +1,4 @@
-//! Works without the deliveries that the opening switches do not show on.
+//! Works without the deliveries that the opening switches do not enable.
 ghost use Rattle.std.specs.Prelude.{◌≡◌, ◌≤◌, ◌++◌, IfOk, OnOk, filter, length, slice_range};
 ghost use Rattle.std.specs.List.{AllZip};
 ghost use Rattle.rv_model.specs.Scripts.{is_enabled_by};
@@ -7,7 +7,7 @@ ghost use Rattle.rv_journal.specs.Enabled.{IsEnabledWork};
 use rv_model::{CpuWork, Delivery, Turn, is_enabled_by};
 use std::alloc::{AllocError, Global};
 
-/// Keeps those of the deliveries from one place to another that the switches show on, and says how many are kept now.
+/// Keeps the deliveries from one index to another that the switches enable, and gives how many are kept by then.
 fn keep_enabled(
     switches: u64,
     deliveries: &[Delivery],
@@ -28,7 +28,7 @@ fn keep_enabled(
     Ok(kept.len() as u32)
 }
 
-/// What the switches show on of one work. A turn that loses all its deliveries stays.
+/// The work without the deliveries that the switches do not enable. A turn that loses all its deliveries stays.
 fn enabled_work(alloc: Global, switches: u64, work: CpuWork) -> Result<CpuWork, AllocError>
     ensures { IfOk result (λ shown. IsEnabledWork switches work shown) }
 {
@@ -57,7 +57,8 @@ fn enabled_work(alloc: Global, switches: u64, work: CpuWork) -> Result<CpuWork, 
     })
 }
 
-/// What the switches show on of each work.
+/// Each work without the deliveries that the switches do not enable, in the order of the works. A turn that loses all
+/// its deliveries stays. The one error is want of memory.
 pub fn enabled_works(
     alloc: Global,
     switches: u64,

@@ -1,4 +1,4 @@
-//! What is known of the numbers of entries, and the history that a list of entries is.
+//! The ranges of an entry's numbers, as calls that give them to a proof, and a list of entries as a history.
 ghost use Rattle.std.specs.Prelude.{◌≡◌, ◌<◌, ◌^◌, All};
 ghost use Rattle.rv_journal.specs.EntryTexts.{IsWhat, IsAct, IsNoEnd, IsEntry};
 
@@ -19,7 +19,7 @@ fn assert_entry_word(word: u64)
     ensures { word < 2 ^ 64 }
 {}
 
-/// What is known of the event or the sets of every hit.
+/// Gives a proof that the event or the sets of a hit are in range.
 fn assert_what(what: What)
     ensures { IsWhat what }
 {
@@ -34,7 +34,7 @@ fn assert_what(what: What)
     }
 }
 
-/// What is known of the slot or the bits of every act.
+/// Gives a proof that the slot or the bits of an act are in range.
 fn assert_entry_act(act: Act)
     ensures { IsAct act }
 {
@@ -52,7 +52,7 @@ fn assert_entry_act(act: Act)
     }
 }
 
-/// What is known of the numbers of every entry whose hit is no end.
+/// Gives a proof that all numbers of an entry are in range, where its hit is no end.
 fn assert_entry(entry: &Entry)
     requires { IsNoEnd entry.now.act }
     ensures { IsEntry entry.now }
@@ -63,7 +63,7 @@ fn assert_entry(entry: &Entry)
     assert_entry_word(entry.after);
 }
 
-/// The history that these entries are.
+/// The entries as a history, which contracts alone see, and of whose numbers it is known that they are in range.
 pub(crate) fn closed_of(entries: &[Entry]) -> Closed
     requires { All (λ e. IsNoEnd e.act) entries.now }
     ensures closed { result ≡ entries.now }

@@ -1,4 +1,4 @@
-//! The status that a recorded history shows.
+//! The exit status that a recorded history shows.
 ghost use Rattle.std.specs.Prelude.{◌≡◌, List};
 ghost use Rattle.std.specs.List.{list_any};
 ghost use Rattle.rv_model.specs.Setups.{Setup};
@@ -12,8 +12,8 @@ use rv_model::{Act, Entry, Mode};
 use rv_text::{CLEAN, FAILURE, STOPPED_SOME};
 use rv_word::set_of;
 
-/// Whether a hit of the mode, which found one word and left another, failed. A set with no row is stopped, row 0 alone
-/// waits.
+/// Whether a hit of the mode failed that found one word and left another. An instance whose set has no row is stopped,
+/// and one whose set has row 0 alone waits.
 fn shows_failure(mode: Mode, before: u64, after: u64) -> bool
     ensures { result ≡ shows_failure mode before after }
 {
@@ -27,7 +27,6 @@ fn shows_failure(mode: Mode, before: u64, after: u64) -> bool
     }
 }
 
-/// Whether the entry is a delivery that failed.
 fn is_failed(entry: &Entry) -> bool
     ensures { result ≡ is_failed_entry entry.now entry.now.act }
 {
@@ -37,28 +36,26 @@ fn is_failed(entry: &Entry) -> bool
     }
 }
 
-/// Whether the entry stopped an instance.
 fn is_stop(entry: &Entry) -> bool
     ensures { result ≡ is_stop entry.now.act }
 {
     matches!(entry.act, Act::Stop { .. })
 }
 
-/// Whether some entry is a delivery that failed.
 fn has_failed(entries: &[Entry]) -> bool
     ensures { result ≡ list_any (λ e. is_failed_entry e e.act) entries.now }
 {
     entries.iter().any(|entry| is_failed(entry))
 }
 
-/// Whether some entry stopped an instance.
 fn has_stop(entries: &[Entry]) -> bool
     ensures { result ≡ has_stop entries.now }
 {
     entries.iter().any(|entry| is_stop(entry))
 }
 
-/// The status of a whole history of a recorded run, without its works and their records.
+/// The exit status of a whole history of a recorded run: 1 where a delivery failed, else 6 where an instance was
+/// stopped, else 0. It needs neither the works nor their records. Of any other list of entries it says nothing.
 pub fn exit_status(entries: &[Entry]) -> u8
     ensures { (s : Setup) (works : List Work) → IsWholeRun s works entries.now → result ≡ exit_of s (judges_of s) entries.now }
 {

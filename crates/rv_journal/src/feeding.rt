@@ -13,7 +13,7 @@ use rv_io::Gate;
 use rv_model::Delivery;
 use std::thread::{Threads, join_mut};
 
-/// A CPU's seat, its lane, and the gate that it passes.
+/// A CPU's seat, its lane, and the gate that it passes before each turn and within each delivery.
 #[derive(Drop)]
 pub struct CountedFeeder<G> {
     pub seat: CountedSeat,
@@ -21,7 +21,7 @@ pub struct CountedFeeder<G> {
     pub gate: G,
 }
 
-/// A delivery to its slot.
+/// Makes a delivery to the slot of its instance.
 fn serve<G: Gate>(
     board: &CountedBoard,
     seat: &mut CountedSeat,
@@ -38,7 +38,7 @@ fn serve<G: Gate>(
     board.deliver(seat, cpu, slot, &delivery.hit, gate)
 }
 
-/// All deliveries of a lane, turn by turn.
+/// Makes all deliveries of a lane, turn by turn, and keeps what each of them observed.
 fn feed<G: Gate>(board: &CountedBoard, seat: &mut CountedSeat, lane: &mut CountedLane, gate: &mut G)
     requires board { seat.old.seat.board ≡ board.now }
     requires lane { IsNewCountedLane lane.old.work lane.old }
@@ -61,7 +61,6 @@ fn feed<G: Gate>(board: &CountedBoard, seat: &mut CountedSeat, lane: &mut Counte
     }
 }
 
-/// The feeder's deliveries.
 fn run_feeder<G: Gate>(board: &CountedBoard, feeder: &mut CountedFeeder<G>)
     requires { FitsCountedFeeder board.now feeder.old }
     ensures { RunsCounted feeder.old feeder.new }
@@ -69,7 +68,8 @@ fn run_feeder<G: Gate>(board: &CountedBoard, feeder: &mut CountedFeeder<G>)
     feed(board, &mut feeder.seat, &mut feeder.lane, &mut feeder.gate);
 }
 
-/// All deliveries, those of each CPU in a thread of its own.
+/// Makes all deliveries of the feeders at once: their list is halved until each has a thread of its own. Returns once
+/// all have ended.
 #[cycle(halves)]
 pub fn run_counted<R: Threads + Sync, G: Gate + Send>(
     rt: &R,
@@ -90,7 +90,6 @@ pub fn run_counted<R: Threads + Sync, G: Gate + Send>(
     run_both(rt, board, low, high);
 }
 
-/// Two halves at once.
 #[cycle(halves)]
 fn run_both<R: Threads + Sync, G: Gate + Send>(
     rt: &R,

@@ -1,5 +1,5 @@
-//! Words with counts that threads share, what is shown of the works of a run on them, the status of its history, and
-//! histories as texts: a line for each entry, printed and read back.
+//! Counted words that threads share, recorded runs on them and the one history that these are merged into, its exit
+//! status, and histories as texts, which are printed and read back.
 #![tactic(auto)]
 
 mod board;

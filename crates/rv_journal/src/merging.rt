@@ -1,6 +1,5 @@
-//! One legal history out of the lists of all CPUs: entries are placed one at a time, always of the lowest CPU whose next
-//! entry is ready. A look is ready. Any other entry is where its slot has the word and the count that it found, and,
-//! where it changes the word, nothing else has to be placed while that word stands.
+//! One legal history out of the lists of all CPUs: steps are placed one at a time, always of the lowest CPU whose next
+//! step is ready (this project's choice: docs/DECISIONS.md, "The order of a merged history").
 ghost use Rattle.std.specs.Prelude.{◌≡◌, ◌+◌, ◌<◌, ◌^◌, ◌↔◌, ⊤, ℕ, true, false, List, [], length, sum, All, IfOk, OnOk, MatchOption, slice_index};
 ghost use Rattle.rv_model.specs.declared.entry.Entry.{Entry};
 ghost use Rattle.rv_model.specs.Works.{IsWork};
@@ -20,20 +19,20 @@ use rv_model::Entry;
 use std::alloc::{AllocError, Global};
 use std::collections::HashMap;
 
-/// A history that is being merged.
+/// A merge under way.
 #[derive(Drop)]
 pub struct Merging {
-    /// What is placed.
+    /// The entries placed so far, in the order of the merged history.
     pub placed: Vec<Entry>,
-    /// How far each lane has come.
+    /// How far each lane has come, by the lane's index.
     pub cursors: Vec<LaneProgress>,
-    /// How many placed entries changed the word of each slot.
+    /// By slot, how many placed entries changed its word: its version in the merged history.
     pub changes: Vec<u64>,
-    /// For how many things each gap has to stay open.
+    /// How many entries and Stops are pending in each interval.
     pub waits: Pending,
 }
 
-/// What is known of all lanes.
+/// Gives a proof that the works of all lanes are well formed, and that the numbers of their items are in range.
 fn assert_lanes(lanes: &[CountedLane])
     ensures works { All (λ l. IsWork l.work) lanes.now }
     ensures numbers { All (λ l. All NumbersFit l.counted) lanes.now }
@@ -43,21 +42,19 @@ fn assert_lanes(lanes: &[CountedLane])
     }
 }
 
-/// How many slots there are.
 fn slots_of(setup: &Setup) -> usize
     ensures { result ≡ sum setup.now.shape }
 {
     setup.shape.slots() as usize
 }
 
-/// The opening switches.
 fn switches_of(setup: &Setup) -> u64
     ensures { result ≡ setup.now.switches }
 {
     setup.switches
 }
 
-/// The step's change of its slot is counted.
+/// Counts the step for its slot, if it changes the slot's word.
 fn count(changes: &mut Vec<u64>, step: &MergeStep)
     requires slot { InSlots (length changes.old.items) step.now }
     requires room { (slot : ℕ) → slice_index changes.old.items slot + 1 < 2 ^ 64 }
@@ -70,45 +67,43 @@ fn count(changes: &mut Vec<u64>, step: &MergeStep)
     }
 }
 
-/// The next step of the lane at this place, which has come so far.
-fn next_from(cursor: &LaneProgress, lanes: &[CountedLane], place: usize) -> Option<NextStep>
-    requires low { place < length lanes.now }
-    requires cursor { IsCursor (lane_at lanes.now place) cursor.now }
-    ensures { MatchOption result (rest_of (lane_at lanes.now place) cursor.now ≡ []) (λ next. GoesTo (lane_at lanes.now place) cursor.now next.step next.cursor) }
+/// The next step of the lane at `index`, which has come as far as the cursor.
+fn next_from(cursor: &LaneProgress, lanes: &[CountedLane], index: usize) -> Option<NextStep>
+    requires low { index < length lanes.now }
+    requires cursor { IsCursor (lane_at lanes.now index) cursor.now }
+    ensures { MatchOption result (rest_of (lane_at lanes.now index) cursor.now ≡ []) (λ next. GoesTo (lane_at lanes.now index) cursor.now next.step next.cursor) }
 {
-    cursor.next(&lanes[place])
+    cursor.next(&lanes[index])
 }
 
-/// The CPU of the lane at this place.
-fn cpu_at(lanes: &[CountedLane], place: usize) -> u32
-    requires { place < length lanes.now }
-    ensures { result ≡ (lane_at lanes.now place).work.cpu }
+fn cpu_at(lanes: &[CountedLane], index: usize) -> u32
+    requires { index < length lanes.now }
+    ensures { result ≡ (lane_at lanes.now index).work.cpu }
 {
-    cpu_of(&lanes[place])
+    cpu_of(&lanes[index])
 }
 
-/// The seat of the lane at this place.
-fn seat_at(lanes: &[CountedLane], place: usize) -> u32
-    requires { place < length lanes.now }
-    ensures { result ≡ seat_of (lane_at lanes.now place) }
+fn seat_at(lanes: &[CountedLane], index: usize) -> u32
+    requires { index < length lanes.now }
+    ensures { result ≡ seat_of (lane_at lanes.now index) }
 {
-    seat_of(&lanes[place])
+    seat_of(&lanes[index])
 }
 
-/// Whether the lane at this place is of a lower CPU than the one that was found, if one was.
-fn is_lower(lanes: &[CountedLane], place: usize, found: Option<usize>) -> bool
-    requires place { place < length lanes.now }
+/// Whether the lane at `index` is of a lower CPU than the lane at `found`, if one was found.
+fn is_lower(lanes: &[CountedLane], index: usize, found: Option<usize>) -> bool
+    requires index { index < length lanes.now }
     requires found { MatchOption found ⊤ (λ l. l < length lanes.now) }
-    ensures { (result ≡ true) ↔ MatchOption found ⊤ (λ l. (lane_at lanes.now place).work.cpu < (lane_at lanes.now l).work.cpu) }
+    ensures { (result ≡ true) ↔ MatchOption found ⊤ (λ l. (lane_at lanes.now index).work.cpu < (lane_at lanes.now l).work.cpu) }
 {
     match found {
         None => true,
-        Some(found) => cpu_at(lanes, place) < cpu_at(lanes, found),
+        Some(found) => cpu_at(lanes, index) < cpu_at(lanes, found),
     }
 }
 
 impl Merging {
-    /// Nothing is placed.
+    /// A merge in which nothing is placed, and all that the lanes' items make pending is counted.
     fn new(alloc: Global, setup: &Setup, lanes: &[CountedLane]) -> Result<Merging, AllocError>
         ghost seen: { List Entry }
         requires { CanMerge setup.now seen lanes.now }
@@ -131,7 +126,8 @@ impl Merging {
         })
     }
 
-    /// Whether the step may be placed now.
+    /// Whether the step may be placed now. A look may. An item may where its slot has the version that it found, and it
+    /// leaves the word or nothing is pending in that interval.
     fn is_ready(&self, step: &MergeStep) -> bool
         requires { InSlots (length self.now.changes.items) step.now }
         ensures { result ≡ is_ready self.now.changes.items self.now.waits step.now }
@@ -146,21 +142,21 @@ impl Merging {
         }
     }
 
-    /// Whether the next step of the lane at this place may be placed now.
-    fn is_ready_at(&self, _setup: &Setup, lanes: &[CountedLane], place: usize) -> bool
+    /// Whether the lane at `index` has a next step, and it may be placed now.
+    fn is_ready_at(&self, _setup: &Setup, lanes: &[CountedLane], index: usize) -> bool
         ghost seen: { List Entry }
         requires merging { IsMerging (merge_run _setup.now seen) lanes.now self.now.placed.items self.now.cursors.items self.now.changes.items self.now.waits }
-        requires low { place < length lanes.now }
-        ensures ready { result ≡ true → IsReadyAt lanes.now self.now.placed.items self.now.cursors.items place }
-        ensures unready { result ≡ false → CannotGoAt lanes.now self.now.placed.items self.now.cursors.items place }
+        requires low { index < length lanes.now }
+        ensures ready { result ≡ true → IsReadyAt lanes.now self.now.placed.items self.now.cursors.items index }
+        ensures unready { result ≡ false → CannotGoAt lanes.now self.now.placed.items self.now.cursors.items index }
     {
-        match next_from(&self.cursors[place], lanes, place) {
+        match next_from(&self.cursors[index], lanes, index) {
             Some(next) => self.is_ready(&next.step),
             None => false,
         }
     }
 
-    /// The lane of the lowest CPU whose next step is ready.
+    /// The index of the lane of the lowest CPU whose next step may be placed now, if there is one.
     fn ready_lane(&self, setup: &Setup, lanes: &[CountedLane]) -> Option<usize>
         ghost seen: { List Entry }
         requires { IsMerging (merge_run setup.now seen) lanes.now self.now.placed.items self.now.cursors.items self.now.changes.items self.now.waits }
@@ -175,34 +171,34 @@ impl Merging {
         lowest
     }
 
-    /// The lane's next step is placed.
+    /// Places the next step of the lane at `index`, which is ready, and releases what was pending for it.
     fn place(
         &mut self,
         setup: &Setup,
         lanes: &[CountedLane],
-        place: usize,
+        index: usize,
     ) -> Result<(), AllocError>
         ghost seen: { List Entry }
         requires merging { IsMerging (merge_run setup.now seen) lanes.now self.old.placed.items self.old.cursors.items self.old.changes.items self.old.waits }
-        requires ready { IsReadyAt lanes.now self.old.placed.items self.old.cursors.items place }
+        requires ready { IsReadyAt lanes.now self.old.placed.items self.old.cursors.items index }
         ensures merging { OnOk result (IsMerging (merge_run setup.now seen) lanes.now self.new.placed.items self.new.cursors.items self.new.changes.items self.new.waits) }
         ensures fewer { OnOk result (steps_left lanes.now self.new.cursors.items < steps_left lanes.now self.old.cursors.items) }
     {
-        let Some(next) = next_from(&self.cursors[place], lanes, place) else {
+        let Some(next) = next_from(&self.cursors[index], lanes, index) else {
             unreachable!()
         };
-        let then = next_from(&next.cursor, lanes, place);
+        let then = next_from(&next.cursor, lanes, index);
         release_pending(&mut self.waits, &next.step, &then)?;
-        let seat = seat_at(lanes, place);
+        let seat = seat_at(lanes, index);
         self.placed
             .push(entry_of(&next.step, seat, switches_of(setup)))?;
-        self.cursors[place] = next.cursor;
+        self.cursors[index] = next.cursor;
         count(&mut self.changes, &next.step);
         Ok(())
     }
 }
 
-/// One legal history out of the lists of all CPUs. `seen` is the history of which the lanes have parts.
+/// Merges the lanes into one legal history. `seen` is the history of which they have parts.
 fn merge_lanes(
     alloc: Global,
     setup: &Setup,
@@ -220,7 +216,8 @@ fn merge_lanes(
     Ok(merging.placed)
 }
 
-/// One legal history out of the lists of all CPUs, which are parts of what the seat has seen.
+/// Merges the lanes, which have parts of what the seat has seen, into one legal history. Which of several it is, no
+/// clause says. The one error is want of memory.
 pub fn merge(
     alloc: Global,
     setup: &Setup,

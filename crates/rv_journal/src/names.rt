@@ -1,10 +1,10 @@
-//! The names of acts, of modes and of kinds of letters.
+//! The names that a journal has for acts, for modes and for kinds of letters.
 ghost use Rattle.std.specs.Prelude.{◌≡◌};
 ghost use Rattle.rv_journal.specs.inner.PieceReadings.{mode_in, kind_in, verb_in};
 
 use rv_model::Mode;
 
-/// What is done.
+/// An act by its name alone, without its numbers.
 #[derive(Clone, Copy, Debug, Drop, PartialEq, Eq)]
 pub(crate) enum ActVerb {
     Deliver,
@@ -16,14 +16,14 @@ pub(crate) enum ActVerb {
     End,
 }
 
-/// What kind of letter is run: an automaton's event, or a rule's atoms.
+/// What kind of letter is delivered: an automaton's event, or a rule's atoms.
 #[derive(Clone, Copy, Debug, Drop, PartialEq, Eq)]
 pub(crate) enum LetterKind {
     Da,
     Ltl,
 }
 
-/// The mode that bindings write so.
+/// The mode that a word names. An end is in no journal.
 #[tactic(auto, unfolding(crate::specs::inner::PieceReadings::mode_in))]
 pub(crate) fn mode_in(word: &[u8]) -> Option<Mode>
     ensures { result ≡ mode_in word.now }
@@ -39,7 +39,7 @@ pub(crate) fn mode_in(word: &[u8]) -> Option<Mode>
     }
 }
 
-/// The kind that bindings write so.
+/// The kind of letter that a word names.
 #[tactic(auto, unfolding(crate::specs::inner::PieceReadings::kind_in))]
 pub(crate) fn kind_in(word: &[u8]) -> Option<LetterKind>
     ensures { result ≡ kind_in word.now }
@@ -53,7 +53,7 @@ pub(crate) fn kind_in(word: &[u8]) -> Option<LetterKind>
     }
 }
 
-/// What an act is called.
+/// The act that a word names, without its numbers.
 #[tactic(auto, unfolding(crate::specs::inner::PieceReadings::verb_in))]
 pub(crate) fn verb_in(word: &[u8]) -> Option<ActVerb>
     ensures { result ≡ verb_in word.now }

@@ -1,4 +1,4 @@
-//! What is known of a lane and of what its deliveries told.
+//! What is known of a lane, as calls that give it to a proof, and what its deliveries observed.
 ghost use Rattle.std.specs.Prelude.{◌≡◌, ◌<◌, ◌+◌, ◌^◌, All, length, slice_index_or};
 ghost use Rattle.rv_model.specs.Works.{IsWork};
 ghost use Rattle.rv_journal.specs.declared.counted.Counted.{Counted};
@@ -18,7 +18,7 @@ fn assert_set(set: u32)
     ensures { set < 2 ^ 32 }
 {}
 
-/// What is known of the sets of every hit.
+/// Gives a proof that the sets of a delivery's hit are in range.
 fn assert_act(act: &Act)
     ensures { HitFits act.now }
 {
@@ -31,7 +31,7 @@ fn assert_act(act: &Act)
     }
 }
 
-/// What is known of the numbers of every item.
+/// Gives a proof that the numbers of an item are in range.
 fn assert_item(item: &Counted)
     ensures { NumbersFit item.now }
 {
@@ -39,14 +39,14 @@ fn assert_item(item: &Counted)
     assert_act(&item.entry.act);
 }
 
-/// What is known of the turns of every lane.
+/// Gives a proof that the lane's work is well formed.
 fn assert_work(lane: &CountedLane)
     ensures { IsWork lane.now.work }
 {
     let _ = &lane.work.turns;
 }
 
-/// What is known of every lane.
+/// Gives a proof that the lane's work is well formed, and that the numbers of its items are in range.
 pub(crate) fn assert_observed(lane: &CountedLane)
     ensures work { IsWork lane.now.work }
     ensures numbers { All NumbersFit lane.now.counted }
@@ -57,31 +57,29 @@ pub(crate) fn assert_observed(lane: &CountedLane)
     }
 }
 
-/// The seat of the lane's CPU.
+/// The number of the seat of the lane's CPU.
 pub(crate) fn seat_of(lane: &CountedLane) -> u32
     ensures { result ≡ 2 + lane.now.work.cpu }
 {
     2 + lane.work.cpu as u32
 }
 
-/// What was told of the deliveries.
+/// What the lane's deliveries observed, in order.
 pub(crate) fn items(lane: &CountedLane) -> &[Counted]
     ensures { result.now ≡ lane.now.counted }
 {
     lane.counted.as_slice()
 }
 
-/// How many there are.
 pub(crate) fn item_count(lane: &CountedLane) -> usize
     ensures { result ≡ length lane.now.counted }
 {
     lane.counted.len()
 }
 
-/// What was told of the delivery at this place.
-pub(crate) fn item_at(lane: &CountedLane, place: usize) -> Counted
-    requires { place < length lane.now.counted }
-    ensures { (c : Counted) → result ≡ slice_index_or lane.now.counted place c }
+pub(crate) fn item_at(lane: &CountedLane, index: usize) -> Counted
+    requires { index < length lane.now.counted }
+    ensures { (c : Counted) → result ≡ slice_index_or lane.now.counted index c }
 {
-    lane.counted[place]
+    lane.counted[index]
 }

@@ -1,5 +1,5 @@
-//! For how many things each gap has to stay open: for entries that leave its word and are not placed, and for Stops that
-//! were lost from it on and are not yet the next steps of their lanes.
+//! How many entries and Stops are pending in each interval: entries that leave the word there and are not placed, and
+//! Stops that were lost from there and are not yet the next steps of their lanes.
 ghost use Rattle.std.specs.Prelude.{◌≡◌, ◌+◌, ◌-◌, ◌<◌, ◌≤◌, OnOk};
 ghost use Rattle.rv_journal.specs.inner.MergeSteps.{leaves_in, lost_in};
 ghost use Rattle.rv_journal.specs.inner.MergePending.{pending_at, SetsPending, item_pending, lane_pending, Grown, Fallen, step_pending, next_pending};
@@ -10,17 +10,17 @@ use crate::steps::{MergeStep, NextStep, VersionInterval, interval_of, leaves, lo
 use std::alloc::AllocError;
 use std::collections::HashMap;
 
-/// The count of each gap, and 0 where it has none.
+/// How many entries and Stops are pending in each interval: 0 where the map has no number.
 pub type Pending = HashMap<VersionInterval, u64>;
 
-/// The count of a gap.
+/// How many entries and Stops are pending in the interval.
 pub fn waiting(waits: &Pending, gap: VersionInterval) -> u64
     ensures { result ≡ pending_at waits.now gap }
 {
     waits.get(&gap).copied().unwrap_or(0)
 }
 
-/// The gap has to stay open for one thing more.
+/// Makes one more pending in the interval. A count that does not fit 64 bits is given as want of memory.
 fn hold(waits: &mut Pending, gap: VersionInterval) -> Result<(), AllocError>
     ensures { OnOk result (SetsPending waits.old waits.new gap (pending_at waits.old gap + 1)) }
 {
@@ -33,7 +33,7 @@ fn hold(waits: &mut Pending, gap: VersionInterval) -> Result<(), AllocError>
     }
 }
 
-/// The gap has to stay open for one thing less.
+/// Makes one fewer pending in the interval, in which some are.
 fn release(waits: &mut Pending, gap: VersionInterval) -> Result<(), AllocError>
     requires { 0 < pending_at waits.old gap }
     ensures { OnOk result (SetsPending waits.old waits.new gap (pending_at waits.old gap - 1)) }
@@ -43,7 +43,7 @@ fn release(waits: &mut Pending, gap: VersionInterval) -> Result<(), AllocError>
     Ok(())
 }
 
-/// An item that leaves its word holds its gap.
+/// Makes the entry of an item pending in its interval, if it leaves the word.
 fn hold_left(waits: &mut Pending, item: &Counted) -> Result<(), AllocError>
     ensures { OnOk result (Grown waits.old waits.new (λ g. leaves_in g.slot g.version item.now)) }
 {
@@ -53,7 +53,7 @@ fn hold_left(waits: &mut Pending, item: &Counted) -> Result<(), AllocError>
     Ok(())
 }
 
-/// A Stop holds the gap that it was lost from.
+/// Makes an item pending in the interval that it was lost from, if it is a Stop.
 fn hold_lost(waits: &mut Pending, item: &Counted) -> Result<(), AllocError>
     ensures { OnOk result (Grown waits.old waits.new (λ g. lost_in g.slot g.version item.now.entry.act item.now.first)) }
 {
@@ -63,7 +63,7 @@ fn hold_lost(waits: &mut Pending, item: &Counted) -> Result<(), AllocError>
     Ok(())
 }
 
-/// All that an item holds before anything is placed.
+/// Makes pending all that an item holds before anything is placed.
 fn hold_item(waits: &mut Pending, item: &Counted) -> Result<(), AllocError>
     ensures { OnOk result (Grown waits.old waits.new (λ g. item_pending g item.now)) }
 {
@@ -71,7 +71,7 @@ fn hold_item(waits: &mut Pending, item: &Counted) -> Result<(), AllocError>
     hold_lost(waits, item)
 }
 
-/// The same of all items of a lane.
+/// Makes pending all that the items of a lane hold before anything is placed.
 pub fn hold_items(waits: &mut Pending, items: &[Counted]) -> Result<(), AllocError>
     ensures { OnOk result (Grown waits.old waits.new (λ g. lane_pending g items.now)) }
 {
@@ -81,7 +81,7 @@ pub fn hold_items(waits: &mut Pending, items: &[Counted]) -> Result<(), AllocErr
     Ok(())
 }
 
-/// A step is placed.
+/// Releases what a step holds until it is placed.
 fn release_step(waits: &mut Pending, step: &MergeStep) -> Result<(), AllocError>
     requires { (g : VersionInterval) → step_pending g step.now ≤ pending_at waits.old g }
     ensures { OnOk result (Fallen waits.old waits.new (λ g. step_pending g step.now)) }
@@ -97,7 +97,7 @@ fn release_step(waits: &mut Pending, step: &MergeStep) -> Result<(), AllocError>
     }
 }
 
-/// A step is its lane's next.
+/// Releases what a step holds until it is its lane's next one.
 fn release_next(waits: &mut Pending, next: &Option<NextStep>) -> Result<(), AllocError>
     requires { (g : VersionInterval) → next_pending g next.now ≤ pending_at waits.old g }
     ensures { OnOk result (Fallen waits.old waits.new (λ g. next_pending g next.now)) }
@@ -116,7 +116,7 @@ fn release_next(waits: &mut Pending, next: &Option<NextStep>) -> Result<(), Allo
     }
 }
 
-/// A step is placed, and behind it another one is its lane's next.
+/// Releases what a step holds until it is placed, and what the step after it holds until it is its lane's next one.
 pub fn release_pending(
     waits: &mut Pending,
     step: &MergeStep,

@@ -6,7 +6,7 @@ use rv_model::{Act, Entry, Mode, What};
 use rv_text::Line;
 use std::alloc::{AllocError, Global};
 
-/// Appends a word behind a blank.
+/// Appends a blank and a word.
 fn put_word(out: &mut Line, word: &[u8]) -> Result<(), AllocError>
     ensures { OnOk result (out.new ≡ out.old ++ 32 ∷ word.now) }
 {
@@ -14,7 +14,7 @@ fn put_word(out: &mut Line, word: &[u8]) -> Result<(), AllocError>
     out.text(word)
 }
 
-/// Appends a number behind a blank.
+/// Appends a blank and a number, in decimal.
 fn put_number(out: &mut Line, n: u64) -> Result<(), AllocError>
     ensures { OnOk result (out.new ≡ out.old ++ 32 ∷ decimal n) }
 {
@@ -22,7 +22,7 @@ fn put_number(out: &mut Line, n: u64) -> Result<(), AllocError>
     out.number(n)
 }
 
-/// Appends a name and a number, each behind a blank.
+/// Appends a name and a number, each with a blank in front.
 fn put_numbered(out: &mut Line, name: &[u8], n: u64) -> Result<(), AllocError>
     ensures { OnOk result (out.new ≡ out.old ++ behind_blanks (name.now ∷ decimal n ∷ [])) }
 {
@@ -30,7 +30,7 @@ fn put_numbered(out: &mut Line, name: &[u8], n: u64) -> Result<(), AllocError>
     put_number(out, n)
 }
 
-/// A mode, as bindings write it.
+/// The word of a mode, as in bindings.
 fn mode_word(mode: Mode) -> &'static [u8]
     ensures { result.now ≡ mode_word mode }
 {
@@ -42,7 +42,7 @@ fn mode_word(mode: Mode) -> &'static [u8]
     }
 }
 
-/// Appends what is run.
+/// Appends the kind of a letter and its numbers, each with a blank in front, or nothing for an end.
 fn put_what(out: &mut Line, what: What) -> Result<(), AllocError>
     ensures { OnOk result (out.new ≡ out.old ++ behind_blanks (what_words what)) }
 {
@@ -57,7 +57,7 @@ fn put_what(out: &mut Line, what: What) -> Result<(), AllocError>
     }
 }
 
-/// Appends an act.
+/// Appends the name of an act and its numbers, each with a blank in front.
 fn put_act(out: &mut Line, act: &Act) -> Result<(), AllocError>
     ensures { OnOk result (out.new ≡ out.old ++ behind_blanks (act_words act.now)) }
 {
@@ -76,7 +76,7 @@ fn put_act(out: &mut Line, act: &Act) -> Result<(), AllocError>
     }
 }
 
-/// Appends an entry's line.
+/// Appends the line of an entry, with its line end.
 fn put_entry(out: &mut Line, entry: &Entry) -> Result<(), AllocError>
     ensures { OnOk result (out.new ≡ out.old ++ (entry_text entry.now ++ 10 ∷ [])) }
 {
@@ -87,7 +87,7 @@ fn put_entry(out: &mut Line, entry: &Entry) -> Result<(), AllocError>
     out.text(b"\n")
 }
 
-/// The text of a history: a line for each entry.
+/// The journal of a history: a line for each entry, oldest first. The one error is want of memory.
 pub fn journal_text(alloc: Global, entries: &[Entry]) -> Result<Vec<u8>, AllocError>
     ensures { IfOk result (λ text. text.items ≡ journal_of entries.now) }
 {

@@ -10,7 +10,7 @@ use crate::pieces::{next_kind, next_mode, next_number, next_verb};
 use rv_model::{Act, Entry, Hit, What};
 use rv_text::Pieces;
 
-/// A number of 32 bits.
+/// Reads a number of at most 32 bits.
 fn small(words: &mut Pieces<'_>) -> Option<u32>
     ensures { ReadsWords (number_from most_32) words.old words.new result }
 {
@@ -18,7 +18,7 @@ fn small(words: &mut Pieces<'_>) -> Option<u32>
     Some(n as u32)
 }
 
-/// An automaton's event.
+/// Reads the number of an automaton's event.
 fn event(words: &mut Pieces<'_>) -> Option<What>
     ensures { ReadsWords event_from words.old words.new result }
 {
@@ -26,7 +26,7 @@ fn event(words: &mut Pieces<'_>) -> Option<What>
     Some(What::Da { event: event as u8 })
 }
 
-/// What becomes of a rule's atoms.
+/// Reads the three sets of a rule's atoms: those that go on, those that go off, and the pulses.
 fn sets(words: &mut Pieces<'_>) -> Option<What>
     ensures { ReadsWords sets_from words.old words.new result }
 {
@@ -36,7 +36,7 @@ fn sets(words: &mut Pieces<'_>) -> Option<What>
     Some(What::Ltl { on, off, pulse })
 }
 
-/// What is run, by its kind.
+/// Reads a kind of letter, and then the letter.
 fn what(words: &mut Pieces<'_>) -> Option<What>
     ensures { ReadsWords what_from words.old words.new result }
 {
@@ -47,7 +47,7 @@ fn what(words: &mut Pieces<'_>) -> Option<What>
     }
 }
 
-/// A delivery, behind its name.
+/// Reads a delivery, after its name: its slot, its mode, and what is delivered.
 fn deliver(words: &mut Pieces<'_>) -> Option<Act>
     ensures { ReadsWords deliver_from words.old words.new result }
 {
@@ -60,7 +60,7 @@ fn deliver(words: &mut Pieces<'_>) -> Option<Act>
     })
 }
 
-/// An act, by its name.
+/// Reads the name of an act, and then its numbers.
 fn act(words: &mut Pieces<'_>) -> Option<Act>
     ensures { ReadsWords act_from words.old words.new result }
 {
@@ -91,7 +91,7 @@ fn act(words: &mut Pieces<'_>) -> Option<Act>
     }
 }
 
-/// The entry of all words.
+/// Reads an entry, after which no word may be left.
 fn entry(words: &mut Pieces<'_>) -> Option<Entry>
     ensures { result ≡ entry_from words.old }
 {
@@ -110,7 +110,8 @@ fn entry(words: &mut Pieces<'_>) -> Option<Entry>
     }
 }
 
-/// The entry whose text the line is, where there is one. The line is given without its line end.
+/// The entry whose text the line is, if there is one. The line has no line end, one blank between two words, and no
+/// zero in front of another digit.
 pub fn read_entry(line: &[u8]) -> Option<Entry>
     ensures some { IfSome result (λ e. entry_text e ≡ line.now) }
     ensures fits { IfSome result IsEntry }

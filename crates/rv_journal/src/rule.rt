@@ -1,12 +1,12 @@
-//! The rule of the counted words, and what each kind of step tells the seat that takes it.
+//! The rule of the counted words, and what the seat that takes a step learns by it, for each kind of step.
 
 use atomic_table::{Play, TableRule};
 use rv_board::View;
 use rv_core::Setup;
 use rv_model::Act;
 
-/// There is one sound history, which gives the words and their counts, each seat has seen a beginning of it, and no
-/// number has more than 4,000,000 entries.
+/// The rule of a counted board's words: one sound history gives them and their counts, each seat has seen a beginning
+/// of it, and no number has more than 4,000,000 entries.
 pub struct CountedLaw;
 
 impl TableRule<Act, View, Setup> for CountedLaw {
@@ -27,7 +27,7 @@ impl Play<Act, View> for CountedLoad {
     ghost then = { IsCountedLoad };
 }
 
-/// A compare-exchange, which makes the act that it is told where it wins.
+/// A compare-exchange that adds the act passed to it where it wins, and no entry where it loses.
 pub(crate) struct CountedExchange;
 
 impl Play<Act, View> for CountedExchange {
@@ -36,7 +36,7 @@ impl Play<Act, View> for CountedExchange {
     ghost then = { IsCountedExchange };
 }
 
-/// A slot's word of which the count alone is kept.
+/// An `and` of a slot's word that leaves its count alone, which stops the instance.
 pub(crate) struct CountedStop;
 
 impl Play<Act, View> for CountedStop {

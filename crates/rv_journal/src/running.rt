@@ -1,4 +1,4 @@
-//! A whole run of numbered words: a thread for each CPU, and one legal history of what they did.
+//! A recorded run on counted words: a thread for each CPU, and one legal history of what they did.
 ghost use Rattle.std.specs.Prelude.{◌≡◌, ◌+◌, ◌<◌, false, List, [], All, AllPairs, IfOk};
 ghost use Rattle.rv_model.specs.declared.formula.Spec.{Spec};
 ghost use Rattle.rv_model.specs.Histories.{IsLegal};
@@ -26,14 +26,14 @@ use rv_model::{Closed, CpuWork, Entry};
 use std::alloc::{AllocError, Global};
 use std::thread::Threads;
 
-/// What a run of numbered words came to: the merged history, as a list and as contracts see it.
+/// What a recorded run came to: its merged history, as a list and as contracts see it.
 #[derive(Drop)]
 pub struct Recorded {
     pub entries: Vec<Entry>,
     pub closed: Closed,
 }
 
-/// The work's feeder, whose seat has all numbers from its own on that this one had.
+/// Makes the work's feeder, whose new seat takes over the seat's numbers from that of the work's CPU on.
 fn seat_work<G: Gate>(
     alloc: Global,
     board: &CountedBoard,
@@ -56,7 +56,7 @@ fn seat_work<G: Gate>(
     })
 }
 
-/// A feeder for each work, from the last work to the first.
+/// A feeder for each work, from the last work to the first, each with a new seat split off from the first one.
 fn seat_works<G: Gate>(
     alloc: Global,
     board: &CountedBoard,
@@ -76,7 +76,7 @@ fn seat_works<G: Gate>(
     Ok(feeders)
 }
 
-/// The seats of all feeders are joined into this one, and their lanes come back.
+/// Joins the seats of all feeders into one, and gives their lanes, in the order of the works.
 fn join_all<G: Gate>(
     alloc: Global,
     board: &CountedBoard,
@@ -100,7 +100,9 @@ fn join_all<G: Gate>(
     Ok(lanes)
 }
 
-/// One legal history of the works, which ascend by their CPUs, out of a run of all of them at once.
+/// Runs the works at once, and merges what their CPUs did into one legal history. Which one it is, the schedule
+/// decides. The works ascend by their CPUs, and the switches enable all their deliveries. The one error is want of
+/// memory, also after the run.
 pub fn record_run<R: Threads + Sync, G: Gate + Send>(
     rt: &R,
     alloc: Global,
@@ -125,7 +127,7 @@ pub fn record_run<R: Threads + Sync, G: Gate + Send>(
     let lanes = join_all(alloc, &board, &mut seat, feeders)?;
     seat.number();
     let entries = merge(alloc, board.setup(), &seat, lanes.as_slice())?;
-    // What is told is the merged history: the board's own has no looks.
+    // The merged history is given out, since the board's own has no looks.
     board.close(seat);
     let closed = closed_of(entries.as_slice());
     Ok(Recorded { entries, closed })

@@ -1,4 +1,4 @@
-//! A caller's token of a counted board.
+//! A seat of a counted board: the token by which one thread acts on it.
 ghost use Rattle.std.specs.Prelude.{◌≡◌, ◌<◌, ◌≤◌};
 ghost use Rattle.rv_model.specs.Histories.{IsSound};
 ghost use Rattle.rv_core.specs.Setup.{judges_of};
@@ -8,11 +8,11 @@ use rv_board::{SEATS, View};
 use rv_model::{Act, Entry, Keeps};
 use std::marker::Model;
 
-/// How many entries a number may make.
+/// How many entries the seat of one number may make, so that no count is too large.
 pub const MAX_ENTRIES: u32 = 4_000_000;
 
-/// It has a number, may hand on the numbers above it and below `end`, and may make so many entries yet. Contracts see
-/// what it knows too.
+/// The right to act on a counted board under a number, to hand on the numbers above it and below `end`, and to make
+/// `left` more entries. Contracts see what the seat knows too.
 #[derive(Drop)]
 pub struct CountedSeat {
     pub(crate) token: Token<Act, View>,
@@ -39,7 +39,8 @@ impl Keeps<Entry> for CountedSeat {
 }
 
 impl CountedSeat {
-    /// Its number: 0 is the run itself, 2 and more the CPUs.
+    /// The number under which the seat acts: 0 is the run itself, 2 to 65 the CPUs. Some callers drop the answer, and
+    /// want the clause `sound` alone.
     pub fn number(&self) -> u32
         ensures number { result ≡ self.now.seat.part.number }
         ensures sound { IsSound self.now.seat.board.setup (judges_of self.now.seat.board.setup) self.now.seat.part.seen }
@@ -47,7 +48,7 @@ impl CountedSeat {
         self.number
     }
 
-    /// It may hand on the numbers below this one.
+    /// One past the last number that the seat may hand on.
     pub fn end(&self) -> u32
         ensures end { result ≡ self.now.seat.part.end }
         ensures range { (self.now.seat.part.number < result) × (result ≤ SEATS) }
@@ -55,7 +56,7 @@ impl CountedSeat {
         self.end
     }
 
-    /// How many entries it may make yet.
+    /// How many entries the seat may still make.
     pub fn left(&self) -> u32
         ensures { result ≡ self.now.left }
     {

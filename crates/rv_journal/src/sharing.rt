@@ -12,7 +12,8 @@ use rv_model::Closed;
 use std::marker::Brand;
 
 impl CountedBoard {
-    /// A new seat, which has the numbers from `number` on, has seen what the old one has, and has made no entry.
+    /// Hands the numbers from `number` on to a new seat, which has seen what the old one has, and may make
+    /// `MAX_ENTRIES` entries.
     pub fn split(&self, seat: &mut CountedSeat, number: u32) -> CountedSeat
         requires board { seat.old.seat.board ≡ self.now }
         requires range { (seat.old.seat.part.number < number) × (number < seat.old.seat.part.end) }
@@ -30,7 +31,8 @@ impl CountedBoard {
         }
     }
 
-    /// Takes in what another seat has seen, and its numbers, which are not used again.
+    /// Takes over another seat's numbers, under which nobody acts again, and what it has seen, but not the entries that
+    /// it might still make. Entries of further seats may come in too.
     pub fn join(&self, into: &mut CountedSeat, from: CountedSeat)
         requires into { into.old.seat.board ≡ self.now }
         requires from { from.seat.board ≡ self.now }
@@ -48,7 +50,8 @@ impl CountedBoard {
         shared.load::<CountedLoad>(&mut into.token, 0);
     }
 
-    /// The history, of which the seat had seen the beginning. It is whole where the seat knows all numbers.
+    /// Ends the board, and gives its history to contracts. It is whole where the seat knows all numbers; else entries
+    /// of other seats may be left out.
     pub fn close(self, mut seat: CountedSeat) -> Closed
         requires { seat.seat.board ≡ self }
         ensures { Closes seat.seat result }

@@ -9,40 +9,41 @@ use crate::lane::{CountedLane, turn_at, turn_count};
 use crate::observed::{item_at, item_count};
 use rv_model::{Act, Entry};
 
-/// What a lane puts into the merged history next.
+/// One step of a lane: what it puts into the merged history at once.
 #[derive(Clone, Copy, Debug, Drop, PartialEq, Eq)]
 pub enum MergeStep {
-    /// A turn opens, with a look.
+    /// The look with which a turn opens.
     TurnLook,
-    /// A delivery, or the stop in its place.
+    /// A delivery, or the Stop in its place, as it was observed.
     Item(Counted),
 }
 
-/// How far a lane has come.
+/// How far a lane has come in a merge.
 #[derive(Clone, Copy, Debug, Drop, PartialEq, Eq)]
 pub struct LaneProgress {
-    /// Turns that are open.
+    /// How many of its turns are open.
     pub turns: usize,
-    /// Items that are placed.
+    /// How many of its items are placed.
     pub items: usize,
 }
 
-/// A lane's next step, and how far it has come with it.
+/// A lane's next step, and how far the lane has come with it.
 #[derive(Clone, Copy, Debug, Drop, PartialEq, Eq)]
 pub struct NextStep {
     pub step: MergeStep,
     pub cursor: LaneProgress,
 }
 
-/// The stretch of a slot's history after so many entries that changed its word.
+/// A stretch of a slot's history, in which the slot has one version.
 #[derive(Clone, Copy, Debug, Drop, PartialEq, Eq, Hash)]
 pub struct VersionInterval {
     pub slot: u32,
+    /// How many entries changed the slot's word before.
     pub version: u64,
 }
 
 impl LaneProgress {
-    /// The lane's next step, if one is left.
+    /// The lane's next step, if one is left: the look of a turn where one begins here, and else the next item.
     pub fn next(&self, lane: &CountedLane) -> Option<NextStep>
         requires { IsCursor lane.now self.now }
         ensures { MatchOption result (rest_of lane.now self.now ≡ []) (λ next. GoesTo lane.now self.now next.step next.cursor) }
@@ -71,7 +72,7 @@ impl LaneProgress {
     }
 }
 
-/// The slot that an act is on, and 0 where it is on the switches.
+/// The slot that an act is on, and 0 for an act on the switches.
 pub fn slot_of(act: &Act) -> u32
     ensures { result ≡ slot_in act.now }
 {
@@ -84,8 +85,8 @@ pub fn slot_of(act: &Act) -> u32
     }
 }
 
-/// The gap in which the item's entry found its slot. A word of 0 is that of a stopped instance, whose Stop no count
-/// tells.
+/// The interval in which the item's entry found its slot. Where it found the word 0, a Stop came before, which no count
+/// has.
 pub fn interval_of(item: &Counted) -> VersionInterval
     ensures { result ≡ interval_in item.now }
 {
@@ -96,7 +97,7 @@ pub fn interval_of(item: &Counted) -> VersionInterval
     }
 }
 
-/// The gap that has to stay open until a Stop is the next step of its lane.
+/// For a Stop the interval of its first load, in which it is pending until it is its lane's next step.
 pub fn lost_from(item: &Counted) -> Option<VersionInterval>
     ensures { result ≡ lost_interval item.now.entry.act item.now.first }
 {
@@ -116,7 +117,7 @@ pub fn leaves(entry: &Entry) -> bool
     entry.before == entry.after
 }
 
-/// The entry of a step, by the seat and the switches.
+/// The entry of a step: an item's own, or the look of a turn, which finds the switches.
 pub fn entry_of(step: &MergeStep, seat: u32, switches: u64) -> Entry
     ensures { result ≡ step_entry seat switches step.now }
 {

@@ -1,22 +1,22 @@
-//! Words with a count in their low half, and an instance's word in their high half.
+//! Counted words: a count in the low 32 bits, and an instance's word, in 32 bits, above it.
 ghost use Rattle.std.specs.Prelude.{◌≡◌, ◌≤◌, ◌<◌, ◌+◌, ◌^◌, ◌==◌, if◌then◌else◌};
 ghost use Rattle.rv_journal.specs.CountedWords.{FitsCountedWord};
 ghost use Rattle.rv_journal.specs.inner.CountedWords.{counted_word, word_in, count_in};
 
 use rv_word::{atoms_of, pack, set_of};
 
-/// The bits of a monitor's words: so many for the rows of its table, row 0 too, and so many for the levels of its
-/// atoms.
+/// How many bits the two parts of a monitor's words take: one for each row of its table, row 0 too, and one for the
+/// level of each atom.
 #[derive(Clone, Copy, Debug, Drop, PartialEq, Eq)]
 pub struct Width {
     pub rows: u8,
     pub atoms: u8,
 }
 
-/// The bits of a count.
+/// The bits of a counted word that are its count.
 pub(crate) const COUNT: u64 = 0xffff_ffff;
 
-/// The counted word of an instance's word.
+/// An instance's word in 32 bits, its levels above its set of rows, with a count below it.
 pub(crate) fn counted_word(rows: u32, word: u64, count: u32) -> u64
     requires rows { rows ≤ 32 }
     requires narrow { FitsCountedWord rows word }
@@ -26,7 +26,6 @@ pub(crate) fn counted_word(rows: u32, word: u64, count: u32) -> u64
     (narrow << 32) + count as u64
 }
 
-/// The instance's word of a counted word.
 pub(crate) fn word_in(rows: u32, counted: u64) -> u64
     requires { rows ≤ 32 }
     ensures { result ≡ word_in rows counted }
@@ -36,7 +35,6 @@ pub(crate) fn word_in(rows: u32, counted: u64) -> u64
     pack(set as u32, (narrow >> rows) as u32)
 }
 
-/// The count of a counted word.
 pub(crate) fn count_in(counted: u64) -> u32
     ensures { result ≡ count_in counted }
 {

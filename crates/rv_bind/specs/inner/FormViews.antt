@@ -1,4 +1,4 @@
--- The reader's forms as plain values, and what their lines make of the bindings.
+-- The forms that the program reads as contracts see them, and what a monitor's and a rule's line make of the bindings.
 use Rattle.std.specs.Prelude.{ℕ, List, Result}
 use Rattle.std.specs.Option.{option_copied}
 use Rattle.rv_ltl.specs.inner.Texts.{texts}
@@ -13,7 +13,7 @@ use Rattle.rv_bind.specs.Values.{BoundValue}
 use Rattle.rv_bind.specs.declared.forms.Form.TheVariants as forms
 use Rattle.rv_bind.specs.Forms.{FormValue, skipped, container, monitor, on, react, off, begin}
 
--- a borrowed text as its bytes
+-- a form with the bytes of the words that it borrows
 abbrev pub form_value : Form → FormValue
 form_value forms.Skipped = skipped
 form_value (forms.Container name) = container name.now
@@ -23,10 +23,10 @@ form_value (forms.React name reactor) = react name.now reactor
 form_value (forms.Off name) = off name.now
 form_value (forms.Begin name atom) = begin name.now atom.now
 
--- a monitor's line
+-- what a monitor's line makes of the bindings, or its refusal, or the missing file
 abbrev pub monitor_said : Files → List ℕ → ℕ → BoundValue → MonitorForm → Outcome BoundValue
 monitor_said files here line bound m = monitor_bound files here line bound m.name.now m.scope m.kind m.file.now (option_copied m.holder)
 
--- a rule's line
+-- what a rule's line makes of the bindings, or the number of its refusal
 abbrev pub rule_said : BoundValue → OnForm → Result BoundValue ℕ
 rule_said bound o = rule_bound bound (monitor_named bound o.monitor.now) o.event.now (option_copied o.by) o.tests.items o.mode (texts o.words.items)

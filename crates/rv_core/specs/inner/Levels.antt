@@ -1,4 +1,4 @@
--- What private clauses and proofs speak of, beside Levels.
+-- The levels and the letter of a hit, defined atom by atom, as operations on bits.
 use Rattle.std.specs.Prelude.{◌≡◌, ℕ, ◌+◌, ◌*◌, ◌/◌, ◌%◌, ◌^◌, ◌<◌, Bool, bit_or}
 use Rattle.rv_model.specs.declared.hit.Letter.TheVariants.{Atoms}
 use Rattle.rv_model.specs.declared.hit.What.TheVariants.{Ltl}

@@ -1,4 +1,4 @@
--- What private clauses and proofs speak of, beside Feeding.
+-- What a feeder adds by one delivery, by one turn, and by the turns so far.
 use Rattle.std.specs.Prelude.{◌≡◌, ℕ, ◌-◌, ◌<◌, ◌≤◌, Bool, List, [], ◌∷◌, filter, take, length, slice_range, slice_index_or}
 use Rattle.rv_model.specs.declared.entry.Act.TheVariants.{Look}
 use Rattle.rv_model.specs.declared.entry.Answer.{Answer}
@@ -29,7 +29,7 @@ pub record Serves (old new : SeatValue) (d : Delivery) (outcome : Delivered) : T
 
 -- ---- a delivery, and a turn
 
--- the delivery was made, with what follows it where the script ends, and the lane has its record
+-- the seat made one delivery, and halted the run where its script ends there; the lane has the record of it
 pub record FeedsDelivery (old new : SeatValue) (panics : ℕ → Bool) (look line : ℕ) (d : Delivery) (lane lane' : LaneValue) (ends : Bool) : Type 0 where
   pub first : Played
   pub more : List Played
@@ -38,7 +38,7 @@ pub record FeedsDelivery (old new : SeatValue) (panics : ℕ → Bool) (look lin
   pub part : PartOr ends old.board.setup panics look line (d ∷ []) (first ∷ more) (made ∷ [])
   pub kept : AddsRecords lane lane' (made ∷ [])
 
--- a turn with its look, up to a place among the deliveries
+-- of a turn, the seat made the look and those deliveries before the index `place` that the look enables
 pub record FeedsPart (old cur : SeatValue) (panics : ℕ → Bool) (word : ℕ) (turn : Turn) (lane lane' : LaneValue) (place : ℕ) : Type 0 where
   pub look : Entry
   pub look_is : look.act ≡ Look
@@ -49,7 +49,7 @@ pub record FeedsPart (old cur : SeatValue) (panics : ℕ → Bool) (word : ℕ) 
   pub kept : AddsRecords lane lane' rs
   pub few : length rs ≤ place - turn.from
 
--- the whole turn was played, and the lane has its records
+-- the seat played a turn, to its end or to that of the script, and the lane has the records of it
 pub record FeedsTurn (old new : SeatValue) (panics : ℕ → Bool) (turn : Turn) (lane lane' : LaneValue) (ends : Bool) : Type 0 where
   pub first : Played
   pub more : List Played
@@ -61,7 +61,7 @@ pub record FeedsTurn (old new : SeatValue) (panics : ℕ → Bool) (turn : Turn)
 
 -- ---- a whole script
 
--- the turns before this place were played, and the script goes on
+-- the turns before the index `place` were played, and the script goes on
 pub record FedSoFar (panics : ℕ → Bool) (old cur : SeatValue) (lane lane' : LaneValue) (place : ℕ) : Type 0 where
   pub ps : List Played
   pub adds : Adds old cur ps

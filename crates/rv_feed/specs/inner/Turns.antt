@@ -1,4 +1,4 @@
--- What private clauses and proofs speak of, beside Turns.
+-- What one seat does in one delivery and in one turn, on one thread.
 use Rattle.std.specs.Prelude.{◌≡◌, ℕ, ◌+◌, ◌-◌, ◌≤◌, Bool, List, [], ◌∷◌, ◌++◌, filter, length, reverse, slice_range}
 use Rattle.rv_model.specs.declared.entry.Act.TheVariants.{Look}
 use Rattle.rv_model.specs.declared.entry.Answer.TheVariants.{Looked}
@@ -17,36 +17,36 @@ use Rattle.rv_feed.specs.Turns.{entries_played}
 
 -- ---- entries of one seat
 
--- all are the seat's, it may do them, and none is a stop
+-- all that was played is by the seat, which may do it, and none of it is a stop
 abbrev pub AllBy : ℕ → List Played → Type 0
 AllBy seat [] = Unit {0}
 AllBy seat (p ∷ ps) = ((p.0.seat ≡ seat) × IsNoStop p.0.act × IsPermittedTo p.0.act seat) × AllBy seat ps
 
--- the history grows by these entries of the seat, which have these answers and are no stops
+-- the history grows by the entries of `ps`, all the seat's and no stops, and each has the answer that `ps` gives it
 pub record Did (old new : CoreValue) (seat : ℕ) (ps : List Played) : Type 0 where
   pub grows : new ≡ record old { history = old.history ++ entries_played ps }
   pub played_is : played old.setup (judges_of old.setup) seat (reverse (old.history ++ entries_played ps)) ≡ played old.setup (judges_of old.setup) seat (reverse old.history) ++ ps
   pub by : AllBy seat ps
 
--- the seat looked, and saw this word
+-- the history grows by a look of the seat, which found the switches `word`
 pub record LooksAt (old new : CoreValue) (seat word : ℕ) : Type 0 where
   pub entry : Entry
   pub act_is : entry.act ≡ Look
   pub did : Did old new seat ((entry, Looked word) ∷ [])
 
--- it has no look
+-- none of what was played is a look
 abbrev pub NoLooks : List Played → Type 0
 NoLooks [] = Unit {0}
 NoLooks (p ∷ ps) = (look_count p.0.act ≡ 0) × NoLooks ps
 
--- it begins with a look and has no other
+-- what was played begins with a look and has no other
 abbrev pub IsOneTurn : List Played → Type 0
 IsOneTurn [] = ⊥
 IsOneTurn (p ∷ ps) = (p.0.act ≡ Look) × NoLooks ps
 
 -- ---- a delivery, and a turn
 
--- the delivery was made, with what follows it where the script ends, and the lane has its record
+-- the seat made one delivery, and halted the run where its script ends there; the lane has the record of it
 pub record DeliversRecorded (old new : CoreValue) (panics : ℕ → Bool) (seat look line : ℕ) (d : Delivery) (lane lane' : LaneValue) (ends : Bool) : Type 0 where
   pub ps : List Played
   pub made : Record
@@ -55,7 +55,7 @@ pub record DeliversRecorded (old new : CoreValue) (panics : ℕ → Bool) (seat 
   pub part : PartOr ends old.setup panics look line (d ∷ []) ps (made ∷ [])
   pub kept : AddsRecords lane lane' (made ∷ [])
 
--- a turn after its look, up to a place among the deliveries
+-- of a turn whose look is made, the seat made those deliveries before the index `place` that the look enables
 pub record PartDone (mid cur : CoreValue) (panics : ℕ → Bool) (seat word : ℕ) (turn : Turn) (lane lane' : LaneValue) (place : ℕ) : Type 0 where
   pub ps : List Played
   pub rs : List Record
@@ -65,7 +65,7 @@ pub record PartDone (mid cur : CoreValue) (panics : ℕ → Bool) (seat word : �
   pub kept : AddsRecords lane lane' rs
   pub few : length rs ≤ place - turn.from
 
--- the whole turn was played, and the lane has its records
+-- the seat played a turn, to its end or to that of the script, and the lane has the records of it
 pub record PlaysTurn (old new : CoreValue) (panics : ℕ → Bool) (turn : Turn) (lane lane' : LaneValue) (ends : Bool) : Type 0 where
   pub ps : List Played
   pub rs : List Record

@@ -1,4 +1,4 @@
--- What private clauses and proofs speak of, beside MemStores.
+-- What a store in memory gives of the bytes of a name: a copy of them, or a piece.
 use Rattle.std.specs.Prelude.{◌≡◌, ℕ, List, Option, Some, None, Vec, Result, Ok, Err}
 use Rattle.std.specs.declared.alloc.Global.{Global}
 use Rattle.rv_io.specs.declared.store.ReadError.{ReadError}

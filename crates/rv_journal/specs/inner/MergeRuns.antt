@@ -1,4 +1,4 @@
--- A merge under way, as the code keeps it.
+-- What holds of the program's lists and counts while a merge is under way.
 use Rattle.std.specs.Prelude.{◌≡◌, ℕ, ◌<◌, List, ◌∷◌, ◌++◌, length, sum, slice_index, slice_index_or, All}
 use Rattle.rv_model.specs.declared.entry.Entry.{Entry}
 use Rattle.rv_model.specs.Setups.{Setup}
@@ -18,36 +18,36 @@ use Rattle.rv_journal.specs.inner.MergePending.{Pending, pending_at, lane_pendin
 use Rattle.rv_journal.specs.Merging.{CanMerge, seat_of}
 use Rattle.rv_journal.specs.inner.Merging.{NumbersFit, no_lane, lanes_of}
 
--- what is merged: by which setup, and out of which list
+-- what is merged: the setup, and the history of which the lanes have parts
 pub record Run : Type 0 where
   pub setup : Setup
   pub seen : List Entry
 
--- the run of these
+-- the merge of a history, by its setup
 abbrev pub merge_run : Setup → List Entry → Run
 merge_run setup seen = record { setup = setup; seen = seen }
 
--- before the first step
+-- how far a lane has come before its first step
 abbrev pub first_cursor : LaneProgress
 first_cursor = record { turns = 0; items = 0 }
 
--- the lane at a place
+-- the lane at an index, and one with nothing to do past the end
 abbrev pub lane_at : List CountedLaneValue → ℕ → CountedLaneValue
 lane_at lanes l = slice_index_or lanes l no_lane
 
--- how far it has come
+-- how far the lane at an index has come
 abbrev pub cursor_at : List LaneProgress → ℕ → LaneProgress
 cursor_at cursors l = slice_index_or cursors l first_cursor
 
--- the steps that are left to each lane
+-- the steps that are left to the lane at an index
 abbrev pub rests : List CountedLaneValue → List LaneProgress → ℕ → List MergeStep
 rests lanes cursors l = rest_of (lane_at lanes l) (cursor_at cursors l)
 
--- how many are left to all
+-- how many steps are left to all lanes
 abbrev pub steps_left : List CountedLaneValue → List LaneProgress → ℕ
 steps_left lanes cursors = total (λ l. length (rests lanes cursors l)) (length lanes)
 
--- what is given of a run, with the whole list of which the lanes have parts
+-- the lanes can be merged, and `whole` is the list of all their items, in the order of the history
 pub record IsGiven (run : Run) (lanes : List CountedLaneValue) (whole : List Counted) : Type 0 where
   pub can : CanMerge run.setup run.seen lanes
   pub is_setup : IsSetup run.setup
@@ -57,7 +57,8 @@ pub record IsGiven (run : Run) (lanes : List CountedLaneValue) (whole : List Cou
   pub observed : AreKnownItems run.setup whole
   pub owned : (before : List Counted) (c : Counted) (after : List Counted) → whole ≡ before ++ c ∷ after → (l : ℕ) × (l < length lanes) × (c.entry.seat ≡ seat_of (lane_at lanes l))
 
--- what is placed, how far the lanes have come, how many changes of each slot are placed, and for how many things each gap has to stay open
+-- the program's lists are those of a merge under way: what is placed, how far the lanes have come, how many changes of
+-- each slot are placed, and how many are pending in each interval
 pub record IsMerging (run : Run) (lanes : List CountedLaneValue) (placed : List Entry) (cursors : List LaneProgress) (changes : List ℕ) (pending : Pending) : Type 0 where
   pub whole : List Counted
   pub given : IsGiven run lanes whole
@@ -68,12 +69,12 @@ pub record IsMerging (run : Run) (lanes : List CountedLaneValue) (placed : List 
   pub changes_are : (slot : ℕ) → slot < sum run.setup.shape → slice_index changes slot ≡ changes_on slot placed
   pub waits_are : (g : VersionInterval) → pending_at pending g ≡ total (λ l. held_by g.slot g.version (rests lanes cursors l)) (length lanes)
 
--- the slot of a step is one of so many
+-- the slot of a step is below the number of slots
 abbrev pub InSlots : ℕ → MergeStep → Type 0
 InSlots slots TurnLook = Unit {0}
 InSlots slots (Item c) = slot_in c.entry.act < slots
 
--- the next step of the lane at this place may be placed
+-- the lane at the index `place` has a next step, which may be placed
 pub record IsReadyAt (lanes : List CountedLaneValue) (placed : List Entry) (cursors : List LaneProgress) (place : ℕ) : Type 0 where
   pub low : place < length lanes
   pub step : MergeStep
@@ -81,7 +82,7 @@ pub record IsReadyAt (lanes : List CountedLaneValue) (placed : List Entry) (curs
   pub at : rests lanes cursors place ≡ step ∷ steps
   pub may : MayPlace (length lanes) placed (rests lanes cursors) step
 
--- it may not, or there is none
+-- the lane at the index `place` has no next step, or one that may not be placed
 abbrev pub CannotGoAt : List CountedLaneValue → List Entry → List LaneProgress → ℕ → Type 0
 CannotGoAt lanes placed cursors place = CannotGo (length lanes) placed (rests lanes cursors) (rests lanes cursors place)
 
@@ -89,12 +90,12 @@ CannotGoAt lanes placed cursors place = CannotGo (length lanes) placed (rests la
 abbrev pub NoneReady : List CountedLaneValue → List Entry → List LaneProgress → Type 0
 NoneReady lanes placed cursors = (l : ℕ) → l < length lanes → CannotGoAt lanes placed cursors l
 
--- the next step of the lane at this place may be placed, and that of no lane with a lower CPU
+-- the next step of the lane at the index `place` may be placed, and that of no lane with a lower CPU
 pub record IsLowestReady (lanes : List CountedLaneValue) (placed : List Entry) (cursors : List LaneProgress) (place : ℕ) : Type 0 where
   pub ready : IsReadyAt lanes placed cursors place
   pub lowest : (l : ℕ) → l < length lanes → (lane_at lanes l).work.cpu < (lane_at lanes place).work.cpu → CannotGoAt lanes placed cursors l
 
--- the first lanes stand before their first steps, and all that they hold is held
+-- the first `count` lanes are before their first steps, and all that their items make pending is counted
 pub record NewLanes (lanes : List CountedLaneValue) (count : ℕ) (cursors : List LaneProgress) (pending : Pending) : Type 0 where
   pub many : length cursors ≡ count
   pub first : (l : ℕ) → l < count → cursor_at cursors l ≡ first_cursor

@@ -1,4 +1,4 @@
--- What private clauses and proofs speak of, beside MergeStates.
+-- The list of all lanes' items, which of them are placed, and what holds while a merge is under way.
 use Rattle.std.specs.Prelude.{◌≡◌, ℕ, ◌<◌, ◌≤◌, ◌^◌, Bool, true, false, ◌&&◌, not, ◌==◌, List, [], ◌∷◌, ◌++◌, map, filter}
 use Rattle.rv_model.specs.declared.entry.Act.{Act}
 use Rattle.rv_model.specs.declared.entry.Act.TheVariants.{Deliver, Stop, Look}
@@ -18,13 +18,13 @@ use Rattle.rv_journal.specs.MergeStates.{entries_in, StandsAs}
 
 -- ---- the whole list
 
--- the act delivers or stops
+-- the act is a delivery or a stop
 abbrev pub IsItemAct : Act → Type 0
 IsItemAct (Deliver slot hit) = Unit {0}
 IsItemAct (Stop slot) = Unit {0}
 IsItemAct _ = ⊥
 
--- since so many changes of the slot the seat has no entry, and there are three changes more
+-- since the slot had `first` changes the seat has no entry, and the slot has three changes more
 pub record LostAt (slot seat first : ℕ) (before : List Entry) : Type 0 where
   pub until : List Entry
   pub since : List Entry
@@ -45,7 +45,7 @@ pub record IsKnownItem (s : Setup) (before : List Entry) (c : Counted) : Type 0 
   pub rank_is : version c ≡ changes_on (slot_in c.entry.act) before
   pub lost : (slot : ℕ) → c.entry.act ≡ Stop slot → LostAt slot c.entry.seat c.first before
 
--- that is known of each
+-- every item of the list is known so, by the entries of the items before it
 abbrev pub AreKnownItems : Setup → List Counted → Type 0
 AreKnownItems s items = (before : List Counted) (c : Counted) (after : List Counted) → items ≡ before ++ c ∷ after → IsKnownItem s (entries_in before) c
 
@@ -56,23 +56,23 @@ pub record Mark : Type 0 where
   pub item : Counted
   pub placed : Bool
 
--- the mark of these
+-- an item with the mark that it is placed, or that it is not
 abbrev pub mark : Bool → Counted → Mark
 mark placed item = record { item = item; placed = placed }
 
--- the items that are marked
+-- the items of marks, placed or not
 abbrev pub items_in : List Mark → List Counted
 items_in marks = map (λ m. m.item) marks
 
--- the entry of a mark
+-- the entry of a marked item
 abbrev pub entry_in : Mark → Entry
 entry_in m = m.item.entry
 
--- the item is the seat's, and not placed
+-- whether the item is the seat's and not placed
 abbrev pub is_left : ℕ → Mark → Bool
 is_left seat m = not m.placed && (m.item.entry.seat == seat)
 
--- of the marks that change the slot, some first ones are placed, which are the changes of the history, and no others
+-- of the marks that change the slot's word the first ones are placed, and these are the changes in the history
 pub record Divides (slot : ℕ) (history : List Entry) (marks : List Mark) : Type 0 where
   pub done : List Counted
   pub todo : List Counted
@@ -81,7 +81,7 @@ pub record Divides (slot : ℕ) (history : List Entry) (marks : List Mark) : Typ
 
 -- ---- the lanes
 
--- the seat's last entry comes no later than so many changes of the slot
+-- all entries of the seat lie in a beginning of the history that has at most `first` changes of the slot
 pub record LastBy (slot seat first : ℕ) (history : List Entry) : Type 0 where
   pub until : List Entry
   pub since : List Entry
@@ -89,30 +89,32 @@ pub record LastBy (slot seat first : ℕ) (history : List Entry) : Type 0 where
   pub none : NoneOf seat since
   pub few : changes_on slot until ≤ first
 
--- where the next step is a Stop, the lane's last entry comes no later than the changes that the Stop was lost from
+-- where the next step is a Stop, all entries of its seat come before the slot has more changes than its first load
+-- found
 abbrev pub NextIsJustified : ℕ → List Entry → List MergeStep → Type 0
 NextIsJustified seat history [] = Unit {0}
 NextIsJustified seat history (TurnLook ∷ steps) = Unit {0}
 NextIsJustified seat history (Item c ∷ steps) = (slot : ℕ) → c.entry.act ≡ Stop slot → LastBy slot seat c.first history
 
--- the act delivers, stops or looks
+-- the act is a delivery, a stop or a look
 abbrev pub IsMergedAct : Act → Type 0
 IsMergedAct (Deliver slot hit) = Unit {0}
 IsMergedAct (Stop slot) = Unit {0}
 IsMergedAct Look = Unit {0}
 IsMergedAct _ = ⊥
 
--- the entries of steps, by their seat and the switches
+-- the entries of steps, whose looks are by the seat and find the switches
 abbrev pub step_entries : ℕ → ℕ → List MergeStep → List Entry
 step_entries seat switches steps = map (step_entry seat switches) steps
 
--- the lanes, by how many they are: each one's seat, and all of its steps
+-- the lanes of a merge: how many there are, the seat of each, and all of its steps
 pub record Lanes : Type 0 where
   pub many : ℕ
   pub seat : ℕ → ℕ
   pub script : ℕ → List MergeStep
 
--- a history that is being merged, by the whole list, the lanes, and the steps that are left to each of them
+-- a merge is under way: what holds of its history, by the list of all items, the lanes, and the steps that are left to
+-- each
 pub record IsUnderWay (s : Setup) (whole : List Counted) (lanes : Lanes) (history : List Entry) (rest : ℕ → List MergeStep) : Type 0 where
   pub marks : List Mark
   pub marks_are : items_in marks ≡ whole

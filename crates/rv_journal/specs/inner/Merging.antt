@@ -1,4 +1,4 @@
--- What private clauses and proofs speak of, beside Merging.
+-- The lanes as a merge goes through them, and the ranges of an item's numbers.
 use Rattle.std.specs.Prelude.{◌<◌, ◌^◌, List, [], length, slice_index_or}
 use Rattle.rv_model.specs.declared.entry.Act.{Act}
 use Rattle.rv_model.specs.declared.entry.Act.TheVariants.{Deliver}
@@ -11,11 +11,11 @@ use Rattle.rv_journal.specs.Merging.{seat_of}
 
 -- ---- what can be merged
 
--- a lane with nothing to do
+-- the lane with nothing to do, which is read where an index is past the end
 abbrev pub no_lane : CountedLaneValue
 no_lane = record { work = record { cpu = 0; turns = []; deliveries = [] }; counted = []; room = 0 }
 
--- the lanes by their places, each with all of its steps
+-- the lanes by their indexes, each with all of its steps
 abbrev pub lanes_of : List CountedLaneValue → Lanes
 lanes_of lanes = record {
   many = length lanes;
@@ -25,12 +25,12 @@ lanes_of lanes = record {
 
 -- ---- what the machine's numbers give
 
--- the sets of atoms of a hit fit their words
+-- the sets of atoms of a delivery's hit take 32 bits each
 abbrev pub HitFits : Act → Type 0
 HitFits (Deliver slot hit) = WhatFits hit.what
 HitFits _ = Unit {0}
 
--- an item's numbers fit theirs
+-- the sets of atoms of an item's hit take 32 bits each, and the word after its entry 64
 pub record NumbersFit (c : Counted) : Type 0 where
   pub hit : HitFits c.entry.act
   pub word : c.entry.after < 2 ^ 64

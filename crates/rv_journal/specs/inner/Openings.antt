@@ -1,4 +1,4 @@
--- What a counted board opens with.
+-- The words that a counted board opens with.
 use Rattle.std.specs.Prelude.{◌≡◌, ℕ, ◌<◌, List, [], length, slice_index}
 use Rattle.rv_model.specs.Setups.{Setup}
 use Rattle.rv_core.specs.Setup.{IsSetup}
@@ -6,7 +6,7 @@ use Rattle.rv_board.specs.Rule.{width}
 use Rattle.rv_journal.specs.CountedWords.{FitsCounts}
 use Rattle.rv_journal.specs.inner.CountedWords.{counted_at}
 
--- the counted words of an empty history
+-- the words are the counted words of an empty history
 pub record OpensCounted (s : Setup) (words : List ℕ) : Type 0 where
   pub is_setup : IsSetup s
   pub wide : length words ≡ width s

@@ -1,4 +1,4 @@
--- What private clauses and proofs speak of, beside Histories.
+-- The inputs of runs whose switches nobody changes.
 use Rattle.std.specs.Prelude.{ℕ, Bool, false, List, []}
 use Rattle.rv_model.specs.declared.formula.Spec.{Spec}
 use Rattle.rv_model.specs.Setups.{Setup}

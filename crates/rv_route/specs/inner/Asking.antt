@@ -1,4 +1,4 @@
--- What private clauses and proofs speak of, beside Asking.
+-- What one rule asks for on one line: whether its tests hold, and which pid it goes by.
 use Rattle.std.specs.Prelude.{ℕ, Bool, List, Option, Some, None, option_map, slice_get, if◌then◌else◌}
 use Rattle.std.specs.List.{list_all}
 use Rattle.rv_trace.specs.declared.line.Span.{Span}

@@ -1,4 +1,4 @@
--- What private clauses and proofs speak of, beside Events.
+-- How the events of rules are noted by the hashes of their names, and what is found of a line's fields for their rules.
 use Rattle.std.specs.Prelude.{◌≡◌, ◌≤◌, ℕ, List, length, map, Option, Some, None, IfSome, option_map, nat_eq, slice_get, slice_index_or, if◌then◌else◌, [], ◌∷◌, ◌++◌, Vec}
 use Rattle.std.specs.Borrow.{Bor}
 use Rattle.std.specs.HashMap.{get}

@@ -1,4 +1,4 @@
--- What private clauses and proofs speak of, beside Checks.
+-- When a verdict holds of a journal, and what the reading for it comes to.
 use Rattle.std.specs.Prelude.{◌≡◌, ℕ, Option, Some, Result, Ok, Err}
 use Rattle.rv_io.specs.Files.{Files}
 use Rattle.rv_bind.specs.declared.fault.BindFault.{BindFault}

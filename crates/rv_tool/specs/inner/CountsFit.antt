@@ -1,4 +1,4 @@
--- What private clauses and proofs speak of, beside CountsFit.
+-- Which specifications have a state to begin in: every rule, and each automaton with a state.
 use Rattle.std.specs.Prelude.{◌≤◌, length}
 use Rattle.rv_model.specs.declared.formula.Spec.{Spec}
 use Rattle.rv_model.specs.declared.formula.Spec.TheVariants as specs

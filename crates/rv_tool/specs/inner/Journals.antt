@@ -1,4 +1,4 @@
--- What private clauses and proofs speak of, beside Journals.
+-- Which runs can be recorded as a journal.
 use Rattle.std.specs.List.{list_any}
 use Rattle.std.specs.Prelude.{◌≡◌, true, false, []}
 use Rattle.rv_tool.specs.declared.input.Prepared.{Prepared}

@@ -1,4 +1,4 @@
--- What private clauses and proofs speak of, beside WatchReports.
+-- What is ready for a run of which one slot is watched.
 use Rattle.std.specs.Prelude.{◌≡◌, ◌<◌, [], sum}
 use Rattle.rv_tool.specs.declared.watch.PreparedWatch.{PreparedWatch}
 use Rattle.rv_tool.specs.inner.Prepared.{IsPrepared, prepared_value}

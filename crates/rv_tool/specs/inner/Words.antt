@@ -1,4 +1,4 @@
--- What private clauses and proofs speak of, beside Words.
+-- A command with its words as plain texts, and when the name that it gives C tables is one.
 use Rattle.std.specs.Prelude.{◌≡◌, true}
 use Rattle.rv_header.specs.Naming.{is_header_name}
 use Rattle.rv_tool.specs.declared.words.ToolCommand.{ToolCommand}

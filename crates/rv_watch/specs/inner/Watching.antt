@@ -1,4 +1,4 @@
--- What private clauses and proofs speak of, beside Watching.
+-- What one reading of the watched slot asks of its watcher, and what it leaves.
 use Rattle.std.specs.Prelude.{◌≡◌, ◌<◌, ◌≤◌, [], length, sum, vec_capacity}
 use Rattle.rv_board.specs.Seats.{BoardId, SeatGrows}
 use Rattle.rv_watch.specs.declared.watcher.Watcher.{Watcher}

@@ -1,4 +1,4 @@
--- What private clauses and proofs speak of, beside Words.
+-- When a word that was read is kept besides those before it.
 use Rattle.std.specs.Prelude.{◌≡◌, ◌≢◌, ◌⊎◌, ℕ, ◌+◌, ◌<◌, List, [], ◌∷◌, ◌++◌, length}
 use Rattle.rv_watch.specs.Words.{last_word, IsSeen}
 

@@ -43,7 +43,7 @@ pub returns-then-ends : goal.returns-then-ends
 returns-then-ends c = λ any.
     let d : Delivery = c.delivery_at-delivery.result in
     let slot = c.slot-slot.ensures.slot ∙ ap (λ (shape : List ℕ). slot_of shape d.monitor d.instance) c.shape.ensures in
-    let kept = of-found c.args.lane.now.work.deliveries c.args.place (λ (x : Delivery) (b : Bool). AddsRecords c.args.lane.now c.keep.new.lane (record_on c.args.line (Done c.step-answer.result) b x ∷ [])) c.delivery_at-delivery.ensures c.keep.ensures c.has_bit.ensures in
+    let kept = of-found c.args.lane.now.work.deliveries c.args.index (λ (x : Delivery) (b : Bool). AddsRecords c.args.lane.now c.keep.new.lane (record_on c.args.line (Done c.step-answer.result) b x ∷ [])) c.delivery_at-delivery.ensures c.keep.ensures c.has_bit.ensures in
     subst (λ (x : Delivery). DeliversRecorded c.args.core.now c.step-answer-then-ends.new.self (panics_of c.args.reactors.now) c.args.seat c.args.word c.args.line x c.args.lane.now c.keep.new.lane c.halts-ends.result) (c.delivery_at-delivery.ensures any)
     (made-last (panics_of c.args.reactors.now) c.args.seat c.args.word c.args.line c.step-answer.ensures (c.hit_act.ensures ∙ ap (λ (n : ℕ). hit_act n d.hit) slot) kept c.halts-ends.ensures c.if-ends.true c.step-answer-then-ends.ensures)
 
@@ -51,6 +51,6 @@ pub returns-else-ends : goal.returns-else-ends
 returns-else-ends c = λ any.
     let d : Delivery = c.delivery_at-delivery.result in
     let slot = c.slot-slot.ensures.slot ∙ ap (λ (shape : List ℕ). slot_of shape d.monitor d.instance) c.shape.ensures in
-    let kept = of-found c.args.lane.now.work.deliveries c.args.place (λ (x : Delivery) (b : Bool). AddsRecords c.args.lane.now c.keep.new.lane (record_on c.args.line (Done c.step-answer.result) b x ∷ [])) c.delivery_at-delivery.ensures c.keep.ensures c.has_bit.ensures in
+    let kept = of-found c.args.lane.now.work.deliveries c.args.index (λ (x : Delivery) (b : Bool). AddsRecords c.args.lane.now c.keep.new.lane (record_on c.args.line (Done c.step-answer.result) b x ∷ [])) c.delivery_at-delivery.ensures c.keep.ensures c.has_bit.ensures in
     subst (λ (x : Delivery). DeliversRecorded c.args.core.now c.step-answer.new.self (panics_of c.args.reactors.now) c.args.seat c.args.word c.args.line x c.args.lane.now c.keep.new.lane c.halts-ends.result) (c.delivery_at-delivery.ensures any)
     (made-on (panics_of c.args.reactors.now) c.args.seat c.args.word c.args.line c.step-answer.ensures (c.hit_act.ensures ∙ ap (λ (n : ℕ). hit_act n d.hit) slot) kept c.halts-ends.ensures c.if-ends.false)

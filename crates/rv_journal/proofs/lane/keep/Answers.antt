@@ -9,5 +9,5 @@ returns c =
     let i = c.lane.inside in
     let old : CountedLaneValue = record { work = i.work; counted = i.counted.items; room = i.counted.cap } in
     let new : CountedLaneValue = record { work = i.work; counted = c.push.new.self.items; room = c.push.new.self.cap } in
-    let k : KeepsObserved old new c.args.told = record { work_is = refl; counted_is = rw (← c.in-Ok.ensures.items) refl; room = c.push.ensures.capacity } in
-    subst (λ (v : CountedLaneValue). KeepsObserved v new c.args.told) c.lane.view_is k
+    let k : KeepsObserved old new c.args.observed = record { work_is = refl; counted_is = rw (← c.in-Ok.ensures.items) refl; room = c.push.ensures.capacity } in
+    subst (λ (v : CountedLaneValue). KeepsObserved v new c.args.observed) c.lane.view_is k
