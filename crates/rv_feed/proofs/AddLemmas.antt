@@ -1,5 +1,5 @@
 -- What one call of the board adds to its seat's list, with its answer, and one call after another.
-use Rattle.std.proofs.Common.{◌≡◌, ℕ, ◌==◌, Bool, true, false, true≢false, List, [], ◌∷◌, ◌++◌, inl, inr, reverse, arith, refl, sym, ap, ◌∙◌, subst, append_assoc, append-nil}
+use Rattle.std.proofs.Common.{◌≡◌, ℕ, ◌^◌, ◌==◌, Bool, true, false, true≢false, List, [], ◌∷◌, ◌++◌, inl, inr, reverse, arith, refl, sym, ap, ◌∙◌, subst, append_assoc, append-nil}
 use Rattle.std.specs.Prelude.{filter, All}
 use Rattle.std.proofs.lemmas.Bool.Decides.{nat_tests}
 use Rattle.std.proofs.lemmas.List.{reverse-append, same_from_push}
@@ -22,12 +22,11 @@ use Rattle.rv_model.proofs.ScriptLemmas.{played-own}
 use Rattle.rv_model.proofs.SeatLemmas.{played-none}
 use Rattle.rv_core.specs.Setup.{judges_of}
 use Rattle.rv_board.specs.Deliveries.{DeliversOrStops}
-use Rattle.rv_board.specs.Seats.{BoardId, SeatValue, SeatGrows, Acts, Looks, Does}
-use Rattle.rv_board.proofs.GrowLemmas.{grows_none, grows_then}
+use Rattle.rv_board.specs.Seats.{BoardId, SeatValue, Acts, Looks, Does}
+use Rattle.rv_board.proofs.GrowLemmas.{grows_none}
 use Rattle.rv_feed.specs.Feeding.{played_by, Adds}
-use Rattle.rv_feed.specs.inner.Feeding.{Serves}
-use Rattle.rv_feed.specs.Turns.{entries_played}
-use Rattle.rv_feed.proofs.DoneLemmas.{entries_played-append}
+use Rattle.rv_feed.specs.inner.Composing.{adds-composes}
+use Rattle.rv_feed.specs.inner.Turns.{LooksAt, Halts, Serves, IsOneTurn}
 
 -- ---- one call
 
@@ -102,21 +101,30 @@ answered : (old new : SeatValue) (entry : Entry) (answer : Answer) → (a : Adde
 answered old new entry answer a is = subst (λ (x : Answer). Adds old new ((entry, x) ∷ [])) is a.adds
 
 -- a look that saw this word
-pub adds-look : (old new : SeatValue) (word : ℕ) → (l : Looks old new word) → Adds old new ((l.entry, Looked word) ∷ [])
-adds-look old new word l =
+pub looks : (old new : SeatValue) (word : ℕ) → Looks old new word → LooksAt Adds old new word
+looks old new word l =
     let a = added old new Look l.entry l.acts in
     let s : Setup = old.board.setup in
-    answered old new l.entry (Looked word) a (ap (answer_at s (judges_of s) (reverse a.before) l.entry) l.acts.act_is ∙ ap Looked l.found)
+    record {
+      entry = l.entry;
+      act_is = l.acts.act_is;
+      did = answered old new l.entry (Looked word) a (ap (answer_at s (judges_of s) (reverse a.before) l.entry) l.acts.act_is ∙ ap Looked l.found);
+    }
 
--- switches that went on
-pub adds-raise : (old new : SeatValue) (bits : ℕ) → (d : Does old new (Raise bits)) → Adds old new ((d.0, Switched) ∷ [])
-adds-raise old new bits d =
-    let a = added old new (Raise bits) d.0 d.1 in
+-- the halted switch that went on
+pub halts : (old new : SeatValue) → Does old new (Raise (2 ^ 34)) → Halts Adds old new
+halts old new does =
+    let a = added old new (Raise (2 ^ 34)) does.0 does.1 in
     let s : Setup = old.board.setup in
-    answered old new d.0 Switched a (ap (answer_at s (judges_of s) (reverse a.before) d.0) d.1.act_is)
+    record {
+      entry = does.0;
+      answer = Switched;
+      act_is = does.1.act_is;
+      did = answered old new does.0 Switched a (ap (answer_at s (judges_of s) (reverse a.before) does.0) does.1.act_is);
+    }
 
 -- a delivery, with its outcome
-pub serves : (old new : SeatValue) (d : Delivery) (slot : ℕ) (outcome : Delivered) → slot ≡ slot_of old.board.setup.shape d.monitor d.instance → is_end d.hit.mode ≡ false → DeliversOrStops old new slot d.hit outcome → Serves old new d outcome
+pub serves : (old new : SeatValue) (d : Delivery) (slot : ℕ) (outcome : Delivered) → slot ≡ slot_of old.board.setup.shape d.monitor d.instance → is_end d.hit.mode ≡ false → DeliversOrStops old new slot d.hit outcome → Serves Adds old.board.setup old new d outcome
 serves old new d slot (Done answer) at goes v =
     let s : Setup = old.board.setup in
     let a = added old new (Deliver slot d.hit) v.entry v.acts in
@@ -126,7 +134,7 @@ serves old new d slot (Done answer) at goes v =
       entry = v.entry;
       answer = answer;
       makes = inl (act ∙ sym (rw goes refl));
-      adds = answered old new v.entry answer a (ap (λ (b : List Entry). answer_at s (judges_of s) (reverse b) v.entry v.entry.act) same ∙ sym v.answer_is);
+      did = answered old new v.entry answer a (ap (λ (b : List Entry). answer_at s (judges_of s) (reverse b) v.entry v.entry.act) same ∙ sym v.answer_is);
       outcome_is = rw act refl;
       fails_is = refl;
     }
@@ -138,13 +146,13 @@ serves old new d slot Racing at goes v =
       entry = v.entry;
       answer = Stopped;
       makes = inr (goes, act);
-      adds = answered old new v.entry Stopped a (ap (answer_at s (judges_of s) (reverse a.before) v.entry) v.acts.act_is);
+      did = answered old new v.entry Stopped a (ap (answer_at s (judges_of s) (reverse a.before) v.entry) v.acts.act_is);
       outcome_is = rw act refl;
       fails_is = refl;
     }
 
 -- an end
-pub serves-end : (old new : SeatValue) (d : Delivery) (slot : ℕ) → slot ≡ slot_of old.board.setup.shape d.monitor d.instance → is_end d.hit.mode ≡ true → (does : Does old new (End slot)) → Serves old new d (Done Ended)
+pub serves-end : (old new : SeatValue) (d : Delivery) (slot : ℕ) → slot ≡ slot_of old.board.setup.shape d.monitor d.instance → is_end d.hit.mode ≡ true → (does : Does old new (End slot)) → Serves Adds old.board.setup old new d (Done Ended)
 serves-end old new d slot at ends does =
     let s : Setup = old.board.setup in
     let a = added old new (End slot) does.0 does.1 in
@@ -153,7 +161,7 @@ serves-end old new d slot at ends does =
       entry = does.0;
       answer = Ended;
       makes = inl (act ∙ sym (rw ends refl));
-      adds = answered old new does.0 Ended a (ap (answer_at s (judges_of s) (reverse a.before) does.0) does.1.act_is);
+      did = answered old new does.0 Ended a (ap (answer_at s (judges_of s) (reverse a.before) does.0) does.1.act_is);
       outcome_is = rw act refl;
       fails_is = refl;
     }
@@ -164,9 +172,7 @@ serves-end old new d slot at ends does =
 pub adds-none : (a : SeatValue) → IsSound a.board.setup (judges_of a.board.setup) a.part.seen → Adds a a []
 adds-none a sound = record { grows = grows_none a sound; played_is = sym (append-nil (played_by a)) }
 
--- calls, and then some that add something
-pub adds-then : (a b c : SeatValue) (ps : List Played) (q : Played) (qs : List Played) → Adds a b ps → Adds b c (q ∷ qs) → Adds a c (ps ++ q ∷ qs)
-adds-then a b c ps q qs one two = record {
-  grows = subst (SeatGrows a c) (sym (entries_played-append ps (q ∷ qs))) (grows_then a b c (entries_played ps) (entries_played qs) q.0 one.grows two.grows);
-  played_is = two.played_is ∙ ap (λ (z : List Played). z ++ q ∷ qs) one.played_is ∙ append_assoc (played_by a) ps (q ∷ qs);
-}
+-- calls, and then a turn
+pub adds-turn : (a b c : SeatValue) (ps qs : List Played) → Adds a b ps → Adds b c qs → IsOneTurn qs → Adds a c (ps ++ qs)
+adds-turn a b c ps [] one two turn = absurd turn
+adds-turn a b c ps (q ∷ qs) one two turn = adds-composes a b c ps q qs one two

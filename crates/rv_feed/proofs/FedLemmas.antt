@@ -11,13 +11,13 @@ use Rattle.rv_model.specs.Setups.{Setup}
 use Rattle.rv_model.specs.Works.{Work, IsWork}
 use Rattle.rv_model.proofs.ScriptPartLemmas.{goes-nothing, goes-join, goes-end, goes-whole}
 use Rattle.rv_core.specs.Setup.{judges_of}
-use Rattle.rv_board.specs.Seats.{SeatValue}
+use Rattle.rv_board.specs.Seats.{BoardId, SeatValue}
 use Rattle.rv_feed.specs.Lane.{LaneValue}
-use Rattle.rv_feed.specs.Feeding.{CanFeed, Feeds}
-use Rattle.rv_feed.specs.inner.Feeding.{FeedsTurn, FedSoFar}
-use Rattle.rv_feed.proofs.AddLemmas.{adds-none, adds-then}
+use Rattle.rv_feed.specs.Feeding.{Adds, CanFeed, Feeds}
+use Rattle.rv_feed.specs.inner.Feeding.{FedSoFar}
+use Rattle.rv_feed.specs.inner.Turns.{PlaysTurn}
+use Rattle.rv_feed.proofs.AddLemmas.{adds-none, adds-turn}
 use Rattle.rv_feed.proofs.LaneLemmas.{names-in, names-next}
-use Rattle.rv_feed.proofs.FeedLemmas.{same-setup}
 
 -- ---- a script
 
@@ -60,6 +60,10 @@ module _ {panics : ℕ → Bool} {old cur : SeatValue} {lane lane' : LaneValue} 
   abbrev s : Setup
   s = old.board.setup
 
+  -- the seat stays on its board
+  same-setup : cur.board.setup ≡ s
+  same-setup = ap (λ (z : BoardId). z.setup) so_far.adds.grows.board
+
   -- the turns of the lane's work
   abbrev turns : List Turn
   turns = lane.work.turns
@@ -69,16 +73,16 @@ module _ {panics : ℕ → Bool} {old cur : SeatValue} {lane lane' : LaneValue} 
   one-more = take_more turns place turn next.inside ∙ ap (λ (t : Turn). take place turns ++ t ∷ []) (sym next.turn_is)
 
   -- a turn after which the script goes on
-  pub fed-more : {new : SeatValue} {lane'' : LaneValue} {ends : Bool} → IsWork lane.work → ends ≡ false → FeedsTurn cur new panics turn lane' lane'' ends → FedSoFar panics old new lane lane'' (place + 1)
+  pub fed-more : {new : SeatValue} {lane'' : LaneValue} {ends : Bool} → IsWork lane.work → ends ≡ false → PlaysTurn Adds cur.board.setup panics cur new turn lane' lane'' ends → FedSoFar panics old new lane lane'' (place + 1)
   fed-more {new} {lane''} {ends} is_work on by =
-      let v = subst (FeedsTurn cur new panics turn lane' lane'') on by in
-      let goes = subst (λ (w : Work). GoesOn s panics w.deliveries (turn ∷ []) (v.first ∷ v.more) v.rs) so_far.work_is (subst (λ (z : Setup). GoesOn z panics lane'.work.deliveries (turn ∷ []) (v.first ∷ v.more) v.rs) (same-setup old cur so_far.ps so_far.adds) v.script) in
+      let v = subst (PlaysTurn Adds cur.board.setup panics cur new turn lane' lane'') on by in
+      let goes = subst (λ (w : Work). GoesOn s panics w.deliveries (turn ∷ []) v.ps v.rs) so_far.work_is (subst (λ (z : Setup). GoesOn z panics lane'.work.deliveries (turn ∷ []) v.ps v.rs) same-setup v.script) in
       record {
-        ps = so_far.ps ++ v.first ∷ v.more;
-        adds = adds-then old cur new so_far.ps v.first v.more so_far.adds v.adds;
-        goes = subst (λ (ts : List Turn). GoesOn s panics lane.work.deliveries ts (so_far.ps ++ v.first ∷ v.more) lane''.records) (sym one-more)
-            (subst (λ (rs : List Record). GoesOn s panics lane.work.deliveries (take place turns ++ turn ∷ []) (so_far.ps ++ v.first ∷ v.more) rs) (sym v.kept.records_are)
-            (goes-join s panics lane.work.deliveries (take place turns) (turn ∷ []) so_far.ps (v.first ∷ v.more) lane'.records v.rs so_far.goes goes));
+        ps = so_far.ps ++ v.ps;
+        adds = adds-turn old cur new so_far.ps v.ps so_far.adds v.did v.one;
+        goes = subst (λ (ts : List Turn). GoesOn s panics lane.work.deliveries ts (so_far.ps ++ v.ps) lane''.records) (sym one-more)
+            (subst (λ (rs : List Record). GoesOn s panics lane.work.deliveries (take place turns ++ turn ∷ []) (so_far.ps ++ v.ps) rs) (sym v.kept.records_are)
+            (goes-join s panics lane.work.deliveries (take place turns) (turn ∷ []) so_far.ps v.ps lane'.records v.rs so_far.goes goes));
         work_is = v.kept.work_is ∙ so_far.work_is;
         kept = λ t later.
             let after = names-next 0 turns (length lane.work.deliveries) is_work place t later in
@@ -92,17 +96,17 @@ module _ {panics : ℕ → Bool} {old cur : SeatValue} {lane lane' : LaneValue} 
       }
 
   -- a turn with which it ends
-  pub fed-last : {new : SeatValue} {lane'' : LaneValue} {ends : Bool} → ends ≡ true → FeedsTurn cur new panics turn lane' lane'' ends → Feeds panics old new lane lane''
+  pub fed-last : {new : SeatValue} {lane'' : LaneValue} {ends : Bool} → ends ≡ true → PlaysTurn Adds cur.board.setup panics cur new turn lane' lane'' ends → Feeds panics old new lane lane''
   fed-last {new} {lane''} {ends} off by =
-      let v = subst (FeedsTurn cur new panics turn lane' lane'') off by in
-      let last = subst (λ (w : Work). EndsScript s panics w.deliveries (turn ∷ []) (v.first ∷ v.more) v.rs) so_far.work_is (subst (λ (z : Setup). EndsScript z panics lane'.work.deliveries (turn ∷ []) (v.first ∷ v.more) v.rs) (same-setup old cur so_far.ps so_far.adds) v.script) in
-      let whole = goes-end s panics lane.work.deliveries (take place turns) (turn ∷ []) so_far.ps (v.first ∷ v.more) lane'.records v.rs so_far.goes last in
+      let v = subst (PlaysTurn Adds cur.board.setup panics cur new turn lane' lane'') off by in
+      let last = subst (λ (w : Work). EndsScript s panics w.deliveries (turn ∷ []) v.ps v.rs) so_far.work_is (subst (λ (z : Setup). EndsScript z panics lane'.work.deliveries (turn ∷ []) v.ps v.rs) same-setup v.script) in
+      let whole = goes-end s panics lane.work.deliveries (take place turns) (turn ∷ []) so_far.ps v.ps lane'.records v.rs so_far.goes last in
       let all : (take place turns ++ turn ∷ []) ++ drop (place + 1) turns ≡ turns = ap (λ (ts : List Turn). ts ++ drop (place + 1) turns) (sym one-more) ∙ take-append-drop (place + 1) turns in
       record {
-        script = so_far.ps ++ v.first ∷ v.more;
-        adds = adds-then old cur new so_far.ps v.first v.more so_far.adds v.adds;
-        plays = subst (λ (ts : List Turn). PlaysTurns s panics (turn_lists lane.work.deliveries ts) (so_far.ps ++ v.first ∷ v.more)) all (whole.plays (drop (place + 1) turns));
-        records = ap (λ (ts : List Turn). script_records lane.work.deliveries ts (so_far.ps ++ v.first ∷ v.more)) (sym all) ∙ whole.records (drop (place + 1) turns) ∙ sym v.kept.records_are;
+        script = so_far.ps ++ v.ps;
+        adds = adds-turn old cur new so_far.ps v.ps so_far.adds v.did v.one;
+        plays = subst (λ (ts : List Turn). PlaysTurns s panics (turn_lists lane.work.deliveries ts) (so_far.ps ++ v.ps)) all (whole.plays (drop (place + 1) turns));
+        records = ap (λ (ts : List Turn). script_records lane.work.deliveries ts (so_far.ps ++ v.ps)) (sym all) ∙ whole.records (drop (place + 1) turns) ∙ sym v.kept.records_are;
         work_is = v.kept.work_is ∙ so_far.work_is;
       }
 

@@ -6,7 +6,6 @@ pub mod ClearLemmas
 pub mod DoneLemmas
 pub mod EntryLemmas
 pub mod FedLemmas
-pub mod FeedLemmas
 pub mod JoinedLemmas
 pub mod LaneLemmas
 pub mod LineLemmas

@@ -19,7 +19,7 @@ use Rattle.rv_core.specs.Core.{CoreValue}
 use Rattle.rv_core.specs.Setup.{judges_of}
 use Rattle.rv_feed.specs.Lane.{LaneValue, FitLanes, works_of}
 use Rattle.rv_feed.specs.Turns.{entries_played}
-use Rattle.rv_feed.specs.inner.Turns.{PlaysTurn}
+use Rattle.rv_feed.specs.inner.Turns.{Did, PlaysTurn}
 use Rattle.rv_feed.specs.inner.SoFar.{next_turn_of, IsPending, next_line, PlaysNext, Going, LaneSoFar, RunSoFar}
 use Rattle.rv_feed.proofs.EntryLemmas.{none-by, IsIn, by-at, one-at, one-looks, below-more, order-more}
 use Rattle.rv_feed.proofs.StayLemmas.{lane-stays}
@@ -49,7 +49,7 @@ module _ (panics : ℕ → Bool) (old : CoreValue) (more : List Entry) (new : Co
   abbrev t : Turn
   t = next.turn
 
-  abbrev tp : PlaysTurn (record old { history = old.history ++ more }) new panics t l lane' next.ends
+  abbrev tp : PlaysTurn (Did seat) s panics (record old { history = old.history ++ more }) new t l lane' next.ends
   tp = next.plays
 
   abbrev es : List Entry

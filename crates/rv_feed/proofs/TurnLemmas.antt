@@ -1,168 +1,145 @@
 -- A turn, delivery by delivery.
-use Rattle.std.proofs.Common.{◌≡◌, inl, inr, ℕ, ◌+◌, ◌-◌, ◌^◌, Bool, true, false, ◌&&◌, List, [], ◌∷◌, ◌++◌, arith, refl, sym, ap, ◌∙◌, subst, length-append}
-use Rattle.rv_model.specs.declared.entry.Act.{Act}
-use Rattle.rv_model.specs.declared.entry.Act.TheVariants.{Raise}
-use Rattle.rv_model.specs.declared.entry.Answer.{Answer}
+use Rattle.std.proofs.Common.{◌≡◌, ℕ, ◌+◌, ◌-◌, Bool, true, false, ◌&&◌, List, [], ◌∷◌, ◌++◌, arith, refl, sym, ap, ◌∙◌, subst, length-append}
 use Rattle.rv_model.specs.declared.entry.Answer.TheVariants.{Looked}
-use Rattle.rv_model.specs.declared.record.Delivered.TheVariants.{Done}
+use Rattle.rv_model.specs.declared.record.Delivered.{Delivered}
+use Rattle.rv_model.specs.declared.record.Record.{Record}
 use Rattle.rv_model.specs.declared.work.Delivery.{Delivery}
 use Rattle.rv_model.specs.declared.work.Turn.{Turn}
 use Rattle.rv_model.specs.Numbers.{has_bit}
-use Rattle.rv_model.specs.Histories.{IsNoStop, IsPermittedTo, look_count}
-use Rattle.rv_model.specs.Records.{outcome_of, record_of}
-use Rattle.rv_model.specs.Setups.{Setup, slot_of}
-use Rattle.rv_model.specs.Scripts.{is_enabled_by, fails, hit_act}
-use Rattle.rv_model.specs.inner.ScriptParts.{TurnPart, LastPart, GoesOn, EndsScript}
+use Rattle.rv_model.specs.Histories.{look_count}
+use Rattle.rv_model.specs.Records.{failed_outcome, record_of}
+use Rattle.rv_model.specs.Setups.{Setup}
+use Rattle.rv_model.specs.Scripts.{Played, is_enabled_by, fails}
+use Rattle.rv_model.specs.inner.ScriptParts.{TurnPart}
 use Rattle.rv_model.proofs.ScriptPartLemmas.{part-nothing, part-join, last-join, part-one, last-one, part-quiet, turn-goes, turn-ends, turn-halted}
-use Rattle.rv_core.specs.Core.{CoreValue, Steps}
 use Rattle.rv_feed.specs.Lane.{LaneValue}
 use Rattle.rv_feed.specs.inner.Lane.{AddsRecords}
-use Rattle.rv_feed.specs.inner.Turns.{Did, LooksAt, DeliversRecorded, PlaysTurn, PartDone}
-use Rattle.rv_feed.proofs.ActLemmas.{hit-free, hit-held, hit-done}
-use Rattle.rv_feed.proofs.DoneLemmas.{did-step, did-nothing, did-join, no_looks-append}
+use Rattle.rv_feed.specs.inner.Turns.{Composes, NoLooks, LooksAt, Halts, Serves, PartDone, PlaysTurn}
 use Rattle.rv_feed.proofs.PlaceLemmas.{record-for, adds-nothing, adds-join, AtPlace, shown_to, shown_behind, hidden-more, shown-more, shown-split}
 
--- ---- a delivery
+-- neither has a look
+no_looks-append : (ps qs : List Played) → NoLooks ps → NoLooks qs → NoLooks (ps ++ qs)
+no_looks-append [] qs a b = b
+no_looks-append (p ∷ ps) qs a b = (a.0, no_looks-append ps qs a.1 b)
 
-module _ (panics : ℕ → Bool) (seat word line : ℕ) {d : Delivery} {old mid : CoreValue} {act : Act} {a : Answer} {lane lane' : LaneValue} (t : Steps old mid seat act a) (act_is : act ≡ hit_act (slot_of old.setup.shape d.monitor d.instance) d.hit)
-    (kept : AddsRecords lane lane' (record-for line word d (Done a) ∷ [])) where
-  -- the slot of the delivery's instance
-  abbrev slot : ℕ
-  slot = slot_of old.setup.shape d.monitor d.instance
+-- of a CPU's number that is another one
+pub of-cpu : {M : Type 0} (does : ℕ → M → M → List Played → Type 0) {cpu other : ℕ} {s : Setup} {panics : ℕ → Bool} {old new : M} {turn : Turn} {lane lane' : LaneValue} {ends : Bool} → cpu ≡ other → PlaysTurn (does cpu) s panics old new turn lane lane' ends → PlaysTurn (does other) s panics old new turn lane lane' ends
+of-cpu does {s = s} {panics} {old} {new} {turn} {lane} {lane'} {ends} is plays = subst (λ (n : ℕ). PlaysTurn (does n) s panics old new turn lane lane' ends) is plays
 
-  -- the entry is of the hit's act
-  entry-is : t.entry.act ≡ hit_act slot d.hit
-  entry-is = t.act_is ∙ act_is
-
-  -- the seat made it
-  did-it : Did old mid seat ((t.entry, a) ∷ [])
-  did-it = did-step old mid seat act a t (subst IsNoStop (sym act_is) (hit-free slot d.hit)) (subst (λ (z : Act). IsPermittedTo z seat) (sym act_is) (hit-held seat slot d.hit))
-
-  -- it is no look
-  no-look : look_count t.entry.act ≡ 0
-  no-look = part-quiet old.setup panics word line d t.entry a (inl entry-is)
-
-  -- its record is the one that is kept
-  made-is : record_of line word (d, (t.entry, a)) ≡ record-for line word d (Done a)
-  made-is = ap (λ (z : Act). record-for line word d (outcome_of z a)) entry-is ∙ ap (record-for line word d) (hit-done slot d.hit a)
-
-  -- after which the script goes on
-  pub made-on : {ends : Bool} → ends ≡ (fails a && (panics d.monitor && has_bit word 33)) → ends ≡ false → DeliversRecorded old mid panics seat word line d lane lane' ends
-  made-on {ends} is on = record {
-    ps = (t.entry, a) ∷ [];
-    made = record-for line word d (Done a);
-    did = did-it;
-    quiet = (no-look, tt);
-    part = rw on (part-one old.setup panics word line d t.entry a (inl entry-is) (record-for line word d (Done a)) made-is (sym is ∙ on));
-    kept = kept;
-  }
-
-  -- after which the run halts
-  pub made-last : {new : CoreValue} {b : Answer} {ends : Bool} → ends ≡ (fails a && (panics d.monitor && has_bit word 33)) → ends ≡ true → Steps mid new seat (Raise (2 ^ 34)) b → DeliversRecorded old new panics seat word line d lane lane' ends
-  made-last {new} {b} {ends} is off u =
-      let raise : u.entry.act ≡ Raise (2 ^ 34) = u.act_is in
-      let quiet_too : look_count u.entry.act ≡ 0 = rw raise refl in
-      record {
-        ps = (t.entry, a) ∷ (u.entry, b) ∷ [];
-        made = record-for line word d (Done a);
-        did = did-join old mid new seat ((t.entry, a) ∷ []) ((u.entry, b) ∷ []) did-it (did-step mid new seat (Raise (2 ^ 34)) b u tt (inr (inr refl)));
-        quiet = (no-look, (quiet_too, tt));
-        part = rw off (last-one old.setup panics word line d t.entry a (inl entry-is) (record-for line word d (Done a)) made-is (sym is ∙ off) u.entry b raise);
-        kept = kept;
-      }
-
--- ---- a turn
-
-module _ (panics : ℕ → Bool) (seat word : ℕ) (turn : Turn) (lane : LaneValue) where
+module _ {M : Type 0} (does : M → M → List Played → Type 0) (s : Setup) (panics : ℕ → Bool) (word : ℕ) (turn : Turn) (lane : LaneValue) where
   -- the deliveries of the lane's work
   abbrev ds : List Delivery
   ds = lane.work.deliveries
 
   -- right after the look
-  pub done-start : (mid : CoreValue) → PartDone mid mid panics seat word turn lane lane turn.from
-  done-start mid =
+  pub turn-start : {old mid : M} → LooksAt does old mid word → PartDone does s panics old mid word turn lane lane turn.from
+  turn-start l =
       let z : turn.from - turn.from ≡ 0 = omega arith in
       record {
+        look = l.entry;
+        look_is = l.act_is;
         ps = [];
         rs = [];
-        did = did-nothing mid seat;
+        did = l.did;
         quiet = tt;
-        part = rw z (part-nothing mid.setup panics word turn.line);
+        part = rw z (part-nothing s panics word turn.line);
         kept = adds-nothing lane;
         few = omega arith;
       }
 
-  module _ {mid cur : CoreValue} {lane' : LaneValue} {place : ℕ} {d : Delivery} (done : PartDone mid cur panics seat word turn lane lane' place) (at : AtPlace ds turn place d) where
-    same_setup : cur.setup ≡ mid.setup
-    same_setup = ap (λ (v : CoreValue). v.setup) done.did.grows
-
-    -- the look does not show the delivery on
-    pub done-hidden : is_enabled_by word d ≡ false → PartDone mid cur panics seat word turn lane lane' (place + 1)
-    done-hidden hidden = record {
-      ps = done.ps;
-      rs = done.rs;
-      did = done.did;
-      quiet = done.quiet;
-      part = subst (λ (z : List Delivery). TurnPart mid.setup panics word turn.line z done.ps done.rs) (sym (hidden-more word at hidden)) done.part;
-      kept = done.kept;
-      few = let f = done.few in omega arith;
-    }
-
-    -- it is made, and the script goes on
-    pub done-shown : {new : CoreValue} {lane'' : LaneValue} → is_enabled_by word d ≡ true → DeliversRecorded cur new panics seat word turn.line d lane' lane'' false → PartDone mid new panics seat word turn lane lane'' (place + 1)
-    done-shown {new} {lane''} shown v = record {
-      ps = done.ps ++ v.ps;
-      rs = done.rs ++ v.made ∷ [];
-      did = did-join mid cur new seat done.ps v.ps done.did v.did;
-      quiet = no_looks-append done.ps v.ps done.quiet v.quiet;
-      part = subst (λ (z : List Delivery). TurnPart mid.setup panics word turn.line z (done.ps ++ v.ps) (done.rs ++ v.made ∷ [])) (sym (shown-more word at shown))
-          (part-join mid.setup panics word turn.line (shown_to word ds turn place) (d ∷ []) done.ps v.ps done.rs (v.made ∷ []) done.part
-          (subst (λ (s : Setup). TurnPart s panics word turn.line (d ∷ []) v.ps (v.made ∷ [])) same_setup v.part));
-      kept = adds-join lane lane' lane'' done.rs (v.made ∷ []) done.kept v.kept;
-      few = let f = done.few in let le = at.from in let l = length-append done.rs (v.made ∷ []) in omega arith;
-    }
-
-    -- it is made, and the script ends
-    pub done-ends : {old new : CoreValue} {lane'' : LaneValue} → (l : LooksAt old mid seat word) → has_bit word 34 ≡ false → seat ≡ 2 + lane.work.cpu → is_enabled_by word d ≡ true → DeliversRecorded cur new panics seat word turn.line d lane' lane'' true → PlaysTurn old new panics turn lane lane'' true
-    done-ends {old} {new} {lane''} l on seat_is shown v =
-        let s = mid.setup in
-        let front : List Delivery = shown_to word ds turn place in
-        let last = last-join s panics word turn.line front (d ∷ []) done.ps v.ps done.rs (v.made ∷ []) done.part (subst (λ (s : Setup). LastPart s panics word turn.line (d ∷ []) v.ps (v.made ∷ [])) same_setup v.part) in
-        let ends = turn-ends s panics ds turn l.entry l.act_is word on (front ++ d ∷ []) (shown_behind word at) (done.ps ++ v.ps) (done.rs ++ v.made ∷ []) (shown-split word at shown) last in
-        let back : mid.setup ≡ old.setup = ap (λ (v : CoreValue). v.setup) l.did.grows in
-        record {
-          ps = (l.entry, Looked word) ∷ (done.ps ++ v.ps);
-          rs = done.rs ++ v.made ∷ [];
-          did = subst (λ (n : ℕ). Did old new n ((l.entry, Looked word) ∷ (done.ps ++ v.ps))) seat_is
-              (did-join old mid new seat ((l.entry, Looked word) ∷ []) (done.ps ++ v.ps) l.did (did-join mid cur new seat done.ps v.ps done.did v.did));
-          script = subst (λ (s : Setup). EndsScript s panics ds (turn ∷ []) ((l.entry, Looked word) ∷ (done.ps ++ v.ps)) (done.rs ++ v.made ∷ [])) back ends;
-          one = (l.act_is, no_looks-append done.ps v.ps done.quiet v.quiet);
-          kept = adds-join lane lane' lane'' done.rs (v.made ∷ []) done.kept v.kept;
-          few = let f = done.few in let le = at.from in let lt = at.before in let l = length-append done.rs (v.made ∷ []) in omega arith;
-        }
-
-  -- all deliveries
-  pub done-all : (old mid cur : CoreValue) (lane' : LaneValue) → (l : LooksAt old mid seat word) → has_bit word 34 ≡ false → seat ≡ 2 + lane.work.cpu → PartDone mid cur panics seat word turn lane lane' turn.to → PlaysTurn old cur panics turn lane lane' false
-  done-all old mid cur lane' l on seat_is done =
-      let back : mid.setup ≡ old.setup = ap (λ (v : CoreValue). v.setup) l.did.grows in
-      record {
-        ps = (l.entry, Looked word) ∷ done.ps;
-        rs = done.rs;
-        did = subst (λ (n : ℕ). Did old cur n ((l.entry, Looked word) ∷ done.ps)) seat_is (did-join old mid cur seat ((l.entry, Looked word) ∷ []) done.ps l.did done.did);
-        script = subst (λ (s : Setup). GoesOn s panics ds (turn ∷ []) ((l.entry, Looked word) ∷ done.ps) done.rs) back (turn-goes mid.setup panics ds turn l.entry l.act_is word on done.ps done.rs done.part);
-        one = (l.act_is, done.quiet);
-        kept = done.kept;
-        few = done.few;
-      }
-
   -- the look shows a halt
-  pub done-halted : (old mid : CoreValue) → (l : LooksAt old mid seat word) → has_bit word 34 ≡ true → seat ≡ 2 + lane.work.cpu → PlaysTurn old mid panics turn lane lane true
-  done-halted old mid l off seat_is = record {
+  pub turn-off : {old mid : M} → LooksAt does old mid word → has_bit word 34 ≡ true → PlaysTurn does s panics old mid turn lane lane true
+  turn-off l off = record {
     ps = (l.entry, Looked word) ∷ [];
     rs = [];
-    did = subst (λ (n : ℕ). Did old mid n ((l.entry, Looked word) ∷ [])) seat_is l.did;
-    script = turn-halted old.setup panics ds turn l.entry l.act_is word off;
+    did = l.did;
+    script = turn-halted s panics ds turn l.entry l.act_is word off;
     one = (l.act_is, tt);
     kept = adds-nothing lane;
     few = omega arith;
   }
+
+  -- all deliveries
+  pub turn-all : {old cur : M} {lane' : LaneValue} → has_bit word 34 ≡ false → PartDone does s panics old cur word turn lane lane' turn.to → PlaysTurn does s panics old cur turn lane lane' false
+  turn-all on done = record {
+    ps = (done.look, Looked word) ∷ done.ps;
+    rs = done.rs;
+    did = done.did;
+    script = turn-goes s panics ds turn done.look done.look_is word on done.ps done.rs done.part;
+    one = (done.look_is, done.quiet);
+    kept = done.kept;
+    few = done.few;
+  }
+
+  module _ {old cur : M} {lane' : LaneValue} {place : ℕ} {d : Delivery} (done : PartDone does s panics old cur word turn lane lane' place) (at : AtPlace ds turn place d) where
+    -- the look does not show the delivery on
+    pub turn-hidden : is_enabled_by word d ≡ false → PartDone does s panics old cur word turn lane lane' (place + 1)
+    turn-hidden hidden = record {
+      look = done.look;
+      look_is = done.look_is;
+      ps = done.ps;
+      rs = done.rs;
+      did = done.did;
+      quiet = done.quiet;
+      part = subst (λ (z : List Delivery). TurnPart s panics word turn.line z done.ps done.rs) (sym (hidden-more word at hidden)) done.part;
+      kept = done.kept;
+      few = let f = done.few in omega arith;
+    }
+
+    module _ (composes : Composes does) {mid : M} {outcome : Delivered} {lane'' : LaneValue} (shown : is_enabled_by word d ≡ true) (v : Serves does s cur mid d outcome) (kept : AddsRecords lane' lane'' (record-for turn.line word d outcome ∷ [])) where
+      -- the delivery with its answer, its record, and those of the turn
+      abbrev first : Played
+      first = (v.entry, v.answer)
+
+      abbrev made : Record
+      made = record-for turn.line word d outcome
+
+      abbrev rs : List Record
+      rs = done.rs ++ made ∷ []
+
+      -- the record of the entry and its answer is that of the delivery's outcome
+      made-is : record_of turn.line word (d, first) ≡ made
+      made-is = ap (record-for turn.line word d) v.outcome_is
+
+      -- whether the run halts here
+      abbrev halts : Bool
+      halts = failed_outcome outcome && (panics d.monitor && has_bit word 33)
+
+      -- the answer and the outcome tell the same of it
+      same-test : (fails v.answer && (panics d.monitor && has_bit word 33)) ≡ halts
+      same-test = ap (λ (b : Bool). b && (panics d.monitor && has_bit word 33)) v.fails_is
+
+      -- there is no look
+      quiet : (qs : List Played) → NoLooks qs → NoLooks (done.ps ++ first ∷ qs)
+      quiet qs none = no_looks-append done.ps (first ∷ qs) done.quiet (part-quiet s panics word turn.line d v.entry v.answer v.makes, none)
+
+      -- the script goes on
+      pub turn-shown : halts ≡ false → PartDone does s panics old mid word turn lane lane'' (place + 1)
+      turn-shown on = record {
+        look = done.look;
+        look_is = done.look_is;
+        ps = done.ps ++ first ∷ [];
+        rs = rs;
+        did = composes old cur mid ((done.look, Looked word) ∷ done.ps) first [] done.did v.did;
+        quiet = quiet [] tt;
+        part = subst (λ (z : List Delivery). TurnPart s panics word turn.line z (done.ps ++ first ∷ []) rs) (sym (shown-more word at shown))
+            (part-join s panics word turn.line (shown_to word ds turn place) (d ∷ []) done.ps (first ∷ []) done.rs (made ∷ []) done.part (part-one s panics word turn.line d v.entry v.answer v.makes made made-is (same-test ∙ on)));
+        kept = adds-join lane lane' lane'' done.rs (made ∷ []) done.kept kept;
+        few = let f = done.few in let le = at.from in let l = length-append done.rs (made ∷ []) in omega arith;
+      }
+
+      -- the script ends
+      pub turn-last : {new : M} → has_bit word 34 ≡ false → halts ≡ true → Halts does mid new → PlaysTurn does s panics old new turn lane lane'' true
+      turn-last {new} on off h =
+          let ps : List Played = first ∷ (h.entry, h.answer) ∷ [] in
+          let front : List Delivery = shown_to word ds turn place in
+          let last = last-join s panics word turn.line front (d ∷ []) done.ps ps done.rs (made ∷ []) done.part (last-one s panics word turn.line d v.entry v.answer v.makes made made-is (same-test ∙ off) h.entry h.answer h.act_is) in
+          record {
+            ps = (done.look, Looked word) ∷ (done.ps ++ ps);
+            rs = rs;
+            did = composes old cur new ((done.look, Looked word) ∷ done.ps) first ((h.entry, h.answer) ∷ []) done.did (composes cur mid new (first ∷ []) (h.entry, h.answer) [] v.did h.did);
+            script = turn-ends s panics ds turn done.look done.look_is word on (front ++ d ∷ []) (shown_behind word at) (done.ps ++ ps) rs (shown-split word at shown) last;
+            one = (done.look_is, quiet ((h.entry, h.answer) ∷ []) (let none : look_count h.entry.act ≡ 0 = rw h.act_is refl in (none, tt)));
+            kept = adds-join lane lane' lane'' done.rs (made ∷ []) done.kept kept;
+            few = let f = done.few in let le = at.from in let lt = at.before in let l = length-append done.rs (made ∷ []) in omega arith;
+          }

@@ -9,6 +9,7 @@ mod kept;
 mod lane;
 mod one;
 mod order;
+mod player;
 mod turn;
 
 pub use at_once::{FedLanes, feed, join_all, seat_lanes};

@@ -9,6 +9,7 @@ ghost use Rattle.rv_feed.specs.inner.SoFar.{IsPending, next_line, HasLines, IsLe
 use crate::lane::{Lane, assert_invariant, seat_of, turn_at, turn_count};
 use crate::turn::play_turn;
 use rv_core::Core;
+use rv_io::{Gate, OpenGate};
 use rv_model::Reactor;
 
 /// A line that is larger than any turn's, for a lane without a next turn.
@@ -123,7 +124,7 @@ fn play_next(core: &mut Core, reactors: &[Reactor], lane: &mut Lane, place: usiz
     assert_invariant(lane);
     let count = turn_count(lane);
     let turn = turn_at(lane, place);
-    if play_turn(core, reactors, lane, &turn) {
+    if play_turn(core, &(), reactors, &turn, lane, &mut OpenGate) {
         count
     } else {
         place + 1

@@ -14,7 +14,7 @@ use Rattle.rv_core.specs.Setup.{judges_of}
 use Rattle.rv_feed.specs.declared.order.NextTurn.{NextTurn}
 use Rattle.rv_core.specs.Deliveries.{FitsDelivery}
 use Rattle.rv_feed.specs.Lane.{LaneValue, works_of}
-use Rattle.rv_feed.specs.inner.Turns.{PlaysTurn}
+use Rattle.rv_feed.specs.inner.Turns.{Did, PlaysTurn}
 
 -- the index of a lane's next turn; `places` has one for each CPU
 abbrev pub next_turn_of : List ℕ → LaneValue → ℕ
@@ -51,7 +51,7 @@ pub record PlaysNext (panics : ℕ → Bool) (old new : CoreValue) (lane lane' :
   pub turn : Turn
   pub turn_is : (t : Turn) → turn ≡ slice_index_or lane.work.turns place t
   pub ends : Bool
-  pub plays : PlaysTurn old new panics turn lane lane' ends
+  pub plays : PlaysTurn (Did (2 + lane.work.cpu)) old.setup panics old new turn lane lane' ends
   pub place_is : place' ≡ (if ends then length lane.work.turns else place + 1)
 
 -- the lane's turns before the index `place` were played, and its script goes on there

@@ -1,58 +1,71 @@
--- A look, and the deliveries that it enables.
-use Rattle.std.proofs.Common.{◌≡◌, ℕ, Bool, true, false, sym, ap, ◌∙◌, subst, arith}
-use Rattle.std.specs.Prelude.{All}
+-- A look, and the deliveries that it shows on.
+use Rattle.std.proofs.Common.{◌≡◌, ℕ, Bool, [], ◌∷◌, sym, ap, ◌∙◌, subst, arith}
 use Rattle.rv_model.specs.declared.work.Delivery.{Delivery}
-use Rattle.rv_model.specs.Numbers.{has_bit}
 use Rattle.rv_model.specs.Setups.{Setup}
-use Rattle.rv_core.specs.Core.{CoreValue}
+use Rattle.rv_model.specs.Works.{Work}
 use Rattle.rv_core.specs.Deliveries.{FitsDelivery}
+use Rattle.rv_feed.specs.Kept.{record_on}
 use Rattle.rv_feed.specs.Lane.{panics_of}
-use Rattle.rv_feed.specs.inner.Turns.{DeliversRecorded, PartDone}
-use Rattle.rv_feed.proofs.PlaceLemmas.{place-inside, at-place, holds-at, room-left, of-found}
-use Rattle.rv_feed.proofs.TurnLemmas.{done-start, done-hidden, done-shown, done-ends, done-all, done-halted}
+use Rattle.rv_feed.specs.inner.Lane.{AddsRecords}
+use Rattle.rv_feed.specs.inner.Turns.{PartDone, Serves}
+use Rattle.rv_feed.proofs.PlaceLemmas.{place-inside, at-place, holds-at, of-found}
+use Rattle.rv_feed.proofs.TurnLemmas.{of-cpu, turn-start, turn-off, turn-all, turn-hidden, turn-shown, turn-last}
 use Rattle.rv_feed.proofs.turn.play_turn.Goals as goal
-use Rattle.rv_feed.proofs.turn.play_turn.Goals.{then-is_enabled_by+else-deliver, else-is_enabled_by}
+use Rattle.rv_feed.proofs.turn.play_turn.Goals.{then-is_enabled_by+else-ends, else-is_enabled_by}
 
 pub returns-then-has_bit : goal.returns-then-has_bit
-returns-then-has_bit c =
-    let off : has_bit c.look-word.result 34 ≡ true = sym c.has_bit.ensures ∙ c.if-has_bit.true in
-    done-halted (panics_of c.args.reactors.now) c.seat_of-seat.result c.look-word.result c.args.turn.now c.args.lane.now c.args.core.now c.look-word.new.core c.look-word.ensures off c.seat_of-seat.ensures
+returns-then-has_bit g c =
+    of-cpu g.P.Player.does (ap (λ (w : Work). w.cpu) (c.behind-lane.view_is ∙ c.work.ensures))
+    (turn-off (g.P.Player.does c.behind-lane.inside.cpu) (g.P.Player.setup c.args.player.now) (panics_of c.args.reactors.now) c.look-word.result c.args.turn.now c.args.lane.now c.look-word.ensures (sym c.has_bit.ensures ∙ c.if-has_bit.true))
 
 pub loop-place-init : goal.loop-place-init
-loop-place-init c = done-start (panics_of c.args.reactors.now) c.seat_of-seat.result c.look-word.result c.args.turn.now c.args.lane.now c.look-word.new.core
+loop-place-init g c = turn-start (g.P.Player.does c.behind-lane.inside.cpu) (g.P.Player.setup c.args.player.now) (panics_of c.args.reactors.now) c.look-word.result c.args.turn.now c.args.lane.now c.look-word.ensures
 
 pub delivery_at-delivery-requires : goal.delivery_at-delivery-requires
-delivery_at-delivery-requires c = place-inside c.args.turn.now c.loop-place.invariant.kept c.loop-place.auto.place c.loop-place-test.true c.requires.in_list
+delivery_at-delivery-requires g c = place-inside c.args.turn.now c.loop-place.invariant.kept c.loop-place.auto.place c.loop-place-test.true c.requires.in_list
 
-pub deliver-requires-clause-fits : goal.deliver-requires-clause-fits
-deliver-requires-clause-fits c =
+pub serve-outcome-requires-clause-fits : goal.serve-outcome-requires-clause-fits
+serve-outcome-requires-clause-fits g c =
     let inv = c.loop-place.invariant in
-    let back : c.loop-place.core.setup ≡ c.args.core.now.setup = ap (λ (v : CoreValue). v.setup) inv.did.grows ∙ ap (λ (v : CoreValue). v.setup) c.look-word.ensures.did.grows in
-    holds-at c.args.turn.now inv.kept c.loop-place.auto.place c.loop-place-test.true c.requires.in_list (FitsDelivery c.loop-place.core.setup) (subst (λ (s : Setup). All (FitsDelivery s) c.args.lane.now.work.deliveries) (sym back) c.requires.fit)
+    let d : Delivery = c.delivery_at-delivery.result in
+    let s : Setup = g.P.Player.setup c.args.player.now in
+    let fits = holds-at c.args.turn.now inv.kept c.loop-place.auto.place c.loop-place-test.true c.requires.in_list (FitsDelivery s) c.requires.fit d in
+    subst (λ (z : Setup). FitsDelivery z d) (sym (g.met.P.Player.same_setup c.behind-lane.inside.cpu _ _ _ inv.did)) (subst (FitsDelivery s) (sym (c.delivery_at-delivery.ensures d)) fits)
 
-pub deliver-requires-clause-room : goal.deliver-requires-clause-room
-deliver-requires-clause-room c = room-left c.args.turn.now c.loop-place.invariant.kept c.loop-place.auto.place c.loop-place-test.true c.requires.in_list c.loop-place.invariant.few c.requires.kept c.requires.room
-
-pub returns-then-deliver : goal.returns-then-deliver
-returns-then-deliver c =
-    let at = at-place c.args.turn.now c.loop-place.invariant.kept c.loop-place.auto.place c.loop-place-test.true c.requires.in_list c.delivery_at-delivery.ensures in
-    done-ends (panics_of c.args.reactors.now) c.seat_of-seat.result c.look-word.result c.args.turn.now c.args.lane.now c.loop-place.invariant at c.look-word.ensures (sym c.has_bit.ensures ∙ c.if-has_bit.false) c.seat_of-seat.ensures (sym c.is_enabled_by.ensures ∙ c.if-is_enabled_by.true)
-    (of-found c.loop-place.lane.work.deliveries c.loop-place.place (λ (x : Delivery) (b : Bool). DeliversRecorded c.loop-place.core c.deliver.new.core (panics_of c.args.reactors.now) c.seat_of-seat.result c.look-word.result c.args.turn.now.line x c.loop-place.lane c.deliver.new.lane b) c.delivery_at-delivery.ensures c.deliver.ensures c.if-deliver.true)
+pub returns-then-ends : goal.returns-then-ends
+returns-then-ends g c =
+    let inv = c.loop-place.invariant in
+    let does = g.P.Player.does c.behind-lane.inside.cpu in
+    let d : Delivery = c.delivery_at-delivery.result in
+    let at = at-place c.args.turn.now inv.kept c.loop-place.auto.place c.loop-place-test.true c.requires.in_list c.delivery_at-delivery.ensures in
+    let served = subst (λ (s : Setup). Serves does s c.loop-place.player c.serve-outcome.new.self d c.serve-outcome.result) (g.met.P.Player.same_setup c.behind-lane.inside.cpu _ _ _ inv.did) c.serve-outcome.ensures in
+    let kept = of-found c.loop-place.lane.work.deliveries c.loop-place.place (λ (x : Delivery) (b : Bool). AddsRecords c.loop-place.lane c.keep.new.lane (record_on c.args.turn.now.line c.serve-outcome.result b x ∷ [])) c.delivery_at-delivery.ensures c.keep.ensures c.has_bit-then-is_enabled_by.ensures in
+    of-cpu g.P.Player.does (ap (λ (w : Work). w.cpu) (c.behind-lane.view_is ∙ c.work.ensures))
+    (turn-last does (g.P.Player.setup c.args.player.now) (panics_of c.args.reactors.now) c.look-word.result c.args.turn.now c.args.lane.now inv at (g.met.P.Player.composes c.behind-lane.inside.cpu) (sym c.is_enabled_by.ensures ∙ c.if-is_enabled_by.true) served kept
+    (sym c.has_bit.ensures ∙ c.if-has_bit.false) (sym c.ends.ensures ∙ c.if-ends.true) c.halt.ensures)
 
 pub loop-place-preserved : goal.loop-place-preserved
-loop-place-preserved c =
-    let at = at-place c.args.turn.now c.loop-place.invariant.kept c.loop-place.auto.place c.loop-place-test.true c.requires.in_list c.delivery_at-delivery.ensures in
+loop-place-preserved g c =
+    let inv = c.loop-place.invariant in
+    let does = g.P.Player.does c.behind-lane.inside.cpu in
+    let s = g.P.Player.setup c.args.player.now in
+    let panics = panics_of c.args.reactors.now in
+    let d : Delivery = c.delivery_at-delivery.result in
+    let at = at-place c.args.turn.now inv.kept c.loop-place.auto.place c.loop-place-test.true c.requires.in_list c.delivery_at-delivery.ensures in
     elim c.if-is_enabled_by.branch [
-      | then-is_enabled_by+else-deliver w ↦ rw (w.core-is, w.lane-is) (done-shown (panics_of c.args.reactors.now) c.seat_of-seat.result c.look-word.result c.args.turn.now c.args.lane.now c.loop-place.invariant at (sym c.is_enabled_by.ensures ∙ w.if-is_enabled_by.true)
-          (of-found c.loop-place.lane.work.deliveries c.loop-place.place (λ (x : Delivery) (b : Bool). DeliversRecorded c.loop-place.core w.deliver.new.core (panics_of c.args.reactors.now) c.seat_of-seat.result c.look-word.result c.args.turn.now.line x c.loop-place.lane w.deliver.new.lane b) c.delivery_at-delivery.ensures w.deliver.ensures w.if-deliver.false))
-      | else-is_enabled_by w ↦ rw (w.core-is, w.lane-is) (done-hidden (panics_of c.args.reactors.now) c.seat_of-seat.result c.look-word.result c.args.turn.now c.args.lane.now c.loop-place.invariant at (sym c.is_enabled_by.ensures ∙ w.if-is_enabled_by.false))
+      | then-is_enabled_by+else-ends w ↦
+          let served = subst (λ (s : Setup). Serves does s c.loop-place.player w.serve-outcome.new.self d w.serve-outcome.result) (g.met.P.Player.same_setup c.behind-lane.inside.cpu _ _ _ inv.did) w.serve-outcome.ensures in
+          let kept = of-found c.loop-place.lane.work.deliveries c.loop-place.place (λ (x : Delivery) (b : Bool). AddsRecords c.loop-place.lane w.keep.new.lane (record_on c.args.turn.now.line w.serve-outcome.result b x ∷ [])) c.delivery_at-delivery.ensures w.keep.ensures w.has_bit-then-is_enabled_by.ensures in
+          rw (w.player-is, w.lane-is) (turn-shown does s panics c.look-word.result c.args.turn.now c.args.lane.now inv at (g.met.P.Player.composes c.behind-lane.inside.cpu) (sym c.is_enabled_by.ensures ∙ w.if-is_enabled_by.true) served kept (sym w.ends.ensures ∙ w.if-ends.false))
+      | else-is_enabled_by w ↦ rw (w.player-is, w.lane-is) (turn-hidden does s panics c.look-word.result c.args.turn.now c.args.lane.now inv at (sym c.is_enabled_by.ensures ∙ w.if-is_enabled_by.false))
     ]
 
 pub returns : goal.returns
-returns c =
-    let inv = c.loop-place.invariant in
+returns g c =
+    let does = g.P.Player.does c.behind-lane.inside.cpu in
+    let s = g.P.Player.setup c.args.player.now in
     let panics = panics_of c.args.reactors.now in
-    let on : has_bit c.look-word.result 34 ≡ false = sym c.has_bit.ensures ∙ c.if-has_bit.false in
     let end : c.loop-place.place ≡ c.args.turn.now.to = let a = c.loop-place.auto.place-end c.requires.order in let b = c.loop-place-test.false in omega arith in
-    let done = subst (λ (n : ℕ). PartDone c.look-word.new.core c.loop-place.core panics c.seat_of-seat.result c.look-word.result c.args.turn.now c.args.lane.now c.loop-place.lane n) end inv in
-    done-all panics c.seat_of-seat.result c.look-word.result c.args.turn.now c.args.lane.now c.args.core.now c.look-word.new.core c.loop-place.core c.loop-place.lane c.look-word.ensures on c.seat_of-seat.ensures done
+    let done = subst (λ (n : ℕ). PartDone does s panics c.args.player.now c.loop-place.player c.look-word.result c.args.turn.now c.args.lane.now c.loop-place.lane n) end c.loop-place.invariant in
+    of-cpu g.P.Player.does (ap (λ (w : Work). w.cpu) (c.behind-lane.view_is ∙ c.work.ensures))
+    (turn-all does s panics c.look-word.result c.args.turn.now c.args.lane.now (sym c.has_bit.ensures ∙ c.if-has_bit.false) done)
