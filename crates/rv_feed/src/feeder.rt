@@ -1,4 +1,4 @@
-//! One CPU's script on a board.
+//! A feeder: one CPU's script on a board.
 ghost use Rattle.std.specs.Prelude.{◌≡◌};
 ghost use Rattle.rv_feed.specs.Lane.{panics_of};
 ghost use Rattle.rv_feed.specs.Feeders.{FitsFeeder, RunsFeeder};
@@ -10,7 +10,7 @@ use rv_board::{Board, Seat};
 use rv_io::Gate;
 use rv_model::Reactor;
 
-/// A CPU's seat, its lane, and the gate that it passes.
+/// A CPU's seat, its lane, and the gate that it passes before each turn and within each delivery.
 #[derive(Drop)]
 pub struct Feeder<G> {
     pub seat: Seat,

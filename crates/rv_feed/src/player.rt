@@ -53,7 +53,8 @@ pub(crate) trait Player {
     ghost composes: { (cpu : ℕ) → Composes (does cpu) };
 }
 
-/// What the hit is to do to its slot.
+/// The act of a hit on its slot: an end, or a delivery.
+#[inline(always)]
 fn hit_act(slot: u32, hit: &Hit) -> Act
     ensures { result ≡ hit_act slot hit.now }
 {
@@ -78,6 +79,7 @@ impl Player for Core {
 
     ghost does = { λ cpu. Did (2 + cpu) };
 
+    #[inline(always)]
     fn look(&mut self, _shared: &(), cpu: u8) -> u64 {
         match self.step(2 + cpu as u32, &Act::Look) {
             Answer::Looked(word) => word,
@@ -85,6 +87,7 @@ impl Player for Core {
         }
     }
 
+    #[inline(always)]
     fn serve<G: Gate>(
         &mut self,
         _shared: &(),

@@ -23,7 +23,7 @@ fn ends(reactors: &[Reactor], word: u64, monitor: u8, outcome: Delivered) -> boo
     }
 }
 
-/// One turn: a look, and the deliveries that it shows on, with their records. True where the script ends here.
+/// Plays one turn: a look, then the deliveries that it enables, whose records are kept. True where the script ends with it.
 pub(crate) fn play_turn<P: Player, G: Gate>(
     player: &mut P,
     shared: &P::Shared,

@@ -1,4 +1,4 @@
--- What private clauses and proofs speak of, beside Feeding.
+-- A feeder between two turns.
 use Rattle.std.specs.Prelude.{◌≡◌, ℕ, ◌<◌, ◌≤◌, Bool, List, take, length, slice_index_or}
 use Rattle.rv_model.specs.declared.work.Turn.{Turn}
 use Rattle.rv_model.specs.inner.ScriptParts.{GoesOn}
@@ -7,7 +7,7 @@ use Rattle.rv_board.specs.Seats.{SeatValue}
 use Rattle.rv_feed.specs.Lane.{LaneValue}
 use Rattle.rv_feed.specs.Feeding.{Adds}
 
--- the turns before this place were played, and the script goes on
+-- the turns before the index `place` were played, and the script goes on
 pub record FedSoFar (panics : ℕ → Bool) (old cur : SeatValue) (lane lane' : LaneValue) (place : ℕ) : Type 0 where
   pub ps : List Played
   pub adds : Adds old cur ps

@@ -1,4 +1,4 @@
--- What private clauses and proofs speak of, beside Turns.
+-- What a CPU does in one delivery and in one turn, on any machine.
 use Rattle.std.specs.Prelude.{◌≡◌, ℕ, ◌-◌, ◌^◌, Bool, List, [], ◌∷◌, ◌++◌, ◌≤◌, filter, length, reverse, slice_range}
 use Rattle.rv_model.specs.declared.entry.Act.TheVariants.{Look, Raise}
 use Rattle.rv_model.specs.declared.entry.Answer.{Answer}
@@ -21,23 +21,23 @@ use Rattle.rv_feed.specs.Turns.{entries_played}
 
 -- ---- entries of one seat
 
--- all are the seat's, it may do them, and none is a stop
+-- all that was played is by the seat, which may do it, and none of it is a stop
 abbrev pub AllBy : ℕ → List Played → Type 0
 AllBy seat [] = Unit {0}
 AllBy seat (p ∷ ps) = ((p.0.seat ≡ seat) × IsNoStop p.0.act × IsPermittedTo p.0.act seat) × AllBy seat ps
 
--- the history grows by these entries of the seat, which have these answers and are no stops
+-- the history grows by the entries of `ps`, all the seat's and no stops, and each has the answer that `ps` gives it
 pub record Did (seat : ℕ) (old new : CoreValue) (ps : List Played) : Type 0 where
   pub grows : new ≡ record old { history = old.history ++ entries_played ps }
   pub played_is : played old.setup (judges_of old.setup) seat (reverse (old.history ++ entries_played ps)) ≡ played old.setup (judges_of old.setup) seat (reverse old.history) ++ ps
   pub by : AllBy seat ps
 
--- it has no look
+-- none of what was played is a look
 abbrev pub NoLooks : List Played → Type 0
 NoLooks [] = Unit {0}
 NoLooks (p ∷ ps) = (look_count p.0.act ≡ 0) × NoLooks ps
 
--- it begins with a look and has no other
+-- what was played begins with a look and has no other
 abbrev pub IsOneTurn : List Played → Type 0
 IsOneTurn [] = ⊥
 IsOneTurn (p ∷ ps) = (p.0.act ≡ Look) × NoLooks ps
@@ -49,20 +49,20 @@ abbrev pub Composes : {M : Type 0} → (M → M → List Played → Type 0) → 
 Composes {M} does = (a b c : M) (ps : List Played) (q : Played) (qs : List Played) → does a b ps → does b c (q ∷ qs) → does a c (ps ++ q ∷ qs)
 
 module _ {M : Type 0} (does : M → M → List Played → Type 0) where
-  -- the CPU looked, and saw this word
+  -- the CPU made a look, which found the switches `word`
   pub record LooksAt (old new : M) (word : ℕ) : Type 0 where
     pub entry : Entry
     pub act_is : entry.act ≡ Look
     pub did : does old new ((entry, Looked word) ∷ [])
 
-  -- it halted the run
+  -- the CPU halted the run
   pub record Halts (old new : M) : Type 0 where
     pub entry : Entry
     pub answer : Answer
     pub act_is : entry.act ≡ Raise (2 ^ 34)
     pub did : does old new ((entry, answer) ∷ [])
 
-  -- it made the delivery, or stopped the slot in its place, and its entry and answer give the outcome
+  -- the CPU made the delivery, or stopped the slot in its place, and its entry and answer give the outcome
   pub record Serves (s : Setup) (old new : M) (d : Delivery) (outcome : Delivered) : Type 0 where
     pub entry : Entry
     pub answer : Answer
@@ -71,7 +71,7 @@ module _ {M : Type 0} (does : M → M → List Played → Type 0) where
     pub outcome_is : outcome_of entry.act answer ≡ outcome
     pub fails_is : fails answer ≡ failed_outcome outcome
 
-  -- a turn with its look, up to a place among the deliveries
+  -- of a turn, the CPU made the look and those deliveries before the index `place` that the look enables
   pub record PartDone (s : Setup) (panics : ℕ → Bool) (old cur : M) (word : ℕ) (turn : Turn) (lane lane' : LaneValue) (place : ℕ) : Type 0 where
     pub look : Entry
     pub look_is : look.act ≡ Look
@@ -83,7 +83,7 @@ module _ {M : Type 0} (does : M → M → List Played → Type 0) where
     pub kept : AddsRecords lane lane' rs
     pub few : length rs ≤ place - turn.from
 
-  -- the whole turn was played, and the lane has its records
+  -- the CPU played a turn, to its end or to that of the script, and the lane has the records of it
   pub record PlaysTurn (s : Setup) (panics : ℕ → Bool) (old new : M) (turn : Turn) (lane lane' : LaneValue) (ends : Bool) : Type 0 where
     pub ps : List Played
     pub rs : List Record

@@ -1,4 +1,4 @@
--- A look, and the deliveries that it shows on.
+-- A look, and the deliveries that it enables.
 use Rattle.std.proofs.Common.{◌≡◌, ℕ, Bool, [], ◌∷◌, sym, ap, ◌∙◌, subst, arith}
 use Rattle.rv_model.specs.declared.work.Delivery.{Delivery}
 use Rattle.rv_model.specs.Setups.{Setup}
