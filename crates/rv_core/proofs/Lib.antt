@@ -1,5 +1,6 @@
 pub mod ActLemmas
 pub mod CoreLemmas
+pub mod FollowLemmas
 pub mod JudgedLemmas
 pub mod LevelLemmas
 pub mod OpeningLemmas

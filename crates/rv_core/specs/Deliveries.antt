@@ -1,5 +1,5 @@
 -- Which deliveries fit a setup.
-use Rattle.std.specs.Prelude.{ℕ, ◌<◌, length, slice_index}
+use Rattle.std.specs.Prelude.{◌<◌, length, slice_index}
 use Rattle.rv_model.specs.declared.work.Delivery.{Delivery}
 use Rattle.rv_model.specs.Setups.{Setup, slot_of}
 use Rattle.rv_core.specs.Advance.{FitsHit}

@@ -2,12 +2,14 @@
 #![tactic(auto)]
 
 mod act;
+mod laws;
 mod machine;
 mod setup;
 mod turn;
 mod word;
 
 pub use act::{act_on, word_index};
+pub use laws::words_follow_acts;
 pub use machine::{Core, opening_words};
 pub use setup::Setup;
 pub use word::{Step, advance};

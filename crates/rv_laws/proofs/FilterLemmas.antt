@@ -3,10 +3,12 @@ use Rattle.std.proofs.Common.{◌≡◌, ℕ, suc, ◌≤◌, Bool, true, false,
 use Rattle.std.specs.Prelude.{filter, nat_le, flat_map, Contains}
 use Rattle.std.specs.List.{AllZip}
 use Rattle.rv_model.specs.declared.record.Record.{Record}
-use Rattle.rv_model.specs.Records.{insert_record, sort_records}
+use Rattle.rv_model.specs.Records.{sort_records}
 use Rattle.rv_model.specs.Setups.{slot_of}
 use Rattle.rv_model.specs.Works.{Work}
-use Rattle.rv_model.proofs.SortLemmas.{Above, Ascends, Ascends-sort}
+use Rattle.rv_model.specs.inner.Sorting.{insert_record}
+use Rattle.rv_model.proofs.OrderLemmas.{Above, Ascends, Above-less}
+use Rattle.rv_model.proofs.SortLemmas.{Ascends-sort, sort_records-nil, sort_records-cons}
 use Rattle.rv_laws.specs.Verdicts.{is_of_instance, records_on}
 use Rattle.rv_laws.proofs.LikeLemmas.{IsLike, zip-append}
 
@@ -22,11 +24,6 @@ module _ (keep : Record → Bool) where
       go true kept rest = let le : nat_le r.order x.order ≡ true = (let a = above.0 in grind arith) in rw (kept, le) refl
       go false gone rest = rw gone rest
 
-  -- no record is below a number that is not above one below them
-  above-less : (j k : ℕ) (rs : List Record) → j ≤ k → Above k rs → Above j rs
-  above-less j k [] le above = tt
-  above-less j k (r ∷ rs) le above = (let a = above.0 in omega arith, above-less j k rs le above.1)
-
   -- a record that is kept is put in its place
   insert-kept : (r : Record) → keep r ≡ true → (rs : List Record) → Ascends rs → filter keep (insert_record r rs) ≡ insert_record r (filter keep rs)
   insert-kept r mine [] up = rw mine refl
@@ -35,7 +32,7 @@ module _ (keep : Record → Bool) where
       go : (b : Bool) → nat_le r.order x.order ≡ b → (c : Bool) → keep x ≡ c → filter keep (insert_record r rs) ≡ insert_record r (filter keep rs) → filter keep (insert_record r (x ∷ rs)) ≡ insert_record r (filter keep (x ∷ rs))
       go true le c kept rest =
           let under : r.order ≤ x.order = grind arith in
-          let first = insert-first r (x ∷ rs) (under, above-less r.order x.order rs under up.0) in
+          let first = insert-first r (x ∷ rs) (under, Above-less r.order x.order rs under up.0) in
           let whole : filter keep (insert_record r (x ∷ rs)) ≡ r ∷ filter keep (x ∷ rs) = rw (le, mine) refl in
           whole ∙ sym first
       go false gt true kept rest = rw (gt, kept, gt) (ap (λ (z : List Record). x ∷ z) rest)
@@ -53,12 +50,16 @@ module _ (keep : Record → Bool) where
 
   -- sorted and then filtered is filtered and then sorted
   pub filter-sort : (rs : List Record) → filter keep (sort_records rs) ≡ sort_records (filter keep rs)
-  filter-sort [] = refl
+  filter-sort [] = ap (filter keep) sort_records-nil ∙ sym sort_records-nil
   filter-sort (r ∷ rs) = go (keep r) refl (filter-sort rs)
     where
       go : (b : Bool) → keep r ≡ b → filter keep (sort_records rs) ≡ sort_records (filter keep rs) → filter keep (sort_records (r ∷ rs)) ≡ sort_records (filter keep (r ∷ rs))
-      go true kept rest = let more : filter keep (r ∷ rs) ≡ r ∷ filter keep rs = rw kept refl in insert-kept r kept (sort_records rs) (Ascends-sort rs) ∙ ap (insert_record r) rest ∙ ap sort_records (sym more)
-      go false gone rest = let less : filter keep (r ∷ rs) ≡ filter keep rs = rw gone refl in insert-gone r gone (sort_records rs) ∙ rest ∙ ap sort_records (sym less)
+      go true kept rest =
+          let more : filter keep (r ∷ rs) ≡ r ∷ filter keep rs = rw kept refl in
+          ap (filter keep) (sort_records-cons r rs) ∙ insert-kept r kept (sort_records rs) (Ascends-sort rs) ∙ ap (insert_record r) rest ∙ sym (sort_records-cons r (filter keep rs)) ∙ ap sort_records (sym more)
+      go false gone rest =
+          let less : filter keep (r ∷ rs) ≡ filter keep rs = rw gone refl in
+          ap (filter keep) (sort_records-cons r rs) ∙ insert-gone r gone (sort_records rs) ∙ rest ∙ ap sort_records (sym less)
 
 -- ---- lists that are alike
 

@@ -1,12 +1,14 @@
 -- What the numbers of a part leave as it is: the order of steps and of records, and the answers.
-use Rattle.std.proofs.Common.{◌≡◌, ℕ, ◌<◌, ◌≤◌, Bool, true, false, List, [], ◌∷◌, inl, inr, map, arith, refl, ap, ◌∙◌}
+use Rattle.std.proofs.Common.{◌≡◌, ℕ, ◌<◌, ◌≤◌, Bool, true, false, List, [], ◌∷◌, inl, inr, map, arith, refl, sym, ap, ◌∙◌}
 use Rattle.std.specs.Prelude.{nat_le}
 use Rattle.rv_model.specs.declared.entry.Entry.{Entry}
 use Rattle.rv_model.specs.declared.record.Record.{Record}
 use Rattle.rv_model.specs.Judging.{Judge}
 use Rattle.rv_model.specs.Phases.{answer_to}
-use Rattle.rv_model.specs.Records.{insert_record, sort_records}
+use Rattle.rv_model.specs.Records.{sort_records}
+use Rattle.rv_model.specs.inner.Sorting.{insert_record}
 use Rattle.rv_model.proofs.NumberLemmas.{nat_lt_or}
+use Rattle.rv_model.proofs.SortLemmas.{sort_records-nil, sort_records-cons}
 use Rattle.rv_laws.specs.Parts.{Numbering, placed_by, record_in}
 use Rattle.rv_laws.proofs.AnswerLemmas.{bare}
 use Rattle.rv_laws.proofs.Made.{Made}
@@ -73,5 +75,5 @@ module _ (n : Numbering) where
 
     -- records are sorted as they were
     pub sort-in : (rs : List Record) → sort_records (map (record_in n) rs) ≡ map (record_in n) (sort_records rs)
-    sort-in [] = refl
-    sort-in (r ∷ rs) = ap (insert_record (record_in n r)) (sort-in rs) ∙ insert-in r (sort_records rs)
+    sort-in [] = sort_records-nil ∙ ap (map (record_in n)) (sym sort_records-nil)
+    sort-in (r ∷ rs) = sort_records-cons (record_in n r) (map (record_in n) rs) ∙ ap (insert_record (record_in n r)) (sort-in rs) ∙ insert-in r (sort_records rs) ∙ ap (map (record_in n)) (sym (sort_records-cons r rs))

@@ -10,12 +10,14 @@ use Rattle.rv_model.specs.declared.record.Record.{Record}
 use Rattle.rv_model.specs.declared.work.Delivery.{Delivery}
 use Rattle.rv_model.specs.declared.work.Turn.{Turn}
 use Rattle.rv_model.specs.Numbers.{has_bit}
-use Rattle.rv_model.specs.Records.{record_of, outcome_of, look_word, is_look, is_delivery, until_look, from_look, turn_records, script_records, insert_record, sort_records}
+use Rattle.rv_model.specs.Records.{record_of, outcome_of, look_word, is_look, is_delivery, until_look, from_look, turn_records, script_records, sort_records}
 use Rattle.rv_model.specs.inner.ScriptParts.{records_in, turn_lists}
+use Rattle.rv_model.specs.inner.Sorting.{insert_record}
 use Rattle.rv_model.specs.Scripts.{Played, is_enabled_by, fails, Makes, Delivers, PlaysTurns}
 use Rattle.rv_model.specs.Setups.{Setup}
 use Rattle.rv_model.specs.Works.{Work}
 use Rattle.rv_model.proofs.AgreeLemmas.{match-one}
+use Rattle.rv_model.proofs.SortLemmas.{sort_records-nil, sort_records-cons}
 use Rattle.rv_laws.proofs.LikeLemmas.{begins, made-delivery, made-record, made-from}
 
 -- ---- one of a list of records
@@ -35,8 +37,8 @@ module _ (test : Record → Bool) where
 
   -- one of the sorted list is one of the list
   pub any-sort : (rs : List Record) → list_any test (sort_records rs) ≡ list_any test rs
-  any-sort [] = refl
-  any-sort (r ∷ rs) = any-insert r (sort_records rs) ∙ ap (λ (z : Bool). test r || z) (any-sort rs)
+  any-sort [] = ap (list_any test) sort_records-nil
+  any-sort (r ∷ rs) = ap (list_any test) (sort_records-cons r rs) ∙ any-insert r (sort_records rs) ∙ ap (λ (z : Bool). test r || z) (any-sort rs)
 
   -- one of all works' records is one of some work's
   pub any-flat_map : (f : Work → List Record) (works : List Work) → list_any test (flat_map f works) ≡ list_any (λ w. list_any test (f w)) works

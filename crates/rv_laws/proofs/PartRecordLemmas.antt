@@ -17,6 +17,7 @@ use Rattle.rv_model.specs.Setups.{Setup}
 use Rattle.rv_model.specs.Table.{Table}
 use Rattle.rv_model.specs.Works.{Work}
 use Rattle.rv_model.proofs.OneJudgeLemmas.{lists-same}
+use Rattle.rv_model.proofs.SortLemmas.{sort_records-nil}
 use Rattle.rv_laws.specs.Parts.{Numbering, KeepsApart, placed_by, keeps, is_kept, record_in, IsPartOf, IsPlain, PartHasItsRecords}
 use Rattle.rv_laws.proofs.AllMadeLemmas.{all-made, quiet}
 use Rattle.rv_laws.proofs.FilterLemmas.{filter-sort}
@@ -58,6 +59,7 @@ halted-records input js h plain one halted =
     ap sort_records (flat-none (λ w. script_records w.deliveries w.turns (played input.setup js (2 + w.cpu) (reverse h))) input.works
     (λ w has. halted-script input.setup input.panics halted w.deliveries w.turns (played input.setup js (2 + w.cpu) (reverse h)) (plays input js h one.legal one.no_changes w has)
     (calm-played (opening_word input.setup) input.setup js (2 + w.cpu) (reverse h) (quiet input js h plain one))))
+    ∙ sort_records-nil
 
 -- ---- the records of a part
 module _ (n : Numbering) (keep : ℕ → ℕ → Bool) (whole part : Input) (js : List Judge) (h k : List Entry) (plain : IsPlain whole) (plain' : IsPlain part) (apart : KeepsApart n part.setup.shape) (is : IsPartOf n keep whole part)

@@ -4,8 +4,10 @@ use Rattle.std.specs.Prelude.{filter, flat_map, count_by, nat_le, All, if◌then
 use Rattle.std.proofs.lemmas.List.Elements.{All-head, All-tail}
 use Rattle.std.proofs.lemmas.List.Sums.{sum_by-cons}
 use Rattle.rv_model.specs.declared.record.Record.{Record}
-use Rattle.rv_model.specs.Records.{insert_record, sort_records}
-use Rattle.rv_model.proofs.SortLemmas.{Above, Ascends, Ascends-sort}
+use Rattle.rv_model.specs.Records.{sort_records}
+use Rattle.rv_model.specs.inner.Sorting.{insert_record}
+use Rattle.rv_model.proofs.OrderLemmas.{Above, Ascends}
+use Rattle.rv_model.proofs.SortLemmas.{Ascends-sort, sort_records-nil, sort_records-cons}
 use Rattle.rv_laws.proofs.ListLemmas.{Every, every-append, every-filter}
 
 -- ---- lists
@@ -43,8 +45,8 @@ module _ (P : Record → Type 0) where
 
   -- of all that are sorted
   pub every-sort : (rs : List Record) → Every P rs → Every P (sort_records rs)
-  every-sort [] all = tt
-  every-sort (r ∷ rs) all = every-insert r (sort_records rs) all.0 (every-sort rs all.1)
+  every-sort [] all = subst (Every P) (sym sort_records-nil) tt
+  every-sort (r ∷ rs) all = subst (Every P) (sym (sort_records-cons r rs)) (every-insert r (sort_records rs) all.0 (every-sort rs all.1))
 
 -- no two records have one order
 abbrev pub RecordsApart : List Record → Type 0
@@ -67,8 +69,8 @@ apart-insert r (x ∷ rs) other apart = go (nat_le r.order x.order) refl (apart-
 
 -- sorted records have the orders that they had
 apart-sort : (rs : List Record) → RecordsApart rs → RecordsApart (sort_records rs)
-apart-sort [] apart = tt
-apart-sort (r ∷ rs) apart = apart-insert r (sort_records rs) (every-sort (λ x. r.order ≢ x.order) rs apart.0) (apart-sort rs apart.1)
+apart-sort [] apart = subst RecordsApart (sym sort_records-nil) tt
+apart-sort (r ∷ rs) apart = subst RecordsApart (sym (sort_records-cons r rs)) (apart-insert r (sort_records rs) (every-sort (λ x. r.order ≢ x.order) rs apart.0) (apart-sort rs apart.1))
 
 -- what is above and differs is above strictly
 above-apart : (k : ℕ) (rs : List Record) → Above k rs → Every (λ x. k ≢ x.order) rs → Every (λ x. k < x.order) rs
@@ -94,12 +96,12 @@ insert-lowest r (x ∷ rs) low = let lt = low.0 in let le : nat_le r.order x.ord
 
 -- so it does wherever it stands
 sort-lowest : (r : Record) (a b : List Record) → Every (λ x. r.order < x.order) a → Every (λ x. r.order < x.order) b → sort_records (a ++ r ∷ b) ≡ r ∷ sort_records (a ++ b)
-sort-lowest r [] b low low' = insert-lowest r (sort_records b) (every-sort (λ x. r.order < x.order) b low')
+sort-lowest r [] b low low' = sort_records-cons r b ∙ insert-lowest r (sort_records b) (every-sort (λ x. r.order < x.order) b low')
 sort-lowest r (x ∷ a) b low low' =
     let lt = low.0 in
     let gt : nat_le x.order r.order ≡ false = grind arith in
     let behind : insert_record x (r ∷ sort_records (a ++ b)) ≡ r ∷ insert_record x (sort_records (a ++ b)) = rw gt refl in
-    ap (insert_record x) (sort-lowest r a b low.1 low') ∙ behind
+    sort_records-cons x (a ++ r ∷ b) ∙ ap (insert_record x) (sort-lowest r a b low.1 low') ∙ behind ∙ ap (λ (z : List Record). r ∷ z) (sym (sort_records-cons x (a ++ b)))
 
 -- ---- records that are picked
 module _ {X : Type 0} (keep : X → Record → Bool) where
@@ -167,7 +169,7 @@ module _ {X : Type 0} (keep : X → Record → Bool) where
 
   -- where one and no other keeps each record, the sorted picks are the records
   pub picks-all : (ps : List X) (rs : List Record) → Rises rs → Every (λ r. count_by (λ p. keep p r) ps ≡ 1) rs → sort_records (picks ps rs) ≡ rs
-  picks-all ps [] up once = ap sort_records (picks-nil ps)
+  picks-all ps [] up once = ap sort_records (picks-nil ps) ∙ sort_records-nil
   picks-all ps (r ∷ rs) up once =
       let s = pick-one r rs ps once.0 in
       let high : Every (λ x. r.order < x.order) (s.front ++ s.back) = subst (Every (λ x. r.order < x.order)) s.rest_is (high-picks r.order ps rs up.0) in

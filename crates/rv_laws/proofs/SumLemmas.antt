@@ -9,8 +9,10 @@ use Rattle.rv_model.specs.declared.entry.Entry.{Entry}
 use Rattle.rv_model.specs.declared.record.Record.{Record}
 use Rattle.rv_model.specs.Histories.{Input}
 use Rattle.rv_model.specs.Judging.{Judge}
-use Rattle.rv_model.specs.Records.{insert_record, sort_records, records_of}
+use Rattle.rv_model.specs.Records.{sort_records, records_of}
 use Rattle.rv_model.specs.Reports.{is_at}
+use Rattle.rv_model.specs.inner.Sorting.{insert_record}
+use Rattle.rv_model.proofs.SortLemmas.{sort_records-nil, sort_records-cons}
 use Rattle.rv_laws.specs.Joins.{PlayedPart, own_records, kept_records, records_by, joined_records, ArePartsOf}
 use Rattle.rv_laws.specs.Parts.{is_kept, record_in}
 use Rattle.rv_laws.proofs.CountLemmas.{many, many-none, many-or, many-same}
@@ -37,8 +39,8 @@ module _ (test : Record → Bool) where
 
   -- sorted records
   pub count-sort : (rs : List Record) → count_by test (sort_records rs) ≡ count_by test rs
-  count-sort [] = refl
-  count-sort (r ∷ rs) = count-insert r (sort_records rs) ∙ ap (λ (n : ℕ). (if test r then 1 else 0) + n) (count-sort rs) ∙ sym (count-cons test r rs)
+  count-sort [] = ap (count_by test) sort_records-nil
+  count-sort (r ∷ rs) = ap (count_by test) (sort_records-cons r rs) ∙ count-insert r (sort_records rs) ∙ ap (λ (n : ℕ). (if test r then 1 else 0) + n) (count-sort rs) ∙ sym (count-cons test r rs)
 
   -- records that were made into others
   count-map : (f : Record → Record) (rs : List Record) → count_by test (map f rs) ≡ count_by (λ r. test (f r)) rs

@@ -8,6 +8,7 @@ pub mod JudgeLemmas
 pub mod MeansLemmas
 pub mod NumberLemmas
 pub mod OneJudgeLemmas
+pub mod OrderLemmas
 pub mod ReachLemmas
 pub mod ReactorLemmas
 pub mod ScriptLemmas
@@ -16,6 +17,7 @@ pub mod SeatLemmas
 pub mod SetLemmas
 pub mod SlotLemmas
 pub mod SortLemmas
+pub mod StableLemmas
 pub mod TableJudgeLemmas
 pub mod TruthLemmas
 pub mod UniqueLemmas

@@ -1,5 +1,5 @@
 -- What a history shows of each delivery.
-use Rattle.std.specs.Prelude.{ℕ, ◌+◌, Bool, true, false, List, [], ◌∷◌, ◌++◌, filter, map, zip, reverse, flat_map, slice_range, nat_le, if◌then◌else◌}
+use Rattle.std.specs.Prelude.{ℕ, ◌+◌, max, Bool, true, false, ◌==◌, List, [], ◌∷◌, ◌++◌, filter, map, zip, reverse, flat_map, slice_range, if◌then◌else◌}
 use Rattle.std.specs.List.{list_any}
 use Rattle.rv_model.specs.declared.entry.Act.{Act}
 use Rattle.rv_model.specs.declared.entry.Act.TheVariants.{Deliver, Stop, Look, End}
@@ -11,7 +11,7 @@ use Rattle.rv_model.specs.declared.work.Turn.{Turn}
 use Rattle.rv_model.specs.declared.record.Delivered.{Delivered}
 use Rattle.rv_model.specs.declared.record.Delivered.TheVariants.{Done, Racing}
 use Rattle.rv_model.specs.declared.record.Record.{Record}
-use Rattle.rv_model.specs.Numbers.{has_bit}
+use Rattle.rv_model.specs.Numbers.{has_bit, list_of}
 use Rattle.rv_model.specs.Judging.{Judge}
 use Rattle.rv_model.specs.Scripts.{Played, played, is_enabled_by, fails}
 use Rattle.rv_model.specs.Histories.{Input}
@@ -74,15 +74,18 @@ script_records ds (t ∷ turns) (p ∷ ps) = turn_records t.line (look_word p.1)
 
 -- ---- the whole history
 
--- a record goes before the first one of a higher order
-abbrev pub insert_record : Record → List Record → List Record
-insert_record r [] = r ∷ []
-insert_record r (x ∷ rs) = if nat_le r.order x.order then r ∷ x ∷ rs else x ∷ insert_record r rs
+-- the records with this order, as they stand
+abbrev pub records_with : ℕ → List Record → List Record
+records_with order rs = filter (λ r. r.order == order) rs
 
--- the records, ascending by order
-abbrev pub sort_records : List Record → List Record
-sort_records [] = []
-sort_records (r ∷ rs) = insert_record r (sort_records rs)
+-- the least number above all orders
+abbrev pub order_end : List Record → ℕ
+order_end [] = 0
+order_end (r ∷ rs) = max (r.order + 1) (order_end rs)
+
+-- the records with order 0, then those with order 1, and so on
+unfoldable pub sort_records : List Record → List Record
+sort_records rs = flat_map (λ order. records_with order rs) (list_of (λ order. order) (order_end rs))
 
 -- the records of a history, ascending by order
 abbrev pub records_of : Input → List Judge → List Entry → List Record

@@ -1,3 +1,4 @@
 pub mod EventTables
 pub mod Histories
 pub mod ScriptParts
+pub mod Sorting
