@@ -13,7 +13,7 @@ mod router;
 mod tracing;
 
 pub use deliveries::MAX_DELIVERIES;
-pub use laws::{lines_are_routed_alike, works_are_from_rules};
+pub use laws::{lines_are_routed_alike, lines_make_the_whole, works_are_from_rules};
 pub use routed::Routed;
 pub use router::Router;
 pub use tracing::route;
