@@ -1,11 +1,11 @@
 -- Routing line after line comes to what the whole trace is routed to.
-use Rattle.std.proofs.Common.{◌≡◌, ◌≢◌, ℕ, zero, suc, ◌+◌, ◌<◌, ◌≤◌, ◌==◌, ◌&&◌, Bool, true, false, not, cond, List, [], ◌∷◌, ◌++◌, length, map, get_or, set, Result, Ok, Err, refl, sym, ap, ap₂, ◌∙◌, subst, arith, length-set, length-append, append_assoc, get_or-set_same, get_or-set_other}
-use Rattle.std.specs.Prelude.{All, Option, Some, None, option_map, filter, fold, nat_lt, if◌then◌else◌}
+use Rattle.std.proofs.Common.{◌≡◌, ℕ, suc, ◌+◌, ◌<◌, ◌≤◌, ◌==◌, ◌&&◌, Bool, true, false, not, cond, List, [], ◌∷◌, ◌++◌, length, map, get_or, set, Result, Ok, Err, refl, sym, ap, ap₂, ◌∙◌, subst, arith, length-set, length-append, append_assoc, get_or-set_same, get_or-set_other}
+use Rattle.std.specs.Prelude.{All, Option, Some, None, option_map, filter, nat_lt, if◌then◌else◌}
 use Rattle.std.specs.Option.{option_or}
-use Rattle.std.specs.List.{range_with_len, cons_option}
+use Rattle.std.specs.List.{range_with_len}
 use Rattle.std.proofs.lemmas.Bool.{lt-ltb, le-ltb, ltb-true, ltb-false, eqb-true, eqb-false, eq-eqb}
-use Rattle.std.proofs.lemmas.List.{append-nil, map-append, length-map, get_or-replicate, length_push}
-use Rattle.std.proofs.lemmas.List.Elements.{All-nil, All-head, All-tail, All-push, All-filter, All-weaker}
+use Rattle.std.proofs.lemmas.List.{append-nil, map-append, length-map, get_or-replicate}
+use Rattle.std.proofs.lemmas.List.Elements.{All-nil, All-head, All-push, All-filter, All-weaker}
 use Rattle.rv_text.specs.declared.refusals.Refusal.{Refusal}
 use Rattle.rv_text.specs.declared.numbers.TheConstants.{TOO_MANY_TASKS, TOO_MANY_DELIVERIES}
 use Rattle.rv_text.specs.Readings.{and_then, refused_at}
@@ -24,7 +24,7 @@ use Rattle.rv_route.specs.declared.asking.Ask.TheVariants as asks
 use Rattle.rv_route.specs.Asking.{ask_of}
 use Rattle.rv_route.specs.Lanes.{LaneValue, with_turn, with_delivery}
 use Rattle.rv_route.specs.Fitting.{NumbersAscend}
-use Rattle.rv_route.specs.Routing.{Firing, LineDelivery, is_asked, firings_on, firings_of, asked_task, tasks_of, asked_instance, delivery_by, deliveries_by, deliveries_on, line_turns, cpu_work, cpu_works, fault_of, first_fault, routed_by, unless_refused, RoutedValue, route_of}
+use Rattle.rv_route.specs.Routing.{Firing, LineDelivery, is_asked, firings_on, firings_of, tasks_of, asked_instance, deliveries_by, deliveries_on, line_turns, cpu_work, cpu_works, fault_of, first_fault, routed_by, unless_refused, route_of}
 use Rattle.rv_route.specs.Laws.{RoutedLineByLine}
 use Rattle.rv_route.specs.LineByLine.{Routes, no_lane, delivered, deliver, answer, line_routes, routes_of, no_routes, work_in, works_from, works_of, routed_of}
 use Rattle.rv_route.proofs.LineTurnLemmas.{turns-new, turns-more}

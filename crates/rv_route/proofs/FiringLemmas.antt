@@ -1,6 +1,6 @@
 -- One more firing makes one more delivery, and leaves those before it as they were.
 use Rattle.std.proofs.Common.{◌≡◌, ℕ, ◌+◌, ◌==◌, ◌&&◌, ◌||◌, Bool, true, false, not, cond, List, [], ◌∷◌, ◌++◌, length, refl, sym, ap, ap₂, ◌∙◌, arith}
-use Rattle.std.specs.Prelude.{All, Option, Some, None, filter_map, fold, if◌then◌else◌}
+use Rattle.std.specs.Prelude.{All, Some, filter_map, fold, if◌then◌else◌}
 use Rattle.std.specs.List.{list_any, position_or_len, cons_option}
 use Rattle.std.proofs.lemmas.Bool.{eq-eqb}
 use Rattle.std.proofs.lemmas.List.Elements.{filter-append, filter_map-append, All-head, All-tail, All-cons, All-nil}
