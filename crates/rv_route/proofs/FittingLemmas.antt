@@ -21,7 +21,7 @@ use Rattle.rv_route.specs.declared.asking.Ask.{Ask}
 use Rattle.rv_route.specs.declared.asking.Ask.TheVariants as asks
 use Rattle.rv_route.specs.Asking.{text_at, ask_of}
 use Rattle.rv_route.specs.Lanes.{LaneValue, with_delivery}
-use Rattle.rv_route.specs.Routing.{Routes, no_lane, delivered, deliver, answer, line_routes}
+use Rattle.rv_route.specs.LineByLine.{Routes, no_lane, delivered, deliver, answer, line_routes}
 use Rattle.rv_route.specs.Fitting.{FitsKindOf, LaneFits, RoutesFit}
 use Rattle.rv_route.proofs.TurnLemmas.{ascends-wider, ascends-more, of-more}
 use Rattle.rv_route.proofs.AskLemmas.{asked-instance, asked-pid, has_kind, instance-cpu, instance-fits, number-below, pid-cpu, pid-scope, tasks-more}

@@ -15,7 +15,7 @@ use Rattle.rv_route.specs.declared.asking.Ask.TheVariants as asks
 use Rattle.rv_route.specs.Asking.{text_at, ask_of}
 use Rattle.rv_route.specs.inner.Asking.{ask_on}
 use Rattle.rv_route.specs.Events.{is_on_event, IsEventOf, Index, event_at, AreEventsOf, HasEvent, IsIndexOf}
-use Rattle.rv_route.specs.Routing.{Routes, answer, line_routes}
+use Rattle.rv_route.specs.LineByLine.{Routes, answer, line_routes}
 use Rattle.rv_route.proofs.EventLemmas.{same_bytes, At}
 use Rattle.rv_route.proofs.RoutingLemmas.{rule-more}
 

@@ -1,9 +1,12 @@
 pub mod AskLemmas
 pub mod AskingLemmas
 pub mod EventLemmas
+pub mod FiredLemmas
+pub mod FiringLemmas
 pub mod FittingLemmas
 pub mod IndexLemmas
 pub mod LaneLemmas
+pub mod LineTurnLemmas
 pub mod MoveLemmas
 pub mod NotedLemmas
 pub mod RoutedLemmas

@@ -13,7 +13,7 @@ use Rattle.rv_bind.specs.RuleValues.{OnValue}
 use Rattle.rv_route.specs.declared.asking.Ask.{Ask}
 use Rattle.rv_route.specs.declared.asking.Ask.TheVariants as asks
 use Rattle.rv_route.specs.Asking.{text_at, ask_of}
-use Rattle.rv_route.specs.Routing.{Routes, answer, line_routes, routes_of}
+use Rattle.rv_route.specs.LineByLine.{Routes, answer, line_routes, routes_of}
 use Rattle.rv_route.proofs.RoutingLemmas.{next-alike}
 
 -- ---- pieces

@@ -17,7 +17,7 @@ use Rattle.rv_route.specs.declared.asking.Ask.{Ask}
 use Rattle.rv_route.specs.declared.asking.Ask.TheVariants as asks
 use Rattle.rv_route.specs.Asking.{ask_of}
 use Rattle.rv_route.specs.Lanes.{LaneValue, ends_with, longer, with_delivery, IsLane}
-use Rattle.rv_route.specs.Routing.{Routes, no_lane, delivered, deliver, answer, line_routes, no_routes}
+use Rattle.rv_route.specs.LineByLine.{Routes, no_lane, delivered, deliver, answer, line_routes, no_routes}
 
 -- one more delivery goes to the last turn
 NamesEach-longer : (place : ℕ) (turns : List Turn) (count line : ℕ) → NamesEach place turns count → ends_with turns line ≡ true → NamesEach place (longer turns (count + 1)) (count + 1)

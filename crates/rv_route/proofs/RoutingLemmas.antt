@@ -16,7 +16,10 @@ use Rattle.rv_route.specs.Asking.{ask_of}
 use Rattle.rv_model.specs.declared.record.Task.{Task}
 use Rattle.rv_model.specs.Works.{Work}
 use Rattle.rv_text.specs.Readings.{and_then}
-use Rattle.rv_route.specs.Routing.{Routes, answer, line_routes, routes_of, no_routes, work_in, works_from, works_of, routed_of, route_of}
+use Rattle.rv_route.specs.LineByLine.{Routes, answer, line_routes, routes_of, no_routes, work_in, works_from, works_of, routed_of}
+use Rattle.rv_route.specs.Routing.{route_of}
+use Rattle.rv_route.specs.Fitting.{NumbersAscend}
+use Rattle.rv_route.proofs.FiredLemmas.{line_by_line}
 
 -- the rest begins with the element that stands at its place
 rest-first : {X : Type 0} (xs : List X) (i : ℕ) (x : X) → i < length xs → x ≡ get_or xs i x → drop i xs ≡ x ∷ drop (i + 1) xs
@@ -71,16 +74,14 @@ refuses-then (refuseds.Because refusal) read next is = ap (λ r. and_then r next
 
 module _ (text : List ℕ) (monitors : List Monitor) (rules : List OnValue) (lines : List TraceLine) where
   -- a refusal of the lines is the refusal of the whole
-  pub route-refused : (start : Routes) (refused : Refused) → start ≡ no_routes → Refuses refused (routes_of text monitors rules lines start) → Refuses refused (route_of monitors rules text lines)
-  unfolding route_of
-  route-refused start refuseds.Memory same is = tt
-  route-refused start (refuseds.Because refusal) same is = ap routed_of (ap (routes_of text monitors rules lines) (sym same) ∙ is)
+  pub route-refused : (start : Routes) (refused : Refused) → NumbersAscend lines → start ≡ no_routes → Refuses refused (routes_of text monitors rules lines start) → Refuses refused (route_of monitors rules text lines)
+  route-refused start refuseds.Memory ascend same is = tt
+  route-refused start (refuseds.Because refusal) ascend same is = line_by_line text monitors rules lines ascend ∙ ap routed_of (ap (routes_of text monitors rules lines) (sym same) ∙ is)
 
   -- what the lines reach is what the whole comes to
-  pub route-done : (start routes : Routes) (tasks : List Task) (works : List Work) → start ≡ no_routes → routes_of text monitors rules lines start ≡ Ok routes → tasks ≡ routes.tasks → works ≡ works_of routes.lanes → route_of monitors rules text lines ≡ Ok (record { tasks = tasks; works = works })
-  unfolding route_of
-  route-done start routes tasks works same is tasks_is works_is =
-      let done : routed_of (routes_of text monitors rules lines no_routes) ≡ Ok (record { tasks = routes.tasks; works = works_of routes.lanes }) = ap routed_of (ap (routes_of text monitors rules lines) (sym same) ∙ is) in
+  pub route-done : (start routes : Routes) (tasks : List Task) (works : List Work) → NumbersAscend lines → start ≡ no_routes → routes_of text monitors rules lines start ≡ Ok routes → tasks ≡ routes.tasks → works ≡ works_of routes.lanes → route_of monitors rules text lines ≡ Ok (record { tasks = tasks; works = works })
+  route-done start routes tasks works ascend same is tasks_is works_is =
+      let done : route_of monitors rules text lines ≡ Ok (record { tasks = routes.tasks; works = works_of routes.lanes }) = line_by_line text monitors rules lines ascend ∙ ap routed_of (ap (routes_of text monitors rules lines) (sym same) ∙ is) in
       rw (tasks_is, works_is) done
 
 -- one more lane

@@ -14,7 +14,7 @@ use Rattle.rv_bind.specs.RuleValues.{OnValue}
 use Rattle.rv_bind.specs.WellFormed.{MonitorKind, kinds_of, FitsKind}
 use Rattle.rv_route.specs.declared.deliveries.TheConstants.{MAX_DELIVERIES}
 use Rattle.rv_route.specs.Lanes.{LaneValue}
-use Rattle.rv_route.specs.Routing.{Routes, no_lane, line_routes, no_routes, works_from, works_of}
+use Rattle.rv_route.specs.LineByLine.{Routes, no_lane, line_routes, no_routes, works_from, works_of}
 use Rattle.rv_route.specs.Fitting.{IsOf, FitsKindOf, LaneFits, RoutesFit, FitsLines, NumbersAscend, WorksFit}
 use Rattle.rv_route.proofs.TurnLemmas.{ascends-pairs}
 use Rattle.rv_route.proofs.FittingLemmas.{routes-wider, line_fits}

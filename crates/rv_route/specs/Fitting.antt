@@ -11,7 +11,7 @@ use Rattle.rv_bind.specs.RuleValues.{OnValue}
 use Rattle.rv_bind.specs.WellFormed.{MonitorKind, FitsRule}
 use Rattle.rv_route.specs.declared.deliveries.TheConstants.{MAX_DELIVERIES}
 use Rattle.rv_route.specs.Lanes.{LaneValue}
-use Rattle.rv_route.specs.Routing.{Routes, no_lane}
+use Rattle.rv_route.specs.LineByLine.{Routes, no_lane}
 
 -- the turn is of a line of this CPU
 pub record IsOf (lines : List TraceLine) (cpu : ℕ) (turn : Turn) : Type 0 where

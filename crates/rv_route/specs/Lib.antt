@@ -2,6 +2,8 @@ pub mod Asking
 pub mod Events
 pub mod Fitting
 pub mod Lanes
+pub mod Laws
+pub mod LineByLine
 pub mod Lines
 pub mod Routed
 pub mod Routers

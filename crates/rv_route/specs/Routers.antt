@@ -6,7 +6,7 @@ use Rattle.rv_bind.specs.declared.bindings.Bindings.{Bindings}
 use Rattle.rv_bind.specs.WellFormed.{FitsKind, kinds_of}
 use Rattle.rv_route.specs.Events.{Index, IsIndexOf}
 use Rattle.rv_route.specs.Fitting.{FitsLines}
-use Rattle.rv_route.specs.Routing.{Routes, GivesRoutes, line_routes}
+use Rattle.rv_route.specs.LineByLine.{Routes, GivesRoutes, line_routes}
 
 -- the events by their names, what has been routed, the least number of the next line, and the refusal that was given, if any
 pub record RouterValue : Type 0 where

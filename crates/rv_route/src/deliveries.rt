@@ -1,6 +1,6 @@
 //! The deliveries to each CPU, as they come.
 ghost use Rattle.std.specs.Prelude.{◌≡◌, ◌<◌, IfOk};
-ghost use Rattle.rv_route.specs.Routing.{GivesRoutes, answer, deliver, no_routes};
+ghost use Rattle.rv_route.specs.LineByLine.{GivesRoutes, answer, deliver, no_routes};
 
 use crate::asking::Ask;
 use crate::lanes::CpuScript;
@@ -25,7 +25,7 @@ pub(crate) struct Deliveries {
 
 impl Model for Deliveries {
     ghost use Rattle.std.specs.Prelude.{◌≡◌, ◌≤◌, length, All};
-    ghost use Rattle.rv_route.specs.Routing.{Routes};
+    ghost use Rattle.rv_route.specs.LineByLine.{Routes};
 
     ghost Value = { Routes };
 

@@ -3,7 +3,7 @@ ghost use Rattle.std.specs.Prelude.{filter};
 ghost use Rattle.rv_route.specs.Asking.{text_at};
 ghost use Rattle.rv_route.specs.Events.{is_on_event, IsEventOf, IsIndexOf};
 ghost use Rattle.rv_route.specs.Lines.{IsRoutable};
-ghost use Rattle.rv_route.specs.Routing.{GivesRoutes, line_routes};
+ghost use Rattle.rv_route.specs.LineByLine.{GivesRoutes, line_routes};
 
 use crate::asking::{ask_for, look_up};
 use crate::deliveries::Deliveries;

@@ -1,7 +1,7 @@
 //! What one CPU has to do, as it grows.
 ghost use Rattle.std.specs.Prelude.{◌≡◌, ◌<◌, ◌≤◌, ◌+◌, length, OnOk};
 ghost use Rattle.rv_route.specs.Lanes.{with_turn, with_delivery};
-ghost use Rattle.rv_route.specs.Routing.{no_lane};
+ghost use Rattle.rv_route.specs.LineByLine.{no_lane};
 
 use rv_model::{Delivery, Turn};
 use std::alloc::{AllocError, Global};

@@ -14,7 +14,7 @@ mod router;
 mod tracing;
 
 pub use deliveries::MAX_DELIVERIES;
-pub use laws::{lines_are_routed_alike, works_are_from_rules};
+pub use laws::{lines_are_routed_alike, lines_make_the_whole, works_are_from_rules};
 pub use limits::limits_are_numerals;
 pub use routed::Routed;
 pub use router::Router;

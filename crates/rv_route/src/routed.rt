@@ -2,7 +2,7 @@
 ghost use Rattle.std.specs.Prelude.{◌≡◌, ◌<◌, ◌+◌, ◌≤◌, ◌++◌, [], length, All};
 ghost use Rattle.std.specs.Vec.{vec_len, vec_capacity};
 ghost use Rattle.rv_route.specs.Lanes.{IsLane};
-ghost use Rattle.rv_route.specs.Routing.{works_of, work_in};
+ghost use Rattle.rv_route.specs.LineByLine.{works_of, work_in};
 
 use crate::lanes::CpuScript;
 use rv_model::CpuWork;

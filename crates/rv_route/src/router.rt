@@ -5,7 +5,7 @@ ghost use Rattle.rv_route.specs.Fitting.{FitsLines, WorksFit};
 ghost use Rattle.rv_route.specs.Lines.{IsRoutable};
 ghost use Rattle.rv_route.specs.Routed.{routed_value};
 ghost use Rattle.rv_route.specs.Routers.{IsFor, RoutesLine};
-ghost use Rattle.rv_route.specs.Routing.{no_routes, works_of};
+ghost use Rattle.rv_route.specs.LineByLine.{no_routes, works_of};
 
 use crate::deliveries::Deliveries;
 use crate::firing::take;

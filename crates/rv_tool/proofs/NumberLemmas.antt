@@ -1,6 +1,8 @@
 -- Every refusal of a trace, a script, a table, C tables and a watched slot has one of the refusals' numbers.
-use Rattle.std.proofs.Common.{◌≡◌, ℕ, List, [], ◌∷◌, subst, ap, arith}
-use Rattle.std.specs.Prelude.{Option, Result, Ok, Err, IfErr}
+use Rattle.std.proofs.Common.{◌≡◌, ℕ, Bool, true, false, List, [], ◌∷◌, ◌++◌, length, subst, ap, arith}
+use Rattle.std.specs.Prelude.{Option, Some, None, Result, Ok, Err, IfSome, IfErr, option_map, nat_lt, if◌then◌else◌}
+use Rattle.std.specs.Option.{option_or}
+use Rattle.rv_text.specs.declared.numbers.TheConstants.{NO_PID, TOO_MANY_TASKS, TOO_MANY_DELIVERIES}
 use Rattle.rv_text.specs.declared.refusals.Refusal.{Refusal}
 use Rattle.rv_text.specs.declared.refusals.Refused.{Refused}
 use Rattle.rv_text.specs.declared.refusals.Refused.TheVariants as refuseds
@@ -17,8 +19,9 @@ use Rattle.rv_bind.specs.declared.fault.BindFault.TheVariants as faults
 use Rattle.rv_bind.specs.Values.{OnValue}
 use Rattle.rv_bind.specs.Outcomes.{IsRefusal, IsFaultIn, of_file}
 use Rattle.rv_bind.proofs.NumberLemmas.{then_numbered, dot_numbered, ltl_numbered, normal_numbered, tableau_numbered}
-use Rattle.rv_route.specs.Asking.{ask_of}
-use Rattle.rv_route.specs.Routing.{Routes, answer, line_routes, routes_of, route_of, no_routes}
+use Rattle.rv_slots.specs.declared.tasks.TheConstants.{MAX_TASKS}
+use Rattle.rv_route.specs.declared.deliveries.TheConstants.{MAX_DELIVERIES}
+use Rattle.rv_route.specs.Routing.{Firing, is_no_pid, tasks_of, firings_of, first_fault, routed_by, unless_refused, route_of}
 use Rattle.rv_control.specs.declared.script.Numbered.{Numbered}
 use Rattle.rv_control.specs.Trees.{ControlValue}
 use Rattle.rv_control.specs.Scripts.{line_said, commands_of_lines, script_of}
@@ -68,28 +71,29 @@ pub trace_numbered : (text : List ℕ) → IfErr (trace_of text) IsRefusal
 unfolding trace_of
 trace_numbered text = lines_numbered (lines_of text)
 
--- what a rule does
-answer_numbered : (text : List ℕ) (line : TraceLine) (monitors : List Monitor) (rule : OnValue) (routes : Routes) → IfErr (answer routes line rule (ask_of text line monitors rule)) IsRefusal
-answer_numbered text line monitors rule routes = grind arith
-
--- the rules on one line
-rules_numbered : (text : List ℕ) (line : TraceLine) (monitors : List Monitor) (rules : List OnValue) (routes : Routes) → IfErr (line_routes text line monitors rules routes) IsRefusal
-unfolding line_routes
-rules_numbered text line monitors [] routes = tt
-rules_numbered text line monitors (rule ∷ rules) routes =
-    then_numbered (answer routes line rule (ask_of text line monitors rule)) _ (answer_numbered text line monitors rule routes) (rules_numbered text line monitors rules)
-
--- the rules on the lines
-routes_numbered : (text : List ℕ) (monitors : List Monitor) (rules : List OnValue) (lines : List TraceLine) (routes : Routes) → IfErr (routes_of text monitors rules lines routes) IsRefusal
-unfolding routes_of
-routes_numbered text monitors rules [] routes = tt
-routes_numbered text monitors rules (line ∷ lines) routes =
-    then_numbered (line_routes text line monitors rules routes) _ (rules_numbered text line monitors rules routes) (routes_numbered text monitors rules lines)
+-- the first of the rules that fire that is refused
+fault_numbered : (before firings : List Firing) → IfSome (first_fault before firings) IsRefusal
+fault_numbered before [] = tt
+fault_numbered before (f ∷ firings) = go (is_no_pid f.ask) (nat_lt MAX_TASKS (length (tasks_of (before ++ f ∷ [])))) (nat_lt MAX_DELIVERIES (length (before ++ f ∷ []))) (fault_numbered (before ++ f ∷ []) firings)
+  where
+    go : (no_pid tasks deliveries : Bool)
+        → IfSome (first_fault (before ++ f ∷ []) firings) IsRefusal
+        → IfSome
+        (option_or (option_map (λ (number : ℕ). record { number = number; line = f.line.number }) (if no_pid then Some NO_PID else if tasks then Some TOO_MANY_TASKS else if deliveries then Some TOO_MANY_DELIVERIES else None))
+        (first_fault (before ++ f ∷ []) firings)) IsRefusal
+    go true tasks deliveries rest = (omega arith, omega arith)
+    go false true deliveries rest = (omega arith, omega arith)
+    go false false true rest = (omega arith, omega arith)
+    go false false false rest = rest
 
 -- what a trace is routed to
 pub route_numbered : (monitors : List Monitor) (rules : List OnValue) (text : List ℕ) (lines : List TraceLine) → IfErr (route_of monitors rules text lines) IsRefusal
 unfolding route_of
-route_numbered monitors rules text lines = grind (arith, routes_numbered text monitors rules lines no_routes)
+route_numbered monitors rules text lines = go (first_fault [] (firings_of monitors rules text lines)) (fault_numbered [] (firings_of monitors rules text lines))
+  where
+    go : (fault : Option Refusal) → IfSome fault IsRefusal → IfErr (unless_refused fault (routed_by lines (firings_of monitors rules text lines))) IsRefusal
+    go None is = tt
+    go (Some refusal) is = is
 
 -- a trace and what it is routed to
 pub routed_numbered : (monitors : List Monitor) (rules : List OnValue) (text : List ℕ) → IfErr (and_then (trace_of text) (route_of monitors rules text)) IsRefusal

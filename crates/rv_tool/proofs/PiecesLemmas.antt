@@ -24,7 +24,9 @@ use Rattle.rv_bind.specs.declared.bindings.Bindings.{Bindings}
 use Rattle.rv_route.specs.Fitting.{NumbersAscend}
 use Rattle.rv_route.specs.Lines.{IsRoutable}
 use Rattle.rv_route.specs.Routers.{RouterValue, IsFor, RoutesLine, refusal_of}
-use Rattle.rv_route.specs.Routing.{Routes, RoutedValue, GivesRoutes, routes_of, line_routes, no_routes, routed_of, route_of, works_of}
+use Rattle.rv_route.specs.LineByLine.{Routes, GivesRoutes, routes_of, line_routes, no_routes, routed_of, works_of}
+use Rattle.rv_route.specs.Routing.{RoutedValue, route_of}
+use Rattle.rv_route.proofs.FiredLemmas.{line_by_line}
 use Rattle.rv_route.proofs.MoveLemmas.{routes_of-more, line_routes-moved}
 use Rattle.rv_route.proofs.RoutingLemmas.{line-last}
 use Rattle.rv_tool.specs.inner.Pieces.{passed_text, RoutedAs, IsRouted}
@@ -180,20 +182,22 @@ module _ (bindings : Bindings) where
   -- all of a text was routed
   pub all-routed : (text : List ℕ) (router : RouterValue) (late : Option Refused) (value : RoutedValue) → late ≡ None → IsRouted bindings text router late → value ≡ record { tasks = router.routes.tasks; works = works_of router.routes.lanes }
       → and_then (trace_of text) (route_of bindings.monitors.items bindings.rules.items text) ≡ Ok value
-  unfolding route_of
   all-routed text router late value none r is =
       let routed : routes_of text bindings.monitors.items bindings.rules.items r.lines no_routes ≡ Ok router.routes =
       subst (λ (o : Option Refused). RoutedAs o (routes_of text bindings.monitors.items bindings.rules.items r.lines no_routes) router.routes) (sym r.late_is ∙ none) r.routed in
-      and_then-ok (trace_of text) r.lines (route_of bindings.monitors.items bindings.rules.items text) r.read ∙ ap routed_of routed ∙ ap (λ (v : RoutedValue). Ok v) (sym is)
+      and_then-ok (trace_of text) r.lines (route_of bindings.monitors.items bindings.rules.items text) r.read
+      ∙ line_by_line text bindings.monitors.items bindings.rules.items r.lines (trace_ascends text r.lines r.read) ∙ ap routed_of routed ∙ ap (λ (v : RoutedValue). Ok v) (sym is)
 
   -- a line was refused
   pub late-refused : (text : List ℕ) (router : RouterValue) (late : Option Refused) (fault : Refused) → late ≡ Some fault → IsRouted bindings text router late → Refuses fault (and_then (trace_of text) (route_of bindings.monitors.items bindings.rules.items text))
-  unfolding route_of
   late-refused text router late fault is r =
       let routed : Refuses fault (routes_of text bindings.monitors.items bindings.rules.items r.lines no_routes) =
       subst (λ (o : Option Refused). RoutedAs o (routes_of text bindings.monitors.items bindings.rules.items r.lines no_routes) router.routes) (sym r.late_is ∙ is) r.routed in
       Refuses-same fault (route_of bindings.monitors.items bindings.rules.items text r.lines) (and_then (trace_of text) (route_of bindings.monitors.items bindings.rules.items text))
-      (and_then-ok (trace_of text) r.lines (route_of bindings.monitors.items bindings.rules.items text) r.read) (refuses-routed fault (routes_of text bindings.monitors.items bindings.rules.items r.lines no_routes) routed)
+      (and_then-ok (trace_of text) r.lines (route_of bindings.monitors.items bindings.rules.items text) r.read)
+      (Refuses-same fault (routed_of (routes_of text bindings.monitors.items bindings.rules.items r.lines no_routes)) (route_of bindings.monitors.items bindings.rules.items text r.lines)
+      (line_by_line text bindings.monitors.items bindings.rules.items r.lines (trace_ascends text r.lines r.read))
+      (refuses-routed fault (routes_of text bindings.monitors.items bindings.rules.items r.lines no_routes) routed))
     where
       refuses-routed : (f : Refused) (q : Result Routes Refusal) → Refuses f q → Refuses f (routed_of q)
       refuses-routed refuseds.Memory q e = tt

@@ -9,7 +9,7 @@ use Rattle.rv_trace.specs.Traces.{trace_of}
 use Rattle.rv_bind.specs.declared.bindings.Bindings.{Bindings}
 use Rattle.rv_route.specs.Fitting.{NumbersAscend}
 use Rattle.rv_route.specs.Routers.{RouterValue, IsFor}
-use Rattle.rv_route.specs.Routing.{Routes, routes_of, no_routes}
+use Rattle.rv_route.specs.LineByLine.{Routes, routes_of, no_routes}
 
 -- the text that was passed of a stream
 abbrev pub passed_text : Stream → List ℕ

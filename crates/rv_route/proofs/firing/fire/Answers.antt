@@ -11,7 +11,7 @@ use Rattle.rv_route.specs.Asking.{text_at}
 use Rattle.rv_route.specs.inner.Asking.{ask_on}
 use Rattle.rv_route.specs.Events.{is_on_event, IsAsked}
 use Rattle.rv_route.specs.inner.Events.{HasFound}
-use Rattle.rv_route.specs.Routing.{Routes, line_routes}
+use Rattle.rv_route.specs.LineByLine.{Routes, line_routes}
 use Rattle.rv_text.specs.Readings.{and_then}
 use Rattle.rv_route.proofs.EventLemmas.{asked_at, asked-many, has_found, itself}
 use Rattle.rv_route.proofs.IndexLemmas.{fired}

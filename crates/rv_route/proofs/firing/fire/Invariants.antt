@@ -2,7 +2,7 @@ use Rattle.std.proofs.Common.{◌≡◌, drop}
 use Rattle.std.specs.Prelude.{filter}
 use Rattle.rv_route.specs.Asking.{text_at}
 use Rattle.rv_route.specs.Events.{is_on_event}
-use Rattle.rv_route.specs.Routing.{line_routes}
+use Rattle.rv_route.specs.LineByLine.{line_routes}
 use Rattle.rv_route.proofs.firing.fire.Given as goal
 
 abbrev pub invariant-loop-asked : goal.invariant-loop-asked

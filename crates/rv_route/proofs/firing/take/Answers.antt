@@ -1,7 +1,7 @@
 use Rattle.std.proofs.Common.{refl, sym, ap, ◌∙◌, subst}
 use Rattle.std.specs.Prelude.{option_copied}
 use Rattle.rv_route.specs.Asking.{text_at}
-use Rattle.rv_route.specs.Routing.{GivesRoutes}
+use Rattle.rv_route.specs.LineByLine.{GivesRoutes}
 use Rattle.rv_route.proofs.IndexLemmas.{found-event, line-event, line-none}
 use Rattle.rv_route.proofs.firing.take.Goals as goal
 

@@ -3,7 +3,7 @@ use Rattle.std.specs.Vec.{vec_len, vec_capacity}
 use Rattle.std.specs.Vec.Iter.{into_iter_items}
 use Rattle.std.specs.Prelude.{All}
 use Rattle.rv_route.specs.Lanes.{IsLane}
-use Rattle.rv_route.specs.Routing.{works_of, works_from}
+use Rattle.rv_route.specs.LineByLine.{works_of, works_from}
 use Rattle.rv_route.proofs.routed.works_in.Given as goal
 
 abbrev pub invariant-loop-lane : goal.invariant-loop-lane

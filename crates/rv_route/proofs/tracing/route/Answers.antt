@@ -4,7 +4,8 @@ use Rattle.std.proofs.lemmas.Result.{err_from_is_err_and}
 use Rattle.rv_text.specs.declared.refusals.Refusal.{Refusal}
 use Rattle.rv_text.specs.Readings.{Refuses, and_then}
 use Rattle.rv_trace.specs.declared.line.TraceLine.{TraceLine}
-use Rattle.rv_route.specs.Routing.{Routes, RoutedValue, line_routes, routes_of, no_routes}
+use Rattle.rv_route.specs.Routing.{RoutedValue}
+use Rattle.rv_route.specs.LineByLine.{Routes, line_routes, routes_of, no_routes}
 use Rattle.rv_route.proofs.RoutingLemmas.{line-more, lines-end, refuses-then, route-refused, route-done}
 use Rattle.rv_route.proofs.tracing.route.Goals as goal
 
@@ -47,12 +48,12 @@ returns-in_err-line-clause-value c =
     let rest : routes_of c.args.text.now monitors rules lines no_routes ≡ and_then (line_routes c.args.text.now (get_or lines i none) monitors rules c.loop-line.router.routes) next =
     c.loop-line.invariant.0 ∙ line-more c.args.text.now monitors rules lines i none c.loop-line.router.routes (omega arith) in
     let whole : Refuses c.in_err-line.field-0.0 (routes_of c.args.text.now monitors rules lines no_routes) = rw rest (refuses-then c.in_err-line.field-0.0 _ next (c.in_err-line.ensures.takes.first c.loop-line.invariant.2)) in
-    rw (given.1, given.2) (route-refused c.args.text.now monitors rules lines no_routes c.in_err-line.field-0.0 refl whole)
+    rw (given.1, given.2) (route-refused c.args.text.now monitors rules lines no_routes c.in_err-line.field-0.0 c.requires.ascend refl whole)
 
 pub returns-clause-value : goal.returns-clause-value
 returns-clause-value c =
     let monitors = c.args.bindings.now.monitors.items in
     let rules = c.args.bindings.now.rules.items in
-    route-done c.args.text.now monitors rules c.args.lines.now no_routes c.loop-line.router.routes c.end.result.tasks c.end.result.works.items refl
+    route-done c.args.text.now monitors rules c.args.lines.now no_routes c.loop-line.router.routes c.end.result.tasks c.end.result.works.items c.requires.ascend refl
     (c.loop-line.invariant.0 ∙ lines-end c.args.text.now monitors rules c.args.lines.now c.loop-line.line-index c.loop-line.router.routes (omega arith))
     (ap (λ (r : RoutedValue). r.tasks) c.end.ensures.value) (ap (λ (r : RoutedValue). r.works) c.end.ensures.value)

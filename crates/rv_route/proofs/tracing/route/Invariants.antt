@@ -1,7 +1,7 @@
 use Rattle.std.proofs.Common.{◌≡◌, ◌≤◌, ◌<◌, ℕ, length, drop, get_or, None}
 use Rattle.rv_trace.specs.declared.line.TraceLine.{TraceLine}
 use Rattle.rv_route.specs.Routers.{IsFor}
-use Rattle.rv_route.specs.Routing.{routes_of, no_routes}
+use Rattle.rv_route.specs.LineByLine.{routes_of, no_routes}
 use Rattle.rv_route.proofs.tracing.route.Given as goal
 
 abbrev pub invariant-loop-line : goal.invariant-loop-line

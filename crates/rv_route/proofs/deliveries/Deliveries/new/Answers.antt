@@ -1,7 +1,7 @@
 use Rattle.std.proofs.Common.{◌≡◌, [], List, refl, ◌∙◌, ap, arith, replicate}
 use Rattle.rv_model.specs.declared.record.Task.{Task}
 use Rattle.rv_route.specs.Lanes.{LaneValue}
-use Rattle.rv_route.specs.Routing.{Routes, no_routes, no_lane}
+use Rattle.rv_route.specs.LineByLine.{Routes, no_routes, no_lane}
 use Rattle.rv_route.proofs.deliveries.Deliveries.new.Goals as goal
 
 -- no task, and 64 empty lanes

@@ -1,5 +1,5 @@
 use Rattle.std.proofs.Common.{◌≡◌, replicate}
-use Rattle.rv_route.specs.Routing.{no_lane}
+use Rattle.rv_route.specs.LineByLine.{no_lane}
 use Rattle.rv_route.proofs.deliveries.Deliveries.new.Given as goal
 
 abbrev pub invariant-loop-cpu : goal.invariant-loop-cpu

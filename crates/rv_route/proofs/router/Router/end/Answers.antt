@@ -3,7 +3,7 @@ use Rattle.std.proofs.lemmas.List.Elements.{All-weaker}
 use Rattle.rv_route.specs.declared.deliveries.TheConstants.{MAX_DELIVERIES}
 use Rattle.rv_route.specs.Lanes.{LaneValue}
 use Rattle.rv_route.specs.Routers.{RouterValue}
-use Rattle.rv_route.specs.Routing.{Routes, works_of}
+use Rattle.rv_route.specs.LineByLine.{Routes, works_of}
 use Rattle.rv_route.proofs.WorksLemmas.{AreShort, works_fit}
 use Rattle.rv_route.proofs.router.Router.end.Goals as goal
 
