@@ -1,5 +1,5 @@
 -- What one CPU has to do and did, and what a run in order begins with.
-use Rattle.std.specs.Prelude.{◌≡◌, ◌≢◌, ℕ, ◌<◌, ◌≤◌, Bool, true, false, List, [], map, length, All, AllPairs, Option, Some, slice_get}
+use Rattle.std.specs.Prelude.{◌≡◌, ◌≢◌, ℕ, ◌<◌, ◌≤◌, Bool, true, false, List, [], map, flat_map, length, All, AllPairs, Option, Some, slice_get}
 use Rattle.rv_model.specs.declared.reactor.Reactor.{Reactor}
 use Rattle.rv_model.specs.declared.reactor.Reactor.TheVariants.{Panic}
 use Rattle.rv_model.specs.declared.record.Record.{Record}
@@ -39,6 +39,10 @@ pub record FitsLane (s : Setup) (lane : LaneValue) : Type 0 where
 -- what the lanes have to do
 abbrev pub works_of : List LaneValue → List Work
 works_of lanes = map (λ l. l.work) lanes
+
+-- the records of all lanes, lane by lane
+abbrev pub lane_records : List LaneValue → List Record
+lane_records lanes = flat_map (λ l. l.records) lanes
 
 -- new lanes of different CPUs, and no line in two of them
 pub record FitLanes (s : Setup) (lanes : List LaneValue) : Type 0 where
