@@ -1,9 +1,10 @@
 -- What one CPU has to do and did, and what a run in order begins with.
-use Rattle.std.specs.Prelude.{◌≡◌, ◌≢◌, ℕ, ◌<◌, ◌≤◌, Bool, true, false, List, [], map, flat_map, length, All, AllPairs, Option, Some, slice_get}
+use Rattle.std.specs.Prelude.{◌≡◌, ◌≢◌, ℕ, ◌<◌, ◌≤◌, Bool, false, List, [], map, flat_map, length, All, AllPairs, slice_get}
+use Rattle.std.specs.Option.{option_map_or}
 use Rattle.rv_model.specs.declared.reactor.Reactor.{Reactor}
-use Rattle.rv_model.specs.declared.reactor.Reactor.TheVariants.{Panic}
 use Rattle.rv_model.specs.declared.record.Record.{Record}
 use Rattle.rv_model.specs.Histories.{LinesApart}
+use Rattle.rv_model.specs.Reactors.{is_panic}
 use Rattle.rv_model.specs.Setups.{Setup}
 use Rattle.rv_model.specs.Works.{Work}
 use Rattle.rv_core.specs.Deliveries.{FitsDelivery}
@@ -20,14 +21,9 @@ pub record IsNewLane (work : Work) (lane : LaneValue) : Type 0 where
   pub no_records : lane.records ≡ []
   pub room : length work.deliveries ≤ lane.room
 
--- the reactor is panic
-abbrev pub is_panic_reactor : Option Reactor → Bool
-is_panic_reactor (Some Panic) = true
-is_panic_reactor _ = false
-
 -- which monitors' reactor is panic
 abbrev pub panics_of : List Reactor → ℕ → Bool
-panics_of reactors monitor = is_panic_reactor (slice_get reactors monitor)
+panics_of reactors monitor = option_map_or is_panic (slice_get reactors monitor) false
 
 -- the lane is new, its CPU is below 64, its lines ascend, and its deliveries fit
 pub record FitsLane (s : Setup) (lane : LaneValue) : Type 0 where
