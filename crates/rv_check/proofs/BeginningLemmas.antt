@@ -6,7 +6,7 @@ use Rattle.rv_model.specs.declared.entry.Answer.{Answer}
 use Rattle.rv_model.specs.declared.entry.Entry.{Entry}
 use Rattle.rv_model.specs.declared.formula.Spec.{Spec}
 use Rattle.rv_model.specs.Cuts.{AtEach}
-use Rattle.rv_model.specs.Histories.{FitsWords, IsJustifiedBy, IsPermittedTo, acts_of, IsLegal}
+use Rattle.rv_model.specs.Histories.{FitsWords, IsJustifiedBy, IsPermittedTo, input_with, acts_of, IsLegal}
 use Rattle.rv_model.specs.Judging.{Judge}
 use Rattle.rv_model.specs.Scripts.{Played, played, Plays}
 use Rattle.rv_model.specs.Setups.{Setup}
@@ -14,7 +14,7 @@ use Rattle.rv_model.specs.SharedWords.{answer_at}
 use Rattle.rv_model.specs.Works.{Work}
 use Rattle.rv_model.proofs.CutLemmas.{at_each-front, at_each-weaker}
 use Rattle.rv_model.proofs.ScriptLemmas.{played-own, played-other}
-use Rattle.rv_check.specs.Beginnings.{input_of, HasBegun, IsBeginning}
+use Rattle.rv_check.specs.Beginnings.{HasBegun, IsBeginning}
 
 -- equal or not
 same_or_not : (a b : ℕ) → (a ≡ b) ⊎ (a ≢ b)
@@ -73,7 +73,7 @@ module _ (s : Setup) (js : List Judge) (panics : ℕ → Bool) (works : List Wor
       high (k, w, lt, at, is) = grind arith
 
   -- a beginning whose scripts are whole is legal
-  pub begins-legal : (specs : List Spec) (h : List Entry) → IsBeginning s js panics works h → All (λ w. Plays s panics w (played s js (2 + w.cpu) (reverse h))) works → IsLegal (input_of s specs panics works) js h
+  pub begins-legal : (specs : List Spec) (h : List Entry) → IsBeginning s js panics works h → All (λ w. Plays s panics w (played s js (2 + w.cpu) (reverse h))) works → IsLegal (input_with s specs panics works []) js h
   begins-legal specs h b all = record {
     sound = b.sound;
     cpus = all;
@@ -91,7 +91,7 @@ module _ (s : Setup) (js : List Judge) (panics : ℕ → Bool) (works : List Wor
       go rest false n = rest (rw n at none)
 
   -- a legal history is a beginning
-  pub legal-begins : (specs : List Spec) (h : List Entry) → IsLegal (input_of s specs panics works) js h → IsBeginning s js panics works h
+  pub legal-begins : (specs : List Spec) (h : List Entry) → IsLegal (input_with s specs panics works []) js h → IsBeginning s js panics works h
   legal-begins specs h l = record {
     sound = l.sound;
     cpus = λ k d lt. ([], subst (Plays s panics (get_or works k d)) (sym (append-nil (played s js (2 + (get_or works k d).cpu) (reverse h)))) (l.cpus k d lt));

@@ -1,18 +1,13 @@
 -- Histories that have begun: those that may still become a legal history of an input without changes.
-use Rattle.std.specs.Prelude.{◌≡◌, ◌≢◌, ℕ, ◌+◌, ◌<◌, Bool, List, [], ◌++◌, reverse, All, AllPairs, Any}
+use Rattle.std.specs.Prelude.{◌≡◌, ◌≢◌, ℕ, ◌+◌, ◌<◌, Bool, List, ◌++◌, reverse, All, AllPairs, Any}
 use Rattle.rv_model.specs.declared.entry.Entry.{Entry}
-use Rattle.rv_model.specs.declared.formula.Spec.{Spec}
 use Rattle.rv_model.specs.Cuts.{AtEach}
-use Rattle.rv_model.specs.Histories.{Input, IsSound}
+use Rattle.rv_model.specs.Histories.{IsSound}
 use Rattle.rv_model.specs.Judging.{Judge}
 use Rattle.rv_model.specs.Scripts.{Played, played, Plays}
 use Rattle.rv_model.specs.Setups.{Setup}
 use Rattle.rv_model.specs.Works.{Work}
 use Rattle.rv_core.specs.Deliveries.{FitsDelivery}
-
--- the input of these works without changes
-abbrev pub input_of : Setup → List Spec → (ℕ → Bool) → List Work → Input
-input_of s specs panics works = record { setup = s; specs = specs; panics = panics; works = works; changes = [] }
 
 -- the entries are a front of some script of the work
 abbrev pub HasBegun : Setup → (ℕ → Bool) → Work → List Played → Type 0

@@ -1,16 +1,16 @@
 -- The checker as contracts see it, and what it keeps.
-use Rattle.std.specs.Prelude.{◌≡◌, ℕ, Bool, List, map, All, MatchBool}
+use Rattle.std.specs.Prelude.{◌≡◌, ℕ, Bool, List, [], map, All, MatchBool}
 use Rattle.std.specs.Coded.{Coded, code_by, coded×, coded_ℕ, coded_list}
 use Rattle.std.proofs.Common.{refl}
 use Rattle.rv_model.specs.declared.entry.Entry.{Entry}
 use Rattle.rv_model.specs.declared.formula.Spec.{Spec}
-use Rattle.rv_model.specs.Histories.{IsLegal}
+use Rattle.rv_model.specs.Histories.{input_with, IsLegal}
 use Rattle.rv_model.specs.Numbers.{has_bit}
 use Rattle.rv_model.specs.Setups.{Setup, coded_setup}
 use Rattle.rv_model.specs.Works.{Work}
 use Rattle.rv_core.specs.Setup.{judges_of}
 use Rattle.rv_journal.specs.EntryTexts.{entry_text, IsEntry}
-use Rattle.rv_check.specs.Beginnings.{input_of, IsBeginning}
+use Rattle.rv_check.specs.Beginnings.{IsBeginning}
 use Rattle.rv_check.specs.Run.{RunValue, BeginsRun}
 
 -- the lines are the texts of these entries, in order
@@ -37,7 +37,7 @@ IsBegun c = (h : List Entry) × IsJournalOf c.lines h × IsBeginning c.setup (ju
 
 -- the lines are the journal of a legal history, by the setup's tables as judges
 abbrev pub IsWhole : CheckerValue → List Spec → Type 0
-IsWhole c specs = (h : List Entry) × IsJournalOf c.lines h × IsLegal (input_of c.setup specs (has_bit c.panics) c.works) (judges_of c.setup) h
+IsWhole c specs = (h : List Entry) × IsJournalOf c.lines h × IsLegal (input_with c.setup specs (has_bit c.panics) c.works []) (judges_of c.setup) h
 
 -- ---- what it keeps
 

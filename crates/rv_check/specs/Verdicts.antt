@@ -2,7 +2,7 @@
 use Rattle.std.specs.Prelude.{◌≡◌, ◌≢◌, ◌⊎◌, ℕ, suc, List, [], ◌∷◌, ◌++◌, length, All}
 use Rattle.rv_model.specs.declared.entry.Entry.{Entry}
 use Rattle.rv_model.specs.declared.formula.Spec.{Spec}
-use Rattle.rv_model.specs.Histories.{IsLegal}
+use Rattle.rv_model.specs.Histories.{input_with, IsLegal}
 use Rattle.rv_model.specs.Numbers.{has_bit}
 use Rattle.rv_model.specs.Setups.{Setup}
 use Rattle.rv_model.specs.Works.{Work}
@@ -10,7 +10,7 @@ use Rattle.rv_core.specs.Setup.{judges_of}
 use Rattle.rv_journal.specs.EntryTexts.{entry_text, journal_of, IsEntry}
 use Rattle.rv_check.specs.declared.reading.Verdict.{Verdict}
 use Rattle.rv_check.specs.declared.reading.Verdict.TheVariants.{Yes, No}
-use Rattle.rv_check.specs.Beginnings.{input_of, IsBeginning}
+use Rattle.rv_check.specs.Beginnings.{IsBeginning}
 
 -- what is judged: the text, and what its history is a history of
 pub record Journal : Type 0 where
@@ -25,7 +25,7 @@ Begins j h = IsBeginning j.setup (judges_of j.setup) (has_bit j.panics) j.works 
 
 -- the history is legal, by the setup's tables as judges
 abbrev pub Legal : Journal → List Spec → List Entry → Type 0
-Legal j specs h = IsLegal (input_of j.setup specs (has_bit j.panics) j.works) (judges_of j.setup) h
+Legal j specs h = IsLegal (input_with j.setup specs (has_bit j.panics) j.works []) (judges_of j.setup) h
 
 -- the text is the journal of a legal history
 pub record IsYes (j : Journal) (specs : List Spec) : Type 0 where

@@ -8,7 +8,7 @@ use Rattle.rv_model.specs.declared.entry.Entry.{Entry}
 use Rattle.rv_model.specs.declared.formula.Spec.{Spec}
 use Rattle.rv_model.specs.declared.work.Change.{Change}
 use Rattle.rv_model.specs.Cuts.{AtEach}
-use Rattle.rv_model.specs.Histories.{Input, IsSound, IsLegal, AreJudges, acts_of}
+use Rattle.rv_model.specs.Histories.{Input, input_with, IsSound, IsLegal, AreJudges, acts_of}
 use Rattle.rv_model.specs.Judging.{Judge}
 use Rattle.rv_model.specs.Records.{script_records}
 use Rattle.rv_model.specs.Scripts.{played, Plays, control_acts}
@@ -22,11 +22,10 @@ use Rattle.rv_board.specs.Seats.{BoardId, SeatValue, seat_value, ExtendsSeen, Jo
 use Rattle.rv_board.proofs.ListLemmas.{map-reverse, All-reverse, Any-reverse, Any-implied, Any-map, zip-with, zip-left, zip-right, zip-map}
 use Rattle.rv_board.proofs.RunSeatLemmas.{follows-then, holds-itself, holds-still, holds-joined, later-own, not-fresh, split_known}
 use Rattle.rv_feed.specs.declared.feeder.Feeder.{Feeder}
-use Rattle.rv_feed.specs.AtOnce.{input_with, IsLegalOf, IsSeated, lanes_of, AreSeated}
+use Rattle.rv_feed.specs.AtOnce.{IsSeated, lanes_of, AreSeated}
 use Rattle.rv_feed.specs.Changes.{DoesAll}
 use Rattle.rv_feed.specs.Feeders.{RunsFeeder}
-use Rattle.rv_feed.specs.Lane.{LaneValue, works_of}
-use Rattle.rv_feed.specs.One.{lane_records}
+use Rattle.rv_feed.specs.Lane.{LaneValue, works_of, lane_records}
 use Rattle.rv_feed.specs.Order.{Whole}
 use Rattle.rv_feed.specs.Runs.{IsRunOf}
 use Rattle.rv_feed.proofs.JoinedLemmas.{later-played, later-acts}
@@ -112,8 +111,8 @@ module _ {G : Type 0} (board : BoardId) (panics : ℕ → Bool) (h : List Entry)
 
     -- so the history is legal, and the lanes have its records; whatever is said of a legal history by these judges may be said with it
     pub fed-says : (specs : List Spec) (Says : Input → List Judge → List Entry → Type 0)
-        → (IsLegal (input_with board.setup specs panics (lanes_of fs) changes) (judges_of board.setup) h → Says (input_with board.setup specs panics (lanes_of fs) changes) (judges_of board.setup) h)
-        → AreJudges specs board.setup.tables (judges_of board.setup) → IsRunOf Says (input_with board.setup specs panics (lanes_of fs) changes) (lane_records (lanes_of fs')) h
+        → (IsLegal (input_with board.setup specs panics (works_of (lanes_of fs)) changes) (judges_of board.setup) h → Says (input_with board.setup specs panics (works_of (lanes_of fs)) changes) (judges_of board.setup) h)
+        → AreJudges specs board.setup.tables (judges_of board.setup) → IsRunOf Says (input_with board.setup specs panics (works_of (lanes_of fs)) changes) (lane_records (lanes_of fs')) h
     fed-says specs Says says are =
         let acts : acts_of 1 h ≡ control_acts board.setup.shape changes = subst (λ (n : ℕ). acts_of n h ≡ control_acts board.setup.shape changes) fed.actor_is (later-acts actor actor' h fed.actor_fresh.seen fed.actor_fresh.has fed.actor_in _ fed.did) in
         run-of board.setup panics h (lanes_of fs) (lanes_of fs') specs changes fed-works whole Says are
@@ -130,10 +129,10 @@ module _ {G : Type 0} (board : BoardId) (panics : ℕ → Bool) (h : List Entry)
 
     -- nothing else is said, of the setup and the lanes of the call
     pub fed-legal : {setup : Setup} {lanes back left : List LaneValue} (specs : List Spec) → board.setup ≡ setup → lanes ≡ lanes_of fs → back ≡ left ++ lanes_of fs' → left ≡ [] → AreJudges specs setup.tables (judges_of setup)
-        → IsLegalOf (input_with setup specs panics lanes changes) (lane_records back) h
+        → IsRunOf IsLegal (input_with setup specs panics (works_of lanes) changes) (lane_records back) h
     fed-legal {setup} {lanes} {back} {left} specs setup_is lanes_are is empty are =
         let judges : AreJudges specs board.setup.tables (judges_of board.setup) = subst (λ (s : Setup). AreJudges specs s.tables (judges_of s)) (sym setup_is) are in
-        subst (λ (z : Setup × (List LaneValue × List LaneValue)). IsLegalOf (input_with z.0 specs panics z.1.0 changes) (lane_records z.1.1) h) (λ i. (setup_is i, (sym lanes_are i, sym (lanes-back is empty) i))) (fed-says first actor actor' changes fs fs' fed specs IsLegal (λ legal. legal) judges)
+        subst (λ (z : Setup × (List LaneValue × List LaneValue)). IsRunOf IsLegal (input_with z.0 specs panics (works_of z.1.0) changes) (lane_records z.1.1) h) (λ i. (setup_is i, (sym lanes_are i, sym (lanes-back is empty) i))) (fed-says first actor actor' changes fs fs' fed specs IsLegal (λ legal. legal) judges)
 
 -- ---- from the calls of a run
 

@@ -13,15 +13,13 @@ use Rattle.rv_model.specs.declared.formula.Spec.{Spec}
 use Rattle.rv_model.specs.Setups.{Setup}
 use Rattle.rv_model.specs.declared.work.Change.{Change}
 use Rattle.rv_model.specs.Scripts.{played, Plays, control_acts}
-use Rattle.rv_model.specs.Histories.{Input, AreJudges, IsSound, IsLegal, IsOneHistory, IsJustifiedBy, IsNoStop, Replays, IsInOrder, acts_of}
+use Rattle.rv_model.specs.Histories.{Input, input_with, AreJudges, IsSound, IsLegal, IsOneHistory, IsJustifiedBy, IsNoStop, Replays, IsInOrder, acts_of}
 use Rattle.rv_model.specs.Records.{records_of, sort_records, script_records, status_of, is_failure, is_stopped}
 use Rattle.rv_model.specs.Works.{Work}
 use Rattle.rv_model.proofs.CutLemmas.{at_each-weaker}
 use Rattle.rv_core.specs.Core.{CoreValue}
 use Rattle.rv_core.specs.Setup.{judges_of}
-use Rattle.rv_feed.specs.AtOnce.{input_with}
-use Rattle.rv_feed.specs.Lane.{LaneValue, works_of}
-use Rattle.rv_feed.specs.One.{input_of, lane_records, IsOneOf}
+use Rattle.rv_feed.specs.Lane.{LaneValue, works_of, lane_records}
 use Rattle.rv_feed.specs.Order.{Whole, Ran}
 use Rattle.rv_feed.proofs.SortedLemmas.{any-sort}
 use Rattle.rv_feed.specs.Runs.{IsRunOf}
@@ -65,7 +63,7 @@ lane-records s panics h (l ∷ lanes) whole =
 module _ (s : Setup) (panics : ℕ → Bool) (h : List Entry) (lanes lanes' : List LaneValue) (specs : List Spec) (changes : List Change) (same_works : works_of lanes' ≡ works_of lanes) (whole : All (Whole s panics [] h) lanes') where
   -- each CPU's script, the changes and nothing else
   pub legal-of-run : IsSound s (judges_of s) h → acts_of 1 h ≡ control_acts s.shape changes → AtEach (λ before e. (e.seat ≡ 1) ⊎ Any (λ w. e.seat ≡ 2 + w.cpu) (works_of lanes)) h
-      → IsLegal (input_with s specs panics lanes changes) (judges_of s) h
+      → IsLegal (input_with s specs panics (works_of lanes) changes) (judges_of s) h
   legal-of-run sound control nobody = record {
     sound = sound;
     cpus = subst (All (λ w. Plays s panics w (played s (judges_of s) (2 + w.cpu) (reverse h)))) same_works (plays lanes' whole);
@@ -83,10 +81,10 @@ module _ (s : Setup) (panics : ℕ → Bool) (h : List Entry) (lanes lanes' : Li
           subst (λ (x : Work). Plays s panics x (played s (judges_of s) (2 + x.cpu) (reverse h))) (sym at) (subst (Plays s panics (get_or ls i e).work) (sym w.played_is) w.plays)
 
   -- the lanes have its records
-  pub run-of : (Says : Input → List Judge → List Entry → Type 0) → AreJudges specs s.tables (judges_of s) → Says (input_with s specs panics lanes changes) (judges_of s) h → IsRunOf Says (input_with s specs panics lanes changes) (lane_records lanes') h
+  pub run-of : (Says : Input → List Judge → List Entry → Type 0) → AreJudges specs s.tables (judges_of s) → Says (input_with s specs panics (works_of lanes) changes) (judges_of s) h → IsRunOf Says (input_with s specs panics (works_of lanes) changes) (lane_records lanes') h
   run-of Says are history =
       let js : List Judge = judges_of s in
-      let recs : records_of (input_with s specs panics lanes changes) js h ≡ sort_records (lane_records lanes') =
+      let recs : records_of (input_with s specs panics (works_of lanes) changes) js h ≡ sort_records (lane_records lanes') =
       ap sort_records (ap (flat_map (λ w. script_records w.deliveries w.turns (played s js (2 + w.cpu) (reverse h)))) (sym same_works) ∙ lane-records s panics h lanes' whole) in
       record {
         judges = js;
@@ -98,7 +96,7 @@ module _ (s : Setup) (panics : ℕ → Bool) (h : List Entry) (lanes lanes' : Li
 
 -- a run of a fresh machine
 pub one-of-run : (s : Setup) (panics : ℕ → Bool) (h : List Entry) (lanes lanes' : List LaneValue) (specs : List Spec) → AreJudges specs s.tables (judges_of s) → Replays s (judges_of s) h
-    → Ran panics (record { setup = s; history = [] }) (record { setup = s; history = h }) lanes lanes' → IsOneOf (input_of s specs panics lanes) (lane_records lanes') h
+    → Ran panics (record { setup = s; history = [] }) (record { setup = s; history = h }) lanes lanes' → IsRunOf IsOneHistory (input_with s specs panics (works_of lanes) []) (lane_records lanes') h
 one-of-run s panics h lanes lanes' specs are replays ran =
     let is : h ≡ ran.more = ap (λ (v : CoreValue). v.history) ran.grows in
     let nobody : AtEach (λ before e. Any (λ w. e.seat ≡ 2 + w.cpu) (works_of lanes)) h = subst (AtEach (λ before e. Any (λ w. e.seat ≡ 2 + w.cpu) (works_of lanes))) (sym is) ran.nobody_else in

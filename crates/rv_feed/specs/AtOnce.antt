@@ -1,31 +1,12 @@
--- A run of all scripts at once: its input, what it comes to, and the seats of its feeders.
-use Rattle.std.specs.Prelude.{◌≡◌, ℕ, ◌<◌, Bool, true, List, ◌++◌, map, reverse, All, Any}
+-- The seats of a run of all scripts at once.
+use Rattle.std.specs.Prelude.{◌≡◌, ℕ, ◌<◌, true, List, ◌++◌, map, reverse, All, Any}
 use Rattle.std.proofs.Common.{◌⊎◌}
-use Rattle.rv_model.specs.declared.entry.Entry.{Entry}
-use Rattle.rv_model.specs.declared.formula.Spec.{Spec}
-use Rattle.rv_model.specs.declared.record.Record.{Record}
-use Rattle.rv_model.specs.declared.work.Change.{Change}
-use Rattle.rv_model.specs.Histories.{Input, IsLegal}
 use Rattle.rv_model.specs.Seats.{known_of}
-use Rattle.rv_model.specs.Setups.{Setup}
 use Rattle.rv_board.specs.RunSeats.{IsFresh, IsFirst}
 use Rattle.rv_board.specs.Seats.{BoardId, SeatValue}
 use Rattle.rv_feed.specs.declared.feeder.Feeder.{Feeder}
 use Rattle.rv_feed.specs.Feeders.{FitsFeeder}
-use Rattle.rv_feed.specs.Lane.{LaneValue, works_of}
-use Rattle.rv_feed.specs.Runs.{IsRunOf}
-
--- ---- the whole run
-
--- the input of a run at once: the lanes' works, and the changes of the control actor
-abbrev pub input_with : Setup → List Spec → (ℕ → Bool) → List LaneValue → List Change → Input
-input_with s specs panics lanes changes = record { setup = s; specs = specs; panics = panics; works = works_of lanes; changes = changes }
-
--- by judges of the specifications the history is a legal one of the input, and the records are its own
-abbrev pub IsLegalOf : Input → List Record → List Entry → Type 0
-IsLegalOf = IsRunOf IsLegal
-
--- ---- its seats
+use Rattle.rv_feed.specs.Lane.{LaneValue}
 
 module _ {G : Type 0} where
   -- the feeder fits the board, and its seat has seen nothing

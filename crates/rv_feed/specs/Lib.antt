@@ -4,7 +4,6 @@ pub mod Feeders
 pub mod Feeding
 pub mod Kept
 pub mod Lane
-pub mod One
 pub mod Order
 pub mod Runs
 pub mod Turns

@@ -1,14 +1,13 @@
 //! A whole run at once: a thread for each CPU, and one for the control actor where it has changes.
-ghost use Rattle.std.specs.Prelude.{◌≡◌, ◌+◌, ◌<◌, ◌≤◌, ◌∷◌, [], ◌++◌, List, length, All, AllPairs, IfOk};
-ghost use Rattle.rv_model.specs.declared.formula.Spec.{Spec};
-ghost use Rattle.rv_core.specs.Judged.{AllMean};
+ghost use Rattle.std.specs.Prelude.{◌≡◌, ◌+◌, ◌<◌, ◌≤◌, ◌∷◌, [], ◌++◌, length, All, AllPairs, IfOk};
+ghost use Rattle.rv_model.specs.Histories.{IsLegal};
 ghost use Rattle.rv_board.specs.Known.{part};
 ghost use Rattle.rv_board.specs.RunSeats.{HasTakenIn, IsFirst};
 ghost use Rattle.rv_board.specs.Seats.{seat_value};
 ghost use Rattle.rv_feed.specs.Changes.{IsBelowHalt};
-ghost use Rattle.rv_feed.specs.Lane.{FitsLane, panics_of, works_of};
-ghost use Rattle.rv_feed.specs.One.{lane_records};
-ghost use Rattle.rv_feed.specs.AtOnce.{input_with, IsLegalOf, lanes_of, AreSeated};
+ghost use Rattle.rv_feed.specs.Lane.{FitsLane, panics_of, works_of, lane_records};
+ghost use Rattle.rv_feed.specs.AtOnce.{lanes_of, AreSeated};
+ghost use Rattle.rv_feed.specs.Runs.{IsRunBySpecs};
 
 use crate::changer::{CONTROL, Changer};
 use crate::feeder::Feeder;
@@ -126,7 +125,7 @@ pub fn feed<R: Threads + Sync, G: Gate + Send>(
     requires fit { All (FitsLane setup) lanes.items }
     requires ascend { AllPairs (λ l m. l.work.cpu < m.work.cpu) lanes.items }
     requires changes { All IsBelowHalt changes.items }
-    ensures legal { IfOk result (λ fed. (specs : List Spec) → AllMean specs setup.tables → IsLegalOf (input_with setup specs (panics_of reactors.now) lanes.items changes.items) (lane_records fed.lanes.items) fed.closed) }
+    ensures legal { IfOk result (λ fed. IsRunBySpecs IsLegal setup (panics_of reactors.now) (works_of lanes.items) changes.items (lane_records fed.lanes.items) fed.closed) }
     ensures works { IfOk result (λ fed. works_of fed.lanes.items ≡ works_of lanes.items) }
 {
     setup.assert_invariant();

@@ -99,12 +99,12 @@ pub(crate) fn keep(lane: &mut Lane, index: u32, line: u32, outcome: Delivered, r
 }
 
 /// Whether the monitor's reactor is panic. A monitor past the end of the list has none that is.
-pub(crate) fn is_panic(reactors: &[Reactor], monitor: u8) -> bool
+pub fn is_panic(reactors: &[Reactor], monitor: u8) -> bool
     ensures { result ≡ panics_of reactors.now monitor }
 {
     match reactors.get(monitor as usize) {
-        Some(Reactor::Panic) => true,
-        _ => false,
+        Some(reactor) => reactor.is_panic(),
+        None => false,
     }
 }
 

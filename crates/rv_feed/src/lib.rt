@@ -16,7 +16,7 @@ pub use at_once::{FedLanes, feed, join_all, seat_lanes};
 pub use changer::Changer;
 pub use feeder::Feeder;
 pub use feeders::{run_feeders, run_halves};
-pub use lane::Lane;
+pub use lane::{Lane, is_panic};
 pub use one::replay;
 pub use order::run_in_order;
 pub use rv_model::{Delivered, Record};

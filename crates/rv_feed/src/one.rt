@@ -1,9 +1,8 @@
 //! A whole run on one thread.
-ghost use Rattle.std.specs.Prelude.{◌≡◌, IfOk, List};
-ghost use Rattle.rv_model.specs.declared.formula.Spec.{Spec};
-ghost use Rattle.rv_feed.specs.Lane.{FitLanes, panics_of};
-ghost use Rattle.rv_core.specs.Judged.{AllMean};
-ghost use Rattle.rv_feed.specs.One.{input_of, lane_records, IsOneOf};
+ghost use Rattle.std.specs.Prelude.{[], IfOk};
+ghost use Rattle.rv_model.specs.Histories.{IsOneHistory};
+ghost use Rattle.rv_feed.specs.Lane.{FitLanes, panics_of, works_of, lane_records};
+ghost use Rattle.rv_feed.specs.Runs.{IsRunBySpecs};
 
 use crate::lane::Lane;
 use crate::order::run_in_order;
@@ -20,7 +19,7 @@ pub fn replay(
     lanes: &mut [Lane],
 ) -> Result<Closed, AllocError>
     requires { FitLanes setup lanes.old }
-    ensures { IfOk result (λ h. (specs : List Spec) → AllMean specs setup.tables → IsOneOf (input_of setup specs (panics_of reactors.now) lanes.old) (lane_records lanes.new) h) }
+    ensures { IfOk result (λ h. IsRunBySpecs IsOneHistory setup (panics_of reactors.now) (works_of lanes.old) [] (lane_records lanes.new) h) }
 {
     let mut core = Core::new(alloc, setup)?;
     run_in_order(&mut core, reactors, lanes);

@@ -14,7 +14,7 @@ use Rattle.rv_model.specs.declared.hit.What.{What}
 use Rattle.rv_model.specs.declared.hit.What.TheVariants as whats
 use Rattle.rv_model.specs.declared.work.Delivery.{Delivery}
 use Rattle.rv_model.specs.declared.work.Turn.{Turn}
-use Rattle.rv_model.specs.Histories.{Input}
+use Rattle.rv_model.specs.Histories.{Input, input_with}
 use Rattle.rv_model.specs.Numbers.{has_bit}
 use Rattle.rv_model.specs.Scripts.{Played, played, is_enabled_by, fails, hit_act, Makes, Delivers, PlaysTurns, turns_of}
 use Rattle.rv_model.specs.Setups.{Setup, slot_of}
@@ -29,7 +29,7 @@ use Rattle.rv_laws.proofs.OwnerLemmas.{by-cpu, plays}
 use Rattle.rv_laws.proofs.PastLemmas.{Each, each-of}
 use Rattle.rv_journal.specs.CountedLanes.{FitsCounted}
 use Rattle.rv_journal.specs.CountedWords.{IsBelow}
-use Rattle.rv_journal.specs.Running.{FitsCountedWork, recorded_input}
+use Rattle.rv_journal.specs.Running.{FitsCountedWork}
 use Rattle.rv_journal.specs.Whole.{IsWholeRun}
 use Rattle.rv_journal.specs.inner.Whole.{is_failed_entry}
 use Rattle.rv_journal.proofs.AnswerLemmas.{FitsEntry, FitsPast, entry-shows}
@@ -122,7 +122,7 @@ any-reverse p (e ∷ h) =
 module _ (s : Setup) (works : List Work) (h : List Entry) (run : IsWholeRun s works h) where
   -- the input of what is recorded, by no specification
   abbrev input : Input
-  input = recorded_input s [] works
+  input = input_with s [] (λ _. false) works []
 
   -- each entry fits
   entry-fits : (before : List Entry) (e : Entry) (after : List Entry) → h ≡ before ++ e ∷ after → FitsEntry s e.act

@@ -8,7 +8,7 @@ use Rattle.rv_model.specs.declared.entry.Act.{Act}
 use Rattle.rv_model.specs.declared.entry.Entry.{Entry}
 use Rattle.rv_model.specs.declared.work.Delivery.{Delivery}
 use Rattle.rv_model.specs.Cuts.{AtEach}
-use Rattle.rv_model.specs.Histories.{IsLegal, acts_of, changed}
+use Rattle.rv_model.specs.Histories.{input_with, IsLegal, acts_of, changed}
 use Rattle.rv_model.specs.Records.{is_look_act}
 use Rattle.rv_model.specs.Scripts.{played, Plays, is_end}
 use Rattle.rv_model.specs.Seats.{entries_of}
@@ -22,7 +22,7 @@ use Rattle.rv_journal.specs.CountedLanes.{CountedLaneValue}
 use Rattle.rv_journal.specs.inner.MergeSteps.{items_of}
 use Rattle.rv_journal.specs.MergeStates.{entries_in, StandsAs}
 use Rattle.rv_journal.specs.inner.MergeStates.{Mark, mark, items_in, entry_in, IsItemAct, step_entries, IsUnderWay}
-use Rattle.rv_journal.specs.Merging.{FitsSetup, CanMerge, seat_of, works_of, input_of, IsMergeOf}
+use Rattle.rv_journal.specs.Merging.{FitsSetup, CanMerge, seat_of, works_of, IsMergeOf}
 use Rattle.rv_journal.specs.inner.Merging.{NumbersFit, no_lane, lanes_of}
 use Rattle.rv_journal.proofs.ItemLemmas.{by-item}
 use Rattle.rv_journal.proofs.MarkLemmas.{filter_yes, filter_no, AllPlaced, placed-filter}
@@ -124,7 +124,7 @@ module _ (s : Setup) (seen : List Entry) (lanes : List CountedLaneValue) (can : 
       (l, (lane_at l).work, low, at, is)
 
   -- ---- it is legal
-  legal : IsLegal (input_of s lanes) (judges_of s) history
+  legal : IsLegal (input_with s [] (λ _. false) (works_of lanes) []) (judges_of s) history
   legal = record {
     sound = u.sound;
     cpus = All-map (λ (w : Work). Plays s (λ _. false) w (played s (judges_of s) (2 + w.cpu) (reverse history))) (λ (x : CountedLaneValue). x.work) lanes

@@ -7,7 +7,7 @@ use Rattle.std.proofs.lemmas.List.Elements.{All-map, All-weaker}
 use Rattle.rv_model.specs.declared.entry.Entry.{Entry}
 use Rattle.rv_model.specs.declared.formula.Spec.{Spec}
 use Rattle.rv_model.specs.Cuts.{AtEach}
-use Rattle.rv_model.specs.Histories.{IsSound, IsLegal}
+use Rattle.rv_model.specs.Histories.{input_with, IsSound, IsLegal}
 use Rattle.rv_model.specs.Numbers.{has_bit}
 use Rattle.rv_model.specs.Seats.{known_of, entries_of}
 use Rattle.rv_model.specs.Setups.{Setup}
@@ -21,7 +21,7 @@ use Rattle.rv_journal.specs.declared.feeding.CountedFeeder.{CountedFeeder}
 use Rattle.rv_journal.specs.CountedFeeders.{FitsCountedFeeder, RunsCounted}
 use Rattle.rv_journal.specs.CountedLanes.{CountedLaneValue, FitsCounted, AllObservedAfter, FeedsCounted, entries_observed}
 use Rattle.rv_journal.specs.Merging.{FitsSetup, IsSeatPartOf, FitsLane, CanMerge, IsMergeOf, seat_of, works_of}
-use Rattle.rv_journal.specs.Running.{FitsCountedWork, recorded_input}
+use Rattle.rv_journal.specs.Running.{FitsCountedWork}
 use Rattle.rv_journal.specs.inner.Running.{IsCountedSeated, lanes_in, works_in, AreCountedSeated, AreJoined}
 use Rattle.rv_journal.proofs.PartLemmas.{is-part, all-served}
 
@@ -119,10 +119,10 @@ module _ {G : Type 0} (board : BoardId) (h : List Entry) where
             omega arith
 
     -- and what they become is legal for the works, whatever specifications there are
-    pub recorded-legal : (specs : List Spec) (merged : List Entry) → IsMergeOf board.setup h (lanes_in fs') merged → IsLegal (recorded_input board.setup specs works) (judges_of board.setup) merged
+    pub recorded-legal : (specs : List Spec) (merged : List Entry) → IsMergeOf board.setup h (lanes_in fs') merged → IsLegal (input_with board.setup specs (λ _. false) works []) (judges_of board.setup) merged
     recorded-legal specs merged is =
         let l = is.legal in
-        subst (λ (ws : List Work). IsLegal (recorded_input board.setup specs ws) (judges_of board.setup) merged) recorded-works (record { sound = l.sound; cpus = l.cpus; control = l.control; nobody_else = l.nobody_else })
+        subst (λ (ws : List Work). IsLegal (input_with board.setup specs (λ _. false) ws []) (judges_of board.setup) merged) recorded-works (record { sound = l.sound; cpus = l.cpus; control = l.control; nobody_else = l.nobody_else })
 
 -- ---- from the calls of a run
 
@@ -158,9 +158,9 @@ module _ {G : Type 0} (board : BoardId) where
   pub whole-run : (setup : Setup) (first last : SeatValue) (works : List Work) (fs fs' : List (CountedFeeder G)) (lanes : List CountedLaneValue) → AreCountedSeated board first works [] fs → AllZip RunsCounted fs fs' → AreJoined board first last fs' lanes
       → IsSound last.board.setup (judges_of last.board.setup) last.part.seen → board.setup ≡ setup
       → (lent_setup : Setup) (slice : List CountedLaneValue) (merged closed : List Entry) → lent_setup ≡ board.setup → slice ≡ lanes → IsMergeOf lent_setup last.part.seen slice merged → closed ≡ merged
-      → (specs : List Spec) → IsLegal (recorded_input setup specs works) (judges_of setup) closed
+      → (specs : List Spec) → IsLegal (input_with setup specs (λ _. false) works []) (judges_of setup) closed
   whole-run setup first last works fs fs' lanes are ran joined sound setup_is lent_setup slice merged closed lent_is slice_is merges closed_is specs =
       let recorded = recorded-from first last works fs fs' lanes are ran joined sound in
       let mine : IsMergeOf board.setup last.part.seen (lanes_in fs') merged =
       subst (λ (z : Setup × List CountedLaneValue). IsMergeOf z.0 last.part.seen z.1 merged) (λ i. (lent_is i, (slice_is ∙ joined.lanes_are) i)) merges in
-      subst (λ (z : Setup × List Entry). IsLegal (recorded_input z.0 specs works) (judges_of z.0) z.1) (λ i. (setup_is i, sym closed_is i)) (recorded-legal board last.part.seen first works fs fs' recorded specs merged mine)
+      subst (λ (z : Setup × List Entry). IsLegal (input_with z.0 specs (λ _. false) works []) (judges_of z.0) z.1) (λ i. (setup_is i, sym closed_is i)) (recorded-legal board last.part.seen first works fs fs' recorded specs merged mine)

@@ -5,7 +5,7 @@ use Rattle.rv_model.specs.declared.entry.Act.TheVariants.{Deliver, Stop}
 use Rattle.rv_model.specs.declared.entry.Entry.{Entry}
 use Rattle.rv_model.specs.declared.work.Delivery.{Delivery}
 use Rattle.rv_model.specs.Cuts.{AtEach}
-use Rattle.rv_model.specs.Histories.{Input, IsSound, IsLegal, NoneOf, changed}
+use Rattle.rv_model.specs.Histories.{input_with, IsSound, IsLegal, NoneOf, changed}
 use Rattle.rv_model.specs.Numbers.{has_bit}
 use Rattle.rv_model.specs.Records.{is_look_act}
 use Rattle.rv_model.specs.Scripts.{is_enabled_by}
@@ -100,13 +100,9 @@ pub record MergedFrom (seen merged : List Entry) : Type 0 where
 abbrev pub works_of : List CountedLaneValue → List Work
 works_of lanes = map (λ l. l.work) lanes
 
--- the input of a run of the lanes, with no reactor that is panic and no changes
-abbrev pub input_of : Setup → List CountedLaneValue → Input
-input_of s lanes = record { setup = s; specs = []; panics = λ _. false; works = works_of lanes; changes = [] }
-
--- the merged history is legal for the lanes' works, by the tables; its acts fit the setup, and it is merged from what
--- was seen
+-- the merged history is legal for the lanes' works, by the tables, with no reactor that is panic and no changes; its
+-- acts fit the setup, and it is merged from what was seen
 pub record IsMergeOf (s : Setup) (seen : List Entry) (lanes : List CountedLaneValue) (merged : List Entry) : Type 0 where
-  pub legal : IsLegal (input_of s lanes) (judges_of s) merged
+  pub legal : IsLegal (input_with s [] (λ _. false) (works_of lanes) []) (judges_of s) merged
   pub fits : AtEach (λ before e. FitsAct s e.act) merged
   pub from : MergedFrom seen merged

@@ -2,7 +2,7 @@
 use Rattle.std.specs.Prelude.{◌≡◌, ◌<◌, ◌≤◌, true, false, List, [], length, All}
 use Rattle.rv_model.specs.declared.entry.Entry.{Entry}
 use Rattle.rv_model.specs.declared.formula.Spec.{Spec}
-use Rattle.rv_model.specs.Histories.{Input, IsLegal, AreJudges}
+use Rattle.rv_model.specs.Histories.{input_with, IsLegal, AreJudges}
 use Rattle.rv_model.specs.Scripts.{is_enabled_by}
 use Rattle.rv_model.specs.Setups.{Setup}
 use Rattle.rv_model.specs.Works.{Work}
@@ -18,11 +18,8 @@ pub record FitsCountedWork (s : Setup) (w : Work) : Type 0 where
   pub fit : All (FitsCounted s) w.deliveries
   pub enabled : All (λ d. is_enabled_by s.switches d ≡ true) w.deliveries
 
--- the input of a run of the works, with no reactor that is panic and no changes
-abbrev pub recorded_input : Setup → List Spec → List Work → Input
-recorded_input s specs works = record { setup = s; specs = specs; panics = λ _. false; works = works; changes = [] }
-
--- the tables judge by the specifications, and by the tables the history is a legal one of the works
+-- the tables judge by the specifications, and by the tables the history is a legal one of the works, with no reactor
+-- that is panic and no changes
 pub record IsLegalBy (s : Setup) (specs : List Spec) (works : List Work) (h : List Entry) : Type 0 where
   pub are_judges : AreJudges specs s.tables (judges_of s)
-  pub legal : IsLegal (recorded_input s specs works) (judges_of s) h
+  pub legal : IsLegal (input_with s specs (λ _. false) works []) (judges_of s) h

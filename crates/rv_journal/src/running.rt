@@ -1,7 +1,7 @@
 //! A recorded run on counted words: a thread for each CPU, and one legal history of what they did.
 ghost use Rattle.std.specs.Prelude.{◌≡◌, ◌+◌, ◌<◌, false, List, [], All, AllPairs, IfOk};
 ghost use Rattle.rv_model.specs.declared.formula.Spec.{Spec};
-ghost use Rattle.rv_model.specs.Histories.{IsLegal};
+ghost use Rattle.rv_model.specs.Histories.{input_with, IsLegal};
 ghost use Rattle.rv_model.specs.Numbers.{has_bit};
 ghost use Rattle.rv_core.specs.Judged.{AllMean};
 ghost use Rattle.rv_core.specs.Setup.{judges_of};
@@ -10,7 +10,7 @@ ghost use Rattle.rv_board.specs.RunSeats.{IsFirst};
 ghost use Rattle.rv_board.specs.Seats.{seat_value};
 ghost use Rattle.rv_journal.specs.CountedSeats.{AreWidths, counted_value};
 ghost use Rattle.rv_journal.specs.EntryTexts.{IsEntry};
-ghost use Rattle.rv_journal.specs.Running.{FitsCountedWork, recorded_input, IsLegalBy};
+ghost use Rattle.rv_journal.specs.Running.{FitsCountedWork, IsLegalBy};
 ghost use Rattle.rv_journal.specs.inner.Running.{IsSeatedFor, AreCountedSeated, AreJoined};
 
 use crate::board::{CountedBoard, CountedStart};
@@ -115,7 +115,7 @@ pub fn record_run<R: Threads + Sync, G: Gate + Send>(
     requires fit { All (FitsCountedWork setup) works.items }
     requires ascend { AllPairs (λ v w. v.cpu < w.cpu) works.items }
     requires running { has_bit setup.switches 34 ≡ false }
-    ensures legal { IfOk result (λ recorded. IsLegal (recorded_input setup [] works.items) (judges_of setup) recorded.closed) }
+    ensures legal { IfOk result (λ recorded. IsLegal (input_with setup [] (λ _. false) works.items []) (judges_of setup) recorded.closed) }
     ensures specs { IfOk result (λ recorded. (specs : List Spec) → AllMean specs setup.tables → IsLegalBy setup specs works.items recorded.closed) }
     ensures closed { IfOk result (λ recorded. recorded.closed ≡ recorded.entries.items) }
     ensures entries { IfOk result (λ recorded. All IsEntry recorded.entries.items) }

@@ -8,8 +8,7 @@ use Rattle.rv_model.specs.declared.record.Record.{Record}
 use Rattle.rv_model.specs.declared.record.Task.{Task}
 use Rattle.rv_model.specs.Records.{sort_records, status_of}
 use Rattle.rv_model.specs.Reports.{Reported}
-use Rattle.rv_feed.specs.Lane.{LaneValue}
-use Rattle.rv_feed.specs.One.{lane_records}
+use Rattle.rv_feed.specs.Lane.{LaneValue, lane_records}
 use Rattle.rv_report.specs.declared.found.Found.{Found}
 use Rattle.rv_report.specs.inner.Printed.{is_printed}
 use Rattle.rv_report.specs.inner.Tallies.{AreTallies, IsFound}

@@ -3,7 +3,7 @@ ghost use Rattle.std.specs.Prelude.{◌≡◌, List, length, IfOk};
 ghost use Rattle.rv_model.specs.declared.record.Record.{Record};
 ghost use Rattle.rv_model.specs.Records.{sort_records};
 ghost use Rattle.rv_model.specs.Reports.{report_text};
-ghost use Rattle.rv_feed.specs.One.{lane_records};
+ghost use Rattle.rv_feed.specs.Lane.{lane_records};
 ghost use Rattle.rv_report.specs.Exit.{IsStatus};
 ghost use Rattle.rv_report.specs.Reported.{reported_of};
 ghost use Rattle.rv_report.specs.inner.Tallies.{IsFound};

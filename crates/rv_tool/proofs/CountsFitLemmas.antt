@@ -1,16 +1,14 @@
 -- What the test of narrow monitors tells of one monitor, and of each of a list.
 use Rattle.std.proofs.Common.{◌≡◌, ◌≢◌, ℕ, zero, suc, ◌+◌, ◌<◌, ◌≤◌, true, false, List, [], ◌∷◌, length, drop, get_or, refl, sym, ap, ◌∙◌, arith}
-use Rattle.std.specs.Prelude.{nat_le, ◌&&◌, not, Some, All}
-use Rattle.std.proofs.lemmas.Bool.{and_parts, and_right}
+use Rattle.std.specs.Prelude.{nat_le, ◌&&◌, not, All}
+use Rattle.std.proofs.lemmas.Bool.{and_parts, and_right, not-true}
 use Rattle.std.proofs.lemmas.Bool.Decides.{nat_tests}
 use Rattle.std.proofs.lemmas.List.{drop_all, drop_more}
 use Rattle.std.proofs.lemmas.List.Elements.{All-nil, All-cons}
-use Rattle.rv_model.specs.declared.reactor.Reactor.{Reactor}
-use Rattle.rv_model.specs.declared.reactor.Reactor.TheVariants as reactors
+use Rattle.rv_model.specs.Reactors.{is_panic}
 use Rattle.rv_model.specs.Table.{Table}
 use Rattle.rv_table.specs.Rows.{row_count}
 use Rattle.rv_bind.specs.declared.bindings.Monitor.{Monitor}
-use Rattle.rv_feed.specs.Lane.{is_panic_reactor}
 use Rattle.rv_tool.specs.CountsFit.{atom_count, monitor_fits_counts, monitors_fit_counts}
 
 -- ---- one monitor
@@ -19,28 +17,23 @@ use Rattle.rv_tool.specs.CountsFit.{atom_count, monitor_fits_counts, monitors_fi
 at_most : (n most : ℕ) → nat_le n most ≡ true → n ≤ most
 at_most n most e = grind (arith, nat_tests)
 
--- a reactor that the test finds to be another than panic is another
-other_reactor : (r : Reactor) → not (is_panic_reactor (Some r)) ≡ true → r ≢ reactors.Panic
-other_reactor reactors.Panic e p = absurd (cc)
-other_reactor _ e p = cc
-
 -- there is room for its rows and its atoms
 pub narrow-room : (m : Monitor) (t : Table) → monitor_fits_counts m t ≡ true → row_count t + atom_count m.spec ≤ 32
-narrow-room m t on = at_most (row_count t + atom_count m.spec) 32 (and_parts (nat_le (row_count t + atom_count m.spec) 32) (not (is_panic_reactor (Some m.reactor))) on).0
+narrow-room m t on = at_most (row_count t + atom_count m.spec) 32 (and_parts (nat_le (row_count t + atom_count m.spec) 32) (not (is_panic m.reactor)) on).0
 
 -- its reactor is not panic
-narrow-calm : (m : Monitor) (t : Table) → monitor_fits_counts m t ≡ true → m.reactor ≢ reactors.Panic
-narrow-calm m t on = other_reactor m.reactor (and_parts (nat_le (row_count t + atom_count m.spec) 32) (not (is_panic_reactor (Some m.reactor))) on).1
+narrow-calm : (m : Monitor) (t : Table) → monitor_fits_counts m t ≡ true → is_panic m.reactor ≡ false
+narrow-calm m t on = not-true (is_panic m.reactor) (and_parts (nat_le (row_count t + atom_count m.spec) 32) (not (is_panic m.reactor)) on).1
 
 -- ---- all monitors
 
 -- none of their reactors is panic
-pub all-calm : (monitors : List Monitor) (tables : List Table) → monitors_fit_counts monitors tables ≡ true → All (λ (m : Monitor). m.reactor ≢ reactors.Panic) monitors
-all-calm [] tables on = All-nil (λ (m : Monitor). m.reactor ≢ reactors.Panic)
+pub all-calm : (monitors : List Monitor) (tables : List Table) → monitors_fit_counts monitors tables ≡ true → All (λ (m : Monitor). is_panic m.reactor ≡ false) monitors
+all-calm [] tables on = All-nil (λ (m : Monitor). is_panic m.reactor ≡ false)
 all-calm (m ∷ monitors) [] on = absurd (cc)
 all-calm (m ∷ monitors) (t ∷ tables) on =
     let parts = and_parts (monitor_fits_counts m t) (monitors_fit_counts monitors tables) on in
-    All-cons (λ (m : Monitor). m.reactor ≢ reactors.Panic) m monitors (narrow-calm m t parts.0) (all-calm monitors tables parts.1)
+    All-cons (λ (m : Monitor). is_panic m.reactor ≡ false) m monitors (narrow-calm m t parts.0) (all-calm monitors tables parts.1)
 
 -- the one at a place is narrow
 pub narrow-at : (monitors : List Monitor) (tables : List Table) (n : ℕ) (m : Monitor) (t : Table) → m ≡ get_or monitors n m → t ≡ get_or tables n t → n < length monitors → monitors_fit_counts monitors tables ≡ true → monitor_fits_counts m t ≡ true

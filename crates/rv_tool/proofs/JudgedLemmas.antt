@@ -7,13 +7,14 @@ use Rattle.std.proofs.lemmas.List.{append-nil, length-map}
 use Rattle.std.proofs.lemmas.List.Elements.{All-nil, All-cons, All-head, All-tail, All-weaker}
 use Rattle.rv_model.specs.declared.formula.Spec.{Spec}
 use Rattle.rv_model.specs.declared.reactor.Reactor.{Reactor}
+use Rattle.rv_model.specs.Histories.{input_with}
 use Rattle.rv_model.specs.Numbers.{has_bit, number_of}
 use Rattle.rv_model.specs.Setups.{Setup}
 use Rattle.rv_model.specs.Works.{Work}
 use Rattle.rv_model.proofs.NumberLemmas.{number_of-lt, has_bit-number_of}
 use Rattle.rv_core.specs.Judged.{JudgesBySpecs}
 use Rattle.rv_feed.specs.Lane.{LaneValue, FitsLane, FitLanes, panics_of, works_of}
-use Rattle.rv_check.specs.Beginnings.{FitsWork, FitWorks, input_of}
+use Rattle.rv_check.specs.Beginnings.{FitsWork, FitWorks}
 use Rattle.rv_check.specs.declared.reading.Verdict.{Verdict}
 use Rattle.rv_check.specs.Readings.{ReaderValue, with_more_text, grown}
 use Rattle.rv_check.specs.Verdicts.{Journal, VerdictHolds}
@@ -91,7 +92,7 @@ work_taken works more lane work items rest all split so_far is added =
 -- ---- what is judged
 
 -- without changes it is the run that is judged
-run_is : (i : InputValue) → i.changes ≡ [] → length i.bound.monitors ≤ 32 → input_of (run_of i).setup (run_of i).specs (has_bit (panic_bits i)) (run_of i).works ≡ run_of i
+run_is : (i : InputValue) → i.changes ≡ [] → length i.bound.monitors ≤ 32 → input_with (run_of i).setup (run_of i).specs (has_bit (panic_bits i)) (run_of i).works [] ≡ run_of i
 run_is i unchanged few =
     let reactors : List Reactor = map (λ (m : Monitor). m.reactor) i.bound.monitors in
     let many : length reactors ≡ length i.bound.monitors = length-map i.bound.monitors (λ (m : Monitor). m.reactor) in

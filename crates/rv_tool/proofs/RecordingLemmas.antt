@@ -1,5 +1,5 @@
 -- What is recorded has the journal of a legal history of the whole input.
-use Rattle.std.proofs.Common.{◌≡◌, ℕ, ◌<◌, ◌^◌, ◌%◌, ◌==◌, Bool, true, false, List, length, refl, sym, ap, ◌∙◌, subst, arith}
+use Rattle.std.proofs.Common.{◌≡◌, ℕ, ◌<◌, ◌^◌, ◌%◌, ◌==◌, Bool, true, false, List, [], length, refl, sym, ap, ◌∙◌, subst, arith}
 use Rattle.std.specs.Prelude.{All, AllPairs, Any}
 use Rattle.std.specs.List.{AllZip, list_any}
 use Rattle.std.proofs.Math.Nat.{div-eq_of_lt}
@@ -8,7 +8,7 @@ use Rattle.std.proofs.lemmas.List.Folds.{list_any-from_Any}
 use Rattle.rv_model.specs.declared.entry.Entry.{Entry}
 use Rattle.rv_model.specs.declared.hit.Hit.{Hit}
 use Rattle.rv_model.specs.declared.work.Delivery.{Delivery}
-use Rattle.rv_model.specs.Histories.{Input, IsLegal}
+use Rattle.rv_model.specs.Histories.{Input, input_with, IsLegal}
 use Rattle.rv_model.specs.Numbers.{has_bit, number_of}
 use Rattle.rv_model.specs.Scripts.{is_end}
 use Rattle.rv_model.specs.Setups.{Setup}
@@ -21,7 +21,7 @@ use Rattle.rv_control.specs.Opening.{enables, opening_switches}
 use Rattle.rv_feed.specs.Lane.{works_of}
 use Rattle.rv_route.specs.Fitting.{IsDeliveryOf, FromRules}
 use Rattle.rv_journal.specs.EntryTexts.{journal_of, IsEntry}
-use Rattle.rv_journal.specs.Running.{FitsCountedWork, recorded_input, IsLegalBy}
+use Rattle.rv_journal.specs.Running.{FitsCountedWork, IsLegalBy}
 use Rattle.rv_journal.specs.Enabled.{IsEnabledWork}
 use Rattle.rv_journal.specs.Whole.{IsWholeRun}
 use Rattle.rv_journal.proofs.EnabledFitLemmas.{shown-ascends, shown-of-each}
@@ -85,11 +85,11 @@ module _ (ready : Prepared) (is : IsRecordable ready) (shown : List Work) (are :
   steady = record { no_changes = is.unchanged; no_panics = calm ready.bindings.monitors.items (all-calm ready.bindings.monitors.items ready.setup.tables is.narrow) }
 
   -- the input of what is shown is the run's with these works
-  input_is : recorded_input ready.setup (run_of (prepared_value ready)).specs shown ≡ record (run_of (prepared_value ready)) { works = shown }
+  input_is : input_with ready.setup (run_of (prepared_value ready)).specs (λ _. false) shown [] ≡ record (run_of (prepared_value ready)) { works = shown }
   input_is = λ j. record { setup = is.ready.setup j; specs = (run_of (prepared_value ready)).specs; panics = λ m. (sym (steady.no_panics m)) j; works = shown; changes = (sym is.unchanged) j }
 
   -- a history of what is shown is one of the run
-  whole_legal : (h : List Entry) → IsLegal (recorded_input ready.setup (run_of (prepared_value ready)).specs shown) (judges_of ready.setup) h → IsLegal (run_of (prepared_value ready)) (judges_of ready.setup) h
+  whole_legal : (h : List Entry) → IsLegal (input_with ready.setup (run_of (prepared_value ready)).specs (λ _. false) shown []) (judges_of ready.setup) h → IsLegal (run_of (prepared_value ready)) (judges_of ready.setup) h
   whole_legal h legal =
       let low = low_switches ready.bindings.monitors.items in
       shown_is_enough (run_of (prepared_value ready)) (judges_of ready.setup) shown h steady (omega arith)

@@ -6,12 +6,11 @@ use Rattle.rv_model.specs.declared.formula.Spec.{Spec}
 use Rattle.rv_model.specs.declared.reactor.Reactor.{Reactor}
 use Rattle.rv_model.specs.declared.record.Record.{Record}
 use Rattle.rv_model.specs.declared.work.Change.{Change}
-use Rattle.rv_model.specs.Histories.{Input}
+use Rattle.rv_model.specs.Histories.{Input, input_with}
 use Rattle.rv_model.specs.Records.{sort_records, status_of}
 use Rattle.rv_model.specs.Reports.{report_text}
 use Rattle.rv_model.specs.Setups.{Setup}
 use Rattle.rv_feed.specs.Lane.{LaneValue, works_of, panics_of}
-use Rattle.rv_feed.specs.AtOnce.{input_with}
 use Rattle.rv_feed.specs.Runs.{IsRunOf}
 use Rattle.rv_report.specs.Reported.{reported}
 use Rattle.rv_bind.specs.declared.bindings.Monitor.{Monitor}
@@ -29,11 +28,11 @@ module _ (Is : Histories) (i : InputValue) (setup : Setup) (reactors : List Reac
   specs = map (λ (m : Monitor). m.spec) i.bound.monitors
 
   -- what is run is the run of the input
-  input_is : input_with setup specs (panics_of reactors) lanes changes ≡ run_of i
+  input_is : input_with setup specs (panics_of reactors) (works_of lanes) changes ≡ run_of i
   input_is = λ j. record { setup = setup_is j; specs = specs; panics = panics_of (reactors_are j); works = works_are j; changes = changes_are j }
 
   -- a run of the lanes beside the changes
-  pub reported_is : (rs : List Record) (h : List Entry) (text : List ℕ) (status : ℕ) → IsRunOf Is (input_with setup specs (panics_of reactors) lanes changes) rs h
+  pub reported_is : (rs : List Record) (h : List Entry) (text : List ℕ) (status : ℕ) → IsRunOf Is (input_with setup specs (panics_of reactors) (works_of lanes) changes) rs h
       → text ≡ report_text (map (reported i.bound.containers) i.bound.monitors) i.routed.tasks (sort_records rs) → status ≡ status_of rs → IsReported Is i h text status
   reported_is rs h text status run text_is status_is =
       let o : IsRunOf Is (run_of i) rs h = subst (λ (x : Input). IsRunOf Is x rs h) input_is run in

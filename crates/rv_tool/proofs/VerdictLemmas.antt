@@ -1,21 +1,20 @@
 -- What is told of lone slots follows from what was read.
 use Rattle.std.proofs.Common.{◌≡◌, ◌≢◌, ℕ, zero, suc, false, List, [], ◌∷◌, map, refl, sym, ap, ◌∙◌, subst}
-use Rattle.std.specs.Prelude.{Some, All, Result, Ok, Err, IfOk}
+use Rattle.std.specs.Prelude.{All, Result, Ok, Err, IfOk}
 use Rattle.std.specs.declared.alloc.AllocError.{AllocError}
 use Rattle.std.proofs.lemmas.List.Elements.{All-head, All-tail}
 use Rattle.rv_model.specs.declared.entry.Act.TheVariants.{Stop}
 use Rattle.rv_model.specs.declared.entry.Entry.{Entry}
-use Rattle.rv_model.specs.declared.reactor.Reactor.{Reactor}
-use Rattle.rv_model.specs.declared.reactor.Reactor.TheVariants as reactors
 use Rattle.rv_model.specs.Cuts.{AtEach}
 use Rattle.rv_model.specs.Histories.{IsLegal, IsOneHistory, AreJudges}
 use Rattle.rv_model.specs.Judging.{Judge}
+use Rattle.rv_model.specs.Reactors.{is_panic}
 use Rattle.rv_model.specs.Records.{records_of, status_of}
 use Rattle.rv_model.specs.Reports.{report_text}
 use Rattle.rv_model.specs.Setups.{slot_of}
 use Rattle.rv_model.proofs.OneJudgeLemmas.{lists-same}
 use Rattle.rv_bind.specs.declared.bindings.Monitor.{Monitor}
-use Rattle.rv_feed.specs.Lane.{panics_of, is_panic_reactor}
+use Rattle.rv_feed.specs.Lane.{panics_of}
 use Rattle.rv_report.specs.Reported.{reported}
 use Rattle.rv_laws.specs.Verdicts.{IsSteady, AgreeOnSingleWriter}
 use Rattle.rv_laws.proofs.StatusLemmas.{all_lone_give_no_six}
@@ -32,16 +31,11 @@ use Rattle.rv_tool.proofs.CpuLemmas.{FitCpus, ready_routed, cpu_is_lone, all_are
 
 -- ---- reactors
 
--- another reactor is not panic
-calm-one : (r : Reactor) → r ≢ reactors.Panic → is_panic_reactor (Some r) ≡ false
-calm-one reactors.Panic other = absurd (other refl)
-calm-one _ other = refl
-
 -- where no reactor is panic, none of a number is
-pub calm : (monitors : List Monitor) → All (λ (m : Monitor). m.reactor ≢ reactors.Panic) monitors → (number : ℕ) → panics_of (map (λ (m : Monitor). m.reactor) monitors) number ≡ false
+pub calm : (monitors : List Monitor) → All (λ (m : Monitor). is_panic m.reactor ≡ false) monitors → (number : ℕ) → panics_of (map (λ (m : Monitor). m.reactor) monitors) number ≡ false
 calm [] none number = refl
-calm (m ∷ monitors) none zero = calm-one m.reactor (All-head (λ (m : Monitor). m.reactor ≢ reactors.Panic) m monitors none)
-calm (m ∷ monitors) none (suc number) = calm monitors (All-tail (λ (m : Monitor). m.reactor ≢ reactors.Panic) m monitors none) number
+calm (m ∷ monitors) none zero = All-head (λ (m : Monitor). is_panic m.reactor ≡ false) m monitors none
+calm (m ∷ monitors) none (suc number) = calm monitors (All-tail (λ (m : Monitor). is_panic m.reactor ≡ false) m monitors none) number
 
 -- ---- a report
 module _ (i : InputValue) (unchanged : i.changes ≡ []) (h : List Entry) (text : List ℕ) (status : ℕ) (is : IsReported IsLegal i h text status) where

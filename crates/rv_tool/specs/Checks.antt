@@ -2,14 +2,13 @@
 use Rattle.std.specs.Prelude.{◌≡◌, ℕ, List, [], ◌++◌, codes, decimal, map}
 use Rattle.rv_io.specs.Files.{Files}
 use Rattle.rv_model.specs.declared.entry.Entry.{Entry}
-use Rattle.rv_model.specs.Histories.{AreJudges}
+use Rattle.rv_model.specs.Histories.{input_with, AreJudges}
 use Rattle.rv_model.specs.Numbers.{has_bit, number_of}
 use Rattle.rv_core.specs.Setup.{judges_of}
 use Rattle.rv_feed.specs.Lane.{panics_of}
 use Rattle.rv_bind.specs.Outcomes.{Outcome, accepted, reading, of_text}
 use Rattle.rv_check.specs.declared.reading.Verdict.{Verdict}
 use Rattle.rv_check.specs.declared.reading.Verdict.TheVariants.{Yes, No}
-use Rattle.rv_check.specs.Beginnings.{input_of}
 use Rattle.rv_check.specs.Verdicts.{Journal, VerdictHolds}
 use Rattle.rv_tool.specs.Headline.{Ending, PrintsSome}
 use Rattle.rv_tool.specs.Inputs.{InputValue, run_input, run_of}
@@ -36,7 +35,7 @@ judged i text = record { setup = (run_of i).setup; panics = panic_bits i; works 
 -- the tables are judges of the specifications; what is judged is the run; and the verdict holds of the journal
 pub record IsJudged (c : CheckedValue) (verdict : Verdict) : Type 0 where
   pub are_judges : AreJudges (run_of c.input).specs (run_of c.input).setup.tables (judges_of (run_of c.input).setup)
-  pub is_run : input_of (run_of c.input).setup (run_of c.input).specs (has_bit (panic_bits c.input)) (run_of c.input).works ≡ run_of c.input
+  pub is_run : input_with (run_of c.input).setup (run_of c.input).specs (has_bit (panic_bits c.input)) (run_of c.input).works [] ≡ run_of c.input
   pub holds : VerdictHolds (judged c.input c.journal) (run_of c.input).specs verdict
 
 -- `yes`, or `no` with the line that decides it

@@ -1,13 +1,13 @@
 -- What is told of a history: on one thread that the input determines it, and of a run on several what one thread tells of slots that only one CPU has deliveries for.
-use Rattle.std.specs.Prelude.{◌≡◌, ◌≢◌, ◌<◌, ℕ, List, Option, Some, All}
+use Rattle.std.specs.Prelude.{◌≡◌, ◌≢◌, ◌<◌, ℕ, false, List, Option, Some, All}
 use Rattle.rv_io.specs.Files.{Files}
 use Rattle.rv_model.specs.declared.entry.Act.TheVariants.{Stop}
 use Rattle.rv_model.specs.declared.entry.Entry.{Entry}
-use Rattle.rv_model.specs.declared.reactor.Reactor.TheVariants.{Panic}
 use Rattle.rv_model.specs.declared.work.Scope.TheVariants.{Cpu}
 use Rattle.rv_model.specs.Cuts.{AtEach}
 use Rattle.rv_model.specs.Histories.{IsLegal, IsNoStop, IsOneHistory, AreJudges}
 use Rattle.rv_model.specs.Judging.{Judge}
+use Rattle.rv_model.specs.Reactors.{is_panic}
 use Rattle.rv_model.specs.Records.{records_of}
 use Rattle.rv_model.specs.Setups.{slot_of}
 use Rattle.rv_slots.specs.declared.shape.TheConstants.{CPUS}
@@ -26,7 +26,7 @@ HasOneWriterIn i slot = HasOneWriter (run_of i).setup.shape (run_of i).works slo
 
 -- no monitor's reactor is panic
 abbrev pub HasNoPanic : InputValue → Type 0
-HasNoPanic i = All (λ m. m.reactor ≢ Panic) i.bound.monitors
+HasNoPanic i = All (λ m. is_panic m.reactor ≡ false) i.bound.monitors
 
 -- ---- monitors by CPU
 

@@ -14,7 +14,7 @@ use crate::input::{Prepared, read_input};
 use rv_bind::{BindFault, fetch};
 use rv_check::{Checker, JournalReader, Verdict};
 use rv_core::Setup;
-use rv_feed::Lane;
+use rv_feed::{Lane, is_panic};
 use rv_io::Store;
 use rv_model::{CpuWork, Reactor};
 use rv_text::{CLEAN, FAILURE, Line};
@@ -49,20 +49,13 @@ pub(crate) fn verdict_status(verdict: Verdict) -> u8
     }
 }
 
-/// Whether there is a monitor at this place, and its reactor is panic.
-fn is_panic(reactors: &[Reactor], place: usize) -> bool
-    ensures { result ≡ panics_of reactors.now place }
-{
-    matches!(reactors.get(place), Some(Reactor::Panic))
-}
-
 /// A bit for each monitor whose reactor is panic, by its place.
 fn panic_bits(reactors: &[Reactor]) -> u32
     ensures { result ≡ number_of (panics_of reactors.now) 32 }
 {
     let mut bits: u64 = 0;
     let mut bit: u64 = 1;
-    for place in 0..32usize {
+    for place in 0..32u8 {
         if is_panic(reactors, place) {
             bits += bit;
         }

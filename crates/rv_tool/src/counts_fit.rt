@@ -4,7 +4,7 @@ ghost use Rattle.rv_table.specs.Rows.{row_count};
 ghost use Rattle.rv_tool.specs.CountsFit.{atom_count, monitor_fits_counts, monitors_fit_counts};
 
 use rv_bind::Monitor;
-use rv_model::{Reactor, Spec};
+use rv_model::Spec;
 use rv_table::Table;
 
 /// The bits that a word with a count has for an instance.
@@ -32,10 +32,7 @@ pub(crate) fn atom_count(spec: &Spec) -> usize
 fn monitor_fits_counts(monitor: &Monitor, table: &Table) -> bool
     ensures { result ≡ monitor_fits_counts monitor.now table.now }
 {
-    match monitor.reactor {
-        Reactor::Panic => false,
-        _ => atom_count(&monitor.spec) <= (BITS - row_count(table)) as usize,
-    }
+    atom_count(&monitor.spec) <= (BITS - row_count(table)) as usize && !monitor.reactor.is_panic()
 }
 
 /// Whether a run of these monitors can be numbered, which have these tables.

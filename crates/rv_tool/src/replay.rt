@@ -1,7 +1,7 @@
 //! A run on one thread.
 ghost use Rattle.std.specs.Prelude.{◌≡◌, [], IfOk};
 ghost use Rattle.rv_model.specs.Histories.{IsOneHistory};
-ghost use Rattle.rv_feed.specs.One.{lane_records};
+ghost use Rattle.rv_feed.specs.Lane.{lane_records};
 ghost use Rattle.rv_tool.specs.Headline.{IsReported};
 ghost use Rattle.rv_tool.specs.inner.LaneReports.{ReportsLanes};
 ghost use Rattle.rv_tool.specs.inner.Prepared.{prepared_value, IsPrepared};

@@ -7,7 +7,7 @@ use Rattle.std.proofs.lemmas.List.Elements.{All-weaker}
 use Rattle.rv_model.specs.declared.entry.Entry.{Entry}
 use Rattle.rv_model.specs.declared.formula.Spec.{Spec}
 use Rattle.rv_model.specs.declared.record.Record.{Record}
-use Rattle.rv_model.specs.Histories.{Input, IsSound, AreJudges}
+use Rattle.rv_model.specs.Histories.{Input, input_with, IsSound, IsLegal, AreJudges}
 use Rattle.rv_model.specs.Seats.{known_of, entries_of}
 use Rattle.rv_model.specs.Setups.{Setup}
 use Rattle.rv_model.specs.SharedWords.{word_of}
@@ -23,14 +23,14 @@ use Rattle.rv_board.proofs.SoundLemmas.{sound-empty}
 use Rattle.rv_board.proofs.ListLemmas.{Any-implied, zip-with, zip-left}
 use Rattle.rv_board.proofs.RunSeatLemmas.{follows-then, holds-itself, holds-still, holds-joined}
 use Rattle.rv_feed.specs.declared.feeder.Feeder.{Feeder}
-use Rattle.rv_feed.specs.AtOnce.{input_with, IsLegalOf, IsSeated, lanes_of, AreSeated}
+use Rattle.rv_feed.specs.AtOnce.{IsSeated, lanes_of, AreSeated}
 use Rattle.rv_feed.specs.Feeders.{RunsFeeder}
-use Rattle.rv_feed.specs.Lane.{LaneValue, works_of}
-use Rattle.rv_feed.specs.One.{lane_records}
+use Rattle.rv_feed.specs.Lane.{LaneValue, works_of, lane_records}
+use Rattle.rv_feed.specs.Runs.{IsRunOf}
 use Rattle.rv_feed.proofs.AtOnceLemmas.{IsFed, fed-says, fed-works}
 use Rattle.rv_feed.proofs.ChangeLemmas.{does-none}
 use Rattle.rv_watch.specs.declared.watcher.Watcher.{Watcher}
-use Rattle.rv_watch.specs.Runs.{IsWatched, IsWatchedOf}
+use Rattle.rv_watch.specs.Runs.{IsWatched}
 use Rattle.rv_watch.specs.Watching.{WatchesSlot}
 use Rattle.rv_watch.specs.Words.{AreWords, word_after}
 use Rattle.rv_watch.proofs.IdleLemmas.{grows-holds, holds-through, none-of-fresh, two-known, zero-known, other-known, from-one, from-one-within}
@@ -196,7 +196,7 @@ module _ {G : Type 0} (board : BoardId) (panics : ℕ → Bool) (h : List Entry)
     run-last = run.last_is ∙ ap (λ (l : List Entry). word_of board.setup (judges_of board.setup) (reverse l) slot) (sym whole ∙ sym (take_all (length h) h (omega arith)))
 
     -- so it is a watched run
-    pub run-watched : (specs : List Spec) → AreJudges specs board.setup.tables (judges_of board.setup) → IsWatchedOf slot w'.words.items last (input_with board.setup specs panics (lanes_of fs) []) (lane_records (lanes_of fs')) h
+    pub run-watched : (specs : List Spec) → AreJudges specs board.setup.tables (judges_of board.setup) → IsRunOf (IsWatched slot w'.words.items last) (input_with board.setup specs panics (works_of (lanes_of fs)) []) (lane_records (lanes_of fs')) h
     run-watched specs are = fed-says board panics h idle actor actor [] fs fs' run-fed specs (IsWatched slot w'.words.items last) (λ legal. record { legal = legal; kept_are = run-words; last_is = run-last }) are
 
     -- the works are as before
@@ -205,11 +205,11 @@ module _ {G : Type 0} (board : BoardId) (panics : ℕ → Bool) (h : List Entry)
 
     -- as it is told of the setup and the lanes of the call
     pub run-promised : (setup : Setup) (back : List LaneValue) (specs : List Spec) → board.setup ≡ setup → back ≡ lanes_of fs' → AreJudges specs setup.tables (judges_of setup)
-        → IsWatchedOf slot w'.words.items last (input_with setup specs panics lanes []) (lane_records back) h
+        → IsRunOf (IsWatched slot w'.words.items last) (input_with setup specs panics (works_of lanes) []) (lane_records back) h
     run-promised setup back specs setup_is back_is are =
         let judges : AreJudges specs board.setup.tables (judges_of board.setup) = subst (λ (s : Setup). AreJudges specs s.tables (judges_of s)) (sym setup_is) are in
-        subst (λ (z : Setup × (List LaneValue × List LaneValue)). IsWatchedOf slot w'.words.items last (input_with z.0 specs panics z.1.0 []) (lane_records z.1.1) h) (λ i. (setup_is i, (sym run.seated.lanes_are i, sym back_is i))) (run-watched specs judges)
+        subst (λ (z : Setup × (List LaneValue × List LaneValue)). IsRunOf (IsWatched slot w'.words.items last) (input_with z.0 specs panics (works_of z.1.0) []) (lane_records z.1.1) h) (λ i. (setup_is i, (sym run.seated.lanes_are i, sym back_is i))) (run-watched specs judges)
 
 -- a watched run is legal
-pub legal-of-watched : (slot : ℕ) (words : List ℕ) (last : ℕ) (input : Input) (rs : List Record) (h : List Entry) → IsWatchedOf slot words last input rs h → IsLegalOf input rs h
+pub legal-of-watched : (slot : ℕ) (words : List ℕ) (last : ℕ) (input : Input) (rs : List Record) (h : List Entry) → IsRunOf (IsWatched slot words last) input rs h → IsRunOf IsLegal input rs h
 legal-of-watched slot words last input rs h run = record { judges = run.judges; are_judges = run.are_judges; history = run.history.legal; records_are = run.records_are; status_is = run.status_is }

@@ -1,10 +1,8 @@
 -- What a watched run comes to.
 use Rattle.std.specs.Prelude.{◌≡◌, ℕ, List, length}
 use Rattle.rv_model.specs.declared.entry.Entry.{Entry}
-use Rattle.rv_model.specs.declared.record.Record.{Record}
 use Rattle.rv_model.specs.Judging.{Judge}
 use Rattle.rv_model.specs.Histories.{Input, IsLegal}
-use Rattle.rv_feed.specs.Runs.{IsRunOf}
 use Rattle.rv_watch.specs.Words.{AreWords, word_after}
 
 -- the history is a legal one of the input, and by the same judges these are the slot's words at places of it that never fall, the last one at its end
@@ -12,7 +10,3 @@ pub record IsWatched (slot : ℕ) (words : List ℕ) (last : ℕ) (input : Input
   pub legal : IsLegal input js h
   pub kept_are : AreWords input.setup js h slot 0 words
   pub last_is : last ≡ word_after input.setup js h slot (length h)
-
--- there are judges of the specifications by which it is so, and these are the history's records
-abbrev pub IsWatchedOf : ℕ → List ℕ → ℕ → Input → List Record → List Entry → Type 0
-IsWatchedOf slot words last = IsRunOf (IsWatched slot words last)

@@ -1,14 +1,12 @@
 //! A whole run at once, with a watcher beside the CPUs.
-ghost use Rattle.std.specs.Prelude.{◌≡◌, ◌<◌, [], List, length, sum, All, AllPairs, IfOk};
+ghost use Rattle.std.specs.Prelude.{◌≡◌, ◌<◌, [], length, sum, All, AllPairs, IfOk};
 ghost use Rattle.std.specs.List.{AllZip};
 ghost use Rattle.std.specs.Thread.{IsSync, IsSend};
-ghost use Rattle.rv_model.specs.declared.formula.Spec.{Spec};
-ghost use Rattle.rv_core.specs.Judged.{AllMean};
-ghost use Rattle.rv_feed.specs.AtOnce.{input_with, IsLegalOf};
+ghost use Rattle.rv_model.specs.Histories.{IsLegal};
 ghost use Rattle.rv_feed.specs.Feeders.{FitsFeeder, RunsFeeder};
-ghost use Rattle.rv_feed.specs.Lane.{FitsLane, panics_of, works_of};
-ghost use Rattle.rv_feed.specs.One.{lane_records};
-ghost use Rattle.rv_watch.specs.Runs.{IsWatchedOf};
+ghost use Rattle.rv_feed.specs.Lane.{FitsLane, panics_of, works_of, lane_records};
+ghost use Rattle.rv_feed.specs.Runs.{IsRunBySpecs};
+ghost use Rattle.rv_watch.specs.Runs.{IsWatched};
 ghost use Rattle.rv_watch.specs.Watching.{CanWatch, WatchesSlot};
 ghost use Rattle.rv_watch.specs.Words.{AreKept};
 
@@ -89,9 +87,9 @@ pub fn feed_watched<R: Threads + Sync, G: Gate + Send>(
     requires fit { All (FitsLane setup) lanes.items }
     requires ascend { AllPairs (λ l m. l.work.cpu < m.work.cpu) lanes.items }
     requires slot { slot < sum setup.shape }
-    ensures legal { IfOk result (λ run. (specs : List Spec) → AllMean specs setup.tables → IsLegalOf (input_with setup specs (panics_of reactors.now) lanes.items []) (lane_records run.lanes.items) run.closed) }
+    ensures legal { IfOk result (λ run. IsRunBySpecs IsLegal setup (panics_of reactors.now) (works_of lanes.items) [] (lane_records run.lanes.items) run.closed) }
     ensures works { IfOk result (λ run. works_of run.lanes.items ≡ works_of lanes.items) }
-    ensures words { IfOk result (λ run. (specs : List Spec) → AllMean specs setup.tables → IsWatchedOf slot run.words.items run.last (input_with setup specs (panics_of reactors.now) lanes.items []) (lane_records run.lanes.items) run.closed) }
+    ensures words { IfOk result (λ run. IsRunBySpecs (IsWatched slot run.words.items run.last) setup (panics_of reactors.now) (works_of lanes.items) [] (lane_records run.lanes.items) run.closed) }
     ensures kept { IfOk result (λ run. AreKept run.words.items) }
 {
     setup.assert_invariant();

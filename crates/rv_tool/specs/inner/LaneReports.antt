@@ -6,7 +6,7 @@ use Rattle.rv_model.specs.declared.record.Task.{Task}
 use Rattle.rv_model.specs.Records.{sort_records, status_of}
 use Rattle.rv_model.specs.Reports.{report_text}
 use Rattle.rv_bind.specs.declared.bindings.Bindings.{Bindings}
-use Rattle.rv_feed.specs.One.{lane_records}
+use Rattle.rv_feed.specs.Lane.{lane_records}
 use Rattle.rv_report.specs.Reported.{reported_of}
 use Rattle.rv_watch.specs.declared.running.Watched.{Watched}
 use Rattle.rv_watch.specs.Texts.{words_text}

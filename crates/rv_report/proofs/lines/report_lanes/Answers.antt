@@ -5,8 +5,7 @@ use Rattle.std.proofs.lemmas.Result.{IfOk-weaker}
 use Rattle.rv_model.specs.declared.record.Record.{Record}
 use Rattle.rv_model.specs.Records.{sort_records}
 use Rattle.rv_model.specs.Reports.{report_text}
-use Rattle.rv_feed.specs.Lane.{LaneValue}
-use Rattle.rv_feed.specs.One.{lane_records}
+use Rattle.rv_feed.specs.Lane.{LaneValue, lane_records}
 use Rattle.rv_report.specs.Exit.{IsStatus}
 use Rattle.rv_report.specs.Reported.{reported, reported_of}
 use Rattle.rv_report.specs.inner.Tallies.{IsFound}

@@ -1,6 +1,6 @@
 -- The records of the lanes so far are found.
 use Rattle.std.proofs.Common.{take}
-use Rattle.rv_feed.specs.One.{lane_records}
+use Rattle.rv_feed.specs.Lane.{lane_records}
 use Rattle.rv_report.specs.Reported.{reported_of}
 use Rattle.rv_report.specs.inner.Tallies.{IsFound}
 use Rattle.rv_report.proofs.lines.report_lanes.Given as goal

@@ -2,8 +2,7 @@ use Rattle.std.proofs.Common.{List, refl, ◌∙◌, subst}
 use Rattle.std.specs.Prelude.{IfOk}
 use Rattle.std.proofs.lemmas.Result.{IfOk-weaker}
 use Rattle.rv_model.specs.Histories.{IsLegal}
-use Rattle.rv_feed.specs.Lane.{LaneValue}
-use Rattle.rv_feed.specs.One.{lane_records}
+use Rattle.rv_feed.specs.Lane.{LaneValue, lane_records}
 use Rattle.rv_tool.specs.declared.replay.FinishedRun.{FinishedRun}
 use Rattle.rv_tool.specs.Headline.{IsReported}
 use Rattle.rv_tool.specs.inner.LaneReports.{ReportsLanes}
