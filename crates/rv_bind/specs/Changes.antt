@@ -103,7 +103,7 @@ event_of events [] = Err BIND_SYNTAX
 event_of events (word ∷ []) = event_what (place_named events word)
 event_of events (word ∷ next ∷ words) = Err BIND_SYNTAX
 
--- what a hit brings that is no end: the event of the words, or their changes of atoms
+-- what a hit other than an end brings: the event of the words, or their changes of atoms
 abbrev pub what_of : Spec → Words → Result What ℕ
 what_of (specs.Da automaton) words = event_of automaton.events words
 what_of (specs.Ltl rule) words = atoms_change rule.atoms words

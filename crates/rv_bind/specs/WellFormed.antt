@@ -30,13 +30,13 @@ kind_of m = record { scope = m.scope; spec = m.spec; starting = m.starting }
 abbrev pub kinds_of : List Monitor → List MonitorKind
 kinds_of monitors = map kind_of monitors
 
--- what is brought is an event, one of the first `count`
+-- the hit brings an event, one of the first `count`
 abbrev pub FitsEvents : ℕ → What → Type 0
 FitsEvents count (whats.Da event) = event < count
 FitsEvents count (whats.Ltl on off pulse) = ⊥
 FitsEvents count whats.Nothing = ⊥
 
--- what is brought are sets of the first `count` atoms
+-- the hit brings sets of atoms, all among the first `count`
 abbrev pub FitsAtoms : ℕ → What → Type 0
 FitsAtoms count (whats.Da event) = ⊥
 FitsAtoms count whats.Nothing = ⊥

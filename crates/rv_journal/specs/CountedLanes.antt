@@ -46,8 +46,8 @@ abbrev pub EndsAs : Setup → ℕ → Delivery → List Entry → List Entry →
 EndsAs s slot d before since entry (Done answer) = (entry.act ≡ Deliver slot d.hit) × (answer ≡ answer_at s (judges_of s) (reverse before) entry entry.act)
 EndsAs s slot d before since entry Racing = (entry.act ≡ Stop slot) × (3 ≤ length (filter (changed slot) since))
 
--- what the delivery observed is so in the list: its first load comes after all of `seen`, and before its entry the
--- entries of known numbers are `own`, none of them since that load
+-- what the delivery observed is so in the list: its first load comes after all of `seen`; of the known numbers the list
+-- has the entries `own` before that load, and none from there up to the delivery's entry
 pub record IsObserved (s : Setup) (known : ℕ → Bool) (seen list own : List Entry) (d : Delivery) (observed : Counted) : Type 0 where
   pub earlier : List Entry
   pub unseen : List Entry

@@ -13,7 +13,7 @@ fn assert_word(word: u64)
     ensures { word < 2 ^ 64 }
 {}
 
-/// A set fits 32 bits.
+/// A set of atoms fits 32 bits.
 fn assert_set(set: u32)
     ensures { set < 2 ^ 32 }
 {}

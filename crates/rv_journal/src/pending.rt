@@ -81,7 +81,7 @@ pub fn hold_items(waits: &mut Pending, items: &[Counted]) -> Result<(), AllocErr
     Ok(())
 }
 
-/// Releases what a step holds until it is placed.
+/// Releases the interval of a step that is placed, if its entry left the word.
 fn release_step(waits: &mut Pending, step: &MergeStep) -> Result<(), AllocError>
     requires { (g : VersionInterval) → step_pending g step.now ≤ pending_at waits.old g }
     ensures { OnOk result (Fallen waits.old waits.new (λ g. step_pending g step.now)) }
@@ -97,7 +97,7 @@ fn release_step(waits: &mut Pending, step: &MergeStep) -> Result<(), AllocError>
     }
 }
 
-/// Releases what a step holds until it is its lane's next one.
+/// Releases the interval from which a Stop was lost that is now its lane's next step.
 fn release_next(waits: &mut Pending, next: &Option<NextStep>) -> Result<(), AllocError>
     requires { (g : VersionInterval) → next_pending g next.now ≤ pending_at waits.old g }
     ensures { OnOk result (Fallen waits.old waits.new (λ g. next_pending g next.now)) }
@@ -116,7 +116,7 @@ fn release_next(waits: &mut Pending, next: &Option<NextStep>) -> Result<(), Allo
     }
 }
 
-/// Releases what a step holds until it is placed, and what the step after it holds until it is its lane's next one.
+/// Releases the intervals that were held for a step that is placed, and for the step that is now its lane's next one.
 pub fn release_pending(
     waits: &mut Pending,
     step: &MergeStep,

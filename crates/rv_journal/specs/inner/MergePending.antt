@@ -21,7 +21,7 @@ interval slot r = record { slot = slot; version = r }
 abbrev pub interval_in : Counted → VersionInterval
 interval_in c = interval (slot_in c.entry.act) (version c)
 
--- the interval from which a Stop was lost, which no other act has
+-- the interval from which a Stop was lost; other acts have none
 abbrev pub lost_interval : Act → ℕ → Option VersionInterval
 lost_interval (Stop slot) first = Some (interval slot first)
 lost_interval _ first = None

@@ -18,7 +18,7 @@ abbrev pub ReadsWords : {X : Type 0} → (List (List ℕ) → Reading X) → Lis
 ReadsWords reads old new None = reads old ≡ None
 ReadsWords reads old new (Some x) = reads old ≡ Some (x, new)
 
--- reads on after what was read, if something was
+-- reads on after what was read, or reads nothing where nothing was
 abbrev pub then_read : {X Y : Type 0} → Reading X → (X → List (List ℕ) → Option Y) → Option Y
 then_read None next = None
 then_read (Some read) next = next read.0 read.1

@@ -33,7 +33,7 @@ module _ {G : Type 0} where
   abbrev pub works_in : List (CountedFeeder G) → List Work
   works_in fs = reverse (map (λ f. f.lane.work) fs)
 
-  -- every number is the first seat's or a feeder's
+  -- every number below 67 is the first seat's or a feeder's
   abbrev pub CoverCounted : SeatValue → List (CountedFeeder G) → Type 0
   CoverCounted first fs = (n : ℕ) → n < 67 → (known_of first.part n ≡ true) ⊎ Any (λ f. known_of f.seat.seat.part n ≡ true) fs
 
