@@ -1,5 +1,5 @@
 -- An index within a turn: the delivery there, and which of those before it a look enables.
-use Rattle.std.proofs.Common.{◌≡◌, ℕ, ◌+◌, ◌-◌, ◌<◌, ◌≤◌, Bool, true, false, List, [], ◌∷◌, ◌++◌, length, arith, refl, sym, ap, ◌∙◌, subst, append_assoc, append-nil, take, drop, get_or, length-drop, length-append}
+use Rattle.std.proofs.Common.{◌≡◌, ℕ, ◌+◌, ◌-◌, ◌<◌, ◌≤◌, Bool, true, false, List, [], ◌∷◌, ◌++◌, length, arith, refl, sym, ap, ◌∙◌, subst, append_assoc, append-nil, take, drop, get_or, length-drop}
 use Rattle.std.specs.Prelude.{All, filter, slice_range}
 use Rattle.std.proofs.lemmas.List.{take_more, take-take, take-append-drop, get_or-drop}
 use Rattle.std.proofs.lemmas.List.Elements.{filter-append, All-get_or}
@@ -32,9 +32,11 @@ adds-join a b c rs us one two = record {
   room = let x = one.room in let y = two.room in omega arith;
 }
 
--- what was done to the item that was found at a place, with this answer, was done to the one at the place
-pub of-found : {X : Type 0} (xs : List X) (place : ℕ) {x : X} {b e : Bool} (Does : X → Bool → Type 0) → ((any : X) → x ≡ get_or xs place any) → ((any : X) → Does (get_or xs place any) b) → b ≡ e → Does x e
-of-found {X} xs place {x} {b} {e} Does found does is = subst (Does x) is (subst (λ (y : X). Does y b) (sym (found x)) (does x))
+-- the record that was kept is that of the delivery which was found at the place
+pub kept-at : {lane lane' : LaneValue} (line word place : ℕ) {d : Delivery} {outcome : Delivered} {b : Bool} → ((any : Delivery) → d ≡ get_or lane.work.deliveries place any)
+    → ((any : Delivery) → AddsRecords lane lane' (record_on line outcome b (get_or lane.work.deliveries place any) ∷ [])) → b ≡ has_bit word 33 → AddsRecords lane lane' (record-for line word d outcome ∷ [])
+kept-at {lane} {lane'} line word place {d} {outcome} {b} found keeps is =
+    subst (λ (x : Bool). AddsRecords lane lane' (record_on line outcome x d ∷ [])) is (subst (λ (x : Delivery). AddsRecords lane lane' (record_on line outcome b x ∷ [])) (sym (found d)) (keeps d))
 
 -- ---- a place of a turn
 
@@ -54,16 +56,9 @@ module _ {lane lane' : LaneValue} {rs : List Record} (turn : Turn) {place : ℕ}
   pub at-place : {d : Delivery} → ((any : Delivery) → d ≡ get_or lane'.work.deliveries place any) → AtPlace lane.work.deliveries turn place d
   at-place {d} found = record { d_is = found d ∙ ap (λ (w : Work). get_or w.deliveries place d) kept.work_is; from = from; before = before; inside = omega arith }
 
-  -- what holds of each delivery holds of it
-  pub holds-at : (P : Delivery → Type 0) → All P lane.work.deliveries → (any : Delivery) → P (get_or lane'.work.deliveries place any)
-  holds-at P all any = subst (λ (w : Work). P (get_or w.deliveries place any)) (sym kept.work_is) (All-get_or P lane.work.deliveries place any (omega arith) all)
-
-  -- its record has room
-  pub room-left : length rs ≤ place - turn.from → length lane.records ≤ turn.from → length lane.work.deliveries ≤ lane.room → length lane'.records < lane'.room
-  room-left few had room =
-      let wider = kept.room in
-      let count : length lane'.records ≡ length lane.records + length rs = ap length kept.records_are ∙ length-append lane.records rs in
-      omega arith
+-- what holds of each delivery holds of it
+pub holds-at : {ds : List Delivery} {turn : Turn} {place : ℕ} {d : Delivery} → AtPlace ds turn place d → (P : Delivery → Type 0) → All P ds → P d
+holds-at {ds} {turn} {place} {d} at P all = subst P (sym at.d_is) (All-get_or P ds place d at.inside all)
 
 -- ---- what a look enables
 

@@ -86,8 +86,12 @@ module _ {M : Type 0} (does : M → M → List Played → Type 0) (s : Setup) (p
       few = let f = done.few in omega arith;
     }
 
-    module _ (composes : Composes does) {mid : M} {outcome : Delivered} {lane'' : LaneValue} (shown : is_enabled_by word d ≡ true) (v : Serves does s cur mid d outcome) (kept : AddsRecords lane' lane'' (record-for turn.line word d outcome ∷ [])) where
-      -- the delivery with its answer, its record, and those of the turn
+    module _ (composes : Composes does) {setup : Setup} {mid : M} {outcome : Delivered} {lane'' : LaneValue} (shown : is_enabled_by word d ≡ true) (same : setup ≡ s) (served : Serves does setup cur mid d outcome) (kept : AddsRecords lane' lane'' (record-for turn.line word d outcome ∷ [])) where
+      -- the delivery is made on the same setup
+      v : Serves does s cur mid d outcome
+      v = subst (λ (z : Setup). Serves does z cur mid d outcome) same served
+
+      -- it with its answer, its record, and those of the turn
       abbrev first : Played
       first = (v.entry, v.answer)
 

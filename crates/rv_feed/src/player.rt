@@ -1,4 +1,4 @@
-//! What a script is played on: the machine of one thread, or a seat of a board.
+//! What plays a script: the machine of one thread, or a seat of a board.
 ghost use Rattle.std.specs.Prelude.{◌≡◌, ℕ, ◌+◌, List};
 ghost use Rattle.rv_model.specs.Scripts.{Played, hit_act};
 ghost use Rattle.rv_model.specs.Setups.{Setup};
@@ -10,7 +10,7 @@ use rv_core::Core;
 use rv_io::Gate;
 use rv_model::{Act, Answer, Delivered, Delivery, HALTED, Hit};
 
-/// What a CPU plays its script on.
+/// What plays a CPU's script.
 pub(crate) trait Player {
     /// What it shares with the players of other CPUs.
     type Shared;
@@ -21,7 +21,7 @@ pub(crate) trait Player {
     /// It is one of those that share this.
     ghost is_of: { Self → Self.Shared → Type 0 };
 
-    /// From the one value to the other the CPU played these entries, which have these answers.
+    /// From the one value to the other the CPU made these entries, which have these answers.
     ghost does: { ℕ → Self → Self → List Played → Type 0 };
 
     /// The switches.
@@ -46,10 +46,13 @@ pub(crate) trait Player {
         requires { is_of self.old shared.now }
         ensures { Halts (does cpu) self.old self.new };
 
+    /// It keeps what it began with.
     ghost same_setup: { (cpu : ℕ) (a b : Self) (ps : List Played) → does cpu a b ps → setup b ≡ setup a };
 
+    /// It stays one of those.
     ghost still_of: { (cpu : ℕ) (a b : Self) (ps : List Played) → does cpu a b ps → (shared : Self.Shared) → is_of a shared → is_of b shared };
 
+    /// What it did, and then something more, is what it did.
     ghost composes: { (cpu : ℕ) → Composes (does cpu) };
 }
 
@@ -65,7 +68,7 @@ fn hit_act(slot: u32, hit: &Hit) -> Act
     }
 }
 
-/// On one thread the CPUs play in turn, each as its own seat.
+/// On one thread the machine plays for each CPU, as its seat.
 impl Player for Core {
     ghost use Rattle.std.proofs.Common.{ap};
     ghost use Rattle.rv_feed.specs.inner.Turns.{Did};
@@ -110,7 +113,7 @@ impl Player for Core {
     ghost composes = { λ cpu. did-composes (2 + cpu) };
 }
 
-/// On a board each CPU has a seat of its own.
+/// At once each CPU has a seat of its own.
 impl Player for Seat {
     ghost use Rattle.std.proofs.Common.{ap, ◌∙◌};
     ghost use Rattle.rv_feed.specs.Feeding.{Adds};

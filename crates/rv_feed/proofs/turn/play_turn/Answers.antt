@@ -1,14 +1,11 @@
 -- A look, and the deliveries that it enables.
-use Rattle.std.proofs.Common.{◌≡◌, ℕ, Bool, [], ◌∷◌, sym, ap, ◌∙◌, subst, arith}
-use Rattle.rv_model.specs.declared.work.Delivery.{Delivery}
+use Rattle.std.proofs.Common.{◌≡◌, ℕ, sym, ap, ◌∙◌, subst, arith}
 use Rattle.rv_model.specs.Setups.{Setup}
 use Rattle.rv_model.specs.Works.{Work}
 use Rattle.rv_core.specs.Deliveries.{FitsDelivery}
-use Rattle.rv_feed.specs.Kept.{record_on}
 use Rattle.rv_feed.specs.Lane.{panics_of}
-use Rattle.rv_feed.specs.inner.Lane.{AddsRecords}
-use Rattle.rv_feed.specs.inner.Turns.{PartDone, Serves}
-use Rattle.rv_feed.proofs.PlaceLemmas.{place-inside, at-place, holds-at, of-found}
+use Rattle.rv_feed.specs.inner.Turns.{PartDone}
+use Rattle.rv_feed.proofs.PlaceLemmas.{place-inside, at-place, holds-at, kept-at}
 use Rattle.rv_feed.proofs.TurnLemmas.{of-cpu, turn-start, turn-off, turn-all, turn-hidden, turn-shown, turn-last}
 use Rattle.rv_feed.proofs.turn.play_turn.Goals as goal
 use Rattle.rv_feed.proofs.turn.play_turn.Goals.{then-is_enabled_by+else-ends, else-is_enabled_by}
@@ -27,36 +24,32 @@ delivery_at-delivery-requires g c = place-inside c.args.turn.now c.loop-place.in
 pub serve-outcome-requires-clause-fits : goal.serve-outcome-requires-clause-fits
 serve-outcome-requires-clause-fits g c =
     let inv = c.loop-place.invariant in
-    let d : Delivery = c.delivery_at-delivery.result in
-    let s : Setup = g.P.Player.setup c.args.player.now in
-    let fits = holds-at c.args.turn.now inv.kept c.loop-place.auto.place c.loop-place-test.true c.requires.in_list (FitsDelivery s) c.requires.fit d in
-    subst (λ (z : Setup). FitsDelivery z d) (sym (g.met.P.Player.same_setup c.behind-lane.inside.cpu _ _ _ inv.did)) (subst (FitsDelivery s) (sym (c.delivery_at-delivery.ensures d)) fits)
+    let at = at-place c.args.turn.now inv.kept c.loop-place.auto.place c.loop-place-test.true c.requires.in_list c.delivery_at-delivery.ensures in
+    let same = g.met.P.Player.same_setup c.behind-lane.inside.cpu _ _ _ inv.did in
+    subst (λ (s : Setup). FitsDelivery s c.delivery_at-delivery.result) (sym same) (holds-at at (FitsDelivery (g.P.Player.setup c.args.player.now)) c.requires.fit)
 
 pub returns-then-ends : goal.returns-then-ends
 returns-then-ends g c =
     let inv = c.loop-place.invariant in
-    let does = g.P.Player.does c.behind-lane.inside.cpu in
-    let d : Delivery = c.delivery_at-delivery.result in
+    let cpu = c.behind-lane.inside.cpu in
     let at = at-place c.args.turn.now inv.kept c.loop-place.auto.place c.loop-place-test.true c.requires.in_list c.delivery_at-delivery.ensures in
-    let served = subst (λ (s : Setup). Serves does s c.loop-place.player c.serve-outcome.new.self d c.serve-outcome.result) (g.met.P.Player.same_setup c.behind-lane.inside.cpu _ _ _ inv.did) c.serve-outcome.ensures in
-    let kept = of-found c.loop-place.lane.work.deliveries c.loop-place.place (λ (x : Delivery) (b : Bool). AddsRecords c.loop-place.lane c.keep.new.lane (record_on c.args.turn.now.line c.serve-outcome.result b x ∷ [])) c.delivery_at-delivery.ensures c.keep.ensures c.has_bit-then-is_enabled_by.ensures in
     of-cpu g.P.Player.does (ap (λ (w : Work). w.cpu) (c.behind-lane.view_is ∙ c.work.ensures))
-    (turn-last does (g.P.Player.setup c.args.player.now) (panics_of c.args.reactors.now) c.look-word.result c.args.turn.now c.args.lane.now inv at (g.met.P.Player.composes c.behind-lane.inside.cpu) (sym c.is_enabled_by.ensures ∙ c.if-is_enabled_by.true) served kept
+    (turn-last (g.P.Player.does cpu) (g.P.Player.setup c.args.player.now) (panics_of c.args.reactors.now) c.look-word.result c.args.turn.now c.args.lane.now inv at (g.met.P.Player.composes cpu)
+    (sym c.is_enabled_by.ensures ∙ c.if-is_enabled_by.true) (g.met.P.Player.same_setup cpu _ _ _ inv.did) c.serve-outcome.ensures (kept-at c.args.turn.now.line c.look-word.result c.loop-place.place c.delivery_at-delivery.ensures c.keep.ensures c.has_bit-then-is_enabled_by.ensures)
     (sym c.has_bit.ensures ∙ c.if-has_bit.false) (sym c.ends.ensures ∙ c.if-ends.true) c.halt.ensures)
 
 pub loop-place-preserved : goal.loop-place-preserved
 loop-place-preserved g c =
     let inv = c.loop-place.invariant in
-    let does = g.P.Player.does c.behind-lane.inside.cpu in
+    let cpu = c.behind-lane.inside.cpu in
+    let does = g.P.Player.does cpu in
     let s = g.P.Player.setup c.args.player.now in
     let panics = panics_of c.args.reactors.now in
-    let d : Delivery = c.delivery_at-delivery.result in
     let at = at-place c.args.turn.now inv.kept c.loop-place.auto.place c.loop-place-test.true c.requires.in_list c.delivery_at-delivery.ensures in
     elim c.if-is_enabled_by.branch [
-      | then-is_enabled_by+else-ends w ↦
-          let served = subst (λ (s : Setup). Serves does s c.loop-place.player w.serve-outcome.new.self d w.serve-outcome.result) (g.met.P.Player.same_setup c.behind-lane.inside.cpu _ _ _ inv.did) w.serve-outcome.ensures in
-          let kept = of-found c.loop-place.lane.work.deliveries c.loop-place.place (λ (x : Delivery) (b : Bool). AddsRecords c.loop-place.lane w.keep.new.lane (record_on c.args.turn.now.line w.serve-outcome.result b x ∷ [])) c.delivery_at-delivery.ensures w.keep.ensures w.has_bit-then-is_enabled_by.ensures in
-          rw (w.player-is, w.lane-is) (turn-shown does s panics c.look-word.result c.args.turn.now c.args.lane.now inv at (g.met.P.Player.composes c.behind-lane.inside.cpu) (sym c.is_enabled_by.ensures ∙ w.if-is_enabled_by.true) served kept (sym w.ends.ensures ∙ w.if-ends.false))
+      | then-is_enabled_by+else-ends w ↦ rw (w.player-is, w.lane-is) (turn-shown does s panics c.look-word.result c.args.turn.now c.args.lane.now inv at (g.met.P.Player.composes cpu)
+          (sym c.is_enabled_by.ensures ∙ w.if-is_enabled_by.true) (g.met.P.Player.same_setup cpu _ _ _ inv.did) w.serve-outcome.ensures (kept-at c.args.turn.now.line c.look-word.result c.loop-place.place c.delivery_at-delivery.ensures w.keep.ensures w.has_bit-then-is_enabled_by.ensures)
+          (sym w.ends.ensures ∙ w.if-ends.false))
       | else-is_enabled_by w ↦ rw (w.player-is, w.lane-is) (turn-hidden does s panics c.look-word.result c.args.turn.now c.args.lane.now inv at (sym c.is_enabled_by.ensures ∙ w.if-is_enabled_by.false))
     ]
 
