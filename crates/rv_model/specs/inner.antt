@@ -1,3 +1,2 @@
 pub mod EventTables
-pub mod Histories
 pub mod ScriptParts
