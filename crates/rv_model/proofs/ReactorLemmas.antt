@@ -1,22 +1,10 @@
--- Which reactors halt the run, and which one a name finds.
-use Rattle.std.proofs.Common.{◌≡◌, ◌≢◌, ◌↔◌, ◌⊎◌, inl, inr, ℕ, Bool, true, false, List, [], ◌∷◌, Some, refl, sym, ap, ◌∙◌}
-use Rattle.std.specs.Prelude.{not, find, bytes_eq}
+-- Which reactor a name finds.
+use Rattle.std.proofs.Common.{◌≡◌, ◌↔◌, ◌⊎◌, inl, inr, ℕ, Bool, true, false, List, [], ◌∷◌, Some, refl, sym, ap, ◌∙◌}
+use Rattle.std.specs.Prelude.{find, bytes_eq}
 use Rattle.std.proofs.lemmas.Slice.Eq.{bytes_eq-Decides}
 use Rattle.rv_model.specs.declared.reactor.Reactor.{Reactor}
 use Rattle.rv_model.specs.declared.reactor.Reactor.TheVariants.{Nop, Printk, Panic}
-use Rattle.rv_model.specs.Reactors.{all_reactors, is_panic, reactor_name, reactor_named}
-
--- another reactor does not
-pub other-calm : (reactor : Reactor) → reactor ≢ Panic → is_panic reactor ≡ false
-other-calm Panic other = absurd (other refl)
-other-calm _ other = refl
-
--- what does not is another reactor
-pub calm-other : (reactor : Reactor) → not (is_panic reactor) ≡ true → reactor ≢ Panic
-calm-other Panic calm same = absurd (let no : false ≡ true = calm in cc)
-calm-other _ calm same = cc
-
--- ---- names
+use Rattle.rv_model.specs.Reactors.{all_reactors, reactor_name, reactor_named}
 
 -- a test has two answers
 bool_or : (b : Bool) → (b ≡ true) ⊎ (b ≡ false)

@@ -1,4 +1,3 @@
 pub mod EventTables
-pub mod Histories
 pub mod ScriptParts
 pub mod Sorting
