@@ -12,20 +12,21 @@ use Rattle.rv_tool.specs.declared.replay.FinishedRun.{FinishedRun}
 use Rattle.rv_tool.specs.Checks.{CheckedValue, IsJudged, IsCheckReport, verdict_text, verdict_status}
 use Rattle.rv_tool.specs.inner.Checks.{JudgesRead, IsVerdict}
 use Rattle.rv_tool.specs.inner.Commands.{ComesTo, IsFinished, IsText}
+use Rattle.rv_tool.specs.SomeInputs.{IsSomeInput}
 
-module _ {X Y : Type 0} (view : X → Y) (Goes : Y → List Entry → List ℕ → ℕ → Type 0) (outcome : Files → Outcome Y) (told : Option Files) (before now : ℕ) where
+module _ {X Y : Type 0} (view : X → Y) (Is : Y → Type 0) (Goes : Y → List Entry → List ℕ → ℕ → Type 0) (outcome : Files → Outcome Y) (told : Option Files) (before now : ℕ) where
   -- what was read was done
-  pub done_comes : (x : X) (done : FinishedRun) → Refines view told before now (Ok x) outcome → Goes (view x) done.closed done.text.items done.status → ComesTo Goes outcome told before now (Ok done)
-  done_comes x done comes goes = (λ files known. (view x, comes files known, goes), (view x, goes))
+  pub done_comes : (x : X) (done : FinishedRun) → Refines view told before now (Ok x) outcome → Is (view x) → Goes (view x) done.closed done.text.items done.status → ComesTo Is Goes outcome told before now (Ok done)
+  done_comes x done comes is goes = (λ files known. (view x, comes files known, goes), (view x, is, goes))
 
   -- or there was no memory for it
-  pub run_comes : (x : X) (ran : Result FinishedRun AllocError) (result : Result FinishedRun BindFault) → Refines view told before now (Ok x) outcome
-      → IfOk ran (λ done. Goes (view x) done.closed done.text.items done.status) → IsFinished ran result → ComesTo Goes outcome told before now result
-  run_comes x (Ok done) result comes goes is = rw is (done_comes x done comes goes)
-  run_comes x (Err none) result comes goes is = rw is (tt, tt)
+  pub run_comes : (x : X) (ran : Result FinishedRun AllocError) (result : Result FinishedRun BindFault) → Refines view told before now (Ok x) outcome → Is (view x)
+      → IfOk ran (λ done. Goes (view x) done.closed done.text.items done.status) → IsFinished ran result → ComesTo Is Goes outcome told before now result
+  run_comes x (Ok done) result comes some goes is = rw is (done_comes x done comes some goes)
+  run_comes x (Err none) result comes some goes is = rw is (tt, tt)
 
   -- the reading has a fault
-  pub fault_comes : (Z : Type 0) (fault : BindFault) → Refines view told before now (Err fault) outcome → BlamesReached {X = Z} told (Err fault) outcome → ComesTo Goes outcome told before now (Err fault)
+  pub fault_comes : (Z : Type 0) (fault : BindFault) → Refines view told before now (Err fault) outcome → BlamesReached {X = Z} told (Err fault) outcome → ComesTo Is Goes outcome told before now (Err fault)
   fault_comes Z faults.Memory comes named = (tt, tt)
   fault_comes Z (faults.Refused file refusal) comes named = (comes, tt)
   fault_comes Z (faults.Unread file) comes named = (comes, named)
@@ -35,8 +36,8 @@ judged_report : (c : CheckedValue) (verdict : Verdict) (done : FinishedRun) → 
 judged_report c verdict done is text = record { verdict = verdict; judged = is; text_is = text.0; status_is = text.1; no_history = text.2 }
 
 -- a verdict was said
-pub verdict_comes : (outcome : Files → Outcome CheckedValue) (told : Option Files) (before now : ℕ) (verdict : Verdict) (ran : Result FinishedRun AllocError) (result : Result FinishedRun BindFault) → JudgesRead told before now (Ok verdict) outcome → IsVerdict verdict
-    → IfOk ran (λ done. IsText (verdict_text verdict) (verdict_status verdict) done.closed done.text.items done.status) → IsFinished ran result → ComesTo IsCheckReport outcome told before now result
-verdict_comes outcome told before now verdict (Ok done) result judges some text is =
-    rw is (λ files known. let found = judges files known in (found.0, found.1, judged_report found.0 verdict done found.2 text), (some.0, judged_report some.0 verdict done some.1 text))
-verdict_comes outcome told before now verdict (Err none) result judges some text is = rw is (tt, tt)
+pub verdict_comes : (trace : List ℕ) (outcome : Files → Outcome CheckedValue) (told : Option Files) (before now : ℕ) (verdict : Verdict) (ran : Result FinishedRun AllocError) (result : Result FinishedRun BindFault) → JudgesRead told before now (Ok verdict) outcome → IsVerdict trace verdict
+    → IfOk ran (λ done. IsText (verdict_text verdict) (verdict_status verdict) done.closed done.text.items done.status) → IsFinished ran result → ComesTo (λ c. IsSomeInput trace c.input) IsCheckReport outcome told before now result
+verdict_comes trace outcome told before now verdict (Ok done) result judges some text is =
+    rw is (λ files known. let found = judges files known in (found.0, found.1, judged_report found.0 verdict done found.2 text), (some.0, some.1, judged_report some.0 verdict done some.2 text))
+verdict_comes trace outcome told before now verdict (Err none) result judges some text is = rw is (tt, tt)

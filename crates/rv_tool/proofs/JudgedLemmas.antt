@@ -23,6 +23,7 @@ use Rattle.rv_tool.specs.declared.input.Prepared.{Prepared}
 use Rattle.rv_tool.specs.inner.Prepared.{prepared_value, IsPrepared}
 use Rattle.rv_tool.specs.Checks.{panic_bits, judged, IsJudged}
 use Rattle.rv_tool.specs.inner.Checks.{IsVerdict}
+use Rattle.rv_tool.specs.SomeInputs.{IsSomeInput}
 use Rattle.rv_tool.specs.Inputs.{InputValue, run_of}
 use Rattle.rv_tool.specs.inner.JournalPieces.{IsSameRun, EnoughOf}
 use Rattle.rv_tool.proofs.PreparedLemmas.{get_or-works, works_counted}
@@ -117,10 +118,10 @@ module _ (ready : Prepared) (is : IsPrepared ready) (unchanged : ready.changes.i
   }
 
   -- the verdict is that on what was fed
-  pub verdict_some : IsVerdict verdict
-  verdict_some =
+  pub verdict_some : (trace : List ℕ) → IsSomeInput trace (prepared_value ready) → IsVerdict trace verdict
+  verdict_some trace some =
       let specs = (run_of (prepared_value ready)).specs in
-      (record { input = prepared_value ready; journal = r.journal.text }, judged_so r.journal.text (subst (λ (j : Journal). VerdictHolds j specs verdict) run (holds specs)))
+      (record { input = prepared_value ready; journal = r.journal.text }, some, judged_so r.journal.text (subst (λ (j : Journal). VerdictHolds j specs verdict) run (holds specs)))
 
   -- the verdict holds of all that the file holds
   pub verdict_judged : (held : Option (List ℕ)) → EnoughOf held r → (bytes : List ℕ) × (held ≡ Some bytes) × IsJudged (record { input = prepared_value ready; journal = bytes }) verdict

@@ -19,6 +19,7 @@ pub mod RecordingLemmas
 pub mod RefinesLemmas
 pub mod ReportedLemmas
 pub mod SessionLemmas
+pub mod SomeInputLemmas
 pub mod SomeTextLemmas
 pub mod VerdictLemmas
 pub mod WatchLemmas

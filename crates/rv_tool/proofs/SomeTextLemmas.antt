@@ -8,7 +8,7 @@ use Rattle.rv_tool.specs.inner.Faults.{IsOutcome}
 use Rattle.rv_tool.specs.SomeTexts.{IsOfSomeText}
 
 -- where a file is accepted, its text was read
-read_as : {Y : Type 0} (file : List ℕ) (read : Result Y Refusal) (y : Y) → of_file file read ≡ accepted y → read ≡ Ok y
+pub read_as : {Y : Type 0} (file : List ℕ) (read : Result Y Refusal) (y : Y) → of_file file read ≡ accepted y → read ≡ Ok y
 read_as file (Ok x) y is = cc
 read_as file (Err refusal) y is = absurd (cc)
 

@@ -10,6 +10,7 @@ pub mod CountsFit
 pub mod Output
 pub mod Runs
 pub mod Sessions
+pub mod SomeInputs
 pub mod SomeTexts
 pub mod Tables
 pub mod Opaque

@@ -14,6 +14,7 @@ use Rattle.rv_tool.specs.Loaded.{load_input}
 use Rattle.rv_tool.specs.Output.{refusal_text, missing_text}
 use Rattle.rv_tool.specs.Runs.{Prints, PrintsSession}
 use Rattle.rv_tool.specs.Sessions.{IsSession}
+use Rattle.rv_tool.specs.SomeInputs.{IsSomeInput, IsSomeBeside, IsSomeWatch, IsSomeRecordable}
 use Rattle.rv_tool.specs.SomeTexts.{IsOfSomeText}
 use Rattle.rv_tool.specs.Tables.{table_text}
 use Rattle.rv_tool.specs.Verdicts.{ReportsOne, ReportsVerdicts}
@@ -31,15 +32,15 @@ EndsOnSomeInput {Y} Accepted c =
 abbrev pub EndsAsOneOf : {Y : Type 0} → (Y → Type 0) → (Y → Ending) → Y → Ending
 EndsAsOneOf Is Accepted y c = Is y × Accepted y c
 
--- by what the words ask for: a report is one of some input, a verdict of some journal, a table of some text, and a session of some bindings and script; words that are no command and the generated input are answered as on any store
+-- by what the words ask for: a report is one of some well-formed bindings and of what some texts come to under them, a verdict of some journal of such a run, a table of some text, and a session of some bindings and script; words that are no command and the generated input are answered as on any store
 abbrev pub AnswersOpaque : Option CommandValue → Call → Type 0
 AnswersOpaque None c = PrintsText (refusal_text None (record { number = USAGE; line = 0 })) 2 c.end
-AnswersOpaque (Some (replay bindings trace)) c = EndsOnSomeInput ReportsOne c
-AnswersOpaque (Some (feed bindings trace)) c = EndsOnSomeInput ReportsVerdicts c
-AnswersOpaque (Some (feed_beside bindings trace script)) c = EndsOnSomeInput (Reports IsLegal) c
-AnswersOpaque (Some (watch bindings trace monitor instance)) c = EndsOnSomeInput Watches c
-AnswersOpaque (Some (journal bindings trace)) c = EndsOnSomeInput Journals c
-AnswersOpaque (Some (check bindings trace judged)) c = EndsOnSomeInput Checks c
+AnswersOpaque (Some (replay bindings trace)) c = EndsOnSomeInput (EndsAsOneOf (IsSomeInput trace) ReportsOne) c
+AnswersOpaque (Some (feed bindings trace)) c = EndsOnSomeInput (EndsAsOneOf (IsSomeInput trace) ReportsVerdicts) c
+AnswersOpaque (Some (feed_beside bindings trace script)) c = EndsOnSomeInput (EndsAsOneOf (IsSomeBeside trace script) (Reports IsLegal)) c
+AnswersOpaque (Some (watch bindings trace monitor instance)) c = EndsOnSomeInput (EndsAsOneOf (IsSomeWatch trace monitor instance) Watches) c
+AnswersOpaque (Some (journal bindings trace)) c = EndsOnSomeInput (EndsAsOneOf (IsSomeRecordable trace) Journals) c
+AnswersOpaque (Some (check bindings trace judged)) c = EndsOnSomeInput (EndsAsOneOf (λ checked. IsSomeInput trace checked.input) Checks) c
 AnswersOpaque (Some (load blocks)) c = Ends ReportsVerdicts (load_input blocks) c.end
 AnswersOpaque (Some (table kind file)) c = EndsOnSomeInput (EndsAsOneOf (IsOfSomeText (table_text kind)) Prints) c
 AnswersOpaque (Some (header name file)) c = EndsOnSomeInput (EndsAsOneOf (IsOfSomeText (header_of_text name)) Prints) c

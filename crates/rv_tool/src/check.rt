@@ -166,7 +166,7 @@ pub(crate) fn read_verdict<S: Store>(
     ensures later { S.faults store.old ≤ S.faults store.new }
     ensures value { JudgesRead (S.files store.old) (S.faults store.old) (S.faults store.new) result (λ files. checked_input files bindings.now trace.now journal.now) }
     ensures named { BlamesReached (S.files store.old) result (λ files. checked_input files bindings.now trace.now journal.now) }
-    ensures some { IfOk result IsVerdict }
+    ensures some { IfOk result (IsVerdict trace.now) }
 {
     let ready = read_input(alloc, store, bindings, trace)?;
     let Ok(mut reader) = reader(alloc, ready) else {

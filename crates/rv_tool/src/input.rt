@@ -8,6 +8,7 @@ ghost use Rattle.rv_route.specs.Fitting.{WorksFit, FromRules};
 ghost use Rattle.rv_feed.specs.Lane.{IsNewLane, works_of};
 ghost use Rattle.rv_tool.specs.Inputs.{opened, run_input};
 ghost use Rattle.rv_tool.specs.inner.Prepared.{prepared_value, IsPrepared};
+ghost use Rattle.rv_tool.specs.SomeInputs.{IsSomeInput};
 
 use crate::trace_text::read_routed;
 use rv_bind::{BindFault, Bindings, Bound, Monitor, read_bindings};
@@ -41,7 +42,7 @@ struct RunParts {
 }
 
 /// Reads the bindings and the trace.
-#[tactic(auto, using(crate::proofs::BlamesLemmas::input_named))]
+#[tactic(auto, using(crate::proofs::BlamesLemmas::input_named, crate::proofs::SomeInputLemmas::input_some))]
 pub(crate) fn read_input<S: Store>(
     alloc: Global,
     store: &mut S,
@@ -49,6 +50,7 @@ pub(crate) fn read_input<S: Store>(
     trace: &str,
 ) -> Result<Prepared, BindFault>
     ensures ready { IfOk result IsPrepared }
+    ensures some { IfOk result (λ ready. IsSomeInput trace.now (prepared_value ready)) }
     ensures unchanged { IfOk result (λ ready. ready.changes.items ≡ []) }
     ensures reads { ReadsOutcome prepared_value (S.files store.old) (S.files store.new) (S.faults store.old) (S.faults store.new) result (λ files. run_input files bindings.now trace.now) }
 {

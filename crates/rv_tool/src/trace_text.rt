@@ -12,6 +12,7 @@ ghost use Rattle.rv_route.specs.Fitting.{WorksFit, FromRules};
 ghost use Rattle.rv_tool.specs.Inputs.{routed_in};
 ghost use Rattle.rv_tool.specs.inner.Faults.{IsOutcome};
 ghost use Rattle.rv_tool.specs.inner.Feeding.{MayBeFed, IsFileFed, IsAll};
+ghost use Rattle.rv_tool.specs.SomeInputs.{IsOfSomeTrace};
 
 use crate::routing::Routing;
 use rv_bind::{BindFault, Bound, fetch, refused};
@@ -114,6 +115,7 @@ pub(crate) fn read_routed<S: Store>(
     requires { IsWellFormed (bound_value bound.now) }
     ensures fit { IfOk result (λ routed. WorksFit (kinds_of bound.now.bindings.monitors.items) (length routed.tasks) routed.works.items) }
     ensures rules { IfOk result (λ routed. FromRules bound.now.bindings.rules.items routed.works.items) }
+    ensures some { IfOk result (λ routed. IsOfSomeTrace trace.now (bound_value bound.now) (routed_value routed)) }
     ensures reads { ReadsOutcome routed_value (S.files store.old) (S.files store.new) (S.faults store.old) (S.faults store.new) result (λ files. routed_in files trace.now (bound_value bound.now)) }
 {
     let Ok(mut routing) = Routing::new(alloc, &bound.bindings) else {

@@ -7,6 +7,7 @@ ghost use Rattle.rv_tool.specs.inner.Prepared.{prepared_value, IsPrepared};
 ghost use Rattle.rv_tool.specs.Watched.{watched_slot, watched_by, watched_input};
 ghost use Rattle.rv_tool.specs.WatchReports.{IsWatchReport};
 ghost use Rattle.rv_tool.specs.inner.WatchReports.{watch_value, IsPreparedWatch};
+ghost use Rattle.rv_tool.specs.SomeInputs.{IsSomeWatch};
 
 use crate::input::{Prepared, read_input};
 use crate::replay::{FinishedRun, report};
@@ -65,6 +66,7 @@ pub(crate) fn read_watched<S: Store>(
     instance: &str,
 ) -> Result<PreparedWatch, BindFault>
     ensures ready { IfOk result IsPreparedWatch }
+    ensures some { IfOk result (λ watch. IsSomeWatch trace.now monitor.now instance.now (watch_value watch)) }
     ensures reads { ReadsOutcome watch_value (S.files store.old) (S.files store.new) (S.faults store.old) (S.faults store.new) result (λ files. watched_input files bindings.now trace.now monitor.now instance.now) }
 {
     let ready = read_input(alloc, store, bindings, trace)?;

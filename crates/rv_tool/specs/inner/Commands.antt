@@ -18,6 +18,7 @@ use Rattle.rv_tool.specs.Journals.{IsJournalReport, recordable_input}
 use Rattle.rv_tool.specs.Loaded.{generated_files}
 use Rattle.rv_tool.specs.Output.{IsWritten, refusal_text, missing_text}
 use Rattle.rv_tool.specs.Sessions.{Printed, IsSession, control_in}
+use Rattle.rv_tool.specs.SomeInputs.{IsSomeInput, IsSomeBeside, IsSomeWatch, IsSomeRecordable}
 use Rattle.rv_tool.specs.SomeTexts.{IsOfSomeText}
 use Rattle.rv_tool.specs.Tables.{table_text, table_in}
 use Rattle.rv_tool.specs.Verdicts.{HasOneVerdict, HasVerdicts}
@@ -40,35 +41,35 @@ IsVerdictReport i h text status = IsReported IsLegal i h text status × HasVerdi
 abbrev pub IsText : List ℕ → ℕ → List Entry → List ℕ → ℕ → Type 0
 IsText told said h text status = (text ≡ told) × (status ≡ said) × (h ≡ [])
 
--- the text is one of these, and is printed
-abbrev pub IsSomeText : (List ℕ → Type 0) → List ℕ → List Entry → List ℕ → ℕ → Type 0
-IsSomeText Is told h text status = Is told × IsText told 0 h text status
+-- this text is printed
+abbrev pub IsPrinted : List ℕ → List Entry → List ℕ → ℕ → Type 0
+IsPrinted told h text status = IsText told 0 h text status
 
--- the session is one of the script
-abbrev pub IsSessionText : List ℕ → Printed → List Entry → List ℕ → ℕ → Type 0
-IsSessionText script p h text status = IsSession script p × IsText p.text p.status h text status
+-- the text and the status of the session
+abbrev pub IsSessionText : Printed → List Entry → List ℕ → ℕ → Type 0
+IsSessionText p h text status = IsText p.text p.status h text status
 
 -- ---- what a command comes to
 
--- what was done goes with what the files come to, where the store tells them, and with something on any store; or a fault is that of the files
-abbrev pub ComesTo : {Y : Type 0} → (Y → List Entry → List ℕ → ℕ → Type 0) → (Files → Outcome Y) → Option Files → ℕ → ℕ → Result FinishedRun BindFault → Type 0
-ComesTo {Y} Goes outcome told before now (Ok done) =
+-- what was done goes with what the files come to, where the store tells them, and with one of these on any store; or a fault is that of the files
+abbrev pub ComesTo : {Y : Type 0} → (Y → Type 0) → (Y → List Entry → List ℕ → ℕ → Type 0) → (Files → Outcome Y) → Option Files → ℕ → ℕ → Result FinishedRun BindFault → Type 0
+ComesTo {Y} Is Goes outcome told before now (Ok done) =
     ((files : Files) → told ≡ Some files → (y : Y) × (outcome files ≡ accepted y) × Goes y done.closed done.text.items done.status)
-    × ((y : Y) × Goes y done.closed done.text.items done.status)
-ComesTo Goes outcome told before now (Err fault) = FaultRefines told before now fault outcome × FaultBlamesReached told fault outcome
+    × ((y : Y) × Is y × Goes y done.closed done.text.items done.status)
+ComesTo Is Goes outcome told before now (Err fault) = FaultRefines told before now fault outcome × FaultBlamesReached told fault outcome
 
 -- by what the words ask for; the generated input is read from a store of its own
 abbrev pub CommandComes : CommandValue → Option Files → ℕ → ℕ → Result FinishedRun BindFault → Type 0
-CommandComes (replay bindings trace) = ComesTo IsOneReport (λ files. run_input files bindings trace)
-CommandComes (feed bindings trace) = ComesTo IsVerdictReport (λ files. run_input files bindings trace)
-CommandComes (feed_beside bindings trace script) = ComesTo (IsReported IsLegal) (λ files. input_beside files bindings trace script)
-CommandComes (watch bindings trace monitor instance) = ComesTo IsWatchReport (λ files. watched_input files bindings trace monitor instance)
-CommandComes (journal bindings trace) = ComesTo IsJournalReport (λ files. recordable_input files bindings trace)
-CommandComes (check bindings trace judged) = ComesTo IsCheckReport (λ files. checked_input files bindings trace judged)
-CommandComes (load blocks) = λ told before now. ComesTo IsVerdictReport (λ files. run_input files (codes "gen.rv") (codes "gen.txt")) (Some (generated_files blocks)) 0 0
-CommandComes (table kind file) = ComesTo (IsSomeText (IsOfSomeText (table_text kind))) (λ files. table_in files kind file)
-CommandComes (header name file) = ComesTo (IsSomeText (IsOfSomeText (header_of_text name))) (λ files. header_in files name file)
-CommandComes (control bindings script) = ComesTo (IsSessionText script) (λ files. control_in files bindings script)
+CommandComes (replay bindings trace) = ComesTo (IsSomeInput trace) IsOneReport (λ files. run_input files bindings trace)
+CommandComes (feed bindings trace) = ComesTo (IsSomeInput trace) IsVerdictReport (λ files. run_input files bindings trace)
+CommandComes (feed_beside bindings trace script) = ComesTo (IsSomeBeside trace script) (IsReported IsLegal) (λ files. input_beside files bindings trace script)
+CommandComes (watch bindings trace monitor instance) = ComesTo (IsSomeWatch trace monitor instance) IsWatchReport (λ files. watched_input files bindings trace monitor instance)
+CommandComes (journal bindings trace) = ComesTo (IsSomeRecordable trace) IsJournalReport (λ files. recordable_input files bindings trace)
+CommandComes (check bindings trace judged) = ComesTo (λ c. IsSomeInput trace c.input) IsCheckReport (λ files. checked_input files bindings trace judged)
+CommandComes (load blocks) = λ told before now. ComesTo (IsSomeInput (codes "gen.txt")) IsVerdictReport (λ files. run_input files (codes "gen.rv") (codes "gen.txt")) (Some (generated_files blocks)) 0 0
+CommandComes (table kind file) = ComesTo (IsOfSomeText (table_text kind)) IsPrinted (λ files. table_in files kind file)
+CommandComes (header name file) = ComesTo (IsOfSomeText (header_of_text name)) IsPrinted (λ files. header_in files name file)
+CommandComes (control bindings script) = ComesTo (IsSession script) IsSessionText (λ files. control_in files bindings script)
 
 -- it is what was done, or its want of memory as a fault
 abbrev pub IsFinished : Result FinishedRun AllocError → Result FinishedRun BindFault → Type 0

@@ -51,4 +51,4 @@ returns-clause-some g c =
     let ready = c.in_ok-ready.ready in
     let new = c.take_journal.new.reader in
     let run = subst (λ (j : Journal). IsSameRun j new.journal) (ap (λ (x : ReaderValue). x.journal) c.in-Ok.ensures.begins) c.in_ok-take_journal.ensures.same in
-    verdict_some ready c.in_ok-ready.ensures.ready c.in_ok-ready.ensures.unchanged c.in-Ok.ensures.judges new c.verdict.result run c.verdict.ensures.holds c.verdict.ensures.stays
+    verdict_some ready c.in_ok-ready.ensures.ready c.in_ok-ready.ensures.unchanged c.in-Ok.ensures.judges new c.verdict.result run c.verdict.ensures.holds c.verdict.ensures.stays c.args.trace.now c.in_ok-ready.ensures.some

@@ -9,6 +9,7 @@ use Rattle.rv_tool.specs.Inputs.{routed_in}
 use Rattle.rv_tool.proofs.RefinesLemmas.{routed_comes}
 use Rattle.rv_tool.proofs.BlamesLemmas.{tells_named}
 use Rattle.rv_tool.proofs.FrontLemmas.{of_file-and_then}
+use Rattle.rv_tool.proofs.SomeInputLemmas.{trace_some}
 use Rattle.rv_tool.proofs.trace_text.read_routed.Goals as goal
 
 pub returns-clause-reads : goal.returns-clause-reads
@@ -24,3 +25,6 @@ returns-clause-reads g c =
           (subst (λ (o : Outcome RoutedValue). IsOutcome routed_value c.end_routing.result o) (of_file-and_then c.args.trace.now (trace_of text) (route_of bound.monitors.items bound.rules.items text)) c.end_routing.ensures.value);
       named = tells_named (g.S.Store.files c.args.store.now) routed_value c.end_routing.result _ (λ files. routed_in files c.args.trace.now (bound_value c.args.bound.now)) c.end_routing.ensures.value;
     }
+
+pub returns-clause-some : goal.returns-clause-some
+returns-clause-some g c = trace_some routed_value c.args.trace.now c.take_trace.new.routing.lines.fed (bound_value c.args.bound.now) c.end_routing.result c.end_routing.ensures.value
