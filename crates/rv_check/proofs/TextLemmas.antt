@@ -1,7 +1,7 @@
 -- The text of an entry is short and has no line end, so that a journal's text is that of one history.
-use Rattle.std.proofs.Common.{◌≡◌, ◌≢◌, ℕ, zero, suc, ◌+◌, ◌^◌, ◌<◌, ◌≤◌, ◌%◌, true, List, [], ◌∷◌, ◌++◌, length, get_or, Some, codes, refl, sym, ap, ◌∙◌, subst, arith, append_assoc, length-append}
+use Rattle.std.proofs.Common.{◌≡◌, ℕ, ◌+◌, ◌^◌, ◌<◌, ◌≤◌, true, List, [], ◌∷◌, ◌++◌, length, Some, codes, refl, sym, ap, ◌∙◌, subst, arith, append_assoc, length-append}
 use Rattle.std.specs.Prelude.{decimal}
-use Rattle.std.proofs.lemmas.Fmt.{length-decimal-le, decimal_by_steps}
+use Rattle.std.proofs.lemmas.Fmt.{length-decimal-le}
 use Rattle.rv_model.specs.declared.entry.Act.{Act}
 use Rattle.rv_model.specs.declared.entry.Act.TheVariants.{Deliver, Stop, Look, Raise, Lower, Clear, End}
 use Rattle.rv_model.specs.declared.entry.Entry.{Entry}
@@ -11,98 +11,74 @@ use Rattle.rv_model.specs.declared.hit.What.{What}
 use Rattle.rv_model.specs.declared.hit.What.TheVariants.{Da, Ltl, Nothing}
 use Rattle.rv_journal.specs.EntryTexts.{mode_word, what_words, act_words, behind_blanks, entry_text, IsWhat, IsAct, IsEntry}
 use Rattle.rv_journal.proofs.ReadingLemmas.{line-reads}
+use Rattle.rv_journal.proofs.ReadingLemmas as journal
 use Rattle.rv_check.specs.Readings.{has_no_end}
-use Rattle.rv_check.proofs.LineEndLemmas.{no_end-each, no_end-append}
+use Rattle.rv_check.proofs.LineEndLemmas.{no_end-each}
 
--- at most so many bytes, and no line end
-record Fits (most : ℕ) (text : List ℕ) : Type 0 where
-  short : length text ≤ most
-  unended : has_no_end text ≡ true
+-- at most so many bytes
+abbrev Fits : ℕ → List ℕ → Type 0
+Fits most text = length text ≤ most
 
 -- one behind the other
 fits-append : (m n : ℕ) (a b : List ℕ) → Fits m a → Fits n b → Fits (m + n) (a ++ b)
-fits-append m n a b left right = record { short = omega (arith, length-append a b, left.short, right.short); unended = no_end-append a b left.unended right.unended }
+fits-append m n a b left right = omega (arith, length-append a b)
 
 -- behind a blank
 fits-blank : (m n : ℕ) (word : List ℕ) (words : List (List ℕ)) → Fits m word → Fits n (behind_blanks words) → Fits (m + 1 + n) (behind_blanks (word ∷ words))
-fits-blank m n word words left right =
-    let first : Fits (m + 1) (32 ∷ word) = record { short = (let l = left.short in omega arith); unended = left.unended } in
-    fits-append (m + 1) n (32 ∷ word) (behind_blanks words) first right
+fits-blank m n word words left right = fits-append (m + 1) n (32 ∷ word) (behind_blanks words) (omega arith) right
 
 -- no word
 fits-none : Fits 0 (behind_blanks [])
-fits-none = record { short = omega arith; unended = refl }
+fits-none = omega arith
 
 -- with room to spare
 fits-more : (m n : ℕ) (text : List ℕ) → Fits m text → m ≤ n → Fits n text
-fits-more m n text fits low = record { short = (let l = fits.short in omega arith); unended = fits.unended }
-
--- digits are no line ends
-decimal-unended : (n : ℕ) → n < 2 ^ 64 → has_no_end (decimal n) ≡ true
-decimal-unended = decimal_by_steps (λ n ds. has_no_end ds ≡ true) one more
-  where
-    one : (n : ℕ) → n < 10 → has_no_end ((48 + n) ∷ []) ≡ true
-    one n low = no_end-each ((48 + n) ∷ []) (λ k l. single n k l)
-      where
-        single : (m k : ℕ) → k < 1 → get_or ((48 + m) ∷ []) k 0 ≢ 10
-        single m zero l = λ is. absurd (let e : 48 + m ≡ 10 = is in omega arith)
-        single m (suc k) l = absurd (omega arith)
-
-    more : (n : ℕ) (ds : List ℕ) → 10 ≤ n → has_no_end ds ≡ true → has_no_end (ds ++ ((48 + n % 10) ∷ [])) ≡ true
-    more n ds high is = no_end-append ds ((48 + n % 10) ∷ []) is (no_end-each ((48 + n % 10) ∷ []) (λ k l. single (n % 10) k l))
-      where
-        single : (m k : ℕ) → k < 1 → get_or ((48 + m) ∷ []) k 0 ≢ 10
-        single m zero l = λ is. absurd (let e : 48 + m ≡ 10 = is in omega arith)
-        single m (suc k) l = absurd (omega arith)
+fits-more m n text fits low = omega arith
 
 -- a number of 32 bits
 fits-32 : (n : ℕ) → n < 2 ^ 32 → Fits 10 (decimal n)
-fits-32 n low = record { short = length-decimal-le 10 n (omega arith) (omega arith) (omega arith); unended = decimal-unended n (omega arith) }
+fits-32 n low = length-decimal-le 10 n (omega arith) (omega arith) (omega arith)
 
 -- a number of 64 bits
 fits-64 : (n : ℕ) → n < 2 ^ 64 → Fits 20 (decimal n)
-fits-64 n low = record { short = length-decimal-le 20 n (omega arith) (omega arith) low; unended = decimal-unended n low }
+fits-64 n low = length-decimal-le 20 n (omega arith) (omega arith) low
 
 -- a mode
 fits-mode : (mode : Mode) → Fits 9 (mode_word mode)
-fits-mode modes.Event = record { short = omega arith; unended = refl }
-fits-mode modes.Start = record { short = omega arith; unended = refl }
-fits-mode modes.StartRun = record { short = omega arith; unended = refl }
-fits-mode modes.End = record { short = omega arith; unended = refl }
-
--- the word of a name of at most 7 bytes
-fits-name : (name : List ℕ) → length name ≤ 7 → has_no_end name ≡ true → Fits 7 name
-fits-name name low is = record { short = low; unended = is }
+fits-mode modes.Event = omega arith
+fits-mode modes.Start = omega arith
+fits-mode modes.StartRun = omega arith
+fits-mode modes.End = omega arith
 
 -- what is run
 fits-what : (what : What) → IsWhat what → Fits 41 (behind_blanks (what_words what))
 fits-what (Da event) is =
-    fits-more 19 41 _ (fits-blank 7 11 (codes "da") (decimal event ∷ []) (fits-name (codes "da") (omega arith) refl)
+    fits-more 19 41 (behind_blanks (codes "da" ∷ decimal event ∷ [])) (fits-blank 7 11 (codes "da") (decimal event ∷ []) (omega arith)
     (fits-blank 10 0 (decimal event) [] (fits-32 event (omega arith)) fits-none)) (omega arith)
 fits-what (Ltl on off pulse) (a, b, c) =
-    fits-blank 7 33 (codes "ltl") (decimal on ∷ decimal off ∷ decimal pulse ∷ []) (fits-name (codes "ltl") (omega arith) refl)
+    fits-blank 7 33 (codes "ltl") (decimal on ∷ decimal off ∷ decimal pulse ∷ []) (omega arith)
     (fits-blank 10 22 (decimal on) (decimal off ∷ decimal pulse ∷ []) (fits-32 on a)
     (fits-blank 10 11 (decimal off) (decimal pulse ∷ []) (fits-32 off b)
     (fits-blank 10 0 (decimal pulse) [] (fits-32 pulse c) fits-none)))
-fits-what Nothing is = fits-more 0 41 _ fits-none (omega arith)
+fits-what Nothing is = fits-more 0 41 (behind_blanks []) fits-none (omega arith)
 
 -- a name and a number
-fits-named : (name : List ℕ) (n : ℕ) → length name ≤ 7 → has_no_end name ≡ true → n < 2 ^ 64 → Fits 70 (behind_blanks (name ∷ decimal n ∷ []))
-fits-named name n low is small =
-    fits-more 29 70 _ (fits-blank 7 21 name (decimal n ∷ []) (fits-name name low is) (fits-blank 20 0 (decimal n) [] (fits-64 n small) fits-none)) (omega arith)
+fits-named : (name : List ℕ) (n : ℕ) → Fits 7 name → n < 2 ^ 64 → Fits 70 (behind_blanks (name ∷ decimal n ∷ []))
+fits-named name n low small =
+    fits-more 29 70 (behind_blanks (name ∷ decimal n ∷ [])) (fits-blank 7 21 name (decimal n ∷ []) low (fits-blank 20 0 (decimal n) [] (fits-64 n small) fits-none)) (omega arith)
 
 -- an act
 fits-act : (act : Act) → IsAct act → Fits 70 (behind_blanks (act_words act))
 fits-act (Deliver slot hit) (low, what) =
-    fits-blank 7 62 (codes "deliver") (decimal slot ∷ mode_word hit.mode ∷ what_words hit.what) (fits-name (codes "deliver") (omega arith) refl)
+    fits-blank 7 62 (codes "deliver") (decimal slot ∷ mode_word hit.mode ∷ what_words hit.what) (omega arith)
     (fits-blank 10 51 (decimal slot) (mode_word hit.mode ∷ what_words hit.what) (fits-32 slot low)
     (fits-blank 9 41 (mode_word hit.mode) (what_words hit.what) (fits-mode hit.mode) (fits-what hit.what what)))
-fits-act (Stop slot) is = fits-named (codes "stop") slot (omega arith) refl (omega arith)
-fits-act Look is = fits-more 8 70 _ (fits-blank 7 0 (codes "look") [] (fits-name (codes "look") (omega arith) refl) fits-none) (omega arith)
-fits-act (Raise bits) is = fits-named (codes "raise") bits (omega arith) refl is
-fits-act (Lower bits) is = fits-named (codes "lower") bits (omega arith) refl is
-fits-act (Clear slot) is = fits-named (codes "clear") slot (omega arith) refl (omega arith)
-fits-act (End slot) is = fits-named (codes "end") slot (omega arith) refl (omega arith)
+fits-act (Stop slot) is = fits-named (codes "stop") slot (omega arith) (omega arith)
+fits-act Look is = fits-more 8 70 (behind_blanks (codes "look" ∷ [])) (fits-blank 7 0 (codes "look") [] (omega arith) fits-none) (omega arith)
+fits-act (Raise bits) is = fits-named (codes "raise") bits (omega arith) is
+fits-act (Lower bits) is = fits-named (codes "lower") bits (omega arith) is
+fits-act (Clear slot) is = fits-named (codes "clear") slot (omega arith) (omega arith)
+fits-act (End slot) is = fits-named (codes "end") slot (omega arith) (omega arith)
 
 -- two lists of words
 blanks-append : (xs ys : List (List ℕ)) → behind_blanks (xs ++ ys) ≡ behind_blanks xs ++ behind_blanks ys
@@ -119,11 +95,11 @@ fits-entry e is =
 
 -- its text has no line end
 pub entry-unended : (e : Entry) → IsEntry e → has_no_end (entry_text e) ≡ true
-entry-unended e is = (fits-entry e is).unended
+entry-unended e is = no_end-each (entry_text e) (journal.entry-unended e is)
 
 -- and at most 200 bytes
 pub entry-short : (e : Entry) → IsEntry e → length (entry_text e) ≤ 200
-entry-short e is = let l = (fits-entry e is).short in omega arith
+entry-short e is = let short : length (entry_text e) ≤ 122 = fits-entry e is in omega arith
 
 -- and is no other entry's
 pub entry-one : (e f : Entry) → IsEntry e → IsEntry f → entry_text e ≡ entry_text f → e ≡ f

@@ -1,5 +1,8 @@
 pub mod ActLemmas
 pub mod AddLemmas
+pub mod AnyActLemmas
+pub mod AnyRunLemmas
+pub mod AnyTurnLemmas
 pub mod AtOnceLemmas
 pub mod ChangeLemmas
 pub mod ClearLemmas

@@ -34,7 +34,6 @@ run-start panics old lanes ok = record {
   grows = ap (λ (h : List Entry). record old { history = h }) (sym (append-nil old.history));
   same_works = refl;
   count = refl;
-  few = omega arith;
   lanes_are = λ k d lt. start (get_or lanes k d) (All-get_or (FitsLane old.setup) lanes k d lt ok.fit);
   nobody_else = at_each-nil (λ b e. Any (λ w. e.seat ≡ 2 + w.cpu) (works_of lanes));
   no_stop = at_each-nil (λ b e. IsNoStop e.act);
@@ -124,19 +123,18 @@ from-le panics old cur first lanes places from k line d run n =
     let e = n.line_is in
     omega arith
 
--- the lane with the least line played its next turn
-pub run-next : (panics : ℕ → Bool) (old cur new : CoreValue) (first lanes : List LaneValue) (places : List ℕ) (from : ℕ) (next : NextTurn) (lane' : LaneValue) (place' : ℕ) (d : LaneValue)
-    → FitLanes old.setup first → RunSoFar panics old cur first lanes places from → IsLeast places lanes next → (next.line ≡ 2 ^ 32 → ⊥)
-    → PlaysNext panics cur new (get_or lanes next.lane d) lane' (next_turn_of places (get_or lanes next.lane d)) place'
-    → RunSoFar panics old new first (set lanes next.lane lane') (set places (get_or lanes next.lane d).work.cpu place') (next.line + 1)
-run-next panics old cur new first lanes places from next lane' place' d ok run least some plays =
-    let n = is-next places lanes next d least some in
+-- the lane at this place, whose next line is the least, played its next turn
+pub run-played : (panics : ℕ → Bool) (old cur new : CoreValue) (first lanes : List LaneValue) (places : List ℕ) (from k line : ℕ) (lane' : LaneValue) (place' : ℕ) (d : LaneValue)
+    → FitLanes old.setup first → RunSoFar panics old cur first lanes places from → k < length lanes → All (λ l. IsPending places l → line ≤ next_line places l) lanes
+    → IsPending places (get_or lanes k d) → next_line places (get_or lanes k d) ≡ line
+    → PlaysNext panics cur new (get_or lanes k d) lane' (next_turn_of places (get_or lanes k d)) place'
+    → RunSoFar panics old new first (set lanes k lane') (set places (get_or lanes k d).work.cpu place') (line + 1)
+run-played panics old cur new first lanes places from k line lane' place' d ok run below least pending line_is plays =
     let run' : RunSoFar panics old (record old { history = old.history ++ run.more }) first lanes places from = record {
       more = run.more;
       grows = refl;
       same_works = run.same_works;
       count = run.count;
-      few = run.few;
       lanes_are = run.lanes_are;
       nobody_else = run.nobody_else;
       no_stop = run.no_stop;
@@ -144,5 +142,14 @@ run-next panics old cur new first lanes places from next lane' place' d ok run l
       in_order = run.in_order;
       below = run.below;
     } in
-    run-step panics old run.more new first lanes places from next.lane next.line lane' place' d ok run' refl n.below least.least n.pending n.line_is
-    (subst (λ (v : CoreValue). PlaysNext panics v new (get_or lanes next.lane d) lane' (next_turn_of places (get_or lanes next.lane d)) place') run.grows plays)
+    run-step panics old run.more new first lanes places from k line lane' place' d ok run' refl below least pending line_is
+    (subst (λ (v : CoreValue). PlaysNext panics v new (get_or lanes k d) lane' (next_turn_of places (get_or lanes k d)) place') run.grows plays)
+
+-- the lane with the least line played its next turn
+pub run-next : (panics : ℕ → Bool) (old cur new : CoreValue) (first lanes : List LaneValue) (places : List ℕ) (from : ℕ) (next : NextTurn) (lane' : LaneValue) (place' : ℕ) (d : LaneValue)
+    → FitLanes old.setup first → RunSoFar panics old cur first lanes places from → IsLeast places lanes next → (next.line ≡ 2 ^ 32 → ⊥)
+    → PlaysNext panics cur new (get_or lanes next.lane d) lane' (next_turn_of places (get_or lanes next.lane d)) place'
+    → RunSoFar panics old new first (set lanes next.lane lane') (set places (get_or lanes next.lane d).work.cpu place') (next.line + 1)
+run-next panics old cur new first lanes places from next lane' place' d ok run least some plays =
+    let n = is-next places lanes next d least some in
+    run-played panics old cur new first lanes places from next.lane next.line lane' place' d ok run n.below (λ j c lt pend. (least.least j c lt pend).0) n.pending n.line_is plays

@@ -1,5 +1,5 @@
 -- One more turn of one lane.
-use Rattle.std.proofs.Common.{◌≡◌, ◌≢◌, ℕ, ◌+◌, ◌-◌, ◌^◌, ◌<◌, ◌≤◌, Bool, true, false, List, [], ◌∷◌, ◌++◌, length, map, inl, inr, reverse, arith, refl, sym, ap, ◌∙◌, subst, append_assoc, take, drop, get_or, set, length-set, get_or-set_same, get_or-set_other, length-append, All}
+use Rattle.std.proofs.Common.{◌≡◌, ◌≢◌, ℕ, ◌+◌, ◌-◌, ◌<◌, ◌≤◌, Bool, true, false, List, [], ◌∷◌, ◌++◌, length, map, inl, inr, reverse, arith, refl, sym, ap, ◌∙◌, subst, append_assoc, take, drop, get_or, set, length-set, get_or-set_same, get_or-set_other, length-append, All}
 use Rattle.std.specs.Prelude.{Any, Contains, AllPairs, slice_index}
 use Rattle.std.proofs.lemmas.List.{take_more, take-append-drop, get_or_default}
 use Rattle.std.proofs.lemmas.List.Elements.{All-get_or, Contains-get_or}
@@ -27,7 +27,7 @@ use Rattle.rv_feed.proofs.LaneLemmas.{works-set, work-at, work-is, same-lane, sa
 
 module _ (panics : ℕ → Bool) (old : CoreValue) (more : List Entry) (new : CoreValue) (first lanes : List LaneValue) (places : List ℕ) (from k line : ℕ) (lane' : LaneValue) (place' : ℕ) (d : LaneValue)
     (ok : FitLanes old.setup first) (run : RunSoFar panics old (record old { history = old.history ++ more }) first lanes places from) (more_is : run.more ≡ more) (lt : k < length lanes)
-    (least : All (λ l. IsPending places l → (line ≤ next_line places l) × (next_line places l < 2 ^ 32)) lanes)
+    (least : All (λ l. IsPending places l → line ≤ next_line places l) lanes)
     (pending : IsPending places (get_or lanes k d)) (line_is : next_line places (get_or lanes k d) ≡ line)
     (next : PlaysNext panics (record old { history = old.history ++ more }) new (get_or lanes k d) lane' (next_turn_of places (get_or lanes k d)) place') where
   -- the setup, the lane, its work, its seat, its place, the turn, what it plays and its entries, and all works
@@ -219,10 +219,9 @@ module _ (panics : ℕ → Bool) (old : CoreValue) (more : List Entry) (new : Co
       let cpus : w.cpu ≢ m.work.cpu = λ e. other-cpu j c lj n e in
       let none : NoneOf (2 + m.work.cpu) es = none-by seat (2 + m.work.cpu) tp.ps tp.did.by (λ e. cpus (omega arith)) in
       lane-stays s panics old.history more es places from line w.cpu place' m it none cpus (λ pend.
-      let le = All-get_or (λ x. IsPending places x → (line ≤ next_line places x) × (next_line places x < 2 ^ 32)) lanes j c lj least pend in
+      let le = All-get_or (λ x. IsPending places x → line ≤ next_line places x) lanes j c lj least pend in
       let lines : line ≢ next_line places m = λ e. cpus (sym (ok.apart m.work w (get_or m.work.turns (next_turn_of places m) t) t has_m has (Contains-get_or m.work.turns (next_turn_of places m) t pend)
       (subst (Contains w.turns) (sym (t_is t)) (Contains-get_or w.turns p t pending)) (sym (line-index m.work.turns (next_turn_of places m) t pend) ∙ sym e ∙ sym t_line))) in
-      let le0 = le.0 in
       grind arith)
 
   -- what each lane has played, with the turn
@@ -239,7 +238,6 @@ module _ (panics : ℕ → Bool) (old : CoreValue) (more : List Entry) (new : Co
     grows = tp.did.grows ∙ ap (λ (h : List Entry). record old { history = h }) (append_assoc old.history more es);
     same_works = works-set lanes k lane' d lt tp.kept.work_is ∙ same_works;
     count = rw length-set run.count;
-    few = let a = (All-get_or (λ x. IsPending places x → (line ≤ next_line places x) × (next_line places x < 2 ^ 32)) lanes k d lt least pending).1 in let b = line_is in omega arith;
     lanes_are = lanes-on;
     nobody_else = at_each-append (λ b e. Any (λ v. e.seat ≡ 2 + v.cpu) works) es more (subst (AtEach (λ b e. Any (λ v. e.seat ≡ 2 + v.cpu) works)) more_is run.nobody_else) (λ b e a eq. (has.0, w, has.1, has.2, (at b e a eq).0));
     no_stop = at_each-append (λ b e. IsNoStop e.act) es more (subst (AtEach (λ b e. IsNoStop e.act)) more_is run.no_stop) (λ b e a eq. (at b e a eq).1);

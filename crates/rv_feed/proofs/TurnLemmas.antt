@@ -26,13 +26,9 @@ no_looks-append (p ∷ ps) qs a b = (a.0, no_looks-append ps qs a.1 b)
 pub of-cpu : {M : Type 0} (does : ℕ → M → M → List Played → Type 0) {cpu other : ℕ} {s : Setup} {panics : ℕ → Bool} {old new : M} {turn : Turn} {lane lane' : LaneValue} {ends : Bool} → cpu ≡ other → PlaysTurn (does cpu) s panics old new turn lane lane' ends → PlaysTurn (does other) s panics old new turn lane lane' ends
 of-cpu does {s = s} {panics} {old} {new} {turn} {lane} {lane'} {ends} is plays = subst (λ (n : ℕ). PlaysTurn (does n) s panics old new turn lane lane' ends) is plays
 
-module _ {M : Type 0} (does : M → M → List Played → Type 0) (s : Setup) (panics : ℕ → Bool) (word : ℕ) (turn : Turn) (lane : LaneValue) where
-  -- the deliveries of the lane's work
-  abbrev ds : List Delivery
-  ds = lane.work.deliveries
-
+module _ {M : Type 0} {does : M → M → List Played → Type 0} {s : Setup} {panics : ℕ → Bool} {old cur : M} {word : ℕ} {turn : Turn} {lane : LaneValue} where
   -- right after the look
-  pub turn-start : {old mid : M} → LooksAt does old mid word → PartDone does s panics old mid word turn lane lane turn.from
+  pub turn-start : LooksAt does old cur word → PartDone does s panics old cur word turn lane lane turn.from
   turn-start l =
       let z : turn.from - turn.from ≡ 0 = omega arith in
       record {
@@ -48,30 +44,36 @@ module _ {M : Type 0} (does : M → M → List Played → Type 0) (s : Setup) (p
       }
 
   -- the look shows a halt
-  pub turn-off : {old mid : M} → LooksAt does old mid word → has_bit word 34 ≡ true → PlaysTurn does s panics old mid turn lane lane true
+  pub turn-off : LooksAt does old cur word → has_bit word 34 ≡ true → PlaysTurn does s panics old cur turn lane lane true
   turn-off l off = record {
     ps = (l.entry, Looked word) ∷ [];
     rs = [];
     did = l.did;
-    script = turn-halted s panics ds turn l.entry l.act_is word off;
+    script = turn-halted s panics lane.work.deliveries turn l.entry l.act_is word off;
     one = (l.act_is, tt);
     kept = adds-nothing lane;
     few = omega arith;
   }
 
   -- all deliveries
-  pub turn-all : {old cur : M} {lane' : LaneValue} → has_bit word 34 ≡ false → PartDone does s panics old cur word turn lane lane' turn.to → PlaysTurn does s panics old cur turn lane lane' false
-  turn-all on done = record {
-    ps = (done.look, Looked word) ∷ done.ps;
-    rs = done.rs;
-    did = done.did;
-    script = turn-goes s panics ds turn done.look done.look_is word on done.ps done.rs done.part;
-    one = (done.look_is, done.quiet);
-    kept = done.kept;
-    few = done.few;
-  }
+  pub turn-all : {lane' : LaneValue} {place : ℕ} → place ≡ turn.to → has_bit word 34 ≡ false → PartDone does s panics old cur word turn lane lane' place → PlaysTurn does s panics old cur turn lane lane' false
+  turn-all {lane'} end on part =
+      let done = subst (PartDone does s panics old cur word turn lane lane') end part in
+      record {
+        ps = (done.look, Looked word) ∷ done.ps;
+        rs = done.rs;
+        did = done.did;
+        script = turn-goes s panics lane.work.deliveries turn done.look done.look_is word on done.ps done.rs done.part;
+        one = (done.look_is, done.quiet);
+        kept = done.kept;
+        few = done.few;
+      }
 
-  module _ {old cur : M} {lane' : LaneValue} {place : ℕ} {d : Delivery} (done : PartDone does s panics old cur word turn lane lane' place) (at : AtPlace ds turn place d) where
+  module _ {lane' : LaneValue} {place : ℕ} {d : Delivery} (done : PartDone does s panics old cur word turn lane lane' place) (at : AtPlace lane.work.deliveries turn place d) where
+    -- the deliveries of the lane's work
+    abbrev ds : List Delivery
+    ds = lane.work.deliveries
+
     -- the look does not show the delivery on
     pub turn-hidden : is_enabled_by word d ≡ false → PartDone does s panics old cur word turn lane lane' (place + 1)
     turn-hidden hidden = record {

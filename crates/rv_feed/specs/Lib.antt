@@ -1,5 +1,6 @@
 pub mod AtOnce
 pub mod Changes
+pub mod Existence
 pub mod Feeders
 pub mod Feeding
 pub mod Kept

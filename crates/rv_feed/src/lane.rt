@@ -1,5 +1,5 @@
 //! A lane: what one CPU has to do, and what came of it.
-ghost use Rattle.std.specs.Prelude.{◌≡◌, ◌+◌, ◌<◌, ◌∷◌, [], length, slice_index_or, IfOk};
+ghost use Rattle.std.specs.Prelude.{◌≡◌, ◌+◌, ◌<◌, ◌∷◌, [], length, slice_index_or, All, IfOk};
 ghost use Rattle.rv_model.specs.declared.work.Delivery.{Delivery};
 ghost use Rattle.rv_model.specs.declared.work.Turn.{Turn};
 ghost use Rattle.rv_model.specs.Works.{IsWork};
@@ -78,6 +78,15 @@ pub(crate) fn assert_invariant(lane: &Lane)
     ensures { IsWork lane.now.work }
 {
     let _ = &lane.work.turns;
+}
+
+/// Does nothing, and gives a proof that the works of all lanes are well formed.
+pub fn assert_lanes(lanes: &[Lane])
+    ensures { All (λ l. IsWork l.work) lanes.now }
+{
+    for lane in lanes {
+        assert_invariant(lane);
+    }
 }
 
 /// Keeps the record of the delivery at `index` in the work, for which there is room.

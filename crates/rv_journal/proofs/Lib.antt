@@ -23,6 +23,7 @@ pub mod FinishLemmas
 pub mod FirstOpenLemmas
 pub mod IntervalLemmas
 pub mod ItemLemmas
+pub mod JournalLineLemmas
 pub mod LeftLemmas
 pub mod MarkLemmas
 pub mod MergeStepLemmas

@@ -11,7 +11,7 @@ use Rattle.std.proofs.lemmas.Fmt.{digits_decimal, digits_value-decimal, decimal-
 use Rattle.rv_text.specs.Decimal.{all_digits, digit_of, number_of, decimal_of}
 use Rattle.rv_text.proofs.DecimalLemmas.{decimal-some}
 use Rattle.rv_journal.specs.inner.PieceReadings.{number_in, number_from}
-use Rattle.rv_journal.proofs.PieceLemmas.{has_no_blank, no_blank-each}
+use Rattle.rv_journal.proofs.PieceLemmas.{all_above, above-each}
 use Rattle.rv_journal.proofs.ThenLemmas.{first-some}
 
 -- the digits that a text has so far, and the number behind them
@@ -130,9 +130,13 @@ number_in-read most word n read low no_zero =
 
 -- ---- words of numbers among words
 
--- the word of a number has no blank
-pub decimal-word : (n : ℕ) → n < 2 ^ 64 → has_no_blank (decimal n) ≡ true
-decimal-word n low = no_blank-each (decimal n) (not_in_digits own (decimal n) 32 (digits_decimal own n low) (λ r. absurd (grind arith)))
+-- the word of a number is above the blank
+pub decimal-word : (n : ℕ) → n < 2 ^ 64 → all_above 32 (decimal n) ≡ true
+decimal-word n low =
+    above-each 32 (decimal n) (λ k l. elim (cases_lt 32 (get_or (decimal n) k 0)) [
+      | inl past ↦ past
+      | inr before ↦ absurd (not_in_digits own (decimal n) (get_or (decimal n) k 0) (digits_decimal own n low) (λ r. absurd (omega arith)) k l refl)
+    ])
 
 -- the word of a number is read
 pub number_from-decimal : (most n : ℕ) (words : List (List ℕ)) → n ≤ most → most < 2 ^ 64 → number_from most (decimal n ∷ words) ≡ Some (n, words)

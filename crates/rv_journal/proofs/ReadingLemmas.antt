@@ -1,5 +1,5 @@
 -- The line of an entry is read as it, and no other line is.
-use Rattle.std.proofs.Common.{◌≡◌, ℕ, true, List, [], ◌∷◌, ◌++◌, Option, Some, None, refl, sym, ap, ◌∙◌, arith}
+use Rattle.std.proofs.Common.{◌≡◌, ◌≢◌, ℕ, ◌<◌, true, List, [], ◌∷◌, ◌++◌, length, get_or, Option, Some, None, refl, sym, ap, ◌∙◌, arith}
 use Rattle.std.specs.Prelude.{decimal, IfSome}
 use Rattle.rv_model.specs.declared.entry.Act.{Act}
 use Rattle.rv_model.specs.declared.entry.Act.TheVariants.{Deliver, Stop, Look, Raise, Lower, Clear, End}
@@ -11,7 +11,7 @@ use Rattle.rv_model.specs.declared.hit.What.TheVariants.{Da, Ltl, Nothing}
 use Rattle.rv_journal.specs.EntryTexts.{mode_word, what_words, act_words, entry_words, one_apart, entry_text, IsWhat, IsAct, IsEntry}
 use Rattle.rv_text.specs.Pieces.{pieces_by}
 use Rattle.rv_journal.specs.inner.EntryReadings.{entry_from}
-use Rattle.rv_journal.proofs.PieceLemmas.{has_no_blank, AreWords, words-append, pieces-text, pieces-words}
+use Rattle.rv_journal.proofs.PieceLemmas.{all_above, AreWords, words-append, pieces-text, pieces-words, above-at, words-above}
 use Rattle.rv_journal.proofs.NumberLemmas.{decimal-word}
 use Rattle.rv_journal.proofs.EntryReadLemmas.{entry-read}
 use Rattle.rv_journal.proofs.EntrySpelledLemmas.{entry-spelled}
@@ -28,7 +28,7 @@ what-are-words (Ltl on off pulse) is =
 what-are-words Nothing is = tt
 
 -- nor has a mode
-mode-is-word : (mode : Mode) → has_no_blank (mode_word mode) ≡ true
+mode-is-word : (mode : Mode) → all_above 32 (mode_word mode) ≡ true
 mode-is-word modes.Event = refl
 mode-is-word modes.Start = refl
 mode-is-word modes.StartRun = refl
@@ -44,12 +44,21 @@ act-are-words (Lower bits) is = (refl, (decimal-word bits (omega arith), tt))
 act-are-words (Clear slot) is = (refl, (decimal-word slot (omega arith), tt))
 act-are-words (End slot) is = (refl, (decimal-word slot (omega arith), tt))
 
+-- nor has an entry
+entry-are-words : (e : Entry) → IsEntry e → AreWords (entry_words e)
+entry-are-words e is =
+    let low = is.seat in (
+      decimal-word e.seat (omega arith),
+      words-append (act_words e.act) (decimal e.before ∷ decimal e.after ∷ []) (act-are-words e.act is.act) (decimal-word e.before is.before, (decimal-word e.after is.after, tt)),
+    )
+
 -- the pieces of an entry's text are its words
 entry-pieces : (e : Entry) → IsEntry e → pieces_by 32 (entry_text e) ≡ entry_words e
-entry-pieces e is =
-    let low = is.seat in
-    pieces-words (decimal e.seat) (act_words e.act ++ decimal e.before ∷ decimal e.after ∷ []) (decimal-word e.seat (omega arith))
-    (words-append (act_words e.act) (decimal e.before ∷ decimal e.after ∷ []) (act-are-words e.act is.act) (decimal-word e.before is.before, (decimal-word e.after is.after, tt)))
+entry-pieces e is = let are = entry-are-words e is in pieces-words (decimal e.seat) (act_words e.act ++ decimal e.before ∷ decimal e.after ∷ []) are.0 are.1
+
+-- the text of an entry has no line end
+pub entry-unended : (e : Entry) → IsEntry e → (k : ℕ) → k < length (entry_text e) → get_or (entry_text e) k 0 ≢ 10
+entry-unended e is k inside = λ same. let past : 10 < get_or (entry_text e) k 0 = above-at 10 (entry_text e) k (words-above (entry_words e) (entry-are-words e is)) inside in absurd (omega arith)
 
 -- what is read of a line has it as its text
 pub line-is : (line : List ℕ) (result : Option Entry) → result ≡ entry_from (pieces_by 32 line) → IfSome result (λ e. entry_text e ≡ line)

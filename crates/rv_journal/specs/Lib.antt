@@ -3,6 +3,7 @@ pub mod CountedLanes
 pub mod CountedSeats
 pub mod CountedWords
 pub mod EntryTexts
+pub mod JournalReadings
 pub mod MergeStates
 pub mod MergeSteps
 pub mod Merging

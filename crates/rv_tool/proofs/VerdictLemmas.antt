@@ -14,6 +14,7 @@ use Rattle.rv_model.specs.Reports.{report_text}
 use Rattle.rv_model.specs.Setups.{slot_of}
 use Rattle.rv_model.proofs.OneJudgeLemmas.{lists-same}
 use Rattle.rv_bind.specs.declared.bindings.Monitor.{Monitor}
+use Rattle.rv_feed.specs.Existence.{HasOneHistory}
 use Rattle.rv_feed.specs.Lane.{panics_of}
 use Rattle.rv_report.specs.Reported.{reported}
 use Rattle.rv_laws.specs.Verdicts.{IsSteady, AgreeOnSingleWriter}
@@ -36,6 +37,15 @@ pub calm : (monitors : List Monitor) → All (λ (m : Monitor). is_panic m.react
 calm [] none number = refl
 calm (m ∷ monitors) none zero = All-head (λ (m : Monitor). is_panic m.reactor ≡ false) m monitors none
 calm (m ∷ monitors) none (suc number) = calm monitors (All-tail (λ (m : Monitor). is_panic m.reactor ≡ false) m monitors none) number
+
+-- ---- one thread
+
+-- a history of one thread has a report
+one_reported : (i : InputValue) → HasOneHistory (run_of i) → (k : List Entry) × (other : List ℕ) × (said : ℕ) × IsReported IsOneHistory i k other said
+one_reported i one =
+    let records = records_of (run_of i) one.judges one.history in
+    let text : List ℕ = report_text (map (reported i.bound.containers) i.bound.monitors) i.routed.tasks records in
+    (one.history, text, status_of records, record { judges = one.judges; are_judges = one.are_judges; history = one.is_one; text_is = refl; status_is = refl })
 
 -- ---- a report
 module _ (i : InputValue) (unchanged : i.changes ≡ []) (h : List Entry) (text : List ℕ) (status : ℕ) (is : IsReported IsLegal i h text status) where
@@ -66,8 +76,9 @@ module _ (i : InputValue) (unchanged : i.changes ≡ []) (h : List Entry) (text 
       (is.text_is ∙ ap (report_text (map (reported i.bound.containers) i.bound.monitors) i.routed.tasks) same ∙ sym one.text_is, is.status_is ∙ ap status_of same ∙ sym one.status_is)
 
   -- the report of a run at once has its verdicts
-  has_verdicts : FitCpus i → HasVerdicts i h text status
-  has_verdicts routed = record {
+  has_verdicts : FitCpus i → HasOneHistory (run_of i) → HasVerdicts i h text status
+  has_verdicts routed one = record {
+    one = one_reported i one;
     not_stopped = no_stop;
     not_six = no_six;
     single_writer = lone_as_one;
@@ -82,7 +93,7 @@ module _ (i : InputValue) (unchanged : i.changes ≡ []) (h : List Entry) (text 
   }
 
 -- a run at once of what is ready has its verdicts
-pub runs_verdicts : (ready : Prepared) (ran : Result FinishedRun AllocError) → IsPrepared ready → ready.changes.items ≡ [] → IfOk ran (λ done. IsReported IsLegal (prepared_value ready) done.closed done.text.items done.status)
-    → IfOk ran (λ done. IsVerdictReport (prepared_value ready) done.closed done.text.items done.status)
-runs_verdicts ready (Ok done) is unchanged reported = (reported, has_verdicts (prepared_value ready) unchanged done.closed done.text.items done.status reported (ready_routed ready is))
-runs_verdicts ready (Err none) is unchanged done = done
+pub runs_verdicts : (ready : Prepared) (ran : Result FinishedRun AllocError) → IsPrepared ready → ready.changes.items ≡ [] → HasOneHistory (run_of (prepared_value ready))
+    → IfOk ran (λ done. IsReported IsLegal (prepared_value ready) done.closed done.text.items done.status) → IfOk ran (λ done. IsVerdictReport (prepared_value ready) done.closed done.text.items done.status)
+runs_verdicts ready (Ok done) is unchanged one reported = (reported, has_verdicts (prepared_value ready) unchanged done.closed done.text.items done.status reported (ready_routed ready is) one)
+runs_verdicts ready (Err none) is unchanged one done = done

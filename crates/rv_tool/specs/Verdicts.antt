@@ -57,8 +57,9 @@ ReportsOne i = PrintsSome (λ h text status. IsReported IsOneHistory i h text st
 
 -- ---- all of them
 
--- a slot that one CPU alone delivers to is never stopped, and without panic its records are those of one thread; where all slots are such the status is not 6, and without panic the text and the status are those of one thread
+-- the input has a history of one thread, with its text and its status; a slot that one CPU alone delivers to is never stopped, and without panic its records are those of one thread; where all slots are such the status is not 6, and without panic the text and the status are those of one thread
 pub record HasVerdicts (i : InputValue) (h : List Entry) (text : List ℕ) (status : ℕ) : Type 0 where
+  pub one : (k : List Entry) × (other : List ℕ) × (said : ℕ) × IsReported IsOneHistory i k other said
   pub not_stopped : (slot : ℕ) → HasOneWriterIn i slot → AtEach (λ before e. ¬ (e.act ≡ Stop slot)) h
   pub not_six : ((slot : ℕ) → HasOneWriterIn i slot) → status ≢ 6
   pub single_writer : HasNoPanic i → (judges : List Judge) (k : List Entry) → AreJudges (run_of i).specs (run_of i).setup.tables judges → IsOneHistory (run_of i) judges k → AgreeOnSingleWriter (run_of i) judges judges h k

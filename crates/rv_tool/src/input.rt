@@ -5,8 +5,9 @@ ghost use Rattle.rv_bind.specs.BoundViews.{bound_value};
 ghost use Rattle.rv_bind.specs.WellFormed.{HaveTables, kinds_of, IsWellFormed};
 ghost use Rattle.rv_route.specs.Routed.{routed_value};
 ghost use Rattle.rv_route.specs.Fitting.{WorksFit, FromRules};
+ghost use Rattle.rv_feed.specs.Existence.{HasOneHistory};
 ghost use Rattle.rv_feed.specs.Lane.{IsNewLane, works_of};
-ghost use Rattle.rv_tool.specs.Inputs.{opened, run_input};
+ghost use Rattle.rv_tool.specs.Inputs.{opened, run_input, run_of};
 ghost use Rattle.rv_tool.specs.inner.Prepared.{prepared_value, IsPrepared};
 ghost use Rattle.rv_tool.specs.SomeInputs.{IsSomeInput};
 
@@ -14,7 +15,7 @@ use crate::trace_text::read_routed;
 use rv_bind::{BindFault, Bindings, Bound, Monitor, read_bindings};
 use rv_control::opening_switches;
 use rv_core::Setup;
-use rv_feed::Lane;
+use rv_feed::{Lane, assert_lanes};
 use rv_io::Store;
 use rv_model::{Change, CpuWork, Reactor, Scope};
 use rv_route::Routed;
@@ -52,14 +53,28 @@ pub(crate) fn read_input<S: Store>(
     ensures ready { IfOk result IsPrepared }
     ensures some { IfOk result (λ ready. IsSomeInput trace.now (prepared_value ready)) }
     ensures unchanged { IfOk result (λ ready. ready.changes.items ≡ []) }
+    ensures one { IfOk result (λ ready. HasOneHistory (run_of (prepared_value ready))) }
     ensures reads { ReadsOutcome prepared_value (S.files store.old) (S.files store.new) (S.faults store.old) (S.faults store.new) result (λ files. run_input files bindings.now trace.now) }
 {
     let bound = read_bindings(alloc, store, bindings)?;
     let routed = read_routed(alloc, store, trace, &bound)?;
     match prepare(alloc, bound, routed) {
-        Ok(ready) => Ok(ready),
+        Ok(ready) => {
+            assert_one(&ready);
+            Ok(ready)
+        }
         Err(AllocError) => Err(BindFault::Memory),
     }
+}
+
+/// Does nothing, and gives a proof that what is ready has a history of one thread.
+fn assert_one(ready: &Prepared)
+    requires ready { IsPrepared ready.now }
+    requires unchanged { ready.now.changes.items ≡ [] }
+    ensures { HasOneHistory (run_of (prepared_value ready.now)) }
+{
+    ready.setup.assert_invariant();
+    assert_lanes(ready.lanes.as_slice());
 }
 
 /// What the bindings and the works make ready.

@@ -9,8 +9,8 @@ use Rattle.rv_trace.specs.declared.trace.TheConstants.{MAX_BYTES}
 use Rattle.rv_trace.specs.Lines.{moved_line}
 use Rattle.rv_trace.specs.Traces.{reading_of}
 
--- a stream: all bytes that were fed, how many of them stand in lines that were taken or skipped, the last line that was
--- taken, whether it has ended, and whether there was no more to take since it last grew
+-- a stream: all bytes that were fed, how many of them stand in lines that were taken or skipped, the line that the last
+-- call took, whether it has ended, and whether there was no more to take since it last grew
 pub record Stream : Type 0 where
   pub fed : List ℕ
   pub taken : ℕ

@@ -1,5 +1,5 @@
 //! The lines of a stream that is fed in pieces and never held whole.
-ghost use Rattle.std.specs.Prelude.{◌≡◌, ◌≤◌, ◌++◌, ◌&&◌, [], true, false, not, drop, take, length, IsTrue, IfOk, IfSome, OnOk, OnErr};
+ghost use Rattle.std.specs.Prelude.{◌≡◌, ◌≤◌, ◌++◌, ◌&&◌, [], true, false, not, drop, take, length, IsTrue, IfOk, IfSome, IfNone, OnOk, OnErr};
 ghost use Rattle.rv_trace.specs.Lines.{LiesIn};
 ghost use Rattle.rv_trace.specs.Streams.{TakesNextLine};
 
@@ -116,10 +116,13 @@ impl Lines {
     }
 
     /// The next line that is not skipped, or None where no line is left of what can be read: before the end of the
-    /// stream that is all up to its last line end. After a refusal each call refuses the same. No memory is taken.
+    /// stream that is all up to its last line end. After a refusal each call refuses the same. A call that gives no line
+    /// leaves the empty text. No memory is taken.
     pub fn take(&mut self) -> Result<Option<TraceLine>, Refusal>
         ensures takes { TakesNextLine self.old self.new result }
         ensures lies { IfOk result (λ found. IfSome found (LiesIn self.new.text)) }
+        ensures none { IfOk result (λ found. IfNone found (self.new.text ≡ [])) }
+        ensures refused { OnErr result (self.new.text ≡ []) }
         ensures small { length self.new.text ≤ MAX_BYTES }
     {
         let sought = seek(self.held.as_slice(), self.passed, self.at, self.ended);
@@ -130,7 +133,8 @@ impl Lines {
         sought.read
     }
 
-    /// The line that the last call took, without its line end, in which its spans are places. No memory is taken.
+    /// The line that the last call of `take` gave, without its line end, in which its spans are places; empty where that
+    /// gave none, and after `feed`. No memory is taken.
     pub fn text(&self) -> &[u8]
         ensures { result.now ≡ self.now.text }
     {

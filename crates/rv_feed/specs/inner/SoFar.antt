@@ -84,7 +84,6 @@ pub record RunSoFar (panics : ℕ → Bool) (old new : CoreValue) (lanes lanes' 
   pub grows : new ≡ record old { history = old.history ++ more }
   pub same_works : works_of lanes' ≡ works_of lanes
   pub count : length places ≡ 64
-  pub few : from ≤ 2 ^ 32
   pub lanes_are : All (LaneSoFar old.setup panics old.history more places from) lanes'
   pub nobody_else : AtEach (λ before e. Any (λ w. e.seat ≡ 2 + w.cpu) (works_of lanes)) more
   pub no_stop : AtEach (λ before e. IsNoStop e.act) more

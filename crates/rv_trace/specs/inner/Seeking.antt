@@ -1,5 +1,5 @@
 -- Where the next line ends in the bytes that are held, and what is found from a place on.
-use Rattle.std.specs.Prelude.{◌≡◌, ◌≢◌, ◌≤◌, ◌<◌, ℕ, ◌+◌, Bool, true, List, length, take, slice_index, IfOk, IfSome}
+use Rattle.std.specs.Prelude.{◌≡◌, ◌≢◌, ◌≤◌, ◌<◌, ℕ, ◌+◌, Bool, true, List, [], length, take, slice_index, IfOk, IfSome, IfNone, OnErr}
 use Rattle.rv_text.specs.Places.{between}
 use Rattle.rv_trace.specs.declared.seek.At.{At}
 use Rattle.rv_trace.specs.declared.seek.Sought.{Sought}
@@ -34,4 +34,6 @@ pub record Seeks (held : List ℕ) (passed : ℕ) (start : At) (ended : Bool) (s
   pub within : sought.to ≤ length held
   pub small : sought.to ≤ MAX_BYTES
   pub lies : IfOk sought.read (λ found. IfSome found (LiesIn (between held sought.from sought.to)))
+  pub none : IfOk sought.read (λ found. IfNone found (between held sought.from sought.to ≡ []))
+  pub refused : OnErr sought.read (between held sought.from sought.to ≡ [])
   pub tells : (fed : List ℕ) → IsPieceOf fed held passed → IsPassed fed ended (passed + start.from) start.number → TellsNext fed held passed start ended sought

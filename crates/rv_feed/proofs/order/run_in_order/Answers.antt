@@ -18,7 +18,7 @@ later : {panics : ℕ → Bool} {old new : CoreValue} {lanes lanes' : List LaneV
 later run = λ k d lt. (run.lanes_are k d lt).later
 
 pub loop-places-init : goal.loop-places-init
-loop-places-init c = (run-start (panics_of c.args.reactors.now) c.args.core.now c.args.lanes.now c.requires, search rules, c.first_lines-lines.ensures)
+loop-places-init c = (run-start (panics_of c.args.reactors.now) c.args.core.now c.args.lanes.now c.requires, search rules, c.first_lines-lines.ensures, omega arith)
 
 pub returns-then-next-eq-NO_LINE : goal.returns-then-next-eq-NO_LINE
 returns-then-next-eq-NO_LINE c =
@@ -51,6 +51,7 @@ loop-places-preserved c =
     let next = is-next c.loop-places.places lanes c.next_lane-next.result d least c.if-next-eq-NO_LINE.false in
     let apart = pairs-from lanes (subst (AllPairs (λ v u. v.cpu ≢ u.cpu)) (sym run.same_works) (pairs-to c.args.lanes.now c.requires.cpus)) in
     let fits : l.work.cpu < length c.loop-places.lines = let f = (All-get_or (LaneSoFar c.args.core.now.setup (panics_of c.args.reactors.now) c.args.core.now.history run.more c.loop-places.places c.loop-places.from) lanes k d next.below run.lanes_are).cpu in let n = c.loop-places.invariant.1 in omega arith in
+    let few : c.next_lane-next.result.line + 1 ≤ 2 ^ 32 = let f = next.fits in omega arith in
     let has : HasLine (set c.loop-places.places (c.seat_of.result - 2) place') lane' line = record { line_is = c.line_of.ensures.line; range = c.line_of.ensures.range; few = c.line_of.ensures.none; pending = c.line_of.ensures.pending } in (
       subst (λ (n : ℕ). RunSoFar (panics_of c.args.reactors.now) c.args.core.now c.play_next.new.core c.args.lanes.now (set lanes k lane') (set c.loop-places.places n place') (c.next_lane-next.result.line + 1)) (sym cpu)
           (run-next (panics_of c.args.reactors.now) c.args.core.now c.loop-places.core c.play_next.new.core c.args.lanes.now lanes c.loop-places.places c.loop-places.from c.next_lane-next.result lane' place' d c.requires run least c.if-next-eq-NO_LINE.false plays),
@@ -58,4 +59,5 @@ loop-places-preserved c =
       subst (λ (n : ℕ). HasLines (set c.loop-places.places n place') (set c.loop-places.lines n line) (set lanes k lane')) (sym cpu)
           (lines-played c.loop-places.lines lanes apart k d next.below fits c.loop-places.places lane' place' line plays.plays.kept.work_is c.loop-places.invariant.2
           (subst (λ (n : ℕ). HasLine (set c.loop-places.places n place') lane' line) cpu has)),
+      few,
     )

@@ -1,10 +1,8 @@
 -- A look, and the deliveries that it enables.
-use Rattle.std.proofs.Common.{◌≡◌, ℕ, sym, ap, ◌∙◌, subst, arith}
+use Rattle.std.proofs.Common.{◌≡◌, sym, ap, ◌∙◌, subst, arith}
 use Rattle.rv_model.specs.Setups.{Setup}
 use Rattle.rv_model.specs.Works.{Work}
 use Rattle.rv_core.specs.Deliveries.{FitsDelivery}
-use Rattle.rv_feed.specs.Lane.{panics_of}
-use Rattle.rv_feed.specs.inner.Turns.{PartDone}
 use Rattle.rv_feed.proofs.PlaceLemmas.{place-inside, at-place, holds-at, kept-at}
 use Rattle.rv_feed.proofs.TurnLemmas.{of-cpu, turn-start, turn-off, turn-all, turn-hidden, turn-shown, turn-last}
 use Rattle.rv_feed.proofs.turn.play_turn.Goals as goal
@@ -12,11 +10,10 @@ use Rattle.rv_feed.proofs.turn.play_turn.Goals.{then-is_enabled_by+else-ends, el
 
 pub returns-then-has_bit : goal.returns-then-has_bit
 returns-then-has_bit g c =
-    of-cpu g.P.Player.does (ap (λ (w : Work). w.cpu) (c.behind-lane.view_is ∙ c.work.ensures))
-    (turn-off (g.P.Player.does c.behind-lane.inside.cpu) (g.P.Player.setup c.args.player.now) (panics_of c.args.reactors.now) c.look-word.result c.args.turn.now c.args.lane.now c.look-word.ensures (sym c.has_bit.ensures ∙ c.if-has_bit.true))
+    of-cpu g.P.Player.does (ap (λ (w : Work). w.cpu) (c.behind-lane.view_is ∙ c.work.ensures)) (turn-off c.look-word.ensures (sym c.has_bit.ensures ∙ c.if-has_bit.true))
 
 pub loop-place-init : goal.loop-place-init
-loop-place-init g c = turn-start (g.P.Player.does c.behind-lane.inside.cpu) (g.P.Player.setup c.args.player.now) (panics_of c.args.reactors.now) c.look-word.result c.args.turn.now c.args.lane.now c.look-word.ensures
+loop-place-init g c = turn-start c.look-word.ensures
 
 pub delivery_at-delivery-requires : goal.delivery_at-delivery-requires
 delivery_at-delivery-requires g c = place-inside c.args.turn.now c.loop-place.invariant.kept c.loop-place.auto.place c.loop-place-test.true c.requires.in_list
@@ -34,7 +31,7 @@ returns-then-ends g c =
     let cpu = c.behind-lane.inside.cpu in
     let at = at-place c.args.turn.now inv.kept c.loop-place.auto.place c.loop-place-test.true c.requires.in_list c.delivery_at-delivery.ensures in
     of-cpu g.P.Player.does (ap (λ (w : Work). w.cpu) (c.behind-lane.view_is ∙ c.work.ensures))
-    (turn-last (g.P.Player.does cpu) (g.P.Player.setup c.args.player.now) (panics_of c.args.reactors.now) c.look-word.result c.args.turn.now c.args.lane.now inv at (g.met.P.Player.composes cpu)
+    (turn-last inv at (g.met.P.Player.composes cpu)
     (sym c.is_enabled_by.ensures ∙ c.if-is_enabled_by.true) (g.met.P.Player.same_setup cpu _ _ _ inv.did) c.serve-outcome.ensures (kept-at c.args.turn.now.line c.look-word.result c.loop-place.place c.delivery_at-delivery.ensures c.keep.ensures c.has_bit-then-is_enabled_by.ensures)
     (sym c.has_bit.ensures ∙ c.if-has_bit.false) (sym c.ends.ensures ∙ c.if-ends.true) c.halt.ensures)
 
@@ -42,23 +39,15 @@ pub loop-place-preserved : goal.loop-place-preserved
 loop-place-preserved g c =
     let inv = c.loop-place.invariant in
     let cpu = c.behind-lane.inside.cpu in
-    let does = g.P.Player.does cpu in
-    let s = g.P.Player.setup c.args.player.now in
-    let panics = panics_of c.args.reactors.now in
     let at = at-place c.args.turn.now inv.kept c.loop-place.auto.place c.loop-place-test.true c.requires.in_list c.delivery_at-delivery.ensures in
     elim c.if-is_enabled_by.branch [
-      | then-is_enabled_by+else-ends w ↦ rw (w.player-is, w.lane-is) (turn-shown does s panics c.look-word.result c.args.turn.now c.args.lane.now inv at (g.met.P.Player.composes cpu)
+      | then-is_enabled_by+else-ends w ↦ rw (w.player-is, w.lane-is) (turn-shown inv at (g.met.P.Player.composes cpu)
           (sym c.is_enabled_by.ensures ∙ w.if-is_enabled_by.true) (g.met.P.Player.same_setup cpu _ _ _ inv.did) w.serve-outcome.ensures (kept-at c.args.turn.now.line c.look-word.result c.loop-place.place c.delivery_at-delivery.ensures w.keep.ensures w.has_bit-then-is_enabled_by.ensures)
           (sym w.ends.ensures ∙ w.if-ends.false))
-      | else-is_enabled_by w ↦ rw (w.player-is, w.lane-is) (turn-hidden does s panics c.look-word.result c.args.turn.now c.args.lane.now inv at (sym c.is_enabled_by.ensures ∙ w.if-is_enabled_by.false))
+      | else-is_enabled_by w ↦ rw (w.player-is, w.lane-is) (turn-hidden inv at (sym c.is_enabled_by.ensures ∙ w.if-is_enabled_by.false))
     ]
 
 pub returns : goal.returns
 returns g c =
-    let does = g.P.Player.does c.behind-lane.inside.cpu in
-    let s = g.P.Player.setup c.args.player.now in
-    let panics = panics_of c.args.reactors.now in
     let end : c.loop-place.place ≡ c.args.turn.now.to = let a = c.loop-place.auto.place-end c.requires.order in let b = c.loop-place-test.false in omega arith in
-    let done = subst (λ (n : ℕ). PartDone does s panics c.args.player.now c.loop-place.player c.look-word.result c.args.turn.now c.args.lane.now c.loop-place.lane n) end c.loop-place.invariant in
-    of-cpu g.P.Player.does (ap (λ (w : Work). w.cpu) (c.behind-lane.view_is ∙ c.work.ensures))
-    (turn-all does s panics c.look-word.result c.args.turn.now c.args.lane.now (sym c.has_bit.ensures ∙ c.if-has_bit.false) done)
+    of-cpu g.P.Player.does (ap (λ (w : Work). w.cpu) (c.behind-lane.view_is ∙ c.work.ensures)) (turn-all end (sym c.has_bit.ensures ∙ c.if-has_bit.false) c.loop-place.invariant)

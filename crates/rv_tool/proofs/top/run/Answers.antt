@@ -23,7 +23,7 @@ pub returns-in_ok-ready-in-Feed-clause-comes : goal.returns-in_ok-ready-in-Feed-
 returns-in_ok-ready-in-Feed-clause-comes g c =
     let words = c.in-Feed in let read = c.in_ok-ready-in-Feed in
     rw words.is (run_comes prepared_value (IsSomeInput words.trace.now) IsVerdictReport (λ files. run_input files words.bindings.now words.trace.now) _ _ _ read.ready c.fed.result c.ended-in-Feed.result read.ensures.reads.value read.ensures.some
-    (runs_verdicts read.ready c.fed.result read.ensures.ready read.ensures.unchanged c.fed.ensures) c.ended-in-Feed.ensures)
+    (runs_verdicts read.ready c.fed.result read.ensures.ready read.ensures.unchanged read.ensures.one c.fed.ensures) c.ended-in-Feed.ensures)
 
 pub returns-in_ok-session-in-Control-clause-comes : goal.returns-in_ok-session-in-Control-clause-comes
 returns-in_ok-session-in-Control-clause-comes g c =

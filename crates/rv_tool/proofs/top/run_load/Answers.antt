@@ -19,4 +19,4 @@ returns g c =
     let ready = c.in_ok-ready.ready in
     subst (λ (files : Files). ComesTo (IsSomeInput (codes "gen.txt")) IsVerdictReport outcome (Some files) 0 0 c.ended.result) c.in-Ok.ensures
     (run_comes prepared_value (IsSomeInput (codes "gen.txt")) IsVerdictReport outcome (Some told) 0 0 ready c.fed.result c.ended.result c.in_ok-ready.ensures.reads.value c.in_ok-ready.ensures.some
-    (runs_verdicts ready c.fed.result c.in_ok-ready.ensures.ready c.in_ok-ready.ensures.unchanged c.fed.ensures) c.ended.ensures)
+    (runs_verdicts ready c.fed.result c.in_ok-ready.ensures.ready c.in_ok-ready.ensures.unchanged c.in_ok-ready.ensures.one c.fed.ensures) c.ended.ensures)

@@ -1,4 +1,4 @@
-use Rattle.std.proofs.Common.{◌≡◌, ◌≤◌, ◌+◌, List, ℕ, take, Option, Result, Ok, Some, None, sym, ◌∙◌, ap, subst, arith}
+use Rattle.std.proofs.Common.{◌≡◌, ◌≤◌, ◌+◌, List, ℕ, take, Option, Result, Ok, Some, None, refl, sym, ◌∙◌, ap, subst, arith}
 use Rattle.std.specs.Prelude.{IfSome}
 use Rattle.rv_text.specs.Places.{between}
 use Rattle.rv_text.specs.TextLines.{LineText}
@@ -61,6 +61,8 @@ returns-in-Some-found c =
       small = omega (arith, fits, c.past_line_end-end.ensures, c.in-Some.ensures.some.within);
       lies = subst (λ (o : Option TraceLine). IfSome o (LiesIn text)) (sym c.in-Some-found.is)
           (reading-lies text (line_here here) c.in-Some-found.field-0 (omega arith) (sym c.read_at-read.ensures ∙ is));
+      none = rw c.in-Some-found.is tt;
+      refused = tt;
       tells = λ fed piece stands. let told = tells-here here fed piece stands in record {
         answers = subst (λ (r : Result (Option TraceLine) Refusal).
             AnswersLine (take (c.args.passed + c.args.start.from) fed) (take (c.args.passed + c.past_line_end-end.result) fed) (part_read c.args.ended fed) text r) c.in-Ok.is
@@ -80,6 +82,8 @@ returns-in-Err c =
       within = omega arith;
       small = omega arith;
       lies = rw c.in-Err.is tt;
+      none = rw c.in-Err.is tt;
+      refused = rw c.in-Err.is refl;
       tells = λ fed piece stands. record {
         answers = (tells-here here fed piece stands).refuses c.in-Err.field-0 (between c.args.held.now 0 0) c.in-Err.is;
         behind = (kept.3 fed piece stands).1;
@@ -98,6 +102,8 @@ returns c =
       within = omega arith;
       small = omega arith;
       lies = tt;
+      none = refl;
+      refused = tt;
       tells = λ fed piece stands. let before = kept.3 fed piece stands in record {
         answers = record {
           adds = before.0;
