@@ -1,5 +1,5 @@
 -- After any history a seat can play any turn.
-use Rattle.std.proofs.Common.{◌≡◌, ℕ, zero, suc, ◌+◌, ◌-◌, ◌^◌, ◌≤◌, Bool, true, false, ◌&&◌, [], ◌∷◌, ◌++◌, length, arith, refl, ap, subst, get_or}
+use Rattle.std.proofs.Common.{◌≡◌, ℕ, zero, suc, ◌+◌, ◌-◌, ◌^◌, ◌≤◌, Bool, true, false, ◌&&◌, [], ◌∷◌, ◌++◌, length, arith, refl, ap, get_or}
 use Rattle.std.proofs.lemmas.List.{get_or_default}
 use Rattle.rv_model.specs.declared.entry.Act.TheVariants.{Look, Raise}
 use Rattle.rv_model.specs.declared.record.Delivered.{Delivered}
@@ -60,14 +60,14 @@ module _ (seat : ℕ) (panics : ℕ → Bool) (word : ℕ) (turn : Turn) (old : 
       new = after seat mid (Raise (2 ^ 34));
       lane' = lane'';
       ends = true;
-      plays = turn-last (DoesAfter seat) s panics word turn lane done at (does-composes seat) shown same (serves seat cur d) kept goes halts_here (halts seat mid);
+      plays = turn-last done at (does-composes seat) shown same (serves seat cur d) kept goes halts_here (halts seat mid);
     }
-    failed false shown goes_on = rest mid lane'' (turn-shown (DoesAfter seat) s panics word turn lane done at (does-composes seat) shown same (serves seat cur d) kept goes_on)
+    failed false shown goes_on = rest mid lane'' (turn-shown done at (does-composes seat) shown same (serves seat cur d) kept goes_on)
 
     -- it is made, or the look does not enable it
     enabled : (b : Bool) → is_enabled_by word d ≡ b → SomeTurn seat panics old turn lane
     enabled true shown = failed (failed_outcome outcome && (panics d.monitor && has_bit word 33)) shown refl
-    enabled false hidden = rest cur lane' (turn-hidden (DoesAfter seat) s panics word turn lane done at hidden)
+    enabled false hidden = rest cur lane' (turn-hidden done at hidden)
 
     -- one delivery more, and then the rest of the turn
     one-more : SomeTurn seat panics old turn lane
@@ -77,7 +77,7 @@ module _ (seat : ℕ) (panics : ℕ → Bool) (word : ℕ) (turn : Turn) (old : 
   from-place : turn.to ≤ length lane.work.deliveries → (left : ℕ) (cur : CoreValue) (lane' : LaneValue) (place : ℕ) → place + left ≡ turn.to → turn.from ≤ place → IsDone cur lane' place → SomeTurn seat panics old turn lane
   from-place in_list zero cur lane' place end from done =
       let all : place ≡ turn.to = omega arith in
-      record { new = cur; lane' = lane'; ends = false; plays = turn-all (DoesAfter seat) s panics word turn lane goes (subst (IsDone cur lane') all done) }
+      record { new = cur; lane' = lane'; ends = false; plays = turn-all all goes done }
   from-place in_list (suc left) cur lane' place end from done =
       let d : Delivery = get_or lane.work.deliveries place no_delivery in
       let at : AtPlace lane.work.deliveries turn place d = record { d_is = get_or_default lane.work.deliveries place no_delivery d (omega arith); from = from; before = omega arith; inside = omega arith } in
@@ -88,7 +88,7 @@ pub some-turn : (seat : ℕ) (panics : ℕ → Bool) (old : CoreValue) (turn : T
 some-turn seat panics old turn lane order in_list = halted (has_bit (entry_of seat old Look).after 34) refl
   where
     halted : (b : Bool) → has_bit (entry_of seat old Look).after 34 ≡ b → SomeTurn seat panics old turn lane
-    halted true off = record { new = after seat old Look; lane' = lane; ends = true; plays = turn-off (DoesAfter seat) old.setup panics (entry_of seat old Look).after turn lane (looks seat old) off }
+    halted true off = record { new = after seat old Look; lane' = lane; ends = true; plays = turn-off (looks seat old) off }
     halted false on =
         let word : ℕ = (entry_of seat old Look).after in
-        from-place seat panics word turn old lane on in_list (turn.to - turn.from) (after seat old Look) lane turn.from (omega arith) (omega arith) (turn-start (DoesAfter seat) old.setup panics word turn lane (looks seat old))
+        from-place seat panics word turn old lane on in_list (turn.to - turn.from) (after seat old Look) lane turn.from (omega arith) (omega arith) (turn-start (looks seat old))
