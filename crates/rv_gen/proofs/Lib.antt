@@ -1,2 +1,4 @@
 pub mod AutomatonLemmas
 pub mod LineLemmas
+pub mod LengthLemmas
+pub mod ReadLemmas

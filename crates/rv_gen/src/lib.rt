@@ -3,9 +3,11 @@
 
 mod automata;
 mod files;
+mod laws;
 mod limits;
 mod trace;
 
 pub use automata::{wip, wwnr};
 pub use files::{Generated, MAX_BLOCKS, generate};
+pub use laws::{automata_are_read, blocks_are_short};
 pub use limits::limits_are_numerals;

@@ -10,6 +10,7 @@ pub mod FeedingLemmas
 pub mod FitLemmas
 pub mod FrontLemmas
 pub mod JudgedLemmas
+pub mod LoadLemmas
 pub mod NumberLemmas
 pub mod OneLemmas
 pub mod PiecesLemmas

@@ -2,6 +2,7 @@ pub mod Calls
 pub mod Changes
 pub mod Checks
 pub mod HeaderFiles
+pub mod GeneratedBound
 pub mod Headline
 pub mod Inputs
 pub mod Journals

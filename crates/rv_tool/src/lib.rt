@@ -9,6 +9,7 @@ mod feed_beside;
 mod header;
 mod input;
 mod journal;
+mod laws;
 mod load;
 mod output;
 mod replay;
@@ -20,4 +21,5 @@ mod watch;
 mod widths;
 mod words;
 
+pub use laws::load_is_bound;
 pub use top::{Finished, rv};
