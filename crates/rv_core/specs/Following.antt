@@ -7,7 +7,7 @@ use Rattle.rv_core.specs.Advance.{acted}
 use Rattle.rv_core.specs.Core.{IsCore}
 use Rattle.rv_core.specs.Setup.{FitsAct, ActFits, judges_of, word_index, table_of_act, start_of_act}
 
--- the entry found its word among the words, and left what its act makes of it
+-- the entry's act fits the setup, with numbers that fit the words; it found its word among the words, and left what the act makes of it
 pub record IsActedOn (s : Setup) (words : List ℕ) (e : Entry) : Type 0 where
   pub fits : FitsAct s e.act
   pub bits : ActFits s e.act

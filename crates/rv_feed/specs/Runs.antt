@@ -11,8 +11,8 @@ use Rattle.rv_model.specs.Setups.{Setup}
 use Rattle.rv_model.specs.Works.{Work}
 use Rattle.rv_core.specs.Judged.{AllMean}
 
--- there are judges of the specifications by which `Says` holds of the history, and `rs` are its records, up to their
--- order
+-- there are judges of the specifications by which `Says` holds of the history, and `rs`, once they are sorted, are its
+-- records, and give its status
 pub record IsRunOf (Says : Input → List Judge → List Entry → Type 0) (input : Input) (rs : List Record) (h : List Entry) : Type 0 where
   pub judges : List Judge
   pub are_judges : AreJudges input.specs input.setup.tables judges

@@ -10,7 +10,7 @@ pub fn automata_are_read()
     ensures wwnr { dot_of (dot_text wwnr) ≡ Ok wwnr }
 {}
 
-/// A block has at most 8512 bytes, 133 a line: so the trace of `MAX_BLOCKS` blocks has at most 133 million.
+/// The trace of N blocks has at most 8512 N bytes, 133 a line: that of `MAX_BLOCKS` blocks at most 133 million.
 pub fn blocks_are_short()
     ensures { (blocks : ℕ) → length (trace_text blocks) ≤ 8512 * blocks }
 {}

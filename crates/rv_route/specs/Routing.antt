@@ -26,7 +26,7 @@ pub record Firing : Type 0 where
   pub rule : OnValue
   pub ask : Ask
 
--- something is asked for
+-- whether the rule fires
 abbrev pub is_asked : Ask → Bool
 is_asked asks.Quiet = false
 is_asked (asks.Instance instance) = true

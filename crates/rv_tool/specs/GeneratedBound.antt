@@ -32,7 +32,7 @@ generated_rule place event by tests mode letter = record { monitor = place; even
 abbrev pub disable_rule : OnValue
 disable_rule = generated_rule 0 (codes "preempt_disable") None [] modes.Event 0
 
--- preemption goes on, where a run begins
+-- preemption goes on, where a waiting instance begins
 abbrev pub enable_rule : OnValue
 enable_rule = generated_rule 0 (codes "preempt_enable") None [] modes.Start 1
 
@@ -40,7 +40,7 @@ enable_rule = generated_rule 0 (codes "preempt_enable") None [] modes.Start 1
 abbrev pub waking_rule : OnValue
 waking_rule = generated_rule 0 (codes "sched_waking") None [] modes.Event 2
 
--- a task goes to sleep, where a run begins
+-- a task goes to sleep, where a waiting instance begins
 abbrev pub sleep_rule : OnValue
 sleep_rule = generated_rule 1 (codes "sched_switch") (Some (codes "prev_pid")) (Is (codes "prev_state") (codes "S") ∷ []) modes.Start 1
 

@@ -14,7 +14,7 @@ use Rattle.rv_tool.specs.Journals.{if_recordable}
 use Rattle.rv_tool.specs.Sessions.{control_value}
 use Rattle.rv_tool.specs.Watched.{WatchValue, watched_slot, watched_by}
 
--- the text of some trace is routed to this under the bindings
+-- the text of some trace is routed to this under the bindings; the trace's name would stand in a refusal alone
 abbrev pub IsOfSomeTrace : List ℕ → BoundValue → RoutedValue → Type 0
 IsOfSomeTrace trace bound routed = (text : List ℕ) × (routed_text trace bound text ≡ accepted routed)
 
