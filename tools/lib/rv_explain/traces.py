@@ -43,6 +43,8 @@ def finding_of(number, path, text, line_number, bindings):
         return strange
     lines = rv_texts.lines_of(text)
     line = lines[line_number - 1] if line_number and 1 <= line_number <= len(lines) else ""
+    if line_number and line_number > len(lines) + 1:
+        return Finding(f"the file has {len(lines):,} line{'s' if len(lines) != 1 else ''} now, so it was changed after `rv` read it", "run `rv` again on the file as it is", line_number)
     if number == 24:
         return no_event(lines, line_number, line, text)
     if number == 25:
