@@ -81,9 +81,17 @@ REFUSAL = re.compile(r"rv: refused ([0-9]+)(?: in (.*?)(?: line ([0-9]+))?)?")
 UNREAD = re.compile(r"rv: cannot read (.*)")
 
 
+def is_of_report(line):
+    """Whether the line is one that a report has, or stands in its place."""
+    return any(form.fullmatch(line) for form in (VIOLATION, SUMMARY, REFUSAL, UNREAD))
+
+
 def violations_of(path):
     """The violations of a report, in its order; `-` is standard input."""
-    return [found for found in map(VIOLATION.fullmatch, input_lines() if path == "-" else read_lines(path)) if found]
+    lines = list(input_lines() if path == "-" else read_lines(path))
+    if not any(map(is_of_report, lines)):
+        raise Trouble(UNREADABLE, f"no line of {'standard input' if path == '-' else path} is one of a report: rv did not run, or it is another text")
+    return [found for found in map(VIOLATION.fullmatch, lines) if found]
 
 
 # ---- lines of a trace
