@@ -1,7 +1,12 @@
--- A slot's monitor is found again.
-use Rattle.std.proofs.Common.{◌≡◌, ℕ, zero, suc, ◌+◌, ◌-◌, ◌<◌, List, [], ◌∷◌, true, false, sum, take, length, slice_index, nat_lt, refl, ap, ◌∙◌, arith}
-use Rattle.std.proofs.lemmas.List.Sums.{sum_by-take-drop}
+-- A slot's monitor is found again, and found by the first slots of all.
+use Rattle.std.proofs.Common.{◌≡◌, ℕ, zero, suc, ◌+◌, ◌-◌, ◌<◌, ◌≤◌, Bool, List, [], ◌∷◌, true, false, sum, take, length, slice_index, nat_lt, leb, refl, sym, ap, ◌∙◌, arith}
+use Rattle.std.specs.List.Sorted.{IsNonDecreasingBy, IsPartitionedBy, IsPartitionPoint}
+use Rattle.std.proofs.lemmas.Bool.{leb-true, leb-false}
+use Rattle.std.proofs.lemmas.List.{take_all, get_or_default}
+use Rattle.std.proofs.lemmas.List.Sorted.{IsNonDecreasingBy-from_all_adjacent, IsPartitionedBy-leb}
+use Rattle.std.proofs.lemmas.List.Sums.{sum_by-take-drop, sum_by_more}
 use Rattle.rv_model.specs.Setups.{monitor_of, slot_of}
+use Rattle.rv_slots.specs.Shapes.{AreBases}
 
 -- a sum by its first number
 pub sum-cons : (count : ℕ) (shape : List ℕ) → sum (count ∷ shape) ≡ count + sum shape
@@ -25,3 +30,64 @@ monitor_of-slot_of (count ∷ shape) (suc monitor) instance there below =
     let parts : sum (take (suc monitor) (count ∷ shape)) + instance ≡ count + (sum (take monitor shape) + instance) = let front = sum-cons count (take monitor shape) in omega arith in
     let rest = monitor_of-slot_of shape monitor instance (omega (arith, there)) below in
     ap (monitor_of (count ∷ shape)) parts ∙ monitor-past count shape (slot_of shape monitor instance) ∙ (let found : monitor_of shape (slot_of shape monitor instance) ≡ monitor = rest in omega arith)
+
+-- one monitor more
+pub sum-more : (shape : List ℕ) (monitor : ℕ) → monitor < length shape → sum (take (monitor + 1) shape) ≡ sum (take monitor shape) + slice_index shape monitor
+sum-more shape monitor there = sum_by_more (λ (x : ℕ). x) shape monitor 0 there
+
+-- what stands between a monitor's first slot and the next one's is its own
+pub monitor_of-between : (shape : List ℕ) (monitor slot : ℕ) → monitor < length shape → sum (take monitor shape) ≤ slot → slot < sum (take (monitor + 1) shape) → monitor_of shape slot ≡ monitor
+monitor_of-between shape monitor slot there first last =
+    let more = sum-more shape monitor there in
+    let instance : slot - sum (take monitor shape) < slice_index shape monitor = omega (arith, first, last, more) in
+    let same : slot_of shape monitor (slot - sum (take monitor shape)) ≡ slot = omega (arith, first) in
+    ap (monitor_of shape) (sym same) ∙ monitor_of-slot_of shape monitor (slot - sum (take monitor shape)) there instance
+
+module _ (shape bases : List ℕ) (are : AreBases shape bases) (slot : ℕ) where
+  -- the first slots ascend
+  ascend : IsNonDecreasingBy (λ (base : ℕ). base) bases
+  ascend = IsNonDecreasingBy-from_all_adjacent (λ (base : ℕ). base) bases (λ k d within.
+      let there : k < length shape = omega (arith, within, are.0) in
+      let this = are.1 k (omega (arith, there)) in
+      let next = are.1 (k + 1) (omega (arith, there)) in
+      let more = sum-more shape k there in
+      let a = get_or_default bases k d 0 (omega (arith, within)) in
+      let b = get_or_default bases (k + 1) d 0 within in
+      omega (arith, this, next, more, a, b))
+
+  pub parted : IsPartitionedBy (λ (base : ℕ). leb base slot) bases
+  parted = IsPartitionedBy-leb (λ (base : ℕ). base) bases slot ascend
+
+  module _ (within : slot < sum shape) where
+    -- the first monitor's first slot is not above it
+    pub some-before : (k : ℕ) → IsPartitionPoint (λ (base : ℕ). leb base slot ≡ true) (λ base. leb base slot ≡ false) bases k → 1 ≤ k
+    some-before zero point =
+        let above = leb-false (slice_index bases 0) slot (point.1 0 0 (omega arith) (omega (arith, are.0))) in
+        let first : slice_index bases 0 ≡ 0 = are.1 0 (omega arith) in
+        absurd (omega (arith, above, first))
+    some-before (suc k) point = omega arith
+
+    module _ (k : ℕ) (point : IsPartitionPoint (λ (base : ℕ). leb base slot ≡ true) (λ base. leb base slot ≡ false) bases k) where
+      -- what stands behind all monitors is above it
+      pub not-behind : k ≤ length shape
+      not-behind = go (leb k (length shape)) refl
+        where
+          go : (b : Bool) → leb k (length shape) ≡ b → k ≤ length shape
+          go true is = leb-true k (length shape) is
+          go false is =
+              let past = leb-false k (length shape) is in
+              let low = leb-true (slice_index bases (length shape)) slot (point.0 (length shape) 0 (omega arith) past) in
+              let all : slice_index bases (length shape) ≡ sum shape = are.1 (length shape) (omega arith) ∙ ap sum (take_all (length shape) shape (omega arith)) in
+              absurd (omega (arith, low, all, within))
+
+      pub begins-before : 1 ≤ k → sum (take (k - 1) shape) ≤ slot
+      begins-before some =
+          let low = leb-true (slice_index bases (k - 1)) slot (point.0 (k - 1) 0 (omega arith) (omega (arith, some))) in
+          let base = are.1 (k - 1) (omega (arith, not-behind)) in
+          omega (arith, low, base)
+
+      pub ends-behind : slot < sum (take k shape)
+      ends-behind =
+          let high = leb-false (slice_index bases k) slot (point.1 k 0 (omega arith) (omega (arith, not-behind, are.0))) in
+          let base = are.1 k not-behind in
+          omega (arith, high, base)

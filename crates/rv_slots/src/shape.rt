@@ -1,5 +1,5 @@
 //! How many slots each monitor has, and how they are numbered: by monitor, then by instance.
-ghost use Rattle.std.specs.Prelude.{◌≡◌, ◌<◌, ◌≤◌, map, length, sum, slice_index, IfOk};
+ghost use Rattle.std.specs.Prelude.{◌≡◌, ◌<◌, ◌≤◌, ◌+◌, map, length, sum, take, slice_index, IfOk};
 ghost use Rattle.rv_model.specs.Setups.{monitor_of, slot_of};
 ghost use Rattle.rv_slots.specs.Shapes.{count_of};
 
@@ -21,17 +21,20 @@ pub const MAX_SLOTS: u32 = 2_097_152;
 #[derive(Drop)]
 pub struct Shape {
     counts: Vec<u32>,
+    /// For each monitor its first slot, and behind them how many slots there are.
+    bases: Vec<u32>,
 }
 
 impl Model for Shape {
     ghost use Rattle.std.specs.Prelude.{List, ℕ, ◌≤◌, sum, length};
+    ghost use Rattle.rv_slots.specs.Shapes.{AreBases};
     ghost use Rattle.rv_slots.specs.declared.shape.TheConstants.{MAX_MONITORS, MAX_SLOTS};
 
     ghost Value = { List ℕ };
 
     ghost view = { λ s. s.counts.items };
 
-    ghost invariant = { λ s. (length s.counts.items ≤ MAX_MONITORS) × (sum s.counts.items ≤ MAX_SLOTS) };
+    ghost invariant = { λ s. (length s.counts.items ≤ MAX_MONITORS) × (sum s.counts.items ≤ MAX_SLOTS) × AreBases s.counts.items s.bases.items };
 }
 
 /// An instance of a monitor, which has a slot.
@@ -60,10 +63,31 @@ impl Shape {
         ensures { IfOk result (λ shape. shape ≡ map (count_of tasks) scopes.now) }
     {
         let mut counts = Vec::with_capacity(alloc, scopes.len())?;
+        let mut bases = Vec::with_capacity(alloc, scopes.len() + 1)?;
+        let mut slots: u32 = 0;
+        bases.push(slots)?;
         for scope in scopes {
-            counts.push(count_of(*scope, tasks))?;
+            let count = count_of(*scope, tasks);
+            slots += count;
+            counts.push(count)?;
+            bases.push(slots)?;
         }
-        Ok(Shape { counts })
+        Ok(Shape { counts, bases })
+    }
+
+    /// How many monitors there are.
+    pub fn monitors(&self) -> u8
+        ensures { result ≡ length self.now }
+    {
+        self.counts.len() as u8
+    }
+
+    /// How many slots a monitor has.
+    pub fn instances(&self, monitor: u8) -> u32
+        requires { monitor < length self.now }
+        ensures { result ≡ slice_index self.now monitor }
+    {
+        self.counts[monitor as usize]
     }
 
     /// How many slots there are.
@@ -71,11 +95,7 @@ impl Shape {
         ensures sum { result ≡ sum self.now }
         ensures few { result ≤ MAX_SLOTS }
     {
-        let mut slots: u32 = 0;
-        for count in &self.counts {
-            slots += *count;
-        }
-        slots
+        self.bases[self.counts.len()]
     }
 
     /// The slot of an instance of a monitor.
@@ -86,11 +106,18 @@ impl Shape {
         ensures range { result < sum self.now }
         ensures monitor { monitor_of self.now result ≡ monitor }
     {
-        let mut slots: u32 = 0;
-        for place in 0..monitor as usize {
-            slots += self.counts[place];
-        }
-        slots + instance
+        self.bases[monitor as usize] + instance
+    }
+
+    /// The monitor that has the slot.
+    fn monitor(&self, slot: u32) -> u8
+        requires { slot < sum self.now }
+        ensures monitors { result < length self.now }
+        ensures first { sum (take result self.now) ≤ slot }
+        ensures last { slot < sum (take (result + 1) self.now) }
+    {
+        let after = self.bases.partition_point(|base| *base <= slot);
+        (after - 1) as u8
     }
 
     /// The instance of a monitor that has the slot.
@@ -101,18 +128,10 @@ impl Shape {
         ensures instances { result.instance < slice_index self.now result.monitor }
         ensures slot { slot_of self.now result.monitor result.instance ≡ slot }
     {
-        let mut left = slot;
-        let mut monitor: u8 = 0;
-        for count in &self.counts {
-            if left < *count {
-                return Place {
-                    monitor,
-                    instance: left,
-                };
-            }
-            left -= *count;
-            monitor += 1;
+        let monitor = self.monitor(slot);
+        Place {
+            monitor,
+            instance: slot - self.bases[monitor as usize],
         }
-        unreachable!()
     }
 }

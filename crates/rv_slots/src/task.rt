@@ -1,6 +1,6 @@
 //! What is one task.
 ghost use Rattle.std.specs.Prelude.{◌≡◌};
-ghost use Rattle.rv_slots.specs.Tasks.{task_of};
+ghost use Rattle.rv_slots.specs.Tasks.{key_of, task_of};
 
 use rv_model::Task;
 
@@ -11,5 +11,16 @@ pub(crate) fn task_of(pid: u32, cpu: u8) -> Task
     Task {
         pid,
         cpu: if pid == 0 { cpu } else { 0 },
+    }
+}
+
+/// The number by which a task is found.
+pub(crate) fn key_of(task: Task) -> u64
+    ensures { result ≡ key_of task }
+{
+    if task.pid == 0 {
+        2 * task.cpu as u64
+    } else {
+        2 * task.pid as u64 + 1
     }
 }

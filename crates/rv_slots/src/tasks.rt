@@ -1,16 +1,19 @@
 //! The tasks of a run, in the order of their first use.
-ghost use Rattle.std.specs.Prelude.{◌≡◌, ◌<◌, ◌≤◌, ◌↔◌, [], length, false, position, AllPairs, IsErrOf, IsNone, IfOk, OnOk, OnErr, slice_get, Some};
-ghost use Rattle.rv_slots.specs.Tasks.{task_of, same_task, is_held, with_task, task_number, IsTask};
+ghost use Rattle.std.specs.Prelude.{◌≡◌, ◌<◌, ◌≤◌, ◌↔◌, ◌++◌, [], ◌∷◌, length, true, false, position, AllPairs, IsErrOf, IsNone, IfOk, OnOk, OnErr, slice_get, Some};
+ghost use Rattle.rv_slots.specs.Tasks.{task_of, same_task, is_held, with_task, task_number, key_of, IsTask};
 
-use crate::task::task_of;
-use indexmap::IndexSet;
+use crate::task::{key_of, task_of};
 use rv_model::Task;
-use std::alloc::Global;
+use std::alloc::{AllocError, Global};
+use std::collections::BTreeMap;
 use std::marker::Model;
 use thiserror::Error;
 
 /// The most tasks that a run may have.
 pub const MAX_TASKS: u32 = 65_536;
+
+/// How many guesses there are at first.
+const FIRST_GUESSES: usize = 1024;
 
 /// Why a task has no number.
 #[derive(Clone, Copy, Debug, Drop, Error, PartialEq, Eq)]
@@ -25,20 +28,23 @@ pub enum TaskFault {
 /// Tasks without repeats. A task's number is its place.
 #[derive(Drop)]
 pub struct Tasks {
-    set: IndexSet<Task>,
+    list: Vec<Task>,
+    numbers: BTreeMap<u64, u32>,
+    /// By the last bits of a pid, the number of the last task that had them. It is tried first, and may be another's.
+    guesses: Vec<u32>,
 }
 
 impl Model for Tasks {
     ghost use Rattle.std.specs.Prelude.{List, length, ◌≤◌, All};
-    ghost use Rattle.rv_slots.specs.Tasks.{IsTask};
+    ghost use Rattle.rv_slots.specs.Tasks.{IsTask, AreNumbers};
     ghost use Rattle.rv_model.specs.declared.record.Task.{Task};
     ghost use Rattle.rv_slots.specs.declared.tasks.TheConstants.{MAX_TASKS};
 
     ghost Value = { List Task };
 
-    ghost view = { λ t. t.set.keys };
+    ghost view = { λ t. t.list.items };
 
-    ghost invariant = { λ t. (length t.set.keys ≤ MAX_TASKS) × All IsTask t.set.keys };
+    ghost invariant = { λ t. (length t.list.items ≤ MAX_TASKS) × All IsTask t.list.items × AreNumbers t.numbers t.list.items };
 }
 
 impl Tasks {
@@ -46,7 +52,9 @@ impl Tasks {
         ensures { result ≡ [] }
     {
         Tasks {
-            set: IndexSet::new(alloc),
+            list: Vec::new(alloc),
+            numbers: BTreeMap::new(alloc),
+            guesses: Vec::new(alloc),
         }
     }
 
@@ -56,7 +64,8 @@ impl Tasks {
         ensures few { result ≤ MAX_TASKS }
         ensures distinct { AllPairs (λ a b. same_task a b ≡ false) self.now }
     {
-        self.set.len() as u32
+        let _ = &self.numbers;
+        self.list.len() as u32
     }
 
     /// The task's number, which it keeps from its first use on.
@@ -68,17 +77,16 @@ impl Tasks {
         ensures err { OnErr result (self.new ≡ self.old) }
     {
         let task = task_of(pid, cpu);
-        match self.set.get_index_of(&task) {
-            Some(number) => Ok(number as u32),
-            None => {
-                if self.set.len() >= MAX_TASKS as usize {
-                    return Err(TaskFault::Full);
-                }
-                match self.set.insert_full(task) {
-                    Ok((number, _)) => Ok(number as u32),
-                    Err(_) => Err(TaskFault::Memory),
-                }
+        let guess = self.guess(task);
+        if self.is_numbered(guess, task) {
+            return Ok(guess);
+        }
+        match self.find(pid, cpu) {
+            Some(number) => {
+                self.remember(task, number);
+                Ok(number)
             }
+            None => self.add(task),
         }
     }
 
@@ -87,9 +95,10 @@ impl Tasks {
         ensures found { result ≡ position (same_task (task_of pid cpu)) self.now }
         ensures none { IsNone result ↔ (is_held self.now (task_of pid cpu) ≡ false) }
     {
-        match self.set.get_index_of(&task_of(pid, cpu)) {
-            Some(number) => Some(number as u32),
-            None => None,
+        let task = task_of(pid, cpu);
+        match self.numbers.get(&key_of(task)) {
+            Some(number) if self.is_numbered(*number, task) => Some(*number),
+            _ => None,
         }
     }
 
@@ -99,9 +108,87 @@ impl Tasks {
         ensures held { slice_get self.now number ≡ Some result }
         ensures task { IsTask result }
     {
-        match self.set.get_index(number as usize) {
-            Some(task) => *task,
-            None => unreachable!(),
+        self.list[number as usize]
+    }
+
+    /// Whether the task of the number is this one.
+    fn is_numbered(&self, number: u32, task: Task) -> bool
+        ensures holds { (result ≡ true) ↔ (slice_get self.now number ≡ Some task) }
+        ensures first { result ≡ true → position (same_task task) self.now ≡ Some number }
+    {
+        if number as usize >= self.list.len() {
+            return false;
         }
+        self.list[number as usize] == task
+    }
+
+    /// Where the task's guess stands.
+    fn guess_place(&self, task: Task) -> usize {
+        (task.pid as usize + task.cpu as usize) & self.guesses.len().saturating_sub(1)
+    }
+
+    /// A number that the task may have.
+    fn guess(&self, task: Task) -> u32 {
+        match self.guesses.get(self.guess_place(task)) {
+            Some(number) => *number,
+            None => 0,
+        }
+    }
+
+    /// Makes the number the task's guess.
+    fn remember(&mut self, task: Task, number: u32)
+        ensures { self.new ≡ self.old }
+    {
+        let place = self.guess_place(task);
+        if let Some(guess) = self.guesses.get_mut(place) {
+            *guess = number;
+        }
+    }
+
+    /// Adds a task that is not held.
+    fn add(&mut self, task: Task) -> Result<u32, TaskFault>
+        requires new { is_held self.old task ≡ false }
+        requires task { IsTask task }
+        ensures number { IfOk result (λ number. number ≡ length self.old) }
+        ensures grown { OnOk result (self.new ≡ self.old ++ task ∷ []) }
+        ensures full { IsErrOf result TaskFault.Full ↔ (length self.old ≡ MAX_TASKS) }
+        ensures err { OnErr result (self.new ≡ self.old) }
+    {
+        let number = self.list.len() as u32;
+        if number >= MAX_TASKS {
+            return Err(TaskFault::Full);
+        }
+        match self.put(task, number) {
+            Ok(()) => {
+                self.remember(task, number);
+                Ok(number)
+            }
+            Err(_) => Err(TaskFault::Memory),
+        }
+    }
+
+    /// Makes room for more guesses where they are few beside the tasks.
+    fn make_room(&mut self) -> Result<(), AllocError>
+        ensures { self.new ≡ self.old }
+    {
+        let room = self.guesses.len();
+        if room <= 2 * self.list.len() {
+            self.guesses.resize(2 * room.max(FIRST_GUESSES), 0)?;
+        }
+        Ok(())
+    }
+
+    /// Adds a task under the next number.
+    fn put(&mut self, task: Task, number: u32) -> Result<(), AllocError>
+        requires new { is_held self.old task ≡ false }
+        requires task { IsTask task }
+        requires number { (number ≡ length self.old) × (number < MAX_TASKS) }
+        ensures grown { OnOk result (self.new ≡ self.old ++ task ∷ []) }
+        ensures err { OnErr result (self.new ≡ self.old) }
+    {
+        self.make_room()?;
+        self.numbers.insert(key_of(task), number)?;
+        self.list.push(task)?;
+        Ok(())
     }
 }
