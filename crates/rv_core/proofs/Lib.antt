@@ -6,6 +6,7 @@ pub mod LevelLemmas
 pub mod OpeningLemmas
 pub mod PlaceLemmas
 pub mod SwitchLemmas
+pub mod TableLemmas
 pub mod ThreadLemmas
 pub mod TickingLemmas
 pub mod TurnLemmas

@@ -9,7 +9,7 @@ mod turn;
 mod word;
 
 pub use act::{act_on, word_index};
-pub use laws::words_follow_acts;
+pub use laws::{tables_are_judges, words_follow_acts};
 pub use machine::{Core, opening_words};
 pub use setup::Setup;
 pub use word::{Step, advance};

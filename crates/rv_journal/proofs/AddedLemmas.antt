@@ -11,7 +11,7 @@ use Rattle.rv_core.specs.Setup.{FitsAct}
 use Rattle.rv_journal.specs.declared.counted.Counted.{Counted}
 use Rattle.rv_journal.specs.declared.steps.MergeStep.{MergeStep}
 use Rattle.rv_journal.specs.declared.steps.MergeStep.TheVariants.{Item}
-use Rattle.rv_journal.specs.inner.MergeSteps.{items_of, changes_on}
+use Rattle.rv_journal.specs.MergeSteps.{items_of, changes_on}
 use Rattle.rv_journal.specs.MergeStates.{entries_in, StandsAs}
 use Rattle.rv_journal.specs.inner.MergeStates.{Mark, mark, items_in, entry_in, is_left, IsItemAct, AreKnownItems, Divides, Lanes, IsUnderWay}
 use Rattle.rv_journal.proofs.MarkLemmas.{filter_yes, filter_no, first-left, next-open}

@@ -13,12 +13,14 @@ use Rattle.rv_journal.specs.declared.steps.LaneProgress.{LaneProgress}
 use Rattle.rv_journal.specs.declared.steps.VersionInterval.{VersionInterval}
 use Rattle.rv_journal.specs.declared.steps.MergeStep.{MergeStep}
 use Rattle.rv_journal.specs.CountedLanes.{CountedLaneValue}
-use Rattle.rv_journal.specs.inner.MergeSteps.{items_of, steps_from, rest_of, IsCursor, held_by, total}
+use Rattle.rv_journal.specs.MergeSteps.{items_of, steps_from}
+use Rattle.rv_journal.specs.inner.MergeSteps.{rest_of, IsCursor, held_by, total}
 use Rattle.rv_journal.specs.inner.MergeStates.{IsUnderWay, NextIsJustified, step_entries}
 use Rattle.rv_journal.specs.inner.MergePending.{Pending, pending_at, lane_pending}
 use Rattle.rv_journal.specs.Merging.{CanMerge, IsMergeOf}
 use Rattle.rv_journal.specs.inner.Merging.{NumbersFit, lanes_of}
 use Rattle.rv_journal.specs.inner.MergeRuns.{Run, merge_run, lane_at, first_cursor, rests, IsGiven, IsMerging, NoneReady, NewLanes}
+use Rattle.rv_journal.proofs.MergeOrderLemmas.{order-first}
 use Rattle.rv_journal.proofs.MergeStepLemmas.{steps-opens, steps-none, first-cursor}
 use Rattle.rv_journal.proofs.MergedLemmas.{merged}
 use Rattle.rv_journal.proofs.ProgressLemmas.{all-ended, all-placed}
@@ -86,6 +88,7 @@ module _ (setup : Setup) (seen : List Entry) (lanes : List CountedLaneValue) (ca
         changes_are = none;
         waits_are = λ g. new.permitted g ∙ total-same (λ l. lane_pending g (lane_at lanes l).counted) (λ l. held_by g.slot g.version (rests lanes cursors l)) (length lanes)
             (λ l lt. sym (ap (held_by g.slot g.version) (first l lt) ∙ held-first g (lane_at lanes l).counted (lane_at lanes l).work.turns (names-at setup seen lanes can k numbers works l lt) (script-items setup seen lanes can k numbers works l lt)));
+        order = order-first lanes cursors first;
       }
     where
       same-steps : ((l : ℕ) → l < length lanes → rests lanes cursors l ≡ (lanes_of lanes).script l) → IsUnderWay setup (all_items setup seen lanes can k numbers) (lanes_of lanes) [] (lanes_of lanes).script → IsUnderWay setup (all_items setup seen lanes can k numbers) (lanes_of lanes) [] (rests lanes cursors)

@@ -10,8 +10,8 @@ use Rattle.rv_model.specs.Setups.{Setup}
 use Rattle.rv_journal.specs.declared.counted.Counted.{Counted}
 use Rattle.rv_journal.specs.declared.steps.MergeStep.{MergeStep}
 use Rattle.rv_journal.specs.declared.steps.MergeStep.TheVariants.{Item}
-use Rattle.rv_journal.specs.MergeSteps.{slot_in}
-use Rattle.rv_journal.specs.inner.MergeSteps.{items_of, version, leaves, changes_on, leaves_in, leaving, losing, held_by}
+use Rattle.rv_journal.specs.MergeSteps.{slot_in, items_of, version, leaves, changes_on}
+use Rattle.rv_journal.specs.inner.MergeSteps.{leaves_in, leaving, losing, held_by}
 use Rattle.rv_journal.specs.MergeStates.{entries_in}
 use Rattle.rv_journal.specs.inner.MergeStates.{Mark, mark, items_in, entry_in, IsKnownItem, AreKnownItems, Lanes, IsUnderWay}
 use Rattle.rv_journal.proofs.MarkLemmas.{filter_yes, FirstOpen, placed-filter, placed-few, open-behind}

@@ -6,7 +6,7 @@ use Rattle.rv_model.specs.declared.entry.Entry.{Entry}
 use Rattle.rv_model.specs.Histories.{NoneOf, changed}
 use Rattle.rv_board.proofs.SoundLemmas.{filter_append}
 use Rattle.rv_journal.specs.declared.counted.Counted.{Counted}
-use Rattle.rv_journal.specs.inner.MergeSteps.{changes_on}
+use Rattle.rv_journal.specs.MergeSteps.{changes_on}
 use Rattle.rv_journal.specs.inner.MergeStates.{Mark, mark, items_in, is_left}
 use Rattle.rv_journal.proofs.MarkLemmas.{filter_yes, filter_no, AllPlaced}
 

@@ -26,6 +26,7 @@ pub mod ItemLemmas
 pub mod JournalLineLemmas
 pub mod LeftLemmas
 pub mod MarkLemmas
+pub mod MergeOrderLemmas
 pub mod MergeStepLemmas
 pub mod MergeWordLemmas
 pub mod MergedLemmas
@@ -55,6 +56,7 @@ pub mod ThenLemmas
 pub mod ThreadLemmas
 pub mod TotalLemmas
 pub mod UnderWayLemmas
+pub mod VersionEndLemmas
 pub mod VersionLemmas
 pub mod WholeLemmas
 pub mod WidthLemmas

@@ -10,7 +10,8 @@ use Rattle.rv_journal.specs.declared.steps.LaneProgress.{LaneProgress}
 use Rattle.rv_journal.specs.declared.steps.MergeStep.{MergeStep}
 use Rattle.rv_journal.specs.declared.steps.MergeStep.TheVariants.{TurnLook, Item}
 use Rattle.rv_journal.specs.CountedLanes.{CountedLaneValue}
-use Rattle.rv_journal.specs.inner.MergeSteps.{items_of, item_steps, steps_from, rest_of, Ahead, IsCursor, GoesTo}
+use Rattle.rv_journal.specs.MergeSteps.{items_of, item_steps, steps_from}
+use Rattle.rv_journal.specs.inner.MergeSteps.{rest_of, Ahead, IsCursor, GoesTo}
 
 -- ---- ranges
 

@@ -19,7 +19,7 @@ use Rattle.rv_journal.specs.declared.counted.Counted.{Counted}
 use Rattle.rv_journal.specs.declared.steps.MergeStep.{MergeStep}
 use Rattle.rv_journal.specs.declared.steps.MergeStep.TheVariants.{TurnLook, Item}
 use Rattle.rv_journal.specs.CountedLanes.{CountedLaneValue}
-use Rattle.rv_journal.specs.inner.MergeSteps.{items_of}
+use Rattle.rv_journal.specs.MergeSteps.{items_of}
 use Rattle.rv_journal.specs.MergeStates.{entries_in, StandsAs}
 use Rattle.rv_journal.specs.inner.MergeStates.{Mark, mark, items_in, entry_in, IsItemAct, step_entries, IsUnderWay}
 use Rattle.rv_journal.specs.Merging.{FitsSetup, CanMerge, seat_of, works_of, IsMergeOf}

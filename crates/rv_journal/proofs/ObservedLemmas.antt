@@ -13,8 +13,7 @@ use Rattle.rv_board.specs.inner.Rule.{IsMachine}
 use Rattle.rv_journal.specs.declared.counted.Counted.{Counted}
 use Rattle.rv_journal.specs.CountedLanes.{CountedLaneValue}
 use Rattle.rv_journal.specs.CountedWords.{count_on}
-use Rattle.rv_journal.specs.MergeSteps.{slot_in}
-use Rattle.rv_journal.specs.inner.MergeSteps.{version, changes_on}
+use Rattle.rv_journal.specs.MergeSteps.{slot_in, version, changes_on}
 use Rattle.rv_journal.specs.MergeStates.{entries_in}
 use Rattle.rv_journal.specs.inner.MergeStates.{LostAt, AreKnownItems}
 use Rattle.rv_journal.specs.Merging.{IsLost, CanMerge}

@@ -17,8 +17,7 @@ use Rattle.rv_model.specs.Setups.{start_of}
 use Rattle.rv_board.specs.inner.Rule.{IsMachine}
 use Rattle.rv_board.proofs.SoundLemmas.{filter_append}
 use Rattle.rv_journal.specs.declared.counted.Counted.{Counted}
-use Rattle.rv_journal.specs.MergeSteps.{slot_in}
-use Rattle.rv_journal.specs.inner.MergeSteps.{changes_on}
+use Rattle.rv_journal.specs.MergeSteps.{slot_in, changes_on}
 use Rattle.rv_journal.specs.MergeStates.{entries_in}
 use Rattle.rv_journal.specs.inner.MergeStates.{Mark, mark, items_in, entry_in, IsItemAct, IsMergedAct, IsKnownItem, Divides, LastBy}
 use Rattle.rv_journal.proofs.ItemLemmas.{by-item}

@@ -14,8 +14,8 @@ use Rattle.rv_board.proofs.SoundLemmas.{sound-snoc}
 use Rattle.rv_journal.specs.declared.counted.Counted.{Counted}
 use Rattle.rv_journal.specs.declared.steps.MergeStep.{MergeStep}
 use Rattle.rv_journal.specs.declared.steps.MergeStep.TheVariants.{TurnLook, Item}
-use Rattle.rv_journal.specs.MergeSteps.{slot_in}
-use Rattle.rv_journal.specs.inner.MergeSteps.{items_of, version, leaves, changes_on, held_by, MayPlace}
+use Rattle.rv_journal.specs.MergeSteps.{slot_in, items_of, version, leaves, changes_on}
+use Rattle.rv_journal.specs.inner.MergeSteps.{held_by, MayPlace}
 use Rattle.rv_journal.specs.MergeStates.{entries_in, StandsAs}
 use Rattle.rv_journal.specs.inner.MergeStates.{Mark, mark, items_in, is_left, IsMergedAct, IsKnownItem, AreKnownItems, Divides, LastBy, NextIsJustified, Lanes, IsUnderWay}
 use Rattle.rv_journal.proofs.MarkLemmas.{same, earlier, later, compare, first-left, FirstLeft}

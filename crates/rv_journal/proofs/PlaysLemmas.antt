@@ -20,7 +20,8 @@ use Rattle.rv_model.specs.Setups.{Setup, slot_of}
 use Rattle.rv_model.specs.SharedWords.{answer_at}
 use Rattle.rv_model.specs.Works.{NamesEach}
 use Rattle.rv_journal.specs.declared.counted.Counted.{Counted}
-use Rattle.rv_journal.specs.inner.MergeSteps.{steps_from, Ahead}
+use Rattle.rv_journal.specs.MergeSteps.{steps_from}
+use Rattle.rv_journal.specs.inner.MergeSteps.{Ahead}
 use Rattle.rv_journal.specs.inner.MergeStates.{step_entries}
 use Rattle.rv_journal.specs.Merging.{AllServed, Serves}
 use Rattle.rv_journal.proofs.MarkLemmas.{filter_yes, filter_no}

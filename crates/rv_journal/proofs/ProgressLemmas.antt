@@ -9,7 +9,8 @@ use Rattle.rv_model.specs.Setups.{Setup}
 use Rattle.rv_journal.specs.declared.counted.Counted.{Counted}
 use Rattle.rv_journal.specs.declared.steps.MergeStep.{MergeStep}
 use Rattle.rv_journal.specs.declared.steps.MergeStep.TheVariants.{TurnLook, Item}
-use Rattle.rv_journal.specs.inner.MergeSteps.{items_of, MayPlace, CannotGo}
+use Rattle.rv_journal.specs.MergeSteps.{items_of}
+use Rattle.rv_journal.specs.inner.MergeSteps.{MayPlace, CannotGo}
 use Rattle.rv_journal.specs.inner.MergeStates.{Mark, mark, items_in, is_left, AreKnownItems, Lanes, IsUnderWay}
 use Rattle.rv_journal.proofs.MarkLemmas.{filter_yes, AllPlaced, FirstOpen, all-or_first, placed-none}
 use Rattle.rv_journal.proofs.FirstOpenLemmas.{version-le, version-ge}

@@ -10,8 +10,8 @@ use Rattle.rv_journal.specs.declared.steps.LaneProgress.{LaneProgress}
 use Rattle.rv_journal.specs.declared.steps.MergeStep.{MergeStep}
 use Rattle.rv_journal.specs.declared.steps.MergeStep.TheVariants.{TurnLook, Item}
 use Rattle.rv_journal.specs.CountedLanes.{CountedLaneValue}
-use Rattle.rv_journal.specs.MergeSteps.{slot_in}
-use Rattle.rv_journal.specs.inner.MergeSteps.{rest_of, IsCursor, GoesTo, version, leaves, held_by, MayPlace, CannotGo}
+use Rattle.rv_journal.specs.MergeSteps.{slot_in, version, leaves}
+use Rattle.rv_journal.specs.inner.MergeSteps.{rest_of, IsCursor, GoesTo, held_by, MayPlace, CannotGo}
 use Rattle.rv_journal.specs.inner.MergePending.{Pending, pending_at, interval_in, is_ready}
 use Rattle.rv_journal.specs.inner.Merging.{lanes_of, no_lane}
 use Rattle.rv_journal.specs.inner.MergeRuns.{Run, lane_at, cursor_at, first_cursor, rests, IsMerging, InSlots, IsReadyAt}

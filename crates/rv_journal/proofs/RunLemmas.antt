@@ -10,15 +10,17 @@ use Rattle.rv_journal.specs.declared.steps.NextStep.{NextStep}
 use Rattle.rv_journal.specs.declared.steps.MergeStep.{MergeStep}
 use Rattle.rv_journal.specs.declared.steps.MergeStep.TheVariants.{TurnLook, Item}
 use Rattle.rv_journal.specs.CountedLanes.{CountedLaneValue}
-use Rattle.rv_journal.specs.MergeSteps.{slot_in}
+use Rattle.rv_journal.specs.MergeSteps.{slot_in, items_of}
 use Rattle.rv_journal.specs.inner.MergeSteps.{rest_of, IsCursor, GoesTo, step_entry, held_by, total, MayPlace}
 use Rattle.rv_journal.specs.inner.MergeStates.{IsUnderWay}
 use Rattle.rv_journal.specs.inner.MergePending.{Pending, pending_at, Fallen, step_pending, next_pending, changes_after}
 use Rattle.rv_journal.specs.Merging.{seat_of}
 use Rattle.rv_journal.specs.inner.Merging.{lanes_of}
-use Rattle.rv_journal.specs.inner.MergeRuns.{Run, lane_at, cursor_at, first_cursor, rests, steps_left, IsMerging}
+use Rattle.rv_journal.specs.inner.MergeRuns.{Run, lane_at, cursor_at, first_cursor, rests, steps_left, IsMerging, IsLowestReady}
 use Rattle.rv_journal.proofs.SlotActLemmas.{is_on-slot, slot-below}
 use Rattle.rv_journal.proofs.AddedLemmas.{next-told}
+use Rattle.rv_journal.proofs.MarkLemmas.{first-left}
+use Rattle.rv_journal.proofs.MergeOrderLemmas.{order-next}
 use Rattle.rv_journal.proofs.PlacedLemmas.{look-placed, item-placed}
 use Rattle.rv_journal.proofs.WholeLemmas.{lanes-apart, fits-at}
 use Rattle.rv_journal.proofs.TotalLemmas.{same_or_not, total-less, first_lost, held-step, next-first}
@@ -57,6 +59,13 @@ module _ (run : Run) (lanes : List CountedLaneValue) (placed : List Entry) (curs
       let observed = next-told run.setup m.whole (lanes_of lanes) m.given.observed placed (rests lanes cursors) m.under_way place low c (rest_of (lane_at lanes place) cursor) (goes.steps ∙ ap (λ (z : MergeStep). z ∷ rest_of (lane_at lanes place) cursor) is) in
       (is_on-slot c.entry.act observed.0, slot-below run.setup c.entry.act observed.0 observed.1)
 
+  -- the entry of its step is its seat's
+  entry-seat : (x : MergeStep) → step ≡ x → (step_entry (seat_of (lane_at lanes place)) run.setup.switches x).seat ≡ seat_of (lane_at lanes place)
+  entry-seat TurnLook is = refl
+  entry-seat (Item c) is =
+      let at : rests lanes cursors place ≡ Item c ∷ rest_of (lane_at lanes place) cursor = goes.steps ∙ ap (λ (z : MergeStep). z ∷ rest_of (lane_at lanes place) cursor) is in
+      (first-left (seat_of (lane_at lanes place)) m.under_way.marks c (items_of (rest_of (lane_at lanes place) cursor)) (sym (m.under_way.left place low) ∙ ap items_of at)).own
+
   -- the cursors are the lanes'
   cursors-next : (l : ℕ) → l < length lanes → IsCursor (lane_at lanes l) (cursor_at (set cursors place cursor) l)
   cursors-next l lt = elim (same_or_not l place) [
@@ -81,7 +90,7 @@ module _ (run : Run) (lanes : List CountedLaneValue) (placed : List Entry) (curs
         let first = next-first g (lane_at lanes place) cursor next then' in
         omega arith
 
-    module _ (waits' : Pending) (fallen : Fallen pending waits' (λ g. step_pending g step + next_pending g next)) where
+    module _ (waits' : Pending) (fallen : Fallen pending waits' (λ g. step_pending g step + next_pending g next)) (lowest : IsLowestReady lanes placed cursors place) where
       -- the merge goes on with the step placed
       pub next-merging : IsMerging run lanes (placed ++ step_entry (seat_of (lane_at lanes place)) run.setup.switches step ∷ []) (set cursors place cursor) (changes_after changes step) waits'
       next-merging = record {
@@ -98,6 +107,8 @@ module _ (run : Run) (lanes : List CountedLaneValue) (placed : List Entry) (curs
             let first = next-first g (lane_at lanes place) cursor next then' in
             let f = fallen g in
             omega arith);
+        order = order-next lanes placed cursors m.order (set cursors place cursor) place step (rest_of (lane_at lanes place) cursor) (step_entry (seat_of (lane_at lanes place)) run.setup.switches step)
+            goes.steps here others (λ l lt same. apart l place lt low same) (entry-seat step refl) lowest;
       }
 
   -- fewer steps are left

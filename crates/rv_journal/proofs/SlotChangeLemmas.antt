@@ -6,8 +6,8 @@ use Rattle.rv_model.specs.Histories.{is_on, changed}
 use Rattle.rv_journal.specs.declared.counted.Counted.{Counted}
 use Rattle.rv_journal.specs.declared.steps.MergeStep.{MergeStep}
 use Rattle.rv_journal.specs.declared.steps.MergeStep.TheVariants.{TurnLook, Item}
-use Rattle.rv_journal.specs.MergeSteps.{slot_in}
-use Rattle.rv_journal.specs.inner.MergeSteps.{step_entry, leaves, changes_on}
+use Rattle.rv_journal.specs.MergeSteps.{slot_in, leaves, changes_on}
+use Rattle.rv_journal.specs.inner.MergeSteps.{step_entry}
 use Rattle.rv_journal.specs.inner.MergePending.{changes_after}
 use Rattle.rv_journal.proofs.SlotActLemmas.{slot_in-is}
 use Rattle.rv_journal.proofs.AddedLemmas.{changes-calm, changes-more}

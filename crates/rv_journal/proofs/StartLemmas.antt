@@ -13,7 +13,7 @@ use Rattle.rv_core.specs.Setup.{IsSetup, FitsAct, judges_of}
 use Rattle.rv_board.proofs.SoundLemmas.{sound-empty}
 use Rattle.rv_journal.specs.declared.counted.Counted.{Counted}
 use Rattle.rv_journal.specs.CountedLanes.{CountedLaneValue}
-use Rattle.rv_journal.specs.inner.MergeSteps.{items_of, steps_from}
+use Rattle.rv_journal.specs.MergeSteps.{items_of, steps_from}
 use Rattle.rv_journal.specs.inner.MergeStates.{Mark, mark, items_in, entry_in, is_left, IsMergedAct, NextIsJustified, IsUnderWay}
 use Rattle.rv_journal.specs.Merging.{CanMerge, AllServed, seat_of}
 use Rattle.rv_journal.specs.inner.Merging.{NumbersFit, no_lane, lanes_of}

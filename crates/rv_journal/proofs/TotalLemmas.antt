@@ -7,7 +7,8 @@ use Rattle.rv_journal.specs.declared.steps.NextStep.{NextStep}
 use Rattle.rv_journal.specs.declared.steps.MergeStep.{MergeStep}
 use Rattle.rv_journal.specs.declared.steps.MergeStep.TheVariants.{TurnLook, Item}
 use Rattle.rv_journal.specs.CountedLanes.{CountedLaneValue}
-use Rattle.rv_journal.specs.inner.MergeSteps.{items_of, rest_of, GoesTo, behind, losing, held_by, total}
+use Rattle.rv_journal.specs.MergeSteps.{items_of, behind}
+use Rattle.rv_journal.specs.inner.MergeSteps.{rest_of, GoesTo, losing, held_by, total}
 use Rattle.rv_journal.specs.inner.MergePending.{step_pending, lost_step, next_pending}
 
 -- ---- sums over lanes

@@ -15,7 +15,8 @@ use Rattle.rv_core.specs.Setup.{judges_of}
 use Rattle.rv_journal.specs.declared.counted.Counted.{Counted}
 use Rattle.rv_journal.specs.declared.steps.MergeStep.{MergeStep}
 use Rattle.rv_journal.specs.declared.steps.MergeStep.TheVariants.{TurnLook, Item}
-use Rattle.rv_journal.specs.inner.MergeSteps.{items_of, step_entry, behind, changes_on, leaves_in, lost_in, leaving, losing, held_by}
+use Rattle.rv_journal.specs.MergeSteps.{items_of, behind, changes_on}
+use Rattle.rv_journal.specs.inner.MergeSteps.{step_entry, leaves_in, lost_in, leaving, losing, held_by}
 use Rattle.rv_journal.specs.MergeStates.{entries_in}
 use Rattle.rv_journal.specs.inner.MergeStates.{AreKnownItems, Mark, mark, items_in, NextIsJustified, Lanes, step_entries}
 use Rattle.rv_journal.proofs.MarkLemmas.{filter_yes, filter_no}

@@ -10,8 +10,7 @@ use Rattle.rv_core.specs.Setup.{judges_of}
 use Rattle.rv_board.specs.inner.Rule.{IsMachine}
 use Rattle.rv_board.proofs.SoundLemmas.{filter_append, still}
 use Rattle.rv_journal.specs.CountedWords.{is_deliver, counts, count_on}
-use Rattle.rv_journal.specs.MergeSteps.{slot_in}
-use Rattle.rv_journal.specs.inner.MergeSteps.{changes_on}
+use Rattle.rv_journal.specs.MergeSteps.{slot_in, changes_on}
 use Rattle.rv_journal.proofs.CountLemmas.{count-snoc}
 use Rattle.rv_journal.proofs.MarkLemmas.{filter_yes, filter_no}
 use Rattle.rv_journal.proofs.SlotActLemmas.{slot_in-is}

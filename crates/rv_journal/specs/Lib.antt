@@ -4,6 +4,7 @@ pub mod CountedSeats
 pub mod CountedWords
 pub mod EntryTexts
 pub mod JournalReadings
+pub mod MergeOrder
 pub mod MergeStates
 pub mod MergeSteps
 pub mod Merging

@@ -2,10 +2,12 @@
 //! step is ready (this project's choice: docs/DECISIONS.md, "The order of a merged history").
 ghost use Rattle.std.specs.Prelude.{◌≡◌, ◌+◌, ◌<◌, ◌^◌, ◌↔◌, ⊤, ℕ, true, false, List, [], length, sum, All, IfOk, OnOk, MatchOption, slice_index};
 ghost use Rattle.rv_model.specs.declared.entry.Entry.{Entry};
+ghost use Rattle.rv_model.specs.Cuts.{AtEach};
 ghost use Rattle.rv_model.specs.Works.{IsWork};
 ghost use Rattle.rv_journal.specs.inner.MergeSteps.{rest_of, IsCursor, GoesTo};
 ghost use Rattle.rv_journal.specs.inner.MergeRuns.{merge_run, lane_at, IsMerging, InSlots, IsReadyAt, CannotGoAt, IsLowestReady, NoneReady, steps_left};
 ghost use Rattle.rv_journal.specs.inner.MergePending.{is_ready, changes_after};
+ghost use Rattle.rv_journal.specs.MergeOrder.{IsOfLowest};
 ghost use Rattle.rv_journal.specs.Merging.{CanMerge, IsMergeOf, seat_of};
 ghost use Rattle.rv_journal.specs.inner.Merging.{NumbersFit};
 
@@ -171,7 +173,7 @@ impl Merging {
         lowest
     }
 
-    /// Places the next step of the lane at `index`, which is ready, and releases what was pending for it.
+    /// Places the next step of the lane at `index`, which is the lowest ready one, and releases what was pending for it.
     fn place(
         &mut self,
         setup: &Setup,
@@ -180,7 +182,7 @@ impl Merging {
     ) -> Result<(), AllocError>
         ghost seen: { List Entry }
         requires merging { IsMerging (merge_run setup.now seen) lanes.now self.old.placed.items self.old.cursors.items self.old.changes.items self.old.waits }
-        requires ready { IsReadyAt lanes.now self.old.placed.items self.old.cursors.items index }
+        requires lowest { IsLowestReady lanes.now self.old.placed.items self.old.cursors.items index }
         ensures merging { OnOk result (IsMerging (merge_run setup.now seen) lanes.now self.new.placed.items self.new.cursors.items self.new.changes.items self.new.waits) }
         ensures fewer { OnOk result (steps_left lanes.now self.new.cursors.items < steps_left lanes.now self.old.cursors.items) }
     {
@@ -207,7 +209,8 @@ fn merge_lanes(
 ) -> Result<Vec<Entry>, AllocError>
     ghost seen: { List Entry }
     requires { CanMerge setup.now seen lanes.now }
-    ensures { IfOk result (λ merged. IsMergeOf setup.now seen lanes.now merged.items) }
+    ensures merged { IfOk result (λ merged. IsMergeOf setup.now seen lanes.now merged.items) }
+    ensures order { IfOk result (λ merged. AtEach (IsOfLowest lanes.now) merged.items) }
 {
     let mut merging = Merging::new(alloc, setup, lanes)?;
     while let Some(place) = merging.ready_lane(setup, lanes) {
@@ -216,8 +219,8 @@ fn merge_lanes(
     Ok(merging.placed)
 }
 
-/// Merges the lanes, which have parts of what the seat has seen, into one legal history. Which of several it is, no
-/// clause says. The one error is want of memory.
+/// Merges the lanes, which have parts of what the seat has seen, into one legal history: at each place of it the lowest
+/// CPU that may place its next entry there has placed it. The one error is want of memory.
 pub fn merge(
     alloc: Global,
     setup: &Setup,
@@ -225,7 +228,8 @@ pub fn merge(
     lanes: &[CountedLane],
 ) -> Result<Vec<Entry>, AllocError>
     requires { CanMerge setup.now _seat.now.seat.part.seen lanes.now }
-    ensures { IfOk result (λ merged. IsMergeOf setup.now _seat.now.seat.part.seen lanes.now merged.items) }
+    ensures merged { IfOk result (λ merged. IsMergeOf setup.now _seat.now.seat.part.seen lanes.now merged.items) }
+    ensures order { IfOk result (λ merged. AtEach (IsOfLowest lanes.now) merged.items) }
 {
     merge_lanes(alloc, setup, _seat, lanes)
 }

@@ -1,7 +1,7 @@
 //! What the lanes put into the merged history, one step after another.
 ghost use Rattle.std.specs.Prelude.{◌≡◌, [], MatchOption};
-ghost use Rattle.rv_journal.specs.MergeSteps.{slot_in};
-ghost use Rattle.rv_journal.specs.inner.MergeSteps.{rest_of, IsCursor, GoesTo, leaves, step_entry};
+ghost use Rattle.rv_journal.specs.MergeSteps.{slot_in, leaves};
+ghost use Rattle.rv_journal.specs.inner.MergeSteps.{rest_of, IsCursor, GoesTo, step_entry};
 ghost use Rattle.rv_journal.specs.inner.MergePending.{interval_in, lost_interval};
 
 use crate::counted::Counted;

@@ -10,8 +10,8 @@ use Rattle.rv_journal.specs.declared.steps.VersionInterval.{VersionInterval}
 use Rattle.rv_journal.specs.declared.steps.NextStep.{NextStep}
 use Rattle.rv_journal.specs.declared.steps.MergeStep.{MergeStep}
 use Rattle.rv_journal.specs.declared.steps.MergeStep.TheVariants.{TurnLook, Item}
-use Rattle.rv_journal.specs.MergeSteps.{slot_in}
-use Rattle.rv_journal.specs.inner.MergeSteps.{version, leaves, leaves_in, lost_in, leaving, losing}
+use Rattle.rv_journal.specs.MergeSteps.{slot_in, version, leaves}
+use Rattle.rv_journal.specs.inner.MergeSteps.{leaves_in, lost_in, leaving, losing}
 
 -- the interval in which a slot has the version `r`
 abbrev pub interval : ℕ → ℕ → VersionInterval

@@ -1,6 +1,7 @@
 -- What holds of the program's lists and counts while a merge is under way.
 use Rattle.std.specs.Prelude.{◌≡◌, ℕ, ◌<◌, List, ◌∷◌, ◌++◌, length, sum, slice_index, slice_index_or, All}
 use Rattle.rv_model.specs.declared.entry.Entry.{Entry}
+use Rattle.rv_model.specs.Cuts.{AtEach}
 use Rattle.rv_model.specs.Setups.{Setup}
 use Rattle.rv_model.specs.Works.{IsWork}
 use Rattle.rv_core.specs.Setup.{IsSetup}
@@ -10,8 +11,9 @@ use Rattle.rv_journal.specs.declared.steps.VersionInterval.{VersionInterval}
 use Rattle.rv_journal.specs.declared.steps.MergeStep.{MergeStep}
 use Rattle.rv_journal.specs.declared.steps.MergeStep.TheVariants.{TurnLook, Item}
 use Rattle.rv_journal.specs.CountedLanes.{CountedLaneValue}
-use Rattle.rv_journal.specs.MergeSteps.{slot_in}
-use Rattle.rv_journal.specs.inner.MergeSteps.{rest_of, IsCursor, changes_on, held_by, total, MayPlace, CannotGo}
+use Rattle.rv_journal.specs.MergeSteps.{slot_in, changes_on}
+use Rattle.rv_journal.specs.inner.MergeSteps.{rest_of, IsCursor, held_by, total, MayPlace, CannotGo}
+use Rattle.rv_journal.specs.MergeOrder.{steps_after, IsOfLowest}
 use Rattle.rv_journal.specs.MergeStates.{entries_in}
 use Rattle.rv_journal.specs.inner.MergeStates.{AreKnownItems, IsUnderWay}
 use Rattle.rv_journal.specs.inner.MergePending.{Pending, pending_at, lane_pending}
@@ -57,6 +59,11 @@ pub record IsGiven (run : Run) (lanes : List CountedLaneValue) (whole : List Cou
   pub observed : AreKnownItems run.setup whole
   pub owned : (before : List Counted) (c : Counted) (after : List Counted) → whole ≡ before ++ c ∷ after → (l : ℕ) × (l < length lanes) × (c.entry.seat ≡ seat_of (lane_at lanes l))
 
+-- the lanes have come as far as the entries that are placed, and each of these was of the lowest lane that could go on
+pub record IsLowestFirst (lanes : List CountedLaneValue) (placed : List Entry) (cursors : List LaneProgress) : Type 0 where
+  pub come : (l : ℕ) → l < length lanes → rests lanes cursors l ≡ steps_after placed (lane_at lanes l)
+  pub lowest : AtEach (IsOfLowest lanes) placed
+
 -- the program's lists are those of a merge under way: what is placed, how far the lanes have come, how many changes of
 -- each slot are placed, and how many are pending in each interval
 pub record IsMerging (run : Run) (lanes : List CountedLaneValue) (placed : List Entry) (cursors : List LaneProgress) (changes : List ℕ) (pending : Pending) : Type 0 where
@@ -68,6 +75,7 @@ pub record IsMerging (run : Run) (lanes : List CountedLaneValue) (placed : List 
   pub slots : length changes ≡ sum run.setup.shape
   pub changes_are : (slot : ℕ) → slot < sum run.setup.shape → slice_index changes slot ≡ changes_on slot placed
   pub waits_are : (g : VersionInterval) → pending_at pending g ≡ total (λ l. held_by g.slot g.version (rests lanes cursors l)) (length lanes)
+  pub order : IsLowestFirst lanes placed cursors
 
 -- the slot of a step is below the number of slots
 abbrev pub InSlots : ℕ → MergeStep → Type 0

@@ -12,8 +12,8 @@ use Rattle.rv_board.specs.inner.Rule.{IsMachine}
 use Rattle.rv_journal.specs.declared.counted.Counted.{Counted}
 use Rattle.rv_journal.specs.declared.steps.MergeStep.{MergeStep}
 use Rattle.rv_journal.specs.declared.steps.MergeStep.TheVariants.{TurnLook, Item}
-use Rattle.rv_journal.specs.MergeSteps.{slot_in}
-use Rattle.rv_journal.specs.inner.MergeSteps.{items_of, step_entry, version, changes_on, held_by}
+use Rattle.rv_journal.specs.MergeSteps.{slot_in, items_of, version, changes_on}
+use Rattle.rv_journal.specs.inner.MergeSteps.{step_entry, held_by}
 use Rattle.rv_journal.specs.MergeStates.{entries_in, StandsAs}
 
 -- ---- the whole list

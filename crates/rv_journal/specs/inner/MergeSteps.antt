@@ -1,34 +1,18 @@
--- The steps of a lane, the version that each of them finds, and which of them may be placed.
-use Rattle.std.specs.Prelude.{◌≡◌, ℕ, zero, suc, ◌+◌, ◌<◌, ◌≤◌, Bool, false, ◌&&◌, ◌==◌, List, [], ◌∷◌, ◌++◌, map, filter, length, drop, slice_range, if◌then◌else◌}
+-- How far a lane has come in a merge, what is pending, and which step may be placed.
+use Rattle.std.specs.Prelude.{◌≡◌, ℕ, zero, suc, ◌+◌, ◌<◌, ◌≤◌, false, ◌&&◌, ◌==◌, List, [], ◌∷◌, length, drop, if◌then◌else◌}
 use Rattle.rv_model.specs.declared.entry.Act.{Act}
 use Rattle.rv_model.specs.declared.entry.Act.TheVariants.{Stop, Look}
 use Rattle.rv_model.specs.declared.entry.Entry.{Entry}
 use Rattle.rv_model.specs.declared.work.Turn.{Turn}
-use Rattle.rv_model.specs.Histories.{changed}
 use Rattle.rv_model.specs.Works.{NamesEach}
 use Rattle.rv_journal.specs.declared.counted.Counted.{Counted}
 use Rattle.rv_journal.specs.declared.steps.LaneProgress.{LaneProgress}
 use Rattle.rv_journal.specs.declared.steps.MergeStep.{MergeStep}
 use Rattle.rv_journal.specs.declared.steps.MergeStep.TheVariants.{TurnLook, Item}
 use Rattle.rv_journal.specs.CountedLanes.{CountedLaneValue}
-use Rattle.rv_journal.specs.MergeSteps.{slot_in}
+use Rattle.rv_journal.specs.MergeSteps.{slot_in, items_of, steps_from, behind, version, leaves, changes_on}
 
 -- ---- steps
-
--- the items among the steps, in order
-abbrev pub items_of : List MergeStep → List Counted
-items_of [] = []
-items_of (TurnLook ∷ steps) = items_of steps
-items_of (Item c ∷ steps) = c ∷ items_of steps
-
--- the steps of items alone, with no look
-abbrev pub item_steps : List Counted → List MergeStep
-item_steps items = map Item items
-
--- the steps of a lane from the item at the index `place` on: the items before the next turn, its look, and so on
-abbrev pub steps_from : List Counted → ℕ → List Turn → List MergeStep
-steps_from items place [] = item_steps (drop place items)
-steps_from items place (turn ∷ turns) = item_steps (slice_range items place turn.from) ++ TurnLook ∷ steps_from items turn.from turns
 
 -- the steps that are left to a lane, by how far it has come
 abbrev pub rest_of : CountedLaneValue → LaneProgress → List MergeStep
@@ -53,25 +37,7 @@ abbrev pub step_entry : ℕ → ℕ → MergeStep → Entry
 step_entry seat switches TurnLook = record { seat = seat; act = Look; before = switches; after = switches }
 step_entry seat switches (Item c) = c.entry
 
--- the steps after the first one
-abbrev pub behind : List MergeStep → List MergeStep
-behind [] = []
-behind (step ∷ steps) = steps
-
 -- ---- intervals: the stretches of a slot's history between its changes
-
--- the version of its slot that an item's entry found: its count, and one more where it found the word 0, since no count
--- has the Stop before it
-abbrev pub version : Counted → ℕ
-version c = c.count + (if c.entry.before == 0 then 1 else 0)
-
--- whether the entry left its word as it was
-abbrev pub leaves : Entry → Bool
-leaves e = e.before == e.after
-
--- how many entries of a list changed the slot's word
-abbrev pub changes_on : ℕ → List Entry → ℕ
-changes_on slot h = length (filter (changed slot) h)
 
 -- 1 if the item's entry found the slot at the version `r` and left its word, and else 0
 abbrev pub leaves_in : ℕ → ℕ → Counted → ℕ

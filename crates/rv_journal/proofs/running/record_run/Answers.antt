@@ -44,7 +44,7 @@ merge-requires g c =
 
 pub closed_of-closed-requires : goal.closed_of-closed-requires
 closed_of-closed-requires g c =
-    subst (All (λ (e : Entry). IsNoEnd e.act)) (sym c.as_slice-2.ensures.value) (no-ends c.setup.result.now c.in_ok-entries.entries.items c.in_ok-entries.ensures.fits)
+    subst (All (λ (e : Entry). IsNoEnd e.act)) (sym c.as_slice-2.ensures.value) (no-ends c.setup.result.now c.in_ok-entries.entries.items c.in_ok-entries.ensures.merged.fits)
 
 pub returns-clause-legal : goal.returns-clause-legal
 returns-clause-legal g c =
@@ -53,7 +53,7 @@ returns-clause-legal g c =
     let fs' : List (CountedFeeder g.row.G.Denot) = take c.in_ok-feeders.feeders.len (c.run_counted.new.feeders ++ drop (length c.run_counted.new.feeders) fs) in
     let ran = lent RunsCounted _ _ _ c.run_counted.new.feeders c.in_ok-feeders.feeders.ok.0 c.as_mut_slice.ensures.value c.run_counted.ensures in
     whole-run board c.args.setup c.seat_works.new.seat.seat c.join_all.new.into.seat c.args.works.items fs fs' c.in_ok-lanes.lanes.items c.in_ok-feeders.ensures ran c.in_ok-lanes.ensures c.number.ensures.sound c.in_ok-board.ensures.board
-    c.setup.result.now c.as_slice.result.now c.in_ok-entries.entries.items c.closed_of-closed.result c.setup.ensures c.as_slice.ensures.value c.in_ok-entries.ensures (c.closed_of-closed.ensures.closed ∙ c.as_slice-2.ensures.value) []
+    c.setup.result.now c.as_slice.result.now c.in_ok-entries.entries.items c.closed_of-closed.result c.setup.ensures c.as_slice.ensures.value c.in_ok-entries.ensures.merged (c.closed_of-closed.ensures.closed ∙ c.as_slice-2.ensures.value) []
 
 pub returns-clause-specs : goal.returns-clause-specs
 returns-clause-specs g c = λ specs mean.
@@ -65,7 +65,7 @@ returns-clause-specs g c = λ specs mean.
       are_judges = are-judges specs c.args.setup.tables c.assert_invariant.ensures.are_tables mean;
       legal =
           whole-run board c.args.setup c.seat_works.new.seat.seat c.join_all.new.into.seat c.args.works.items fs fs' c.in_ok-lanes.lanes.items c.in_ok-feeders.ensures ran c.in_ok-lanes.ensures c.number.ensures.sound c.in_ok-board.ensures.board
-          c.setup.result.now c.as_slice.result.now c.in_ok-entries.entries.items c.closed_of-closed.result c.setup.ensures c.as_slice.ensures.value c.in_ok-entries.ensures (c.closed_of-closed.ensures.closed ∙ c.as_slice-2.ensures.value) specs;
+          c.setup.result.now c.as_slice.result.now c.in_ok-entries.entries.items c.closed_of-closed.result c.setup.ensures c.as_slice.ensures.value c.in_ok-entries.ensures.merged (c.closed_of-closed.ensures.closed ∙ c.as_slice-2.ensures.value) specs;
     }
 
 pub returns-clause-entries : goal.returns-clause-entries

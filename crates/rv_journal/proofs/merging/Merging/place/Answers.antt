@@ -12,16 +12,16 @@ use Rattle.rv_journal.proofs.merging.Merging.place.Goals as goal
 pub release_pending-requires : goal.release_pending-requires
 release_pending-requires g c =
     let goes = goes-there (merge_run c.args.setup.now g.seen) c.args.lanes.now c.args.self.now.placed.items c.args.self.now.cursors.items c.args.self.now.changes.items c.args.self.now.waits c.requires.0
-    c.args.index c.requires.1.low c.index.result.now c.index.ensures c.in-Some.next.step c.in-Some.next.cursor c.in-Some.ensures in
+    c.args.index c.requires.1.ready.low c.index.result.now c.index.ensures c.in-Some.next.step c.in-Some.next.cursor c.in-Some.ensures in
     let may = may-there (merge_run c.args.setup.now g.seen) c.args.lanes.now c.args.self.now.placed.items c.args.self.now.cursors.items c.args.self.now.changes.items c.args.self.now.waits c.requires.0
-    c.args.index c.requires.1.low c.index.result.now c.index.ensures c.in-Some.next.step c.in-Some.next.cursor c.in-Some.ensures c.requires.1 in
+    c.args.index c.requires.1.ready.low c.index.result.now c.index.ensures c.in-Some.next.step c.in-Some.next.cursor c.in-Some.ensures c.requires.1.ready in
     enough-waits (merge_run c.args.setup.now g.seen) c.args.lanes.now c.args.self.now.placed.items c.args.self.now.cursors.items c.args.self.now.changes.items c.args.self.now.waits c.requires.0
-    c.args.index c.requires.1.low c.in-Some.next.step c.in-Some.next.cursor goes may c.next_from-then.result c.next_from-then.ensures
+    c.args.index c.requires.1.ready.low c.in-Some.next.step c.in-Some.next.cursor goes may c.next_from-then.result c.next_from-then.ensures
 
 pub count-requires-clause-slot : goal.count-requires-clause-slot
 count-requires-clause-slot g c =
     read-in_slots (merge_run c.args.setup.now g.seen) c.args.lanes.now c.args.self.now.placed.items c.args.self.now.cursors.items c.args.self.now.changes.items c.args.self.now.waits c.requires.0
-    c.args.index c.requires.1.low c.index.result.now c.index.ensures c.in-Some.next.step c.in-Some.next.cursor c.in-Some.ensures
+    c.args.index c.requires.1.ready.low c.index.result.now c.index.ensures c.in-Some.next.step c.in-Some.next.cursor c.in-Some.ensures
 
 pub count-requires-clause-room : goal.count-requires-clause-room
 count-requires-clause-room g c = λ slot.
@@ -35,11 +35,11 @@ count-requires-clause-room g c = λ slot.
 pub returns-clause-merging : goal.returns-clause-merging
 returns-clause-merging g c =
     let goes = goes-there (merge_run c.args.setup.now g.seen) c.args.lanes.now c.args.self.now.placed.items c.args.self.now.cursors.items c.args.self.now.changes.items c.args.self.now.waits c.requires.0
-    c.args.index c.requires.1.low c.index.result.now c.index.ensures c.in-Some.next.step c.in-Some.next.cursor c.in-Some.ensures in
+    c.args.index c.requires.1.ready.low c.index.result.now c.index.ensures c.in-Some.next.step c.in-Some.next.cursor c.in-Some.ensures in
     let may = may-there (merge_run c.args.setup.now g.seen) c.args.lanes.now c.args.self.now.placed.items c.args.self.now.cursors.items c.args.self.now.changes.items c.args.self.now.waits c.requires.0
-    c.args.index c.requires.1.low c.index.result.now c.index.ensures c.in-Some.next.step c.in-Some.next.cursor c.in-Some.ensures c.requires.1 in
+    c.args.index c.requires.1.ready.low c.index.result.now c.index.ensures c.in-Some.next.step c.in-Some.next.cursor c.in-Some.ensures c.requires.1.ready in
     let next = next-merging (merge_run c.args.setup.now g.seen) c.args.lanes.now c.args.self.now.placed.items c.args.self.now.cursors.items c.args.self.now.changes.items c.args.self.now.waits c.requires.0
-    c.args.index c.requires.1.low c.in-Some.next.step c.in-Some.next.cursor goes may c.next_from-then.result c.next_from-then.ensures c.release_pending.new.waits c.in_ok-release_pending.ensures in
+    c.args.index c.requires.1.ready.low c.in-Some.next.step c.in-Some.next.cursor goes may c.next_from-then.result c.next_from-then.ensures c.release_pending.new.waits c.in_ok-release_pending.ensures c.requires.1 in
     let entry : c.entry_of.result ≡ step_entry (seat_of (lane_at c.args.lanes.now c.args.index)) c.args.setup.now.switches c.in-Some.next.step =
     c.entry_of.ensures ∙ (ap (λ (n : ℕ). step_entry n c.switches_of.result c.in-Some.next.step) c.seat_at-seat.ensures ∙ ap (λ (n : ℕ). step_entry (seat_of (lane_at c.args.lanes.now c.args.index)) n c.in-Some.next.step) c.switches_of.ensures) in
     let placed : c.push.new.self.items ≡ c.args.self.now.placed.items ++ step_entry (seat_of (lane_at c.args.lanes.now c.args.index)) c.args.setup.now.switches c.in-Some.next.step ∷ [] =
@@ -50,8 +50,8 @@ returns-clause-merging g c =
 pub returns-clause-fewer : goal.returns-clause-fewer
 returns-clause-fewer g c =
     let goes = goes-there (merge_run c.args.setup.now g.seen) c.args.lanes.now c.args.self.now.placed.items c.args.self.now.cursors.items c.args.self.now.changes.items c.args.self.now.waits c.requires.0
-    c.args.index c.requires.1.low c.index.result.now c.index.ensures c.in-Some.next.step c.in-Some.next.cursor c.in-Some.ensures in
+    c.args.index c.requires.1.ready.low c.index.result.now c.index.ensures c.in-Some.next.step c.in-Some.next.cursor c.in-Some.ensures in
     let may = may-there (merge_run c.args.setup.now g.seen) c.args.lanes.now c.args.self.now.placed.items c.args.self.now.cursors.items c.args.self.now.changes.items c.args.self.now.waits c.requires.0
-    c.args.index c.requires.1.low c.index.result.now c.index.ensures c.in-Some.next.step c.in-Some.next.cursor c.in-Some.ensures c.requires.1 in
+    c.args.index c.requires.1.ready.low c.index.result.now c.index.ensures c.in-Some.next.step c.in-Some.next.cursor c.in-Some.ensures c.requires.1.ready in
     fewer-steps (merge_run c.args.setup.now g.seen) c.args.lanes.now c.args.self.now.placed.items c.args.self.now.cursors.items c.args.self.now.changes.items c.args.self.now.waits c.requires.0
-    c.args.index c.requires.1.low c.in-Some.next.step c.in-Some.next.cursor goes may
+    c.args.index c.requires.1.ready.low c.in-Some.next.step c.in-Some.next.cursor goes may
