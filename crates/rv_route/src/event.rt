@@ -1,7 +1,8 @@
 //! What is asked on the lines of one event.
-ghost use Rattle.std.specs.Prelude.{◌≡◌, map, filter, option_map, slice_get, Some, IfOk, OnOk};
+ghost use Rattle.std.specs.Prelude.{◌≡◌, length, map, filter, option_map, slice_get, Some, IfOk, IfSome, OnOk};
 ghost use Rattle.std.specs.List.{AllZip};
 ghost use Rattle.rv_trace.specs.FoundFields.{Extends};
+ghost use Rattle.rv_route.specs.FieldTests.{MeanTests};
 ghost use Rattle.rv_route.specs.Events.{tested_field, tested_fields, HasFields, IsAsked, IsEventOf, is_on_event};
 
 use crate::asking::has_value;
@@ -99,7 +100,7 @@ fn many_tests(
     places: &[usize],
 ) -> Result<Option<Vec<FieldTest>>, AllocError>
     requires { length places.now ≡ length tests.now }
-    ensures { IfOk result (λ many. IfSome many (λ list. AreTests list.items places.now tests.now)) }
+    ensures { IfOk result (λ many. IfSome many (λ list. MeanTests list.items places.now tests.now)) }
 {
     if tests.len() < MANY_TESTS {
         return Ok(None);
