@@ -9,9 +9,10 @@ use Rattle.rv_trace.specs.declared.line.TraceLine.{TraceLine}
 use Rattle.rv_bind.specs.declared.bindings.Test.{Test}
 use Rattle.rv_bind.specs.declared.bindings.Test.TheVariants.{Is, IsNot}
 use Rattle.rv_route.specs.Asking.{text_at, holds, pid_of}
-use Rattle.rv_route.specs.inner.Asking.{test_holds, pid_found}
+use Rattle.rv_route.specs.inner.Asking.{value_found, pid_found}
+use Rattle.rv_route.specs.FieldTests.{test_holds, tests_hold}
 use Rattle.rv_route.specs.Events.{tested_field, tested_fields}
-use Rattle.rv_route.specs.inner.Events.{found_at}
+use Rattle.rv_trace.specs.FoundFields.{found_at}
 
 -- what was looked up for a test is what its field has
 test-found : (fields : List ℕ) (found : List (Option Span)) (places : List ℕ) (tests : List Test) (i : ℕ) (test : Test) → map (found_at found) places ≡ map (field_of fields) (tested_fields tests) → i < length tests → test ≡ get_or tests i test
@@ -47,6 +48,15 @@ module _ {X : Type 0} (p : X → Bool) where
   all-never [] i x inside is here = absurd (omega arith)
   all-never (y ∷ ys) zero x inside is here = ap (λ (b : Bool). b && list_all p ys) (ap p (sym is) ∙ here)
   all-never (y ∷ ys) (suc i) x inside is here = ap (λ (b : Bool). p y && b) (all-never ys i x (omega arith) is here) ∙ and_false (p y)
+
+-- all tests hold of what was looked up just where they hold of the line
+pub tests-hold : (fields : List ℕ) (found : List (Option Span)) (places : List ℕ) (tests : List Test) → map (found_at found) places ≡ map (field_of fields) (tested_fields tests) → tests_hold (value_found fields found) places tests ≡ list_all (holds fields) tests
+tests-hold fields found places [] are = refl
+tests-hold fields found [] (t ∷ tests) are = cc
+tests-hold fields found (place ∷ places) (t ∷ tests) are =
+    let first : found_at found place ≡ field_of fields (tested_field t) = cc in
+    let rest : map (found_at found) places ≡ map (field_of fields) (tested_fields tests) = cc in
+    ap₂ (λ (a b : Bool). a && b) (ap (λ (o : Option Span). test_holds t (option_map (text_at fields) o)) first ∙ test_holds-holds fields t) (tests-hold fields found places tests rest)
 
 -- the pid of a rule's field is that of what was looked up
 pub pid-found : (fields : List ℕ) (line : TraceLine) (name : Option (List ℕ)) → pid_found fields line (option_map (field_of fields) name) ≡ pid_of fields line name

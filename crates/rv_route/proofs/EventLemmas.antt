@@ -1,9 +1,8 @@
 -- Rules keep their places while names come in, and a line's rules are those of its event.
-use Rattle.std.proofs.Common.{◌≡◌, ℕ, zero, suc, ◌+◌, ◌<◌, Bool, true, false, cond, List, [], ◌∷◌, ◌++◌, length, get_or, take, map, Option, Some, None, refl, sym, ap, ap₂, ◌∙◌, subst, arith}
-use Rattle.std.specs.Prelude.{filter, option_map, bytes_eq, slice_get, if◌then◌else◌}
+use Rattle.std.proofs.Common.{◌≡◌, ℕ, zero, suc, ◌+◌, ◌<◌, Bool, true, cond, List, [], ◌∷◌, ◌++◌, length, get_or, take, map, Option, Some, None, refl, sym, ap, ap₂, ◌∙◌, subst, arith}
+use Rattle.std.specs.Prelude.{filter, option_map, bytes_eq, slice_get}
 use Rattle.std.specs.List.{AllZip}
-use Rattle.std.specs.Borrow.{Bor}
-use Rattle.std.proofs.lemmas.List.{map-append, map_push, take_more}
+use Rattle.std.proofs.lemmas.List.{map_push, take_more}
 use Rattle.std.proofs.lemmas.List.Elements.{filter_more}
 use Rattle.std.proofs.lemmas.Option.{slice_get-map, get_or_from_slice_get}
 use Rattle.std.proofs.lemmas.Slice.Eq.{bytes_eq-Decides}
@@ -13,7 +12,8 @@ use Rattle.rv_bind.specs.declared.bindings.Test.{Test}
 use Rattle.rv_bind.specs.RuleValues.{OnValue}
 use Rattle.rv_route.specs.declared.event.Asked.{Asked}
 use Rattle.rv_route.specs.Events.{HasFields, IsAsked, tested_field, tested_fields, is_on_event}
-use Rattle.rv_route.specs.inner.Events.{Extends, found_at, HasFound}
+use Rattle.rv_route.specs.inner.Events.{HasFound}
+use Rattle.rv_trace.specs.FoundFields.{Extends, found_at, AreFound}
 
 -- equal bytes are equal
 pub same_bytes : (a b : List ℕ) → bytes_eq a b ≡ true → a ≡ b
@@ -24,25 +24,6 @@ pub itself : (a : List ℕ) → bytes_eq a a ≡ true
 itself a = (bytes_eq-Decides a a).1 refl
 
 -- ---- names that come in
-
--- what stands in a list stands there still when more is appended
-get-append : {X : Type 0} (xs ys : List X) (i : ℕ) (x : X) → slice_get xs i ≡ Some x → slice_get (xs ++ ys) i ≡ Some x
-get-append [] ys i x is = cc
-get-append (y ∷ xs) ys zero x is = is
-get-append (y ∷ xs) ys (suc i) x is = get-append xs ys i x is
-
--- one more key, unless it is there
-pub extends-insert : (there : Bool) (keys more : List (Bor (List ℕ))) (key : Bor (List ℕ)) → more ≡ (if there then keys else keys ++ key ∷ []) → Extends (map (λ (k : Bor (List ℕ)). k.now) keys) (map (λ (k : Bor (List ℕ)). k.now) more)
-extends-insert true keys more key grown place name is = ap (λ (ks : List (Bor (List ℕ))). slice_get (map (λ (k : Bor (List ℕ)). k.now) ks) place) grown ∙ is
-extends-insert false keys more key grown place name is =
-    ap (λ (ks : List (Bor (List ℕ))). slice_get (map (λ (k : Bor (List ℕ)). k.now) ks) place) grown
-    ∙ ap (λ (names : List (List ℕ)). slice_get names place) (map-append (λ (k : Bor (List ℕ)). k.now) keys (key ∷ []))
-    ∙ get-append (map (λ (k : Bor (List ℕ)). k.now) keys) (map (λ (k : Bor (List ℕ)). k.now) (key ∷ [])) place name is
-
--- the key that a set has for a name stands where it is said to
-pub stands : (keys : List (Bor (List ℕ))) (place : ℕ) (key : Bor (List ℕ)) (name : List ℕ) → slice_get keys place ≡ Some key → bytes_eq name key.now ≡ true → slice_get (map (λ (k : Bor (List ℕ)). k.now) keys) place ≡ Some name
-stands keys place key name there same =
-    slice_get-map (λ (k : Bor (List ℕ)). k.now) keys place ∙ ap (option_map (λ (k : Bor (List ℕ)). k.now)) there ∙ ap Some (sym (same_bytes name key.now same))
 
 -- names that keep their places in two steps keep them in both together
 pub extends-then : (a b c : List (List ℕ)) → Extends a b → Extends b c → Extends a c
@@ -70,7 +51,7 @@ module _ (old new : List (List ℕ)) (grown : Extends old new) where
   pub asked-grown : (rules : List OnValue) (asked : Asked) (rule : OnValue) → IsAsked rules old asked rule → IsAsked rules new asked rule
   asked-grown rules asked rule is = record {
     there = is.there;
-    fields = record { tests = places-grown asked.tests.items (tested_fields rule.tests) is.fields.tests; by = by-grown asked.by rule.by is.fields.by };
+    fields = record { tests = places-grown asked.tests.items (tested_fields rule.tests) is.fields.tests; by_field = is.fields.by_field; by = by-grown asked.by rule.by is.fields.by };
   }
 
   -- all rules of an event keep their places
@@ -127,32 +108,32 @@ asked-many all names (asked ∷ list) (rule ∷ rules) are = let rest = asked-ma
 
 -- ---- fields that were looked up
 
-module _ (fields : List ℕ) (names : List (List ℕ)) where
-  -- what was found at the place of a name is the field of that name
-  found-name : (place : ℕ) (name : List ℕ) → slice_get names place ≡ Some name → found_at (map (field_of fields) names) place ≡ field_of fields name
-  found-name place name there = get_or_from_slice_get (map (field_of fields) names) place (field_of fields name) None (slice_get-map (field_of fields) names place ∙ ap (option_map (field_of fields)) there)
-
+module _ (fields : List ℕ) (names : List (List ℕ)) (found : List (Option Span)) (are : AreFound fields names found) where
   -- what was found at the places of several names are the fields of these names
-  found-tests : (places : List ℕ) (wanted : List (List ℕ)) → map (slice_get names) places ≡ map Some wanted → map (found_at (map (field_of fields) names)) places ≡ map (field_of fields) wanted
+  found-tests : (places : List ℕ) (wanted : List (List ℕ)) → map (slice_get names) places ≡ map Some wanted → map (found_at found) places ≡ map (field_of fields) wanted
   found-tests [] [] is = refl
   found-tests [] (name ∷ wanted) is = cc
   found-tests (place ∷ places) [] is = cc
   found-tests (place ∷ places) (name ∷ wanted) is =
       let first : slice_get names place ≡ Some name = cc in
       let rest : map (slice_get names) places ≡ map Some wanted = cc in
-      ap₂ (λ (o : Option Span) (os : List (Option Span)). o ∷ os) (found-name place name first) (found-tests places wanted rest)
+      ap₂ (λ (o : Option Span) (os : List (Option Span)). o ∷ os) (are place name first) (found-tests places wanted rest)
 
   -- what was found at the place of a rule's own field, if it has one, is that field
-  found-by : (by : Option ℕ) (name : Option (List ℕ)) → option_map (slice_get names) by ≡ option_map Some name → option_map (found_at (map (field_of fields) names)) by ≡ option_map (field_of fields) name
+  found-by : (by : Option ℕ) (name : Option (List ℕ)) → option_map (slice_get names) by ≡ option_map Some name → option_map (found_at found) by ≡ option_map (field_of fields) name
   found-by None None is = refl
   found-by None (Some name) is = cc
   found-by (Some place) None is = cc
-  found-by (Some place) (Some name) is = let there : slice_get names place ≡ Some name = cc in ap Some (found-name place name there)
+  found-by (Some place) (Some name) is = let there : slice_get names place ≡ Some name = cc in ap Some (are place name there)
 
   -- the fields of a rule are found where its names stand
-  pub has_found : (found : List (Option Span)) (asked : Asked) (rule : OnValue) → found ≡ map (field_of fields) names → HasFields names asked rule → HasFound fields found asked rule
-  has_found found asked rule are is =
-      subst (λ (f : List (Option Span)). HasFound fields f asked rule) (sym are) (record { tests = found-tests asked.tests.items (tested_fields rule.tests) is.tests; by = found-by asked.by rule.by is.by })
+  pub has_found : (asked : Asked) (rule : OnValue) → HasFields names asked rule → HasFound fields found asked rule
+  has_found asked rule is = record { tests = found-tests asked.tests.items (tested_fields rule.tests) is.tests; by_field = is.by_field; by = found-by asked.by rule.by is.by }
+
+-- each of a list's names is found at its place
+pub listed-found : (fields : List ℕ) (names : List (List ℕ)) (found : List (Option Span)) → found ≡ map (field_of fields) names → AreFound fields names found
+listed-found fields names found are place name there =
+    ap (λ (f : List (Option Span)). found_at f place) are ∙ get_or_from_slice_get (map (field_of fields) names) place (field_of fields name) None (slice_get-map (field_of fields) names place ∙ ap (option_map (field_of fields)) there)
 
 -- the field of one more test
 pub names-more : (tests : List Test) (i : ℕ) (test : Test) (name : List ℕ) → i < length tests → test ≡ get_or tests i test → name ≡ tested_field test → tested_fields (take (i + 1) tests) ≡ tested_fields (take i tests) ++ name ∷ []

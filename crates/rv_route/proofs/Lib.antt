@@ -1,6 +1,7 @@
 pub mod AskLemmas
 pub mod AskingLemmas
 pub mod EventLemmas
+pub mod FieldTestLemmas
 pub mod FiredLemmas
 pub mod FiringLemmas
 pub mod FittingLemmas

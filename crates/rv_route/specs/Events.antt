@@ -11,6 +11,7 @@ use Rattle.rv_bind.specs.declared.bindings.Test.TheVariants.{Is, IsNot}
 use Rattle.rv_bind.specs.RuleValues.{OnValue}
 use Rattle.rv_route.specs.declared.event.Asked.{Asked}
 use Rattle.rv_route.specs.declared.event.Event.{Event}
+use Rattle.rv_route.specs.FieldTests.{MeanTests}
 
 -- the field that a test names
 abbrev pub tested_field : Test → List ℕ
@@ -21,9 +22,10 @@ tested_field (IsNot field wanted) = field
 abbrev pub tested_fields : List Test → List (List ℕ)
 tested_fields tests = map tested_field tests
 
--- the rule's fields stand among the names at these places
+-- the rule's fields stand among the names at these places, and its tests are the same field by field
 pub record HasFields (names : List (List ℕ)) (asked : Asked) (rule : OnValue) : Type 0 where
   pub tests : map (slice_get names) asked.tests.items ≡ map Some (tested_fields rule.tests)
+  pub by_field : IfSome asked.by_field (λ list. MeanTests list.items asked.tests.items rule.tests)
   pub by : option_map (slice_get names) asked.by ≡ option_map Some rule.by
 
 -- it is this rule, and its fields stand among the names
@@ -37,7 +39,7 @@ is_on_event event rule = bytes_eq event rule.event
 
 -- the event asks for the rules that are on this name, in their order
 abbrev pub IsEventOf : List OnValue → List ℕ → Event → Type 0
-IsEventOf rules name event = AllZip (IsAsked rules event.fields.items) event.rules.items (filter (is_on_event name) rules)
+IsEventOf rules name event = AllZip (IsAsked rules event.fields) event.rules.items (filter (is_on_event name) rules)
 
 -- the kit's hash of a name, which takes all bytes at once
 unfoldable pub key_of : List ℕ → ℕ

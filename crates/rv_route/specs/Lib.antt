@@ -1,5 +1,6 @@
 pub mod Asking
 pub mod Events
+pub mod FieldTests
 pub mod Fitting
 pub mod Lanes
 pub mod Laws

@@ -4,11 +4,14 @@ ghost use Rattle.std.specs.List.{list_all};
 ghost use Rattle.rv_text.specs.Decimal.{decimal_of};
 ghost use Rattle.rv_trace.specs.Fields.{field_of};
 ghost use Rattle.rv_route.specs.Asking.{text_at, has_value, differs, holds, pid_from, pid_at};
-ghost use Rattle.rv_route.specs.inner.Asking.{test_holds, pid_found, ask_on};
+ghost use Rattle.rv_route.specs.inner.Asking.{value_found, pid_found, ask_on};
+ghost use Rattle.rv_route.specs.FieldTests.{test_holds, all_pass};
+ghost use Rattle.rv_trace.specs.FoundFields.{found_at, IsInside};
 ghost use Rattle.rv_route.specs.Events.{tested_fields};
-ghost use Rattle.rv_route.specs.inner.Events.{IsInside, found_at, HasFound};
+ghost use Rattle.rv_route.specs.inner.Events.{HasFound};
 
 use crate::event::Asked;
+use crate::field_tests::FieldTest;
 use rv_bind::{Monitor, On, Test};
 use rv_model::{Name, Scope};
 use rv_text::ByteClass;
@@ -122,6 +125,32 @@ fn all_hold(fields: &[u8], tests: &[Test], places: &[usize], found: &[Option<Spa
     true
 }
 
+/// Whether what was looked up passes, field by field.
+fn all_pass(fields: &[u8], tests: &[FieldTest], found: &[Option<Span>]) -> bool
+    requires { All (IsInside fields.now) found.now }
+    ensures { result ≡ all_pass (value_found fields.now found.now) tests.now }
+{
+    for test in tests {
+        if !test.passes(value_at(fields, found, test.place)) {
+            return false;
+        }
+    }
+    true
+}
+
+/// Whether all tests of the rule hold.
+#[inline(always)]
+fn is_met(fields: &[u8], rule: &On, asked: &Asked, found: &[Option<Span>]) -> bool
+    requires found { HasFound fields.now found.now asked.now rule.now }
+    requires inside { All (IsInside fields.now) found.now }
+    ensures { result ≡ list_all (holds fields.now) rule.now.tests }
+{
+    match &asked.by_field {
+        Some(tests) => all_pass(fields, tests.as_slice(), found),
+        None => all_hold(fields, rule.tests.as_slice(), asked.tests.as_slice(), found),
+    }
+}
+
 /// The pid that a field's value is.
 fn pid_at(value: Option<&[u8]>) -> Ask
     ensures { result ≡ pid_at (option_copied value.entry) }
@@ -179,7 +208,7 @@ pub(crate) fn ask_for(
     requires inside { All (IsInside fields.now) found.now }
     ensures { result ≡ ask_on fields.now line.now monitors.now rule.now }
 {
-    if !all_hold(fields, rule.tests.as_slice(), asked.tests.as_slice(), found) {
+    if !is_met(fields, rule, asked, found) {
         return Ask::Quiet;
     }
     let Some(monitor) = monitors.get(rule.monitor as usize) else {

@@ -1,14 +1,19 @@
 //! What is asked on the lines of one event.
-ghost use Rattle.std.specs.Prelude.{◌≡◌, map, filter, option_map, slice_get, Some, IfOk, OnOk};
+ghost use Rattle.std.specs.Prelude.{◌≡◌, length, map, filter, option_map, slice_get, Some, IfOk, IfSome, OnOk};
 ghost use Rattle.std.specs.List.{AllZip};
+ghost use Rattle.rv_trace.specs.FoundFields.{Extends};
+ghost use Rattle.rv_route.specs.FieldTests.{MeanTests};
 ghost use Rattle.rv_route.specs.Events.{tested_field, tested_fields, HasFields, IsAsked, IsEventOf, is_on_event};
-ghost use Rattle.rv_route.specs.inner.Events.{names_in_set, Extends};
 
 use crate::asking::has_value;
-use indexmap::IndexSet;
+use crate::field_tests::{FieldTest, by_field};
 use rv_bind::{On, Test};
 use rv_model::Name;
+use rv_trace::FieldNames;
 use std::alloc::{AllocError, Global};
+
+/// From so many tests on they are asked field by field.
+const MANY_TESTS: usize = 8;
 
 /// A rule, by the places of what it names.
 #[derive(Drop)]
@@ -17,6 +22,8 @@ pub(crate) struct Asked {
     pub(crate) rule: usize,
     /// For each test the place of its field among the event's.
     pub(crate) tests: Vec<usize>,
+    /// The same tests field by field, where there are many.
+    pub(crate) by_field: Option<Vec<FieldTest>>,
     /// The place of the field that has the pid.
     pub(crate) by: Option<usize>,
 }
@@ -26,7 +33,7 @@ pub(crate) struct Asked {
 pub(crate) struct Event {
     pub(crate) name: Name,
     /// The fields that its rules name, each once.
-    pub(crate) fields: Vec<Name>,
+    pub(crate) fields: FieldNames,
     /// Its rules, in their order.
     pub(crate) rules: Vec<Asked>,
 }
@@ -36,23 +43,23 @@ pub(crate) fn event_of(alloc: Global, rules: &[On], name: &[u8]) -> Result<Event
     ensures name { IfOk result (λ event. event.name ≡ name.now) }
     ensures rules { IfOk result (IsEventOf rules.now name.now) }
 {
-    let mut names = IndexSet::new(alloc);
+    let mut names = FieldNames::new(alloc);
     let asked = asked_on(alloc, rules, name, &mut names)?;
     Ok(Event {
         name: Name::new(alloc, name)?,
-        fields: owned(alloc, names.as_slice())?,
+        fields: names,
         rules: asked,
     })
 }
 
 /// The rules on an event, whose fields go among the names.
-fn asked_on<'a>(
+fn asked_on(
     alloc: Global,
-    rules: &'a [On],
+    rules: &[On],
     event: &[u8],
-    names: &mut IndexSet<&'a [u8]>,
+    names: &mut FieldNames,
 ) -> Result<Vec<Asked>, AllocError>
-    ensures { IfOk result (λ asked. AllZip (IsAsked rules.now (names_in_set names.new)) asked.items (filter (is_on_event event.now) rules.now)) }
+    ensures { IfOk result (λ asked. AllZip (IsAsked rules.now names.new) asked.items (filter (is_on_event event.now) rules.now)) }
 {
     let mut list = Vec::new(alloc);
     for place in 0..rules.len() {
@@ -65,62 +72,71 @@ fn asked_on<'a>(
 }
 
 /// The rule that stands at this place.
-fn asked_of<'a>(
+fn asked_of(
     alloc: Global,
-    rule: &'a On,
+    rule: &On,
     place: usize,
-    names: &mut IndexSet<&'a [u8]>,
+    names: &mut FieldNames,
 ) -> Result<Asked, AllocError>
     ensures rule { IfOk result (λ asked. asked.rule ≡ place) }
-    ensures fields { IfOk result (λ asked. HasFields (names_in_set names.new) asked rule.now) }
-    ensures grown { OnOk result (Extends (names_in_set names.old) (names_in_set names.new)) }
+    ensures fields { IfOk result (λ asked. HasFields names.new asked rule.now) }
+    ensures grown { OnOk result (Extends names.old names.new) }
 {
     let tests = test_places(alloc, rule.tests.as_slice(), names)?;
-    let by = by_place(&rule.by, names)?;
+    let by_field = many_tests(alloc, rule.tests.as_slice(), tests.as_slice())?;
+    let by = by_place(alloc, &rule.by, names)?;
     Ok(Asked {
         rule: place,
         tests,
+        by_field,
         by,
     })
 }
 
-/// For each test the place of its field.
-fn test_places<'a>(
+/// The tests field by field, if there are many.
+fn many_tests(
     alloc: Global,
-    tests: &'a [Test],
-    names: &mut IndexSet<&'a [u8]>,
+    tests: &[Test],
+    places: &[usize],
+) -> Result<Option<Vec<FieldTest>>, AllocError>
+    requires { length places.now ≡ length tests.now }
+    ensures { IfOk result (λ many. IfSome many (λ list. MeanTests list.items places.now tests.now)) }
+{
+    if tests.len() < MANY_TESTS {
+        return Ok(None);
+    }
+    Ok(Some(by_field(alloc, tests, places)?))
+}
+
+/// For each test the place of its field.
+fn test_places(
+    alloc: Global,
+    tests: &[Test],
+    names: &mut FieldNames,
 ) -> Result<Vec<usize>, AllocError>
-    ensures places { IfOk result (λ places. map (slice_get (names_in_set names.new)) places.items ≡ map Some (tested_fields tests.now)) }
-    ensures grown { OnOk result (Extends (names_in_set names.old) (names_in_set names.new)) }
+    ensures places { IfOk result (λ places. map (slice_get names.new) places.items ≡ map Some (tested_fields tests.now)) }
+    ensures grown { OnOk result (Extends names.old names.new) }
 {
     let mut places = Vec::with_capacity(alloc, tests.len())?;
     for test in tests {
-        places.push(place_of(tested_field(test).bytes(), names)?)?;
+        places.push(names.place(alloc, tested_field(test).bytes())?)?;
     }
     Ok(places)
 }
 
 /// The place of a field that may be named.
-fn by_place<'a>(
-    by: &'a Option<Name>,
-    names: &mut IndexSet<&'a [u8]>,
+fn by_place(
+    alloc: Global,
+    by: &Option<Name>,
+    names: &mut FieldNames,
 ) -> Result<Option<usize>, AllocError>
-    ensures place { IfOk result (λ place. option_map (slice_get (names_in_set names.new)) place ≡ option_map Some by.now) }
-    ensures grown { OnOk result (Extends (names_in_set names.old) (names_in_set names.new)) }
+    ensures place { IfOk result (λ place. option_map (slice_get names.new) place ≡ option_map Some by.now) }
+    ensures grown { OnOk result (Extends names.old names.new) }
 {
     match by {
-        Some(name) => Ok(Some(place_of(name.bytes(), names)?)),
+        Some(name) => Ok(Some(names.place(alloc, name.bytes())?)),
         None => Ok(None),
     }
-}
-
-/// The place of a name, where a new one goes last.
-fn place_of<'a>(name: &'a [u8], names: &mut IndexSet<&'a [u8]>) -> Result<usize, AllocError>
-    ensures place { IfOk result (λ place. slice_get (names_in_set names.new) place ≡ Some name.now) }
-    ensures grown { OnOk result (Extends (names_in_set names.old) (names_in_set names.new)) }
-{
-    let (place, _) = names.insert_full(name)?;
-    Ok(place)
 }
 
 /// The field that a test names.
@@ -131,15 +147,4 @@ fn tested_field(test: &Test) -> &Name
         Test::Is { field, .. } => field,
         Test::IsNot { field, .. } => field,
     }
-}
-
-/// The names, as bytes of their own.
-fn owned(alloc: Global, names: &[&[u8]]) -> Result<Vec<Name>, AllocError>
-    ensures { IfOk result (λ copies. copies.items ≡ map (λ name. name.now) names.now) }
-{
-    let mut copies = Vec::with_capacity(alloc, names.len())?;
-    for name in names {
-        copies.push(Name::new(alloc, name)?)?;
-    }
-    Ok(copies)
 }

@@ -5,13 +5,14 @@ ghost use Rattle.rv_route.specs.Events.{is_on_event, IsEventOf, IsIndexOf};
 ghost use Rattle.rv_route.specs.Lines.{IsRoutable};
 ghost use Rattle.rv_route.specs.LineByLine.{GivesRoutes, line_routes};
 
-use crate::asking::{ask_for, look_up};
+use crate::asking::ask_for;
 use crate::deliveries::Deliveries;
 use crate::event::Event;
+use crate::finds::Finds;
 use crate::index::{Index, event_at};
 use rv_bind::Bindings;
 use rv_text::Refused;
-use rv_trace::{Span, TraceLine};
+use rv_trace::TraceLine;
 
 /// Does what the rules ask for on the line, in their order, up to the first refusal.
 pub(crate) fn take(
@@ -20,14 +21,14 @@ pub(crate) fn take(
     index: &Index,
     text: &[u8],
     line: &TraceLine,
-    found: &mut Vec<Option<Span>>,
+    finds: &mut Finds,
 ) -> Result<(), Refused>
     requires line { IsRoutable text.now line.now }
     requires index { IsIndexOf bindings.now.rules.items index.now }
     ensures { GivesRoutes result deliveries.new (line_routes text.now line.now bindings.now.monitors.items bindings.now.rules.items deliveries.old) }
 {
     match event_at(index, &text[line.name.from as usize..line.name.to as usize]) {
-        Some(event) => fire(deliveries, bindings, event, text, line, found),
+        Some(event) => fire(deliveries, bindings, event, text, line, finds),
         None => Ok(()),
     }
 }
@@ -39,14 +40,15 @@ fn fire(
     event: &Event,
     text: &[u8],
     line: &TraceLine,
-    found: &mut Vec<Option<Span>>,
+    finds: &mut Finds,
 ) -> Result<(), Refused>
     requires line { IsRoutable text.now line.now }
     requires event { IsEventOf bindings.now.rules.items (text_at text.now line.now.name) event.now }
     ensures { GivesRoutes result deliveries.new (line_routes text.now line.now bindings.now.monitors.items (filter (is_on_event (text_at text.now line.now.name)) bindings.now.rules.items) deliveries.old) }
 {
     let fields = &text[line.fields.from as usize..line.fields.to as usize];
-    look_up(fields, event.fields.as_slice(), found)?;
+    finds.look_up(fields, &event.fields)?;
+    let found = finds.spans();
     for asked in &event.rules {
         let rule = &bindings.rules[asked.rule];
         let ask = ask_for(&bindings.monitors, rule, asked, line, fields, found);

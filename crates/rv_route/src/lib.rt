@@ -4,6 +4,8 @@
 mod asking;
 mod deliveries;
 mod event;
+mod field_tests;
+mod finds;
 mod firing;
 mod index;
 mod lanes;

@@ -8,13 +8,14 @@ ghost use Rattle.rv_route.specs.Routers.{IsFor, RoutesLine};
 ghost use Rattle.rv_route.specs.LineByLine.{no_routes, works_of};
 
 use crate::deliveries::Deliveries;
+use crate::finds::Finds;
 use crate::firing::take;
 use crate::index::{Index, index_of};
 use crate::routed::{Routed, works_in};
 use rv_bind::Bindings;
 use rv_model::CpuWork;
 use rv_text::Refused;
-use rv_trace::{Span, TraceLine};
+use rv_trace::TraceLine;
 use std::alloc::{AllocError, Global};
 use std::marker::Model;
 
@@ -23,7 +24,7 @@ use std::marker::Model;
 pub struct Router {
     index: Index,
     /// What a line's fields have.
-    found: Vec<Option<Span>>,
+    finds: Finds,
     deliveries: Deliveries,
     /// Room for the works, so that the end takes no memory.
     works: Vec<CpuWork>,
@@ -62,7 +63,7 @@ impl Router {
         let works = Vec::with_capacity(alloc, 64)?;
         Ok(Router {
             index,
-            found: Vec::new(alloc),
+            finds: Finds::new(alloc),
             deliveries,
             works,
             next: 0,
@@ -93,7 +94,7 @@ impl Router {
             &self.index,
             text,
             line,
-            &mut self.found,
+            &mut self.finds,
         ) {
             Ok(()) => Ok(()),
             Err(refused) => {

@@ -9,6 +9,8 @@ pub mod LaneLemmas
 pub mod LiesLemmas
 pub mod LineLemmas
 pub mod MoveLemmas
+pub mod NamingLemmas
+pub mod OrderedLemmas
 pub mod PlaceLemmas
 pub mod RunLemmas
 pub mod SeekLemmas
@@ -16,3 +18,5 @@ pub mod StampLemmas
 pub mod StreamLemmas
 pub mod TakenLemmas
 pub mod TraceLemmas
+pub mod WalkLemmas
+pub mod WalkedLemmas

@@ -1,7 +1,9 @@
 //! The kernel's trace text, line by line.
 #![tactic(auto)]
 
+mod field_names;
 mod fields;
+mod found_fields;
 mod head;
 mod laws;
 mod limits;
@@ -12,7 +14,9 @@ mod runs;
 mod seek;
 mod trace;
 
+pub use field_names::FieldNames;
 pub use fields::field;
+pub use found_fields::FoundFields;
 pub use laws::{
     heads_by_places, lines_move, lines_stay, refusals_stay, stamps_by_places, takes_the_trace,
     traces_ascend,

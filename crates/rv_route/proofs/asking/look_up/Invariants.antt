@@ -1,7 +1,7 @@
 use Rattle.std.proofs.Common.{◌≡◌, map, take}
 use Rattle.std.specs.Prelude.{All}
 use Rattle.rv_trace.specs.Fields.{field_of}
-use Rattle.rv_route.specs.inner.Events.{IsInside}
+use Rattle.rv_trace.specs.FoundFields.{IsInside}
 use Rattle.rv_route.proofs.asking.look_up.Given as goal
 
 abbrev pub invariant-loop-name : goal.invariant-loop-name

@@ -3,7 +3,6 @@ use Rattle.std.specs.Prelude.{filter, slice_get}
 use Rattle.std.proofs.lemmas.Option.{slice_get-get_or}
 use Rattle.rv_bind.specs.RuleValues.{OnValue}
 use Rattle.rv_route.specs.Events.{IsAsked, is_on_event}
-use Rattle.rv_route.specs.inner.Events.{names_in_set}
 use Rattle.rv_route.proofs.EventLemmas.{asked-more, on-more}
 use Rattle.rv_route.proofs.event.asked_on.Goals.{then-has_value+in_ok-asked_of+in_ok-push, else-has_value}
 use Rattle.rv_route.proofs.event.asked_on.Goals as goal
@@ -20,8 +19,8 @@ loop-place-preserved c =
       | then-has_value+in_ok-asked_of+in_ok-push w ↦
           let yes : c.has_value.result ≡ true = w.if-has_value.true in
           let more = on-more all event c.bytes.result.now i rule true inside c.index-rules-place.is named (sym yes ∙ c.has_value.ensures) in
-          let old = names_in_set c.loop-place.names in
-          let new = names_in_set w.asked_of.new.names in
+          let old = c.loop-place.names in
+          let new = w.asked_of.new.names in
           let asked = w.in_ok-asked_of.field-0 in
           let there : slice_get all asked.rule ≡ Some rule = ap (slice_get all) w.in_ok-asked_of.ensures.rule ∙ slice_get-get_or all i rule inside ∙ ap Some (sym c.index-rules-place.is) in
           let is : IsAsked all new asked rule = record { there = there; fields = w.in_ok-asked_of.ensures.fields } in

@@ -2,8 +2,7 @@ use Rattle.std.proofs.Common.{take}
 use Rattle.std.specs.Prelude.{filter}
 use Rattle.std.specs.List.{AllZip}
 use Rattle.rv_route.specs.Events.{IsAsked, is_on_event}
-use Rattle.rv_route.specs.inner.Events.{names_in_set}
 use Rattle.rv_route.proofs.event.asked_on.Given as goal
 
 abbrev pub invariant-loop-place : goal.invariant-loop-place
-invariant-loop-place l = AllZip (IsAsked l.rules (names_in_set l.names)) l.list.items (filter (is_on_event l.event) (take l.place l.rules))
+invariant-loop-place l = AllZip (IsAsked l.rules l.names) l.list.items (filter (is_on_event l.event) (take l.place l.rules))

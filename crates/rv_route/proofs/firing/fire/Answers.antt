@@ -1,11 +1,12 @@
-use Rattle.std.proofs.Common.{◌≡◌, ◌+◌, ◌<◌, List, length, drop, map, Result, sym, ap, ◌∙◌, subst, arith, rules}
+use Rattle.std.proofs.Common.{◌≡◌, ◌+◌, ◌<◌, List, length, drop, Option, Result, sym, ap, ◌∙◌, subst, arith, rules}
 use Rattle.std.specs.Prelude.{filter}
 use Rattle.std.specs.List.{AllZip}
 use Rattle.std.specs.Vec.{vec_len}
 use Rattle.std.proofs.lemmas.Option.{slice_get_within, get_or_from_slice_get}
 use Rattle.std.proofs.lemmas.Result.{err_from_is_err_and}
 use Rattle.rv_text.specs.declared.refusals.Refusal.{Refusal}
-use Rattle.rv_trace.specs.Fields.{field_of}
+use Rattle.rv_trace.specs.declared.line.Span.{Span}
+use Rattle.rv_trace.specs.FoundFields.{AreFound}
 use Rattle.rv_route.specs.declared.event.Asked.{Asked}
 use Rattle.rv_route.specs.Asking.{text_at}
 use Rattle.rv_route.specs.inner.Asking.{ask_on}
@@ -24,8 +25,8 @@ index-rule-requires c =
     let event = c.args.event.now in
     let name = text_at c.args.text.now c.args.line.now.name in
     let those = filter (is_on_event name) all in
-    let are = subst (λ (list : List Asked). AllZip (IsAsked all event.fields.items) list those) (sym c.deref-asked-items.ensures.value) c.requires.event in
-    let at = asked_at all event.fields.items c.deref-asked-items.result.now those c.loop-asked.asked-index c.asked-item.result are (omega arith) c.asked-item.is in
+    let are = subst (λ (list : List Asked). AllZip (IsAsked all event.fields) list those) (sym c.deref-asked-items.ensures.value) c.requires.event in
+    let at = asked_at all event.fields c.deref-asked-items.result.now those c.loop-asked.asked-index c.asked-item.result are (omega arith) c.asked-item.is in
     let inside : c.asked-item.result.rule < length all = slice_get_within all c.asked-item.result.rule at.rule at.asks.there in
     let many : vec_len c.args.bindings.now.rules ≡ length all = search rules in
     omega arith
@@ -36,12 +37,12 @@ ask_for-ask-requires-clause-found c =
     let event = c.args.event.now in
     let name = text_at c.args.text.now c.args.line.now.name in
     let those = filter (is_on_event name) all in
-    let are = subst (λ (list : List Asked). AllZip (IsAsked all event.fields.items) list those) (sym c.deref-asked-items.ensures.value) c.requires.event in
-    let at = asked_at all event.fields.items c.deref-asked-items.result.now those c.loop-asked.asked-index c.asked-item.result are (omega arith) c.asked-item.is in
+    let are = subst (λ (list : List Asked). AllZip (IsAsked all event.fields) list those) (sym c.deref-asked-items.ensures.value) c.requires.event in
+    let at = asked_at all event.fields c.deref-asked-items.result.now those c.loop-asked.asked-index c.asked-item.result are (omega arith) c.asked-item.is in
     let rule : c.index-rule.result.now ≡ at.rule = c.index-rule.ensures ∙ get_or_from_slice_get all c.asked-item.result.rule at.rule _ at.asks.there in
     let fields = text_at c.args.text.now c.args.line.now.fields in
-    let found = c.deref-in-loop-asked.ensures.value ∙ c.in_ok-look_up.ensures.found ∙ ap (map (field_of fields)) c.as_slice.ensures.value in
-    subst (HasFound fields c.deref-in-loop-asked.result.now c.asked-item.result) (sym rule) (has_found fields event.fields.items c.deref-in-loop-asked.result.now c.asked-item.result at.rule found at.asks.fields)
+    subst (HasFound fields c.spans-found.result.now c.asked-item.result) (sym rule) (has_found fields event.fields c.spans-found.result.now
+    (subst (λ (f : List (Option Span)). AreFound fields event.fields f) (sym c.spans-found.ensures) c.in_ok-look_up.ensures.found) c.asked-item.result at.rule at.asks.fields)
 
 pub loop-asked-preserved : goal.loop-asked-preserved
 loop-asked-preserved c =
@@ -49,8 +50,8 @@ loop-asked-preserved c =
     let event = c.args.event.now in
     let name = text_at c.args.text.now c.args.line.now.name in
     let those = filter (is_on_event name) all in
-    let are = subst (λ (list : List Asked). AllZip (IsAsked all event.fields.items) list those) (sym c.deref-asked-items.ensures.value) c.requires.event in
-    let at = asked_at all event.fields.items c.deref-asked-items.result.now those c.loop-asked.asked-index c.asked-item.result are (omega arith) c.asked-item.is in
+    let are = subst (λ (list : List Asked). AllZip (IsAsked all event.fields) list those) (sym c.deref-asked-items.ensures.value) c.requires.event in
+    let at = asked_at all event.fields c.deref-asked-items.result.now those c.loop-asked.asked-index c.asked-item.result are (omega arith) c.asked-item.is in
     let rule : c.index-rule.result.now ≡ at.rule = c.index-rule.ensures ∙ get_or_from_slice_get all c.asked-item.result.rule at.rule _ at.asks.there in
     let text = c.args.text.now in
     let line = c.args.line.now in
@@ -58,7 +59,7 @@ loop-asked-preserved c =
     let i = c.loop-asked.asked-index in
     let next : Routes → Result Routes Refusal = line_routes text line monitors (drop (i + 1) those) in
     let ask = c.ask_for-ask.ensures ∙ ap (λ ms. ask_on (text_at text line.fields) line ms c.index-rule.result.now) c.deref.ensures.value in
-    let now = fired text line monitors all event.fields.items name i c.asked-item.result c.index-rule.result.now c.ask_for-ask.result c.loop-asked.deliveries (itself name) at rule ask in
+    let now = fired text line monitors all event.fields name i c.asked-item.result c.index-rule.result.now c.ask_for-ask.result c.loop-asked.deliveries (itself name) at rule ask in
     c.loop-asked.invariant ∙ now ∙ ap (λ read. and_then read next) c.in_ok-answer.ensures
 
 pub returns-in_err-answer : goal.returns-in_err-answer
@@ -67,8 +68,8 @@ returns-in_err-answer c =
     let event = c.args.event.now in
     let name = text_at c.args.text.now c.args.line.now.name in
     let those = filter (is_on_event name) all in
-    let are = subst (λ (list : List Asked). AllZip (IsAsked all event.fields.items) list those) (sym c.deref-asked-items.ensures.value) c.requires.event in
-    let at = asked_at all event.fields.items c.deref-asked-items.result.now those c.loop-asked.asked-index c.asked-item.result are (omega arith) c.asked-item.is in
+    let are = subst (λ (list : List Asked). AllZip (IsAsked all event.fields) list those) (sym c.deref-asked-items.ensures.value) c.requires.event in
+    let at = asked_at all event.fields c.deref-asked-items.result.now those c.loop-asked.asked-index c.asked-item.result are (omega arith) c.asked-item.is in
     let rule : c.index-rule.result.now ≡ at.rule = c.index-rule.ensures ∙ get_or_from_slice_get all c.asked-item.result.rule at.rule _ at.asks.there in
     let text = c.args.text.now in
     let line = c.args.line.now in
@@ -76,7 +77,7 @@ returns-in_err-answer c =
     let i = c.loop-asked.asked-index in
     let next : Routes → Result Routes Refusal = line_routes text line monitors (drop (i + 1) those) in
     let ask = c.ask_for-ask.ensures ∙ ap (λ ms. ask_on (text_at text line.fields) line ms c.index-rule.result.now) c.deref.ensures.value in
-    let now = fired text line monitors all event.fields.items name i c.asked-item.result c.index-rule.result.now c.ask_for-ask.result c.loop-asked.deliveries (itself name) at rule ask in
+    let now = fired text line monitors all event.fields name i c.asked-item.result c.index-rule.result.now c.ask_for-ask.result c.loop-asked.deliveries (itself name) at rule ask in
     let given = err_from_is_err_and c.from_residual-in_err-answer.result c.from_residual-in_err-answer.ensures.1 in
     let rest = c.loop-asked.invariant ∙ now in
     rw (given.1, given.2, rest) (refuses-then c.in_err-answer.field-0.0 _ next c.in_err-answer.ensures)
@@ -87,5 +88,5 @@ returns c =
     let event = c.args.event.now in
     let name = text_at c.args.text.now c.args.line.now.name in
     let those = filter (is_on_event name) all in
-    let many : length c.deref-asked-items.result.now ≡ length those = ap length c.deref-asked-items.ensures.value ∙ asked-many all event.fields.items event.rules.items those c.requires.event in
+    let many : length c.deref-asked-items.result.now ≡ length those = ap length c.deref-asked-items.ensures.value ∙ asked-many all event.fields event.rules.items those c.requires.event in
     c.loop-asked.invariant ∙ rules-end c.args.text.now c.args.line.now c.args.bindings.now.monitors.items those c.loop-asked.asked-index c.loop-asked.deliveries (omega arith)
