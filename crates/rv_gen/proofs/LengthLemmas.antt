@@ -86,7 +86,7 @@ line-short i =
     joined (codes "t-" ++ decimal (first_pid (i % 8)) ++ codes " [" ++ cpu_text (i % 8) ++ codes "] 100." ++ six_digits i ++ codes ": " ++ slice_index_or (block_events (i % 8)) (i / 8 % 8) []) (codes "\n") 132 1 line (omega arith)
 
 -- so many lines have at most 133 bytes each
-lines-short : (k : ℕ) → length (flat_map generated_line (list_of (λ i. i) k)) ≤ 133 * k
+pub lines-short : (k : ℕ) → length (flat_map generated_line (list_of (λ i. i) k)) ≤ 133 * k
 unfolding list_of
 lines-short zero = omega arith
 lines-short (suc k) =

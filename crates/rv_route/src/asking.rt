@@ -20,7 +20,7 @@ use std::alloc::AllocError;
 
 /// What a rule asks for.
 #[derive(Clone, Copy, Debug, Drop, PartialEq, Eq)]
-pub(crate) enum Ask {
+pub enum Ask {
     /// The rule does not fire.
     Quiet,
     /// A delivery to this instance.

@@ -15,6 +15,7 @@ mod routed;
 mod router;
 mod tracing;
 
+pub use asking::Ask;
 pub use deliveries::MAX_DELIVERIES;
 pub use laws::{lines_are_routed_alike, lines_make_the_whole, works_are_from_rules};
 pub use limits::limits_are_numerals;

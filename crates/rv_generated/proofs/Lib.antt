@@ -1,0 +1,10 @@
+pub mod ReadingLemmas
+pub mod SaidLemmas
+pub mod FieldLemmas
+pub mod TextLemmas
+pub mod GrowLemmas
+pub mod TaskLemmas
+pub mod AskLemmas
+pub mod OwnLemmas
+pub mod WholeLemmas
+pub mod AcceptedLemmas

@@ -1,0 +1,2 @@
+pub mod GeneratedBound
+pub mod Accepted
