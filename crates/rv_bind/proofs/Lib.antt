@@ -2,8 +2,10 @@ pub mod BoundLemmas
 pub mod ChangeLemmas
 pub mod ChangedLemmas
 pub mod FormLemmas
+pub mod KnownLemmas
 pub mod NumberLemmas
 pub mod OutcomeLemmas
+pub mod PossibleLemmas
 pub mod ReachedLemmas
 pub mod ReadsLemmas
 pub mod TableLemmas

@@ -67,7 +67,7 @@ text-local name = of_name-local name (λ files. accepted) (λ text files file. i
 spec-local : (kind : SpecKind) (name : List ℕ) → IsLocal (λ files. compiled_in files kind name)
 spec-local kind name = of_name-local name (λ files text. of_file name (compiled_of kind text)) (λ text files file. inr refl)
 
-monitor-local : (here : List ℕ) (line : ℕ) (bound : BoundValue) (name : List ℕ) (scope : Scope) (kind : SpecKind) (file : List ℕ) (holder : Option (List ℕ)) → IsLocal (λ files. monitor_bound files here line bound name scope kind file holder)
+monitor-local : (here : List ℕ) (line : ℕ) (bound : BoundValue) (name : List ℕ) (scope : Scope) (kind : SpecKind) (file : List ℕ) (holder : Option (List ℕ)) → IsLocal (λ files. monitor_bound (compiled_in files) here line bound name scope kind file holder)
 monitor-local here line bound name scope kind file holder =
     reading-local (λ files. of_line here line (place_for bound name holder)) (λ files place. reading (compiled_in files kind file) (λ compiled. accepted (with_monitor bound name place scope file compiled))) (λ files f. inr refl)
     (λ place. reading-local (λ files. compiled_in files kind file) (λ files compiled. accepted (with_monitor bound name place scope file compiled)) (spec-local kind file) (λ compiled files f. inr refl))
@@ -151,7 +151,7 @@ module _ (told : Option Files) where
 
   -- a monitor's specification is reached where there is room for the monitor
   pub monitor_named : (X Z : Type 0) (here : List ℕ) (line : ℕ) (bound : BoundValue) (name : List ℕ) (scope : Scope) (kind : SpecKind) (file : List ℕ) (holder : Option (List ℕ)) (place : Option ℕ) (fault : BindFault)
-      → place_for bound name holder ≡ Ok place → BlamesReached {X = X} told (Err fault) (λ files. compiled_in files kind file) → BlamesReached {X = Z} told (Err fault) (λ files. monitor_bound files here line bound name scope kind file holder)
+      → place_for bound name holder ≡ Ok place → BlamesReached {X = X} told (Err fault) (λ files. compiled_in files kind file) → BlamesReached {X = Z} told (Err fault) (λ files. monitor_bound (compiled_in files) here line bound name scope kind file holder)
   monitor_named X Z here line bound name scope kind file holder place fault is named =
       rw is (step_named X Z told fault (λ files. compiled_in files kind file) (λ files compiled. accepted (with_monitor bound name place scope file compiled)) (λ files. reading (compiled_in files kind file) (λ compiled. accepted (with_monitor bound name place scope file compiled))) (λ files. refl) named)
 

@@ -3,7 +3,7 @@ use Rattle.std.specs.Prelude.{ℕ, Bool, true, ◌||◌, List, [], ◌∷◌, �
 use Rattle.rv_text.specs.declared.numbers.TheConstants.{BIND_SYNTAX, NAME_TWICE, TOO_MANY_MONITORS}
 use Rattle.rv_text.specs.TextLines.{LineText, lines_of}
 use Rattle.rv_text.specs.Words.{words_of}
-use Rattle.rv_io.specs.Files.{Files}
+use Rattle.rv_io.specs.Files.{Files, front_read}
 use Rattle.rv_model.specs.declared.formula.Spec.{Spec}
 use Rattle.rv_model.specs.declared.work.Scope.{Scope}
 use Rattle.rv_model.specs.declared.reactor.Reactor.TheVariants as reactors
@@ -17,7 +17,7 @@ use Rattle.rv_bind.specs.Values.{BoundValue}
 use Rattle.rv_bind.specs.Forms.{FormValue, skipped, container, monitor, on, react, off, begin, form_of}
 use Rattle.rv_bind.specs.LineWords.{or_syntax, after}
 use Rattle.rv_bind.specs.Compiling.{compiled_of}
-use Rattle.rv_bind.specs.Outcomes.{Outcome, accepted, reading, of_file, of_line, of_name}
+use Rattle.rv_bind.specs.Outcomes.{Outcome, accepted, reading, of_file, of_line, of_name, of_text}
 use Rattle.rv_bind.specs.MonitorLines.{begin_bound, change_bound, disabled, reacting, rule_bound}
 
 -- ---- one line
@@ -64,14 +64,22 @@ with_monitor bound name holder scope file compiled = record bound {
   tables = bound.tables ++ compiled.table ∷ [];
 }
 
+-- what specifications come to, by their kind and the name of their file
+abbrev pub SpecsIn : Type 0
+SpecsIn = SpecKind → List ℕ → Outcome Compiled
+
+-- what a specification's text is compiled to, or its refusal, or its missing file where there is no text
+abbrev pub compiled_by : Option (List ℕ) → SpecsIn
+compiled_by text kind file = of_text file text (λ text. of_file file (compiled_of kind text))
+
 -- what the specification's file is compiled to, or its refusal, or that it is missing
-abbrev pub compiled_in : Files → SpecKind → List ℕ → Outcome Compiled
-compiled_in files kind file = of_name files file (λ text. of_file file (compiled_of kind text))
+abbrev pub compiled_in : Files → SpecsIn
+compiled_in files kind file = compiled_by (option_map front_read (files file)) kind file
 
 -- what a monitor's line makes of the bindings: its file is read only where there is room for the monitor
-abbrev pub monitor_bound : Files → List ℕ → ℕ → BoundValue → List ℕ → Scope → SpecKind → List ℕ → Option (List ℕ) → Outcome BoundValue
-monitor_bound files here line bound name scope kind file holder =
-    reading (of_line here line (place_for bound name holder)) (λ place. reading (compiled_in files kind file) (λ compiled. accepted (with_monitor bound name place scope file compiled)))
+abbrev pub monitor_bound : SpecsIn → List ℕ → ℕ → BoundValue → List ℕ → Scope → SpecKind → List ℕ → Option (List ℕ) → Outcome BoundValue
+monitor_bound specs here line bound name scope kind file holder =
+    reading (of_line here line (place_for bound name holder)) (λ place. reading (specs kind file) (λ compiled. accepted (with_monitor bound name place scope file compiled)))
 
 -- the bindings with one more container; a 33rd is of no form, also where its name is taken
 abbrev pub container_bound : BoundValue → List ℕ → Result BoundValue ℕ
@@ -80,21 +88,29 @@ container_bound bound name =
     then (if is_taken bound name then Err NAME_TWICE else Ok (record bound { containers = bound.containers ++ name ∷ []; items = bound.items ++ items.Container (length bound.containers) ∷ [] }))
     else Err BIND_SYNTAX
 
--- what a line of this form makes of the bindings, by the files that it may name
+-- what a line of this form makes of the bindings, by the specification that it may name
+abbrev pub form_by : SpecsIn → List ℕ → ℕ → BoundValue → FormValue → Outcome BoundValue
+form_by specs here line bound skipped = accepted bound
+form_by specs here line bound (container name) = of_line here line (container_bound bound name)
+form_by specs here line bound (monitor name scope kind file holder) = monitor_bound specs here line bound name scope kind file holder
+form_by specs here line bound (on name event by tests mode words) = of_line here line (rule_bound bound (monitor_named bound name) event by tests mode words)
+form_by specs here line bound (react name reactor) = of_line here line (change_bound bound (monitor_named bound name) (reacting reactor))
+form_by specs here line bound (off name) = of_line here line (change_bound bound (monitor_named bound name) disabled)
+form_by specs here line bound (begin name atom) = of_line here line (begin_bound bound (monitor_named bound name) atom)
+
+-- the same, by the files that it may name
 abbrev pub form_bound : Files → List ℕ → ℕ → BoundValue → FormValue → Outcome BoundValue
-form_bound files here line bound skipped = accepted bound
-form_bound files here line bound (container name) = of_line here line (container_bound bound name)
-form_bound files here line bound (monitor name scope kind file holder) = monitor_bound files here line bound name scope kind file holder
-form_bound files here line bound (on name event by tests mode words) = of_line here line (rule_bound bound (monitor_named bound name) event by tests mode words)
-form_bound files here line bound (react name reactor) = of_line here line (change_bound bound (monitor_named bound name) (reacting reactor))
-form_bound files here line bound (off name) = of_line here line (change_bound bound (monitor_named bound name) disabled)
-form_bound files here line bound (begin name atom) = of_line here line (begin_bound bound (monitor_named bound name) atom)
+form_bound files = form_by (compiled_in files)
 
 -- the form of a line; one that ends past the limit is of no form, whatever it says
 abbrev pub form_in : LineText → Result FormValue ℕ
 form_in line = if nat_lt TEXT_LIMIT line.end then Err BIND_SYNTAX else form_of (words_of line.bytes)
 
 -- what a line makes of the bindings, or its refusal, or a missing file
+abbrev pub line_by : SpecsIn → List ℕ → BoundValue → LineText → Outcome BoundValue
+line_by specs here bound line = reading (of_line here line.number (form_in line)) (form_by specs here line.number bound)
+
+-- the same, by the files
 abbrev pub line_bound : Files → List ℕ → BoundValue → LineText → Outcome BoundValue
 line_bound files here bound line = reading (of_line here line.number (form_in line)) (form_bound files here line.number bound)
 

@@ -7,6 +7,7 @@ pub mod Forms
 pub mod LineWords
 pub mod MonitorLines
 pub mod Outcomes
+pub mod Possible
 pub mod RuleValues
 pub mod Values
 pub mod WellFormed

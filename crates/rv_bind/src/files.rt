@@ -1,11 +1,11 @@
 //! Reading the files that bindings name, with the file in each fault.
-ghost use Rattle.std.specs.Prelude.{◌≡◌, ◌≤◌, ◌⊎◌, ℕ, Option, Result, IfOk, length};
+ghost use Rattle.std.specs.Prelude.{◌≡◌, ◌≤◌, IfOk, IfErr, length};
 ghost use Rattle.rv_bind.specs.FilePieces.{FailsAs, IsFilePiece};
 ghost use Rattle.rv_bind.specs.inner.LineReads.{InLine};
 ghost use Rattle.rv_bind.specs.Outcomes.{ReadsOutcome, IsFaultIn, accepted, of_name};
-ghost use Rattle.rv_bind.specs.Bound.{compiled_in};
+ghost use Rattle.rv_bind.specs.Bound.{compiled_in, compiled_by};
+ghost use Rattle.rv_bind.specs.Possible.{IsUnread, MayCome, MayFind};
 ghost use Rattle.rv_bind.specs.Compiling.{Compiles};
-ghost use Rattle.rv_bind.specs.declared.fault.BindFault.TheVariants as faults;
 
 use crate::compile::{Compiled, compile};
 use crate::fault::{BindFault, LineFault};
@@ -17,7 +17,8 @@ use std::alloc::Global;
 /// The bytes of a file, up to the most that a store reads. It is unread where it is missing or a read failed.
 #[tactic(auto, using(crate::proofs::ReachedLemmas::unread_named))]
 pub fn read_file<S: Store>(alloc: Global, store: &mut S, name: &str) -> Result<Vec<u8>, BindFault>
-    ensures { ReadsOutcome (λ text. text.items) (S.files store.old) (S.files store.new) (S.faults store.old) (S.faults store.new) result (λ files. of_name files name.now accepted) }
+    ensures reads { ReadsOutcome (λ text. text.items) (S.files store.old) (S.files store.new) (S.faults store.old) (S.faults store.new) result (λ files. of_name files name.now accepted) }
+    ensures unread { IfErr result (IsUnread name.now) }
 {
     match store.read(alloc, name) {
         Ok(text) => Ok(text),
@@ -39,6 +40,7 @@ pub fn fetch<S: Store>(
     ensures room { IfOk result (λ count. count ≤ length buffer.old) }
     ensures len { length buffer.new ≡ length buffer.old }
     ensures piece { IfOk result (λ count. IsFilePiece (S.files store.old) file.now place buffer.old buffer.new count) }
+    ensures unread { IfErr result (IsUnread file.now) }
     ensures fails { FailsAs (S.files store.old) (S.files store.new) (S.faults store.old) (S.faults store.new) result (λ files. of_name files file.now accepted) }
 {
     match store.piece(alloc, file, place, buffer) {
@@ -49,7 +51,7 @@ pub fn fetch<S: Store>(
 }
 
 fn unread(alloc: Global, name: &str) -> BindFault
-    ensures { (result ≡ faults.Unread name.now) ⊎ (result ≡ faults.Memory) }
+    ensures { IsUnread name.now result }
 {
     match Name::new(alloc, name.as_bytes()) {
         Ok(file) => BindFault::Unread { file },
@@ -91,7 +93,7 @@ pub(crate) fn in_line(
 }
 
 /// The specification in a file, with its table. A refusal or an unread file is named by the specification's file.
-#[tactic(auto, using(crate::proofs::ReachedLemmas::spec_named, crate::proofs::ReachedLemmas::file_named))]
+#[tactic(auto, using(crate::proofs::ReachedLemmas::spec_named, crate::proofs::ReachedLemmas::file_named, crate::proofs::PossibleLemmas::spec_unread, crate::proofs::PossibleLemmas::spec_may, crate::proofs::PossibleLemmas::spec_refused))]
 pub(crate) fn read_spec<S: Store>(
     alloc: Global,
     store: &mut S,
@@ -99,6 +101,7 @@ pub(crate) fn read_spec<S: Store>(
     file: &str,
 ) -> Result<Compiled, BindFault>
     ensures reads { ReadsOutcome (λ compiled. compiled) (S.files store.old) (S.files store.new) (S.faults store.old) (S.faults store.new) result (λ files. compiled_in files kind file.now) }
+    ensures some { MayCome (λ compiled. compiled) result (MayFind (λ text. compiled_by text kind file.now)) }
     ensures compiles { IfOk result (λ compiled. Compiles compiled.spec compiled.table) }
 {
     let text = read_file(alloc, store, file)?;

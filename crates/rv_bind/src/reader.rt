@@ -3,7 +3,8 @@ ghost use Rattle.std.specs.Prelude.{IfOk, OnOk};
 ghost use Rattle.rv_text.specs.TextLines.{line_text};
 ghost use Rattle.rv_bind.specs.inner.LineReads.{ReadsValue};
 ghost use Rattle.rv_bind.specs.Outcomes.{ReadsOutcome};
-ghost use Rattle.rv_bind.specs.Bound.{bound_of, line_bound, form_in, form_bound};
+ghost use Rattle.rv_bind.specs.Bound.{bound_of, compiled_in, compiled_by, line_bound, form_in, form_by, form_bound};
+ghost use Rattle.rv_bind.specs.Possible.{MayBound, MayCome, MayFind, MayLine};
 ghost use Rattle.rv_bind.specs.BoundViews.{bound_value};
 ghost use Rattle.rv_bind.specs.inner.FormViews.{form_value, monitor_said};
 ghost use Rattle.rv_bind.specs.WellFormed.{IsWellFormed};
@@ -20,10 +21,11 @@ use std::alloc::{AllocError, Global};
 
 /// Reads the bindings of a file, line by line, and each specification when its line is reached. The first refusal or
 /// unread file decides, and the fault names its file. The refusal of a specification has no line (0).
-#[tactic(auto, using(crate::proofs::ReachedLemmas::bindings_named, crate::proofs::ReachedLemmas::lines_begin, crate::proofs::ReachedLemmas::rest_named))]
+#[tactic(auto, using(crate::proofs::ReachedLemmas::bindings_named, crate::proofs::ReachedLemmas::lines_begin, crate::proofs::ReachedLemmas::rest_named, crate::proofs::PossibleLemmas::lines_may))]
 pub fn read_bindings<S: Store>(alloc: Global, store: &mut S, name: &str) -> Result<Bound, BindFault>
     ensures formed { IfOk result (λ bound. IsWellFormed (bound_value bound)) }
     ensures reads { ReadsOutcome bound_value (S.files store.old) (S.files store.new) (S.faults store.old) (S.faults store.new) result (λ files. bound_of files name.now) }
+    ensures some { MayCome bound_value result (MayBound name.now) }
 {
     let text = read_file(alloc, store, name)?;
     let mut bound = Bound::new(alloc);
@@ -45,7 +47,7 @@ fn form_in<'a>(alloc: Global, line: &TextLine<'a>) -> Result<Form<'a>, LineFault
 }
 
 /// Adds what a line says to the bindings, or gives its fault with the file `here`.
-#[tactic(auto, using(crate::proofs::OutcomeLemmas::line_goes_on, crate::proofs::ReachedLemmas::line_named, crate::proofs::ReachedLemmas::goes_on_named))]
+#[tactic(auto, using(crate::proofs::OutcomeLemmas::line_goes_on, crate::proofs::PossibleLemmas::fault_may, crate::proofs::PossibleLemmas::goes_on_may, crate::proofs::ReachedLemmas::line_named, crate::proofs::ReachedLemmas::goes_on_named))]
 fn bind_line<S: Store>(
     alloc: Global,
     store: &mut S,
@@ -56,6 +58,7 @@ fn bind_line<S: Store>(
     requires { IsWellFormed (bound_value bound.old) }
     ensures formed { OnOk result (IsWellFormed (bound_value bound.new)) }
     ensures reads { ReadsOutcome (λ done. bound_value bound.new) (S.files store.old) (S.files store.new) (S.faults store.old) (S.faults store.new) result (λ files. line_bound files here.now (bound_value bound.old) (line_text line.now)) }
+    ensures some { MayCome (λ done. bound_value bound.new) result (MayLine here.now (bound_value bound.old) (line_text line.now)) }
 {
     match form_in(alloc, line) {
         Ok(form) => bind_form(alloc, store, here, line.number, bound, form),
@@ -64,7 +67,7 @@ fn bind_line<S: Store>(
 }
 
 /// Adds what a form says to the bindings, or gives its fault with the file `here` and the line.
-#[tactic(auto, using(crate::proofs::NumberLemmas::container_numbered, crate::proofs::NumberLemmas::rule_numbered, crate::proofs::NumberLemmas::change_numbered, crate::proofs::NumberLemmas::begin_numbered, crate::proofs::OutcomeLemmas::line_comes, crate::proofs::OutcomeLemmas::line_done, crate::proofs::ReachedLemmas::line_named))]
+#[tactic(auto, using(crate::proofs::NumberLemmas::container_numbered, crate::proofs::NumberLemmas::rule_numbered, crate::proofs::NumberLemmas::change_numbered, crate::proofs::NumberLemmas::begin_numbered, crate::proofs::OutcomeLemmas::line_comes, crate::proofs::OutcomeLemmas::line_done, crate::proofs::PossibleLemmas::line_may, crate::proofs::PossibleLemmas::nothing_may, crate::proofs::ReachedLemmas::line_named))]
 fn bind_form<S: Store>(
     alloc: Global,
     store: &mut S,
@@ -76,6 +79,7 @@ fn bind_form<S: Store>(
     requires { IsWellFormed (bound_value bound.old) }
     ensures formed { OnOk result (IsWellFormed (bound_value bound.new)) }
     ensures reads { ReadsOutcome (λ done. bound_value bound.new) (S.files store.old) (S.files store.new) (S.faults store.old) (S.faults store.new) result (λ files. form_bound files here.now line (bound_value bound.old) (form_value form.entry)) }
+    ensures some { MayCome (λ done. bound_value bound.new) result (MayFind (λ text. form_by (compiled_by text) here.now line (bound_value bound.old) (form_value form.entry))) }
 {
     match form {
         Form::Skipped => Ok(()),
@@ -94,7 +98,7 @@ fn bind_form<S: Store>(
 }
 
 /// Adds a monitor to the bindings. Its specification is read only where there is room for it.
-#[tactic(auto, using(crate::proofs::NumberLemmas::place_numbered, crate::proofs::OutcomeLemmas::line_fault, crate::proofs::ReachedLemmas::line_named, crate::proofs::ReachedLemmas::monitor_named))]
+#[tactic(auto, using(crate::proofs::NumberLemmas::place_numbered, crate::proofs::OutcomeLemmas::line_fault, crate::proofs::PossibleLemmas::fault_may, crate::proofs::PossibleLemmas::monitor_may, crate::proofs::PossibleLemmas::monitor_fails, crate::proofs::ReachedLemmas::line_named, crate::proofs::ReachedLemmas::monitor_named))]
 fn bind_monitor<S: Store>(
     alloc: Global,
     store: &mut S,
@@ -105,7 +109,8 @@ fn bind_monitor<S: Store>(
 ) -> Result<(), BindFault>
     requires { IsWellFormed (bound_value bound.old) }
     ensures formed { OnOk result (IsWellFormed (bound_value bound.new)) }
-    ensures reads { ReadsOutcome (λ done. bound_value bound.new) (S.files store.old) (S.files store.new) (S.faults store.old) (S.faults store.new) result (λ files. monitor_said files here.now line (bound_value bound.old) form.entry) }
+    ensures reads { ReadsOutcome (λ done. bound_value bound.new) (S.files store.old) (S.files store.new) (S.faults store.old) (S.faults store.new) result (λ files. monitor_said (compiled_in files) here.now line (bound_value bound.old) form.entry) }
+    ensures some { MayCome (λ done. bound_value bound.new) result (MayFind (λ text. monitor_said (compiled_by text) here.now line (bound_value bound.old) form.entry)) }
 {
     let container = match bound.place_for(form.name, form.holder) {
         Ok(container) => container,

@@ -2,11 +2,10 @@
 use Rattle.std.specs.Prelude.{ℕ, List, Result}
 use Rattle.std.specs.Option.{option_copied}
 use Rattle.rv_ltl.specs.inner.Texts.{texts}
-use Rattle.rv_io.specs.Files.{Files}
 use Rattle.rv_bind.specs.declared.forms.Form.{Form}
 use Rattle.rv_bind.specs.declared.forms.MonitorForm.{MonitorForm}
 use Rattle.rv_bind.specs.declared.forms.OnForm.{OnForm}
-use Rattle.rv_bind.specs.Bound.{monitor_bound, monitor_named}
+use Rattle.rv_bind.specs.Bound.{SpecsIn, monitor_bound, monitor_named}
 use Rattle.rv_bind.specs.MonitorLines.{rule_bound}
 use Rattle.rv_bind.specs.Outcomes.{Outcome}
 use Rattle.rv_bind.specs.Values.{BoundValue}
@@ -24,8 +23,8 @@ form_value (forms.Off name) = off name.now
 form_value (forms.Begin name atom) = begin name.now atom.now
 
 -- what a monitor's line makes of the bindings, or its refusal, or the missing file
-abbrev pub monitor_said : Files → List ℕ → ℕ → BoundValue → MonitorForm → Outcome BoundValue
-monitor_said files here line bound m = monitor_bound files here line bound m.name.now m.scope m.kind m.file.now (option_copied m.holder)
+abbrev pub monitor_said : SpecsIn → List ℕ → ℕ → BoundValue → MonitorForm → Outcome BoundValue
+monitor_said specs here line bound m = monitor_bound specs here line bound m.name.now m.scope m.kind m.file.now (option_copied m.holder)
 
 -- what a rule's line makes of the bindings, or the number of its refusal
 abbrev pub rule_said : BoundValue → OnForm → Result BoundValue ℕ

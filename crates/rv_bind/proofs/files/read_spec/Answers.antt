@@ -1,9 +1,10 @@
-use Rattle.std.proofs.Common.{List, ℕ, subst}
+use Rattle.std.proofs.Common.{◌≡◌, List, ℕ, Ok, subst}
 use Rattle.rv_text.specs.Readings.{Refuses}
 use Rattle.rv_bind.specs.Bound.{compiled_in}
 use Rattle.rv_bind.specs.Compiling.{compiled_of}
 use Rattle.rv_bind.specs.declared.compile.Compiled.{Compiled}
 use Rattle.rv_bind.proofs.NumberLemmas.{spec_comes}
+use Rattle.rv_bind.proofs.PossibleLemmas.{spec_may}
 use Rattle.rv_bind.proofs.ReachedLemmas.{file_named}
 use Rattle.rv_bind.proofs.files.read_spec.Goals as goal
 
@@ -13,8 +14,13 @@ returns-clause-reads g c =
     let fault = c.in-Err.fault in
     let refuses = subst (λ (text : List ℕ). Refuses fault (compiled_of c.args.kind text)) c.as_slice.ensures.value c.in-Err.ensures.gives in
     record {
-      kept = c.in_ok-text.ensures.kept;
-      later = c.in_ok-text.ensures.later;
-      value = spec_comes told _ _ c.args.kind c.args.file.now c.in_ok-text.text.items fault _ c.refused.ensures refuses c.in_ok-text.ensures.value;
+      kept = c.in_ok-text.ensures.reads.kept;
+      later = c.in_ok-text.ensures.reads.later;
+      value = spec_comes told _ _ c.args.kind c.args.file.now c.in_ok-text.text.items fault _ c.refused.ensures refuses c.in_ok-text.ensures.reads.value;
       named = file_named told Compiled c.args.file.now fault c.refused.result (λ files. compiled_in files c.args.kind c.args.file.now) c.refused.ensures;
     }
+
+pub returns-in-Ok-clause-some : goal.returns-in-Ok-clause-some
+returns-in-Ok-clause-some g c =
+    let gives = subst (λ (text : List ℕ). compiled_of c.args.kind text ≡ Ok c.in-Ok.compiled) c.as_slice.ensures.value c.in-Ok.ensures.gives in
+    spec_may c.args.kind c.args.file.now c.in_ok-text.text.items c.in-Ok.compiled gives

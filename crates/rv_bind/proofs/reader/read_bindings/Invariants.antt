@@ -4,6 +4,7 @@ use Rattle.rv_io.specs.Files.{Files}
 use Rattle.rv_bind.specs.Bound.{bound_of, lines_bound}
 use Rattle.rv_bind.specs.BoundViews.{bound_value}
 use Rattle.rv_bind.specs.WellFormed.{IsWellFormed}
+use Rattle.rv_bind.proofs.PossibleLemmas.{MayRest}
 use Rattle.rv_bind.proofs.ReachedLemmas.{Leads}
 use Rattle.rv_bind.proofs.reader.read_bindings.Given as goal
 
@@ -13,6 +14,7 @@ invariant-loop-line g l =
     × (g.S.Store.faults l.initial.store ≤ g.S.Store.faults l.store)
     × IsWellFormed (bound_value l.bound)
     × ((files : Files) → g.S.Store.files l.initial.store ≡ Some files → bound_of files l.name ≡ lines_bound files l.name (bound_value l.bound) l.lines)
+    × MayRest l.name (bound_value l.bound) l.lines
     × Leads (g.S.Store.files l.initial.store) l.name (bound_value l.bound) l.lines
 
 abbrev pub decreases-loop-line : goal.decreases-loop-line
