@@ -1,3 +1,4 @@
+pub mod Clearing
 pub mod Composing
 pub mod Feeding
 pub mod Lane

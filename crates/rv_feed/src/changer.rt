@@ -1,8 +1,9 @@
 //! The control actor's changes on a board, in the order of their list.
-ghost use Rattle.std.specs.Prelude.{◌<◌, ◌^◌, All};
+ghost use Rattle.std.specs.Prelude.{◌<◌, ◌^◌, All, length, slice_index};
 ghost use Rattle.rv_model.specs.declared.entry.Act.TheVariants.{Lower, Raise};
 ghost use Rattle.rv_model.specs.Scripts.{bits_act, clears, change_acts, control_acts};
 ghost use Rattle.rv_feed.specs.Changes.{DoesAll, CanChange, IsBelowHalt};
+ghost use Rattle.rv_feed.specs.inner.Clearing.{of_instances};
 ghost use Rattle.rv_feed.specs.Feeders.{FitsChanger, RunsChanger};
 
 use rv_board::{Board, Seat};
@@ -42,16 +43,28 @@ fn raise(board: &Board, seat: &mut Seat, bits: u64)
     }
 }
 
-/// Clears the slots of the monitors in the set, slot by slot.
+/// Clears the slots of a monitor, instance by instance.
+fn clear_monitor(board: &Board, seat: &mut Seat, monitor: u8)
+    requires seat { CanChange board.now seat.old }
+    requires monitor { monitor < length board.now.setup.shape }
+    ensures { DoesAll seat.old seat.new (of_instances board.now.setup.shape monitor (slice_index board.now.setup.shape monitor)) }
+{
+    seat.number();
+    for instance in 0..board.shape().instances(monitor) {
+        let slot = board.shape().slot(monitor, instance);
+        board.clear(seat, slot);
+    }
+}
+
+/// Clears the slots of the monitors in the set, and looks at no slot of another.
 fn clear(board: &Board, seat: &mut Seat, set: u32)
     requires { CanChange board.now seat.old }
     ensures { DoesAll seat.old seat.new (clears board.now.setup.shape set) }
 {
     seat.number();
-    for slot in 0..board.shape().slots() {
-        let monitor = board.shape().place(slot).monitor;
+    for monitor in 0..board.shape().monitors() {
         if has_bit(set as u64, monitor as usize) {
-            board.clear(seat, slot);
+            clear_monitor(board, seat, monitor);
         }
     }
 }
