@@ -30,6 +30,7 @@ use Rattle.rv_tool.specs.Verdicts.{Verdicts}
 use Rattle.rv_tool.specs.Watched.{watched_input}
 use Rattle.rv_tool.specs.WatchReports.{IsWatchReport}
 use Rattle.rv_tool.specs.Words.{CommandValue, replay, feed, feed_beside, journal, check, watch, table, header, control, load}
+use Rattle.rv_tool.proofs.LoadedLemmas.{IsWithin, load_ends, load_reports}
 
 -- ---- texts
 
@@ -128,63 +129,60 @@ module _ (c : Call) (told : Option Files) (result : Result FinishedRun BindFault
     text_untold = untold_ends c Is IsPrinted Prints (λ y text said goes written. text_ends c.end y 0 text said goes written) outcome told result comes put
 
   -- a command that was done and put is answered
-  pub command_answered : (command : CommandValue) → CommandComes command told c.faults_before c.faults_after result → IsAnswered (Some command) told c
-  command_answered (replay bindings trace) comes =
+  pub command_answered : (command : CommandValue) → IsWithin command → CommandComes command told c.faults_before c.faults_after result → IsAnswered (Some command) told c
+  command_answered (replay bindings trace) within comes =
       let outcome : Files → Outcome InputValue = λ files. run_input files bindings trace in record {
         answers = report_told (IsSomeInput trace) IsOneReport outcome comes (IsReported IsOneHistory) (λ y h text said goes. goes.0);
         verdicts = report_told (IsSomeInput trace) IsOneReport outcome comes IsOneReport (λ y h text said goes. goes);
         opaque = report_untold (IsSomeInput trace) IsOneReport outcome comes;
       }
-  command_answered (feed bindings trace) comes =
+  command_answered (feed bindings trace) within comes =
       let outcome : Files → Outcome InputValue = λ files. run_input files bindings trace in record {
         answers = report_told (IsSomeInput trace) IsVerdictReport outcome comes (IsReported IsLegal) (λ y h text said goes. goes.0);
         verdicts = report_told (IsSomeInput trace) IsVerdictReport outcome comes IsVerdictReport (λ y h text said goes. goes);
         opaque = report_untold (IsSomeInput trace) IsVerdictReport outcome comes;
       }
-  command_answered (feed_beside bindings trace script) comes = record {
+  command_answered (feed_beside bindings trace script) within comes = record {
     answers = report_told (IsSomeBeside trace script) (IsReported IsLegal) (λ files. input_beside files bindings trace script) comes (IsReported IsLegal) (λ y h text said goes. goes);
     verdicts = λ files known. tt;
     opaque = report_untold (IsSomeBeside trace script) (IsReported IsLegal) (λ files. input_beside files bindings trace script) comes;
   }
-  command_answered (watch bindings trace monitor instance) comes = record {
+  command_answered (watch bindings trace monitor instance) within comes = record {
     answers = report_told (IsSomeWatch trace monitor instance) IsWatchReport (λ files. watched_input files bindings trace monitor instance) comes IsWatchReport (λ y h text said goes. goes);
     verdicts = λ files known. tt;
     opaque = report_untold (IsSomeWatch trace monitor instance) IsWatchReport (λ files. watched_input files bindings trace monitor instance) comes;
   }
-  command_answered (journal bindings trace) comes = record {
+  command_answered (journal bindings trace) within comes = record {
     answers = report_told (IsSomeRecordable trace) IsJournalReport (λ files. recordable_input files bindings trace) comes IsJournalReport (λ y h text said goes. goes);
     verdicts = λ files known. tt;
     opaque = report_untold (IsSomeRecordable trace) IsJournalReport (λ files. recordable_input files bindings trace) comes;
   }
-  command_answered (check bindings trace judged) comes = record {
+  command_answered (check bindings trace judged) within comes = record {
     answers = report_told (λ checked. IsSomeInput trace checked.input) IsCheckReport (λ files. checked_input files bindings trace judged) comes IsCheckReport (λ y h text said goes. goes);
     verdicts = λ files known. tt;
     opaque = report_untold (λ checked. IsSomeInput trace checked.input) IsCheckReport (λ files. checked_input files bindings trace judged) comes;
   }
-  command_answered (table kind file) comes = record {
+  command_answered (table kind file) within comes = record {
     answers = text_told (IsOfSomeText (table_text kind)) (λ files. table_in files kind file) comes;
     verdicts = λ files known. tt;
     opaque = text_untold (IsOfSomeText (table_text kind)) (λ files. table_in files kind file) comes;
   }
-  command_answered (header name file) comes = record {
+  command_answered (header name file) within comes = record {
     answers = text_told (IsOfSomeText (header_of_text name)) (λ files. header_in files name file) comes;
     verdicts = λ files known. tt;
     opaque = text_untold (IsOfSomeText (header_of_text name)) (λ files. header_in files name file) comes;
   }
-  command_answered (control bindings script) comes =
+  command_answered (control bindings script) within comes =
       let outcome : Files → Outcome Printed = λ files. control_in files bindings script in record {
         answers = told_ends c (IsSession script) IsSessionText PrintsSession (λ y text said goes written. text_ends c.end y.text y.status text said goes written) outcome told (λ y up. inr up) result comes put;
         verdicts = λ files known. tt;
         opaque = untold_ends c (IsSession script) IsSessionText PrintsSession (λ y text said goes written. text_ends c.end y.text y.status text said goes written) outcome told result comes put;
       }
-  command_answered (load blocks) comes = record { answers = λ files known. loaded (IsReported IsLegal) (λ y h text said goes. goes.0); verdicts = λ files known. whole; opaque = λ none. whole }
+  command_answered (load blocks) few comes = record { answers = λ files known. load_reports blocks few c.end whole; verdicts = λ files known. load_ends blocks few c.end whole; opaque = λ none. load_ends blocks few c.end whole }
     where
-      loaded : (Weaker : InputValue → List Entry → List ℕ → ℕ → Type 0) → ((y : InputValue) (h : List Entry) (text : List ℕ) (said : ℕ) → IsVerdictReport y h text said → Weaker y h text said) → Ends (λ y. PrintsSome (Weaker y)) (run_input (generated_files blocks) (codes "gen.rv") (codes "gen.txt")) c.end
-      loaded Weaker weaker = no_blame (λ y. PrintsSome (Weaker y)) (λ files. run_input files (codes "gen.rv") (codes "gen.txt")) (generated_files blocks) (record c { faults_before = 0; faults_after = 0 }) refl refl
-          (told_ends (record c { faults_before = 0; faults_after = 0 }) (IsSomeInput (codes "gen.txt")) IsVerdictReport (λ y. PrintsSome (Weaker y)) (λ y text said goes written. inl (text, said, weaker y c.end.history text said goes, written)) (λ files. run_input files (codes "gen.rv") (codes "gen.txt")) (Some (generated_files blocks)) (λ y up. inr up) result comes put (generated_files blocks) refl)
-
       whole : Ends (λ y. PrintsSome (IsVerdictReport y)) (run_input (generated_files blocks) (codes "gen.rv") (codes "gen.txt")) c.end
-      whole = loaded IsVerdictReport (λ y h text said goes. goes)
+      whole = no_blame (λ y. PrintsSome (IsVerdictReport y)) (λ files. run_input files (codes "gen.rv") (codes "gen.txt")) (generated_files blocks) (record c { faults_before = 0; faults_after = 0 }) refl refl
+          (told_ends (record c { faults_before = 0; faults_after = 0 }) (IsSomeInput (codes "gen.txt")) IsVerdictReport (λ y. PrintsSome (IsVerdictReport y)) (λ y text said goes written. inl (text, said, goes, written)) (λ files. run_input files (codes "gen.rv") (codes "gen.txt")) (Some (generated_files blocks)) (λ y up. inr up) result comes put (generated_files blocks) refl)
 
 -- the words ask for the command that was done
 pub words_answered : (asked said : Option CommandValue) (told : Option Files) (c : Call) → said ≡ asked → IsAnswered said told c → IsAnswered asked told c

@@ -11,6 +11,7 @@ pub mod FitLemmas
 pub mod FrontLemmas
 pub mod JudgedLemmas
 pub mod LoadLemmas
+pub mod LoadedLemmas
 pub mod NumberLemmas
 pub mod OneLemmas
 pub mod PiecesLemmas

@@ -27,10 +27,11 @@ use Rattle.rv_bind.specs.LineWords.{after, when}
 use Rattle.rv_bind.specs.Outcomes.{Outcome, accepted, reading, of_file, of_line}
 use Rattle.rv_bind.specs.Values.{BoundValue, OnValue}
 use Rattle.rv_tool.specs.Loaded.{named_files}
-use Rattle.rv_tool.specs.GeneratedBound.{wip_monitor, wwnr_monitor, disable_rule, enable_rule, waking_rule, sleep_rule, out_rule, in_rule, wakeup_rule, generated_bound, LoadIsBound}
+use Rattle.rv_generated.specs.GeneratedBound.{wip_monitor, wwnr_monitor, disable_rule, enable_rule, waking_rule, sleep_rule, out_rule, in_rule, wakeup_rule, generated_bound}
+use Rattle.rv_tool.specs.GeneratedBound.{LoadIsBound}
 
 -- one read gives the whole of a short text
-front-short : (text : List ℕ) → length text ≤ READ_LIMIT → front_read text ≡ text
+pub front-short : (text : List ℕ) → length text ≤ READ_LIMIT → front_read text ≡ text
 unfolding front_read
 front-short text short = take_all READ_LIMIT text short
 

@@ -7,6 +7,7 @@ pub mod Headline
 pub mod Inputs
 pub mod Journals
 pub mod Loaded
+pub mod Loads
 pub mod CountsFit
 pub mod Output
 pub mod Runs

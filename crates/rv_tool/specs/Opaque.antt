@@ -8,16 +8,16 @@ use Rattle.rv_model.specs.Histories.{IsLegal}
 use Rattle.rv_tool.specs.Calls.{Call}
 use Rattle.rv_tool.specs.Checks.{Checks}
 use Rattle.rv_tool.specs.HeaderFiles.{header_of_text}
-use Rattle.rv_tool.specs.Headline.{Ending, PrintsText, Reports, Ends}
+use Rattle.rv_tool.specs.Headline.{Ending, PrintsText, Reports}
 use Rattle.rv_tool.specs.Journals.{Journals}
-use Rattle.rv_tool.specs.Loaded.{load_input}
+use Rattle.rv_tool.specs.Loads.{EndsAsLoad}
 use Rattle.rv_tool.specs.Output.{refusal_text, missing_text}
 use Rattle.rv_tool.specs.Runs.{Prints, PrintsSession}
 use Rattle.rv_tool.specs.Sessions.{IsSession}
 use Rattle.rv_tool.specs.SomeInputs.{IsSomeInput, IsSomeBeside, IsSomeWatch, IsSomeRecordable}
 use Rattle.rv_tool.specs.SomeTexts.{IsOfSomeText}
 use Rattle.rv_tool.specs.Tables.{table_text}
-use Rattle.rv_tool.specs.Verdicts.{ReportsOne, ReportsVerdicts}
+use Rattle.rv_tool.specs.Verdicts.{ReportsOne, ReportsVerdicts, ReportsLoad}
 use Rattle.rv_tool.specs.WatchReports.{Watches}
 use Rattle.rv_tool.specs.Words.{CommandValue, replay, feed, feed_beside, journal, check, watch, table, header, control, load}
 
@@ -41,7 +41,7 @@ AnswersOpaque (Some (feed_beside bindings trace script)) c = EndsOnSomeInput (En
 AnswersOpaque (Some (watch bindings trace monitor instance)) c = EndsOnSomeInput (EndsAsOneOf (IsSomeWatch trace monitor instance) Watches) c
 AnswersOpaque (Some (journal bindings trace)) c = EndsOnSomeInput (EndsAsOneOf (IsSomeRecordable trace) Journals) c
 AnswersOpaque (Some (check bindings trace judged)) c = EndsOnSomeInput (EndsAsOneOf (λ checked. IsSomeInput trace checked.input) Checks) c
-AnswersOpaque (Some (load blocks)) c = Ends ReportsVerdicts (load_input blocks) c.end
+AnswersOpaque (Some (load blocks)) c = EndsAsLoad ReportsLoad blocks c.end
 AnswersOpaque (Some (table kind file)) c = EndsOnSomeInput (EndsAsOneOf (IsOfSomeText (table_text kind)) Prints) c
 AnswersOpaque (Some (header name file)) c = EndsOnSomeInput (EndsAsOneOf (IsOfSomeText (header_of_text name)) Prints) c
 AnswersOpaque (Some (control bindings script)) c = EndsOnSomeInput (EndsAsOneOf (IsSession script) PrintsSession) c

@@ -11,7 +11,7 @@ use Rattle.rv_tool.specs.HeaderFiles.{header_in}
 use Rattle.rv_tool.specs.Headline.{Ending, PrintsText, Reports, Ends}
 use Rattle.rv_tool.specs.Inputs.{run_input}
 use Rattle.rv_tool.specs.Journals.{Journals, recordable_input}
-use Rattle.rv_tool.specs.Loaded.{load_input}
+use Rattle.rv_tool.specs.Loads.{EndsAsLoad}
 use Rattle.rv_tool.specs.Output.{refusal_text, missing_text}
 use Rattle.rv_tool.specs.Sessions.{Printed, control_in}
 use Rattle.rv_tool.specs.Tables.{table_in}
@@ -44,7 +44,7 @@ Answers (Some (feed_beside bindings trace script)) files c = AnswersBy (Reports 
 Answers (Some (watch bindings trace monitor instance)) files c = AnswersBy Watches (λ files. watched_input files bindings trace monitor instance) files c
 Answers (Some (journal bindings trace)) files c = AnswersBy Journals (λ files. recordable_input files bindings trace) files c
 Answers (Some (check bindings trace judged)) files c = AnswersBy Checks (λ files. checked_input files bindings trace judged) files c
-Answers (Some (load blocks)) files c = Ends (Reports IsLegal) (load_input blocks) c.end
+Answers (Some (load blocks)) files c = EndsAsLoad (Reports IsLegal) blocks c.end
 Answers (Some (table kind file)) files c = AnswersBy Prints (λ files. table_in files kind file) files c
 Answers (Some (header name file)) files c = AnswersBy Prints (λ files. header_in files name file) files c
 Answers (Some (control bindings script)) files c = AnswersBy PrintsSession (λ files. control_in files bindings script) files c

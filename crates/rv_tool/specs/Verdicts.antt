@@ -1,5 +1,5 @@
 -- What is told of a history: on one thread that the input determines it, and of a run on several what one thread tells of slots that only one CPU has deliveries for.
-use Rattle.std.specs.Prelude.{◌≡◌, ◌≢◌, ◌<◌, ℕ, false, List, Option, Some, All}
+use Rattle.std.specs.Prelude.{◌≡◌, ◌≢◌, ◌<◌, ◌⊎◌, ℕ, false, List, Option, Some, All}
 use Rattle.rv_io.specs.Files.{Files}
 use Rattle.rv_model.specs.declared.entry.Act.TheVariants.{Stop}
 use Rattle.rv_model.specs.declared.entry.Entry.{Entry}
@@ -14,9 +14,9 @@ use Rattle.rv_slots.specs.declared.shape.TheConstants.{CPUS}
 use Rattle.rv_laws.specs.SingleWriter.{HasOneWriter, IsByCpu}
 use Rattle.rv_laws.specs.Verdicts.{AgreeOnSingleWriter, records_on}
 use Rattle.rv_tool.specs.Calls.{Call}
-use Rattle.rv_tool.specs.Headline.{Ending, IsReported, PrintsSome, Ends}
+use Rattle.rv_tool.specs.Headline.{Ending, IsReported, PrintsSome}
 use Rattle.rv_tool.specs.Inputs.{InputValue, run_input, run_of, HasCpus}
-use Rattle.rv_tool.specs.Loaded.{load_input}
+use Rattle.rv_tool.specs.Loads.{EndsAsLoad}
 use Rattle.rv_tool.specs.Runs.{AnswersBy}
 use Rattle.rv_tool.specs.Words.{CommandValue, replay, feed, load}
 
@@ -55,7 +55,7 @@ pub record HasOneVerdict (i : InputValue) (h : List Entry) (text : List ℕ) (st
 abbrev pub ReportsOne : InputValue → Ending
 ReportsOne i = PrintsSome (λ h text status. IsReported IsOneHistory i h text status × HasOneVerdict i h text status)
 
--- ---- all of them
+-- ---- several threads
 
 -- the input has a history of one thread, with its text and its status; a slot that one CPU alone delivers to is never stopped, and without panic its records are those of one thread; where all slots are such the status is not 6, and without panic the text and the status are those of one thread
 pub record HasVerdicts (i : InputValue) (h : List Entry) (text : List ℕ) (status : ℕ) : Type 0 where
@@ -70,9 +70,23 @@ pub record HasVerdicts (i : InputValue) (h : List Entry) (text : List ℕ) (stat
 abbrev pub ReportsVerdicts : InputValue → Ending
 ReportsVerdicts i = PrintsSome (λ h text status. IsReported IsLegal i h text status × HasVerdicts i h text status)
 
+-- ---- the generated input
+
+-- nothing is stopped, the status is 0 or 1, and the text and the status are those of one thread
+pub record HasLoadVerdict (i : InputValue) (h : List Entry) (text : List ℕ) (status : ℕ) : Type 0 where
+  pub no_stop : AtEach (λ before e. IsNoStop e.act) h
+  pub said : (status ≡ 0) ⊎ (status ≡ 1)
+  pub alike : (k : List Entry) (other : List ℕ) (said : ℕ) → IsReported IsOneHistory i k other said → (text ≡ other) × (status ≡ said)
+
+-- a run of the generated input is reported, and has this verdict beside those of any run
+abbrev pub ReportsLoad : InputValue → Ending
+ReportsLoad i = PrintsSome (λ h text status. IsReported IsLegal i h text status × HasVerdicts i h text status × HasLoadVerdict i h text status)
+
+-- ---- all of them
+
 -- what `replay`, `feed` and `load` answer besides; of other commands nothing is said here
 abbrev pub Verdicts : Option CommandValue → Files → Call → Type 0
 Verdicts (Some (replay bindings trace)) files c = AnswersBy ReportsOne (λ files. run_input files bindings trace) files c
 Verdicts (Some (feed bindings trace)) files c = AnswersBy ReportsVerdicts (λ files. run_input files bindings trace) files c
-Verdicts (Some (load blocks)) files c = Ends ReportsVerdicts (load_input blocks) c.end
+Verdicts (Some (load blocks)) files c = EndsAsLoad ReportsLoad blocks c.end
 Verdicts _ files c = Unit {0}

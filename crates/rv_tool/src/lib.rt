@@ -21,5 +21,5 @@ mod watch;
 mod widths;
 mod words;
 
-pub use laws::load_is_bound;
+pub use laws::{load_is_accepted, load_is_bound};
 pub use top::{Finished, rv};
