@@ -1,6 +1,6 @@
 -- The generated trace is accepted, and no two CPUs have deliveries for one slot of it.
-use Rattle.std.proofs.Common.{◌≡◌, ℕ, zero, suc, ◌+◌, ◌*◌, ◌<◌, ◌≤◌, ◌==◌, inl, inr, Bool, true, false, cond, eqb, List, [], ◌∷◌, ◌++◌, length, get_or, Option, Some, Result, Ok, refl, sym, ◌∙◌, ap, subst, arith}
-use Rattle.std.specs.Prelude.{All, Contains, slice_get}
+use Rattle.std.proofs.Common.{◌≡◌, ℕ, suc, ◌+◌, ◌*◌, ◌<◌, ◌≤◌, ◌==◌, inl, inr, Bool, true, false, cond, List, [], ◌∷◌, ◌++◌, length, get_or, Option, Some, refl, sym, ◌∙◌, ap, subst, arith}
+use Rattle.std.specs.Prelude.{All, slice_get}
 use Rattle.std.proofs.lemmas.Bool.{eqb-true}
 use Rattle.std.proofs.lemmas.List.Elements.{All-nil, All-cons, All-contains}
 use Rattle.std.proofs.lemmas.List.Folds.{Any-from_list_any}
@@ -9,15 +9,15 @@ use Rattle.rv_model.specs.declared.work.Delivery.{Delivery}
 use Rattle.rv_model.specs.Setups.{slot_of}
 use Rattle.rv_model.specs.Works.{Work}
 use Rattle.rv_trace.proofs.AscendLemmas.{trace_ascends}
-use Rattle.rv_gen.specs.Generated.{first_pid, second_pid, trace_text}
+use Rattle.rv_gen.specs.Generated.{trace_text}
 use Rattle.rv_laws.specs.SingleWriter.{is_named, HasOneWriter}
 use Rattle.rv_laws.proofs.CpuLemmas.{slot-later}
 use Rattle.rv_route.specs.Lanes.{LaneValue}
-use Rattle.rv_route.specs.LineByLine.{no_lane, work_in, works_from, works_of, routed_of}
+use Rattle.rv_route.specs.LineByLine.{no_lane, works_from, works_of, routed_of}
 use Rattle.rv_route.proofs.FiredLemmas.{line_by_line}
-use Rattle.rv_generated.specs.Accepted.{generated_shape, IsAccepted, TraceIsAccepted}
+use Rattle.rv_generated.specs.Accepted.{generated_shape, TraceIsAccepted}
 use Rattle.rv_generated.specs.GeneratedBound.{generated_bound}
-use Rattle.rv_generated.proofs.OwnLemmas.{IsOwn, KeepsOwn}
+use Rattle.rv_generated.proofs.OwnLemmas.{IsOwn}
 use Rattle.rv_generated.proofs.WholeLemmas.{IsReached, lines-reached}
 
 module _ (tasks : List Task) where

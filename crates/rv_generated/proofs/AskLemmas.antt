@@ -1,8 +1,7 @@
 -- What the generated rules ask for on a line of the generated trace.
-use Rattle.std.proofs.Common.{◌≡◌, ℕ, zero, suc, ◌+◌, ◌-◌, ◌*◌, ◌<◌, ◌≤◌, ◌⊎◌, inl, inr, Bool, true, false, cond, List, [], ◌∷◌, ◌++◌, length, Option, Some, None, refl, sym, ◌∙◌, ap, subst, arith}
+use Rattle.std.proofs.Common.{◌≡◌, ℕ, zero, suc, ◌+◌, ◌-◌, ◌*◌, ◌<◌, ◌≤◌, ◌⊎◌, inl, inr, Bool, true, false, cond, List, [], ◌∷◌, Option, Some, refl, sym, ◌∙◌, ap, subst, arith}
 use Rattle.std.specs.Prelude.{codes, slice_get, if◌then◌else◌, option_map}
-use Rattle.std.specs.Int.Digits.{number_from_digits, number_from_digits_after}
-use Rattle.std.proofs.lemmas.Bool.{and_from, lt-ltb, le-ltb}
+use Rattle.std.proofs.lemmas.Bool.{and_from, le-ltb}
 use Rattle.rv_text.specs.Places.{is_digit, between}
 use Rattle.rv_text.specs.Decimal.{decimal_of, number_of}
 use Rattle.rv_text.proofs.DecimalLemmas.{decimal-some}
@@ -17,7 +16,7 @@ use Rattle.rv_route.specs.declared.asking.Ask.TheVariants as asks
 use Rattle.rv_route.specs.Asking.{fires, pid_from, pid_at, asked_of, text_at, field_value}
 use Rattle.rv_generated.specs.GeneratedBound.{generated_bound, sleep_rule, out_rule, in_rule}
 use Rattle.rv_generated.proofs.FieldLemmas.{woken_fields, switch_fields, woken-pid, prev-pid, next-pid}
-use Rattle.rv_generated.proofs.TextLemmas.{IsDigit, HasDigits, event_name, event_more}
+use Rattle.rv_generated.proofs.TextLemmas.{HasDigits, event_name, event_more}
 
 -- what a rule asks for on a line, by the line's event and its fields
 abbrev pub ask_by : List ℕ → List ℕ → TraceLine → List Monitor → OnValue → Ask
@@ -84,10 +83,26 @@ module _ (cpu : ℕ) (few : cpu < 8) (has : HasDigits cpu) where
         let fields : List ℕ = switch_fields 116 has.ten has.one 83 117 has.other in
         let prev : IsOwnAsk cpu 1 (pid_at (field_value fields (codes "prev_pid"))) = first-own _ (value-is fields (codes "prev_pid") _ 22 25 (prev-pid 116 has.ten has.one 83 117 has.other refl has.ten_is.digit has.one_is.digit) refl) in
         let next : IsOwnAsk cpu 1 (pid_at (field_value fields (codes "next_pid"))) = second-own _ (value-is fields (codes "next_pid") _ 78 81 (next-pid 116 has.ten has.one 83 117 has.other refl refl refl has.ten_is.digit has.one_is.digit has.other_is.digit has.ten_is.no_blank has.one_is.no_blank) refl) in
-        inl (refl, inl (refl, inl (refl,
-        inr (2, refl, own-if (fires (codes "sched_switch") fields sleep_rule) cpu 1 _ prev,
-        inr (1, refl, own-if (fires (codes "sched_switch") fields out_rule) cpu 1 _ prev,
-        inr (0, refl, own-if (fires (codes "sched_switch") fields in_rule) cpu 1 _ next, inl (refl, tt)))))))
+        inl (
+          refl,
+          inl (
+            refl,
+            inl (
+              refl,
+              inr (
+                2,
+                refl,
+                own-if (fires (codes "sched_switch") fields sleep_rule) cpu 1 _ prev,
+                inr (
+                  1,
+                  refl,
+                  own-if (fires (codes "sched_switch") fields out_rule) cpu 1 _ prev,
+                  inr (0, refl, own-if (fires (codes "sched_switch") fields in_rule) cpu 1 _ next, inl (refl, tt)),
+                ),
+              ),
+            ),
+          ),
+        )
     asks-own (suc (suc (suc (suc (suc (suc zero)))))) =
         let fields : List ℕ = woken_fields has.ten has.one has.last in
         let pid : IsOwnAsk cpu 1 (pid_at (field_value fields (codes "pid"))) = first-own _ (value-is fields (codes "pid") _ 12 15 (woken-pid has.ten has.one has.last has.ten_is.digit has.one_is.digit) refl) in
@@ -96,7 +111,23 @@ module _ (cpu : ℕ) (few : cpu < 8) (has : HasDigits cpu) where
         let fields : List ℕ = switch_fields 117 has.ten has.other 82 116 has.one in
         let prev : IsOwnAsk cpu 1 (pid_at (field_value fields (codes "prev_pid"))) = second-own _ (value-is fields (codes "prev_pid") _ 22 25 (prev-pid 117 has.ten has.other 82 116 has.one refl has.ten_is.digit has.other_is.digit) refl) in
         let next : IsOwnAsk cpu 1 (pid_at (field_value fields (codes "next_pid"))) = first-own _ (value-is fields (codes "next_pid") _ 78 81 (next-pid 117 has.ten has.other 82 116 has.one refl refl refl has.ten_is.digit has.other_is.digit has.one_is.digit has.ten_is.no_blank has.other_is.no_blank) refl) in
-        inl (refl, inl (refl, inl (refl,
-        inr (2, refl, own-if (fires (codes "sched_switch") fields sleep_rule) cpu 1 _ prev,
-        inr (1, refl, own-if (fires (codes "sched_switch") fields out_rule) cpu 1 _ prev,
-        inr (0, refl, own-if (fires (codes "sched_switch") fields in_rule) cpu 1 _ next, inl (refl, tt)))))))
+        inl (
+          refl,
+          inl (
+            refl,
+            inl (
+              refl,
+              inr (
+                2,
+                refl,
+                own-if (fires (codes "sched_switch") fields sleep_rule) cpu 1 _ prev,
+                inr (
+                  1,
+                  refl,
+                  own-if (fires (codes "sched_switch") fields out_rule) cpu 1 _ prev,
+                  inr (0, refl, own-if (fires (codes "sched_switch") fields in_rule) cpu 1 _ next, inl (refl, tt)),
+                ),
+              ),
+            ),
+          ),
+        )

@@ -1,9 +1,8 @@
 -- The pids among the fields of a generated line, whatever their digits are.
-use Rattle.std.proofs.Common.{◌≡◌, ℕ, zero, suc, ◌+◌, ◌-◌, ◌<◌, Bool, true, false, cond, List, [], ◌∷◌, ◌++◌, length, Some, refl, sym, ◌∙◌, ap, arith}
+use Rattle.std.proofs.Common.{◌≡◌, ℕ, true, false, List, [], ◌∷◌, ◌++◌, Some, refl, arith}
 use Rattle.std.specs.Prelude.{codes}
-use Rattle.rv_text.specs.Places.{is_digit, is_blank, has_class, least, run_end, between}
+use Rattle.rv_text.specs.Places.{is_digit, is_blank, least, run_end, between}
 use Rattle.rv_text.specs.declared.runs.ByteClass.TheVariants as kinds
-use Rattle.rv_trace.specs.declared.line.Span.{Span}
 use Rattle.rv_trace.specs.Fields.{field_place, field_of}
 use Rattle.rv_generated.proofs.ReadingLemmas.{run-on, run-off, digit-word}
 

@@ -1,11 +1,10 @@
 -- The generated trace, line by line: each line that comes is read behind those before it.
 use Rattle.std.proofs.Common.{◌≡◌, ◌≢◌, ℕ, zero, suc, ◌+◌, ◌-◌, ◌*◌, ◌/◌, ◌%◌, ◌<◌, ◌≤◌, Bool, true, false, cond, ◌||◌, ◌&&◌, eqb, List, [], ◌∷◌, ◌++◌, length, get_or, flat_map, Option, Some, None, Result, Ok, Err, refl, sym, ◌∙◌, ap, ap₂, subst, arith, append_assoc, length-append}
-use Rattle.std.specs.Prelude.{option_to_list}
 use Rattle.std.proofs.lemmas.Bool.{false≢true, and_parts, or_parts, le-ltb, eq-eqb}
 use Rattle.std.proofs.lemmas.List.{flat_map_more}
 use Rattle.rv_text.specs.Places.{has_class}
 use Rattle.rv_text.specs.Readings.{and_then, onto, refused_at}
-use Rattle.rv_text.specs.TextLines.{LineText, lines_of, next_number}
+use Rattle.rv_text.specs.TextLines.{lines_of, next_number}
 use Rattle.rv_text.specs.declared.numbers.TheConstants.{TOO_LONG}
 use Rattle.rv_text.specs.declared.runs.ByteClass.TheVariants as kinds
 use Rattle.rv_model.specs.Numbers.{list_of}
@@ -13,14 +12,14 @@ use Rattle.rv_trace.specs.declared.line.TraceLine.{TraceLine}
 use Rattle.rv_trace.specs.declared.trace.TheConstants.{MAX_LINES, MAX_BYTES}
 use Rattle.rv_trace.specs.Lines.{line_of, moved, moved_line}
 use Rattle.rv_trace.specs.Streams.{has_line_end, StandsAt}
-use Rattle.rv_trace.specs.Traces.{reading_of, all_read, trace_of, is_too_long}
+use Rattle.rv_trace.specs.Traces.{reading_of, all_read, trace_of}
 use Rattle.rv_trace.proofs.MoveLemmas.{line_of-moved}
-use Rattle.rv_trace.proofs.StreamLemmas.{NoEnd, line_before, lines-only, begins-end, stands-next, stands-first}
+use Rattle.rv_trace.proofs.StreamLemmas.{NoEnd, line_before, lines-only, begins-end, stands-next}
 use Rattle.rv_trace.proofs.TakenLemmas.{all_read-append}
 use Rattle.rv_trace.proofs.TraceLemmas.{all_read-ok}
-use Rattle.rv_gen.specs.Generated.{generated_line, trace_text}
+use Rattle.rv_gen.specs.Generated.{generated_line}
 use Rattle.rv_generated.proofs.SaidLemmas.{Says, IsName, says}
-use Rattle.rv_generated.proofs.TextLemmas.{IsDigit, HasDigits, weight-is, event_name, event_more, line_bytes, line-clean, line-is}
+use Rattle.rv_generated.proofs.TextLemmas.{HasDigits, weight-is, event_name, event_more, line_bytes}
 
 -- where no line end is found, none stands
 pub no-end : (bytes : List ℕ) → has_line_end bytes ≡ false → NoEnd bytes

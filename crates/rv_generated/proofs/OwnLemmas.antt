@@ -1,10 +1,9 @@
 -- What is routed of the generated trace: few tasks and deliveries, and each CPU has those of its own instances alone.
-use Rattle.std.proofs.Common.{◌≡◌, ◌≢◌, ℕ, zero, suc, ◌+◌, ◌*◌, ◌<◌, ◌≤◌, ◌⊎◌, inl, inr, Bool, true, false, not, cond, ◌&&◌, eqb, List, [], ◌∷◌, ◌++◌, length, get_or, set, Some, Result, Ok, Err, refl, sym, ◌∙◌, ap, subst, arith}
+use Rattle.std.proofs.Common.{◌≡◌, ◌≢◌, ℕ, suc, ◌+◌, ◌<◌, ◌≤◌, ◌⊎◌, inl, inr, false, not, cond, eqb, List, [], ◌∷◌, ◌++◌, length, get_or, Some, Ok, refl, sym, ◌∙◌, ap, subst, arith}
 use Rattle.std.specs.Prelude.{All, slice_get}
 use Rattle.std.proofs.lemmas.Bool.{and_right, lt-ltb, ne_eqb, cases_order}
 use Rattle.std.proofs.lemmas.List.{get_or-set_same, get_or-set_other, length-set}
 use Rattle.std.proofs.lemmas.List.Elements.{All-push, All-weaker}
-use Rattle.rv_text.specs.declared.refusals.Refusal.{Refusal}
 use Rattle.rv_text.specs.declared.numbers.TheConstants.{TOO_MANY_TASKS, TOO_MANY_DELIVERIES}
 use Rattle.rv_text.specs.Readings.{and_then, refused_at}
 use Rattle.rv_model.specs.declared.record.Task.{Task}
@@ -63,15 +62,16 @@ module _ (line : TraceLine) (rule : OnValue) (most : ℕ) (room : most < MAX_DEL
   -- one more delivery comes
   delivers : (routes : Routes) (instance : ℕ) → KeepsOwn most routes → IsOwnInstance routes.tasks line.cpu rule.monitor instance → (after : Routes) × (deliver routes line rule instance ≡ Ok after) × KeepsOwn (suc most) after
   delivers routes instance keeps own =
-      let small : routes.count < MAX_DELIVERIES = (let c = keeps.count in omega arith) in
-      (delivered routes line rule instance,
-      ap (λ b. cond b (Ok (delivered routes line rule instance)) (refused_at TOO_MANY_DELIVERIES line.number)) (lt-ltb _ _ small),
-      record {
-        count = (let c = keeps.count in omega arith);
-        tasks = keeps.tasks;
-        many = length-set routes.lanes line.cpu _ ∙ keeps.many;
-        lanes = λ cpu. grown cpu (cases_order cpu line.cpu);
-      })
+      let small : routes.count < MAX_DELIVERIES = (let c = keeps.count in omega arith) in (
+        delivered routes line rule instance,
+        ap (λ b. cond b (Ok (delivered routes line rule instance)) (refused_at TOO_MANY_DELIVERIES line.number)) (lt-ltb _ _ small),
+        record {
+          count = (let c = keeps.count in omega arith);
+          tasks = keeps.tasks;
+          many = length-set routes.lanes line.cpu _ ∙ keeps.many;
+          lanes = λ cpu. grown cpu (cases_order cpu line.cpu);
+        },
+      )
     where
       new : Delivery
       new = record { order = routes.count; monitor = rule.monitor; instance = instance; hit = rule.hit }
@@ -99,10 +99,11 @@ module _ (line : TraceLine) (rule : OnValue) (most : ℕ) (room : most < MAX_DEL
       let low : IsLow (task_of pid line.cpu) = record { pid = (let high = own.2 in omega arith); cpu = ap (λ b. cond b line.cpu 0) idle } in
       let used = task-used most routes (task_of pid line.cpu) low keeps in
       let full : eqb (length routes.tasks) MAX_TASKS ≡ false = ne_eqb (length routes.tasks) MAX_TASKS (λ is. let many = low-few routes.tasks keeps.tasks in omega arith) in
-      let done = delivers (record routes { tasks = with_task routes.tasks (task_of pid line.cpu) }) (task_number routes.tasks (task_of pid line.cpu)) used (inr (own.0, (task_of pid line.cpu, task-there (task_of pid line.cpu) routes.tasks, own.1, own.2))) in
-      (done.0,
-      ap (λ b. cond b (refused_at TOO_MANY_TASKS line.number) (deliver (record routes { tasks = with_task routes.tasks (task_of pid line.cpu) }) line rule (task_number routes.tasks (task_of pid line.cpu)))) (and_right (not (is_held routes.tasks (task_of pid line.cpu))) _ full) ∙ done.1,
-      done.2)
+      let done = delivers (record routes { tasks = with_task routes.tasks (task_of pid line.cpu) }) (task_number routes.tasks (task_of pid line.cpu)) used (inr (own.0, (task_of pid line.cpu, task-there (task_of pid line.cpu) routes.tasks, own.1, own.2))) in (
+        done.0,
+        ap (λ b. cond b (refused_at TOO_MANY_TASKS line.number) (deliver (record routes { tasks = with_task routes.tasks (task_of pid line.cpu) }) line rule (task_number routes.tasks (task_of pid line.cpu)))) (and_right (not (is_held routes.tasks (task_of pid line.cpu))) _ full) ∙ done.1,
+        done.2,
+      )
 
 module _ (text : List ℕ) (line : TraceLine) (monitors : List Monitor) (few : line.cpu < 8) (ask : OnValue → Ask) (are : (rule : OnValue) → ask_of text line monitors rule ≡ ask rule) where
   -- so the rules do what they ask for
@@ -116,8 +117,9 @@ module _ (text : List ℕ) (line : TraceLine) (monitors : List Monitor) (few : l
             (rest.0, ap (λ a. and_then (answer routes line rule a) (line_routes text line monitors rules)) (are rule ∙ quiet.0) ∙ rest.1, rest.2))
         | inr asked ↦ (let count : more ≡ suc asked.0 = asked.1 in
             let first = answers line rule most (omega arith) few routes (ask rule) keeps asked.2 in
-            let rest = rules-own rules asked.0 (suc most) first.0 (omega arith) asked.3 first.2 in
-            (rest.0,
-            ap (λ a. and_then (answer routes line rule a) (line_routes text line monitors rules)) (are rule) ∙ ap (λ r. and_then r (line_routes text line monitors rules)) first.1 ∙ rest.1,
-            wider (suc most + asked.0) (most + more) rest.0 (omega arith) rest.2))
+            let rest = rules-own rules asked.0 (suc most) first.0 (omega arith) asked.3 first.2 in (
+              rest.0,
+              ap (λ a. and_then (answer routes line rule a) (line_routes text line monitors rules)) (are rule) ∙ ap (λ r. and_then r (line_routes text line monitors rules)) first.1 ∙ rest.1,
+              wider (suc most + asked.0) (most + more) rest.0 (omega arith) rest.2,
+            ))
       ]

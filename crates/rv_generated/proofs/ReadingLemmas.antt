@@ -1,6 +1,6 @@
 -- What the reader of traces makes of a line of the generated trace, whatever its digits are.
-use Rattle.std.proofs.Common.{◌≡◌, ◌≢◌, ℕ, zero, suc, ◌+◌, ◌-◌, ◌<◌, ◌≤◌, Bool, true, false, not, cond, List, [], ◌∷◌, ◌++◌, length, get_or, Option, Some, None, refl, sym, ◌∙◌, ap, subst, arith}
-use Rattle.rv_text.specs.Places.{is_digit, is_blank, has_class, least, run_end}
+use Rattle.std.proofs.Common.{◌≡◌, ℕ, zero, suc, ◌+◌, ◌-◌, ◌<◌, true, false, not, cond, List, ◌∷◌, length, get_or, Some, refl, ◌∙◌, ap, arith}
+use Rattle.rv_text.specs.Places.{is_digit, has_class, least, run_end}
 use Rattle.rv_text.specs.declared.runs.ByteClass.{ByteClass}
 use Rattle.rv_text.specs.declared.runs.ByteClass.TheVariants as kinds
 use Rattle.rv_text.proofs.LeastLemmas.{run_end-is}

@@ -1,17 +1,11 @@
 -- What a line of the generated trace says: its number, its CPU, its event and its fields.
-use Rattle.std.proofs.Common.{◌≡◌, ℕ, zero, suc, ◌+◌, ◌-◌, ◌*◌, ◌<◌, ◌≤◌, inl, inr, Bool, true, false, cond, eqb, ◌||◌, List, [], ◌∷◌, ◌++◌, length, get_or, take, drop, Option, Some, None, Result, Ok, refl, sym, ◌∙◌, ap, ap₂, arith, append_assoc}
-use Rattle.std.specs.Option.{ok_or}
+use Rattle.std.proofs.Common.{◌≡◌, ℕ, ◌+◌, ◌-◌, ◌*◌, ◌<◌, ◌≤◌, inl, inr, true, false, cond, eqb, ◌||◌, List, [], ◌∷◌, ◌++◌, length, get_or, take, drop, Some, None, Ok, refl, sym, ◌∙◌, ap, ap₂, arith, append_assoc}
 use Rattle.std.proofs.lemmas.Bool.{and_from, lt-ltb, le-leb, eq-eqb, ne_eqb, cases_lt}
 use Rattle.std.proofs.lemmas.List.{get_or_append_left, get_or-append-add, drop_at, take_at, take_all, length-append}
-use Rattle.std.specs.Int.Digits.{number_from_digits, number_from_digits_after}
 use Rattle.rv_text.specs.Places.{is_digit, has_class, run_end, between}
 use Rattle.rv_text.specs.Decimal.{number_of}
-use Rattle.rv_text.specs.Readings.{and_then}
-use Rattle.rv_text.specs.declared.refusals.Refusal.{Refusal}
 use Rattle.rv_text.specs.declared.runs.ByteClass.TheVariants as kinds
 use Rattle.rv_text.proofs.LeastLemmas.{run_end-is}
-use Rattle.rv_trace.specs.declared.head.Head.{Head}
-use Rattle.rv_trace.specs.declared.parts.LinePart.{LinePart}
 use Rattle.rv_trace.specs.declared.parts.Parts.{Parts}
 use Rattle.rv_trace.specs.declared.line.TraceLine.{TraceLine}
 use Rattle.rv_trace.specs.Lines.{LiesIn, event_part, word_at, parts_of, is_skipped, is_lost, number_up_to, head_pid, cpu_of, line_with, said, line_of}

@@ -1,9 +1,9 @@
 -- The bytes of a generated line: its digits, its event and the fields behind it.
-use Rattle.std.proofs.Common.{◌≡◌, ◌≢◌, ℕ, zero, suc, ◌+◌, ◌-◌, ◌*◌, ◌/◌, ◌%◌, ◌<◌, ◌≤◌, Bool, true, false, ◌||◌, eqb, List, [], ◌∷◌, ◌++◌, length, get_or, refl, sym, ◌∙◌, ap, ap₂, arith, append_assoc}
+use Rattle.std.proofs.Common.{◌≡◌, ℕ, zero, suc, ◌+◌, ◌-◌, ◌*◌, ◌/◌, ◌%◌, ◌<◌, true, false, eqb, List, [], ◌∷◌, ◌++◌, refl, arith}
 use Rattle.std.specs.Prelude.{codes, decimal, slice_index_or}
 use Rattle.std.specs.Fmt as formats
-use Rattle.std.proofs.lemmas.Bool.{false≢true, and_from, le-leb, ne_eqb}
-use Rattle.rv_text.specs.Places.{is_digit, is_blank}
+use Rattle.std.proofs.lemmas.Bool.{and_from, le-leb}
+use Rattle.rv_text.specs.Places.{is_digit}
 use Rattle.rv_trace.specs.Streams.{has_line_end}
 use Rattle.rv_gen.specs.Generated.{cpu_text, first_pid, second_pid, block_events, digit, generated_line}
 use Rattle.rv_generated.proofs.ReadingLemmas.{line_text}

@@ -1,5 +1,5 @@
 -- The whole generated trace is read and routed, line after line.
-use Rattle.std.proofs.Common.{◌≡◌, ℕ, zero, suc, ◌+◌, ◌-◌, ◌*◌, ◌/◌, ◌%◌, ◌<◌, ◌≤◌, List, [], ◌∷◌, ◌++◌, length, take, get_or, Result, Ok, refl, sym, ◌∙◌, ap, ap₂, subst, arith, length-append}
+use Rattle.std.proofs.Common.{◌≡◌, ℕ, zero, suc, ◌+◌, ◌-◌, ◌*◌, ◌/◌, ◌%◌, ◌<◌, ◌≤◌, List, [], ◌∷◌, ◌++◌, length, take, get_or, Ok, refl, sym, ◌∙◌, ap, ap₂, subst, arith}
 use Rattle.std.specs.Prelude.{All, replicate}
 use Rattle.std.proofs.lemmas.List.{drop_at, take_at}
 use Rattle.std.proofs.lemmas.List.Elements.{All-nil}
@@ -13,9 +13,8 @@ use Rattle.rv_trace.specs.Streams.{StandsAt}
 use Rattle.rv_trace.specs.Traces.{all_read, trace_of}
 use Rattle.rv_trace.proofs.StreamLemmas.{stands-first}
 use Rattle.rv_trace.proofs.TraceLemmas.{trace_of-lies}
-use Rattle.rv_gen.specs.Generated.{generated_line}
 use Rattle.rv_gen.proofs.LengthLemmas.{lines-short}
-use Rattle.rv_route.specs.Asking.{ask_of, text_at}
+use Rattle.rv_route.specs.Asking.{ask_of}
 use Rattle.rv_route.specs.LineByLine.{Routes, no_lane, no_routes, line_routes, routes_of}
 use Rattle.rv_route.proofs.MoveLemmas.{routes_of-more, line_routes-moved}
 use Rattle.rv_route.proofs.RoutingLemmas.{line-last}
@@ -23,7 +22,7 @@ use Rattle.rv_bind.specs.RuleValues.{OnValue}
 use Rattle.rv_generated.specs.GeneratedBound.{generated_bound}
 use Rattle.rv_generated.proofs.SaidLemmas.{Says}
 use Rattle.rv_generated.proofs.TextLemmas.{HasDigits, has-digits, event_name, event_more, line_bytes, line-clean, line-is}
-use Rattle.rv_generated.proofs.GrowLemmas.{no-end, more, stands-more, read-more, first_lines, lines-grow, line-says}
+use Rattle.rv_generated.proofs.GrowLemmas.{no-end, stands-more, read-more, first_lines, lines-grow, line-says}
 use Rattle.rv_generated.proofs.TaskLemmas.{no-task}
 use Rattle.rv_generated.proofs.AskLemmas.{AskOwn, asked, asks-own}
 use Rattle.rv_generated.proofs.OwnLemmas.{IsOwn, KeepsOwn, wider, rules-own}
