@@ -32,6 +32,7 @@ pub enum Ask {
 }
 
 /// Looks the names up on a line, each once.
+#[inline(always)]
 pub(crate) fn look_up(
     fields: &[u8],
     names: &[Name],
@@ -126,6 +127,7 @@ fn all_hold(fields: &[u8], tests: &[Test], places: &[usize], found: &[Option<Spa
 }
 
 /// Whether what was looked up passes, field by field.
+#[inline(never)]
 fn all_pass(fields: &[u8], tests: &[FieldTest], found: &[Option<Span>]) -> bool
     requires { All (IsInside fields.now) found.now }
     ensures { result ≡ all_pass (value_found fields.now found.now) tests.now }

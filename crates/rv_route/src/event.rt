@@ -13,7 +13,7 @@ use rv_trace::FieldNames;
 use std::alloc::{AllocError, Global};
 
 /// From so many tests on they are asked field by field.
-const MANY_TESTS: usize = 8;
+const MANY_TESTS: usize = 16;
 
 /// A rule, by the places of what it names.
 #[derive(Drop)]

@@ -8,7 +8,7 @@ use std::alloc::{AllocError, Global};
 use std::marker::Model;
 
 /// From so many names on one walk over a line's words takes less time than a search for each name.
-const MANY_FIELDS: usize = 8;
+const MANY_FIELDS: usize = 16;
 
 /// For each name's place what was found on a line.
 #[derive(Drop)]
@@ -41,6 +41,7 @@ impl Finds {
     }
 
     /// Looks the names up on a line.
+    #[inline(always)]
     pub(crate) fn look_up(&mut self, fields: &[u8], names: &FieldNames) -> Result<(), AllocError>
         requires { length fields.now ≤ 4294967295 }
         ensures found { OnOk result (AreFound fields.now names.now self.new) }

@@ -6,7 +6,7 @@ use Rattle.std.specs.BTreeMap.{BTreeMap}
 use Rattle.std.specs.declared.alloc.Global.{Global}
 use Rattle.std.proofs.lemmas.Slice.Eq.{bytes_eq-Decides}
 use Rattle.std.proofs.lemmas.List.Elements.{All-append, All-cons, All-nil}
-use Rattle.rv_trace.specs.inner.Naming.{IsPlain, is_plain_byte, ArePlaces, place_in}
+use Rattle.rv_trace.specs.FieldNames.{IsPlain, is_plain_byte, ArePlaces, place_in}
 
 -- what stands in a list stands there still when one more is appended
 pub get-front : {X : Type 0} (xs : List X) (y : X) (i : ℕ) (x : X) → slice_get xs i ≡ Some x → slice_get (xs ++ y ∷ []) i ≡ Some x

@@ -15,9 +15,10 @@ use Rattle.rv_text.specs.declared.runs.ByteClass.TheVariants as kinds
 use Rattle.rv_text.proofs.LeastLemmas.{run_end-is, run_end-high, run_end-each, run_end-stop}
 use Rattle.rv_trace.specs.declared.line.Span.{Span}
 use Rattle.rv_trace.specs.Fields.{is_named, value_from}
-use Rattle.rv_trace.specs.FoundFields.{found_at, IsInside, AllInside}
-use Rattle.rv_trace.specs.inner.Noting.{IsNotedAt}
-use Rattle.rv_trace.specs.inner.Naming.{is_plain_byte, IsPlain, ArePlaces, place_in, word_field, TakesWord}
+use Rattle.rv_trace.specs.FoundFields.{found_at, IsInside}
+use Rattle.rv_trace.specs.inner.Noting.{AllInside, IsNotedAt}
+use Rattle.rv_trace.specs.FieldNames.{is_plain_byte, IsPlain, ArePlaces, place_in}
+use Rattle.rv_trace.specs.inner.Naming.{word_field, TakesWord}
 use Rattle.rv_trace.proofs.FieldLemmas.{past-named}
 
 -- each of plain names is plain

@@ -9,8 +9,8 @@ use Rattle.rv_text.specs.Places.{run_end}
 use Rattle.rv_text.specs.declared.runs.ByteClass.TheVariants as kinds
 use Rattle.rv_trace.specs.declared.line.Span.{Span}
 use Rattle.rv_trace.specs.Fields.{is_open, is_named, value_from, field_of}
-use Rattle.rv_trace.specs.FoundFields.{found_at, IsInside, AllInside, HasNothing, AreFound}
-use Rattle.rv_trace.specs.inner.Noting.{IsNotedAt}
+use Rattle.rv_trace.specs.FoundFields.{found_at, IsInside, AreFound}
+use Rattle.rv_trace.specs.inner.Noting.{AllInside, HasNothing, IsNotedAt}
 use Rattle.rv_trace.specs.inner.Naming.{TakesWord, IsFoundBefore, HasWalked, HasSearched}
 use Rattle.rv_trace.proofs.WalkLemmas.{some-same}
 use Rattle.rv_trace.proofs.FieldLemmas.{field-some, field-none, stands-first, stands-more, stands-nowhere, open-next}

@@ -3,8 +3,10 @@ ghost use Rattle.std.specs.Prelude.{◌≡◌, ◌≢◌, ◌<◌, ◌≤◌, �
 ghost use Rattle.std.specs.List.{list_all};
 ghost use Rattle.rv_text.specs.Places.{run_end};
 ghost use Rattle.rv_text.specs.declared.runs.ByteClass.TheVariants as kinds;
-ghost use Rattle.rv_trace.specs.FoundFields.{HasNothing, AreFound, IsInside, Extends};
-ghost use Rattle.rv_trace.specs.inner.Naming.{IsPlain, is_plain_byte, TakesWord};
+ghost use Rattle.rv_trace.specs.inner.Noting.{HasNothing};
+ghost use Rattle.rv_trace.specs.FoundFields.{AreFound, IsInside, Extends};
+ghost use Rattle.rv_trace.specs.FieldNames.{IsPlain, is_plain_byte};
+ghost use Rattle.rv_trace.specs.inner.Naming.{TakesWord};
 
 use crate::fields::field;
 use crate::found_fields::FoundFields;
@@ -28,7 +30,7 @@ pub struct FieldNames {
 
 impl Model for FieldNames {
     ghost use Rattle.std.specs.Prelude.{◌≡◌, List, ℕ, All, true};
-    ghost use Rattle.rv_trace.specs.inner.Naming.{ArePlaces, IsPlain};
+    ghost use Rattle.rv_trace.specs.FieldNames.{ArePlaces, IsPlain};
 
     ghost Value = { List (List ℕ) };
 
@@ -173,6 +175,7 @@ impl FieldNames {
     }
 
     /// Looks all names up on a line. What was found before is taken back.
+    #[inline(never)]
     pub fn find(&self, fields: &[u8], found: &mut FoundFields) -> Result<(), AllocError>
         requires { length fields.now ≤ 4294967295 }
         ensures found { OnOk result (AreFound fields.now self.now found.new) }

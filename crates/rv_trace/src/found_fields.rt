@@ -1,7 +1,6 @@
 //! What was found of fields, of which only what was noted is taken back before the next line.
 ghost use Rattle.std.specs.Prelude.{◌≡◌, ◌<◌, ◌≤◌, [], length, OnOk};
-ghost use Rattle.rv_trace.specs.FoundFields.{HasNothing};
-ghost use Rattle.rv_trace.specs.inner.Noting.{IsNotedAt};
+ghost use Rattle.rv_trace.specs.inner.Noting.{HasNothing, IsNotedAt};
 
 use crate::line::Span;
 use std::alloc::{AllocError, Global};
@@ -21,7 +20,7 @@ impl Model for FoundFields {
 
     ghost Value = { List (Option Span) };
 
-    ghost use Rattle.rv_trace.specs.inner.Noting.{HasNoOther};
+    ghost use Rattle.rv_trace.specs.FoundFields.{HasNoOther};
 
     ghost view = { λ f. f.spans.items };
 

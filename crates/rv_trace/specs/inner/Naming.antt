@@ -1,33 +1,11 @@
 -- Names of fields with their places, and what a word of a line tells of them.
-use Rattle.std.specs.Prelude.{◌≡◌, ◌≤◌, ◌<◌, ℕ, ◌+◌, Bool, true, not, ◌&&◌, ◌==◌, List, length, Option, Some, None, slice_get, Vec, if◌then◌else◌}
-use Rattle.std.specs.List.{list_all}
+use Rattle.std.specs.Prelude.{◌≡◌, ◌≤◌, ◌<◌, ℕ, ◌+◌, true, List, length, Option, Some, None, slice_get, if◌then◌else◌}
 use Rattle.std.specs.Option.{option_or}
-use Rattle.std.specs.Ordering.{nat_cmp}
-use Rattle.std.specs.Cmp.Lexicographic.{slice_cmp}
-use Rattle.std.specs.BTreeMap.{BTreeMap, get_by}
-use Rattle.std.specs.declared.alloc.Global.{Global}
-use Rattle.rv_text.specs.Places.{is_blank}
 use Rattle.rv_trace.specs.declared.line.Span.{Span}
 use Rattle.rv_trace.specs.Fields.{is_open, is_named, value_from, field_of}
-use Rattle.rv_trace.specs.FoundFields.{found_at, AllInside}
+use Rattle.rv_trace.specs.FoundFields.{found_at}
+use Rattle.rv_trace.specs.inner.Noting.{AllInside}
 use Rattle.rv_trace.specs.inner.FieldPlaces.{StandsNot, StandsFirst}
-
--- no `=` and no blank
-abbrev pub is_plain_byte : ℕ → Bool
-is_plain_byte byte = not (byte == 61) && not (is_blank byte)
-
--- the name lies within a word, before its first `=`
-abbrev pub IsPlain : List ℕ → Type 0
-IsPlain name = list_all is_plain_byte name ≡ true
-
--- the place that a map has for a name
-abbrev pub place_in : BTreeMap (Vec ℕ Global) ℕ → List ℕ → Option ℕ
-place_in places name = get_by (λ key. slice_cmp nat_cmp name key.items) places
-
--- the map has the place of each name, and no other place
-pub record ArePlaces (names : List (List ℕ)) (places : BTreeMap (Vec ℕ Global) ℕ) : Type 0 where
-  pub each : (place : ℕ) (name : List ℕ) → place_in places name ≡ Some place → slice_get names place ≡ Some name
-  pub has : (place : ℕ) (name : List ℕ) → slice_get names place ≡ Some name → place_in places name ≡ Some place
 
 -- the field's value, if the word that begins here is the field
 abbrev pub word_field : List ℕ → List ℕ → ℕ → Option Span

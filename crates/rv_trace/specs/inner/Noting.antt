@@ -1,13 +1,16 @@
--- How what was found is noted, and where nothing else is.
+-- How what was found is noted.
 use Rattle.std.specs.Prelude.{◌≡◌, ℕ, false, ◌==◌, List, length, Option, Some, None}
-use Rattle.std.specs.List.{list_any}
 use Rattle.std.specs.Option.{option_or}
 use Rattle.rv_trace.specs.declared.line.Span.{Span}
-use Rattle.rv_trace.specs.FoundFields.{found_at}
+use Rattle.rv_trace.specs.FoundFields.{found_at, IsInside}
 
--- nothing is found but at these places
-abbrev pub HasNoOther : List ℕ → List (Option Span) → Type 0
-HasNoOther noted found = (place : ℕ) → list_any (λ other. other == place) noted ≡ false → found_at found place ≡ None
+-- nothing was found anywhere
+abbrev pub HasNothing : List (Option Span) → Type 0
+HasNothing found = (place : ℕ) → found_at found place ≡ None
+
+-- what was found lies in the fields
+abbrev pub AllInside : List ℕ → List (Option Span) → Type 0
+AllInside fields found = (place : ℕ) → IsInside fields (found_at found place)
 
 -- the span was noted at a place, unless something was found there before
 pub record IsNotedAt (old : List (Option Span)) (place : ℕ) (span : Span) (new : List (Option Span)) : Type 0 where

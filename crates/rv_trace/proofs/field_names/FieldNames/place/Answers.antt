@@ -1,7 +1,7 @@
 use Rattle.std.proofs.Common.{◌≡◌, List, [], ◌∷◌, ◌++◌, length, Bool, ◌&&◌, cond, rules, ℕ, sym, ap, ap₂, ◌∙◌, Some, None}
 use Rattle.std.specs.Prelude.{slice_get, option_copied, bytes_eq}
 use Rattle.std.specs.List.{list_all}
-use Rattle.rv_trace.specs.inner.Naming.{place_in, is_plain_byte}
+use Rattle.rv_trace.specs.FieldNames.{place_in, is_plain_byte}
 use Rattle.rv_trace.proofs.OrderedLemmas.{map-put}
 use Rattle.rv_trace.proofs.NamingLemmas.{places-more, plain-more, get-front, get-last}
 use Rattle.rv_trace.proofs.field_names.FieldNames.place.Goals.{then-self, else-self}

@@ -2,7 +2,8 @@ use Rattle.std.proofs.Common.{◌≡◌, List, ℕ, length, refl, sym, ap, ◌�
 use Rattle.std.specs.Prelude.{All, option_copied}
 use Rattle.std.proofs.lemmas.Option.{slice_get_within}
 use Rattle.rv_text.specs.Places.{between}
-use Rattle.rv_trace.specs.inner.Naming.{IsPlain, TakesWord}
+use Rattle.rv_trace.specs.FieldNames.{IsPlain}
+use Rattle.rv_trace.specs.inner.Naming.{TakesWord}
 use Rattle.rv_trace.proofs.WalkLemmas.{plain-at, takes-none, takes-some}
 use Rattle.rv_trace.proofs.field_names.FieldNames.take_word.Goals.{then-end-to+in-Some+in_ok-note, then-end-to+in_default, else-end-to}
 use Rattle.rv_trace.proofs.field_names.FieldNames.take_word.Goals as goal

@@ -1,6 +1,6 @@
 use Rattle.std.proofs.Common.{◌-◌, length}
-use Rattle.rv_trace.specs.FoundFields.{HasNothing}
-use Rattle.rv_trace.specs.inner.Noting.{HasNoOther}
+use Rattle.rv_trace.specs.inner.Noting.{HasNothing}
+use Rattle.rv_trace.specs.FoundFields.{HasNoOther}
 use Rattle.rv_trace.proofs.found_fields.FoundFields.begin.Given as goal
 
 abbrev pub invariant-loop-place : goal.invariant-loop-place
