@@ -1,8 +1,9 @@
 //! From a specification's text to the specification, and the table that means it.
-ghost use Rattle.std.specs.Prelude.{IfOk};
+ghost use Rattle.std.specs.Prelude.{◌≤◌, IfOk};
 ghost use Rattle.rv_text.specs.Readings.{Gives};
 ghost use Rattle.rv_model.specs.declared.formula.Spec.TheVariants.{Ltl};
 ghost use Rattle.rv_model.specs.Judging.{Means};
+ghost use Rattle.rv_model.specs.Weights.{weight};
 ghost use Rattle.rv_bind.specs.Compiling.{formula_table, compiled_of, Compiles};
 ghost use Rattle.rv_model.specs.declared.kind.SpecKind.TheVariants as kinds;
 
@@ -35,6 +36,7 @@ fn compile_automaton(alloc: Global, text: &[u8]) -> Result<Compiled, Refused>
 }
 
 fn rule_table(alloc: Global, rule: &Rule) -> Result<Table, Refused>
+    requires { weight rule.now.formula ≤ 1024 }
     ensures gives { Gives (λ table. table) result (formula_table rule.now.formula) }
     ensures means { IfOk result (λ table. Means table (Ltl rule.now)) }
 {

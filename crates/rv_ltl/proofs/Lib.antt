@@ -12,6 +12,7 @@ pub mod Endless
 pub mod FileLaws
 pub mod Inserting
 pub mod Learning
+pub mod LightRules
 pub mod Mentioned
 pub mod NameSets
 pub mod Naming

@@ -5,6 +5,7 @@ ghost use Rattle.std.specs.Cmp.Lexicographic.{slice_cmp};
 ghost use Rattle.std.specs.Ordering.{nat_cmp};
 ghost use Rattle.rv_text.specs.Readings.{Gives};
 ghost use Rattle.rv_model.specs.Formulas.{IsRule, ltl};
+ghost use Rattle.rv_model.specs.Weights.{weight};
 ghost use Rattle.rv_ltl.specs.inner.Texts.{texts};
 ghost use Rattle.rv_text.specs.inner.Ascending.{Ascends};
 ghost use Rattle.rv_ltl.specs.Names.{names_of};
@@ -95,9 +96,10 @@ fn definitions_in(
     definitions(alloc, &tokens)
 }
 
-/// The rule that the text gives, or the first refusal.
+/// The rule that the text gives, or the first refusal. So its formula is never deep.
 pub fn read_ltl(alloc: Global, bytes: &[u8]) -> Result<Rule, Refused>
-    ensures { Gives (λ rule. rule) result (ltl_of bytes.now) }
+    ensures gives { Gives (λ rule. rule) result (ltl_of bytes.now) }
+    ensures light { IfOk result (λ rule. weight rule.formula ≤ 1024) }
 {
     if bytes.len() > MAX_BYTES {
         return Err(refused(LTL_SYNTAX));

@@ -25,6 +25,7 @@ pub mod Sorting
 pub mod Stepping
 pub mod Table
 pub mod Truth
+pub mod Weights
 pub mod WellFormed
 pub mod Words
 pub mod Works

@@ -4,6 +4,7 @@ ghost use Rattle.rv_text.specs.Readings.{Gives};
 ghost use Rattle.rv_model.specs.Formulas.{ltl, HasAtomsBelow};
 ghost use Rattle.rv_model.specs.Ltl.{Or};
 ghost use Rattle.rv_model.specs.Truth.{View, Satisfies};
+ghost use Rattle.rv_model.specs.Weights.{weight};
 ghost use Rattle.rv_nnf.specs.inner.Entering.{numbers, and_or_of, until_release_of, constant_of};
 ghost use Rattle.rv_nnf.specs.NormalForm.{normal_of};
 ghost use Rattle.rv_nnf.specs.Parts.{part_meaning};
@@ -134,9 +135,11 @@ fn number(
     }
 }
 
-/// The normal form of a formula, whose last part holds exactly where the formula does.
+/// The normal form of a formula, whose last part holds exactly where the formula does. The walk calls itself as deep as
+/// the formula is, which its weight bounds.
 pub fn normal(alloc: Global, formula: &Formula) -> Result<Normal, Refused>
-    requires { HasAtomsBelow 32 (ltl formula.now) }
+    requires atoms { HasAtomsBelow 32 (ltl formula.now) }
+    requires light { weight (ltl formula.now) ≤ 1024 }
     ensures gives { Gives (λ parts. parts) result (normal_of (ltl formula.now)) }
     ensures holds { IfOk result (λ parts. (view : View) (letters : List ℕ) →
         IsTrue (part_meaning parts (length parts - 1) view letters) ↔ Satisfies view letters (ltl formula.now)) }

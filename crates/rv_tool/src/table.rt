@@ -1,6 +1,7 @@
 //! From a specification's file to its printed table.
 ghost use Rattle.std.specs.Prelude.{◌≡◌, ◌≤◌, IfOk};
 ghost use Rattle.rv_text.specs.Readings.{Gives};
+ghost use Rattle.rv_model.specs.Weights.{weight};
 ghost use Rattle.rv_bind.specs.Outcomes.{ReadsOutcome, of_file};
 ghost use Rattle.rv_tool.specs.inner.Faults.{IsOutcome};
 ghost use Rattle.rv_tool.specs.SomeTexts.{IsOfSomeText};
@@ -28,6 +29,7 @@ fn da_text(alloc: Global, bytes: &[u8]) -> Result<Vec<u8>, Refused>
 /// The table of a rule.
 #[tactic(auto, using(rv_report::proofs::TableauLemmas::tableau_is_formula))]
 fn rule_text(alloc: Global, rule: &Rule) -> Result<Vec<u8>, Refused>
+    requires { weight rule.now.formula ≤ 1024 }
     ensures { Gives (λ text. text.items) result (rule_text rule.now) }
 {
     let parts = normal(alloc, &rule.formula)?;

@@ -1,4 +1,7 @@
 //! Rules from their text on, as tables and as the plain programs judge them.
+ghost use Rattle.std.specs.Prelude.{◌≤◌};
+ghost use Rattle.rv_model.specs.Weights.{weight};
+
 use crate::formulas::formula_table;
 use rv_ltl::read_ltl;
 use rv_model::{Formula, Letter, Rule};
@@ -50,7 +53,9 @@ const RULES: [&str; 37] = [
 ];
 
 /// The table of a rule.
-fn table_of(alloc: Global, rule: &Rule) -> Result<Table, Refused> {
+fn table_of(alloc: Global, rule: &Rule) -> Result<Table, Refused>
+    requires { weight rule.now.formula ≤ 1024 }
+{
     formula_table(alloc, &rule.formula)
 }
 

@@ -1,4 +1,7 @@
 //! The parts of rules that double their operands, and of rules of one part.
+ghost use Rattle.std.specs.Prelude.{◌≤◌};
+ghost use Rattle.rv_model.specs.Weights.{weight};
+
 use rv_ltl::read_ltl;
 use rv_model::Rule;
 use rv_nnf::{Part, normal};
@@ -9,7 +12,9 @@ use std::process::Abort;
 use std::test::Fail;
 
 /// How many parts the rule has, and whether the last one is the rule itself as a label, and the release of the first two.
-fn told(rt: &impl Abort, alloc: Global, rule: &Rule) -> Result<(usize, bool, bool), Refused> {
+fn told(rt: &impl Abort, alloc: Global, rule: &Rule) -> Result<(usize, bool, bool), Refused>
+    requires { weight rule.now.formula ≤ 1024 }
+{
     assert!(rt; has_atoms_below(32, &rule.formula));
     let parts = normal(alloc, &rule.formula)?.parts;
     let (label, release) = match parts.last() {

@@ -1,7 +1,12 @@
 -- A rule has at most 32 atoms.
-use Rattle.rv_model.specs.Formulas.{ltl}
+use Rattle.std.proofs.Common.{◌≤◌, sym, subst}
+use Rattle.rv_model.specs.Formulas.{RuleValue, ltl}
+use Rattle.rv_model.specs.Weights.{weight}
 use Rattle.rv_tableau.proofs.AtomsBelow.{atoms_within}
 use Rattle.test_machine.proofs.tables.table_of.Goals as goal
 
-pub formula_table-requires : goal.formula_table-requires
-formula_table-requires c = atoms_within _ 32 c.rule.invariant.few_atoms (ltl c.rule.inside.formula) c.rule.invariant.in_range
+pub formula_table-requires-clause-atoms : goal.formula_table-requires-clause-atoms
+formula_table-requires-clause-atoms c = atoms_within _ 32 c.rule.invariant.few_atoms (ltl c.rule.inside.formula) c.rule.invariant.in_range
+
+pub formula_table-requires-clause-light : goal.formula_table-requires-clause-light
+formula_table-requires-clause-light c = subst (λ (r : RuleValue). weight r.formula ≤ 1024) (sym c.rule.view_is) c.requires
