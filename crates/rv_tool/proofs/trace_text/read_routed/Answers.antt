@@ -5,11 +5,11 @@ use Rattle.rv_route.specs.Routed.{routed_value}
 use Rattle.rv_route.specs.Routing.{RoutedValue, route_of}
 use Rattle.rv_trace.specs.Traces.{trace_of}
 use Rattle.rv_tool.specs.inner.Faults.{IsOutcome}
-use Rattle.rv_tool.specs.Inputs.{routed_in}
+use Rattle.rv_tool.specs.Inputs.{routed_text, routed_in}
 use Rattle.rv_tool.proofs.RefinesLemmas.{routed_comes}
 use Rattle.rv_tool.proofs.BlamesLemmas.{tells_named}
 use Rattle.rv_tool.proofs.FrontLemmas.{of_file-and_then}
-use Rattle.rv_tool.proofs.SomeInputLemmas.{trace_some}
+use Rattle.rv_tool.proofs.PossibleLemmas.{tells_may}
 use Rattle.rv_tool.proofs.trace_text.read_routed.Goals as goal
 
 pub returns-clause-reads : goal.returns-clause-reads
@@ -27,4 +27,8 @@ returns-clause-reads g c =
     }
 
 pub returns-clause-some : goal.returns-clause-some
-returns-clause-some g c = trace_some routed_value c.args.trace.now c.take_trace.new.routing.lines.fed (bound_value c.args.bound.now) c.end_routing.result c.end_routing.ensures.value
+returns-clause-some g c =
+    let bound = c.args.bound.now.bindings in
+    let text = c.take_trace.new.routing.lines.fed in
+    tells_may routed_value c.args.trace.now text (routed_text c.args.trace.now (bound_value c.args.bound.now)) c.end_routing.result
+    (subst (λ (o : Outcome RoutedValue). IsOutcome routed_value c.end_routing.result o) (of_file-and_then c.args.trace.now (trace_of text) (route_of bound.monitors.items bound.rules.items text)) c.end_routing.ensures.value)
