@@ -22,7 +22,6 @@ use Rattle.rv_control.specs.Trees.{ControlValue}
 use Rattle.rv_route.specs.Fitting.{WorksFit, FromRules}
 use Rattle.rv_route.specs.Routing.{RoutedValue, route_of}
 use Rattle.rv_tool.specs.Changes.{changes_text}
-use Rattle.rv_tool.specs.Checks.{CheckedValue}
 use Rattle.rv_tool.specs.HeaderFiles.{header_of_text}
 use Rattle.rv_tool.specs.inner.Faults.{IsOutcome}
 use Rattle.rv_tool.specs.Inputs.{InputValue, routed_text}

@@ -1,5 +1,6 @@
 use Rattle.std.proofs.Common.{subst}
-use Rattle.rv_bind.specs.Outcomes.{Outcome}
+use Rattle.rv_text.specs.Readings.{and_then}
+use Rattle.rv_bind.specs.Outcomes.{Outcome, of_file}
 use Rattle.rv_bind.specs.BoundViews.{bound_value}
 use Rattle.rv_route.specs.Routed.{routed_value}
 use Rattle.rv_route.specs.Routing.{RoutedValue, route_of}
@@ -23,7 +24,7 @@ returns-clause-reads g c =
           routed_comes (g.S.Store.files c.args.store.now) c.args.trace.now text (bound_value c.args.bound.now) c.in_ok-take_trace.ensures.all
           routed_value (g.S.Store.faults c.args.store.now) (g.S.Store.faults c.take_trace.new.store) c.end_routing.result
           (subst (λ (o : Outcome RoutedValue). IsOutcome routed_value c.end_routing.result o) (of_file-and_then c.args.trace.now (trace_of text) (route_of bound.monitors.items bound.rules.items text)) c.end_routing.ensures.value);
-      named = tells_named (g.S.Store.files c.args.store.now) routed_value c.end_routing.result _ (λ files. routed_in files c.args.trace.now (bound_value c.args.bound.now)) c.end_routing.ensures.value;
+      named = tells_named (g.S.Store.files c.args.store.now) routed_value c.end_routing.result (of_file c.args.trace.now (and_then (trace_of text) (route_of bound.monitors.items bound.rules.items text))) (λ files. routed_in files c.args.trace.now (bound_value c.args.bound.now)) c.end_routing.ensures.value;
     }
 
 pub returns-clause-some : goal.returns-clause-some
