@@ -8,24 +8,23 @@ use Rattle.rv_model.specs.Histories.{IsOneHistory, IsLegal}
 use Rattle.rv_io.specs.Files.{Files}
 use Rattle.rv_bind.specs.declared.fault.BindFault.{BindFault}
 use Rattle.rv_bind.specs.declared.fault.BindFault.TheVariants as faults
-use Rattle.rv_bind.specs.Outcomes.{Outcome, accepted, refused, missing}
+use Rattle.rv_bind.specs.Outcomes.{Outcome, accepted, refused, missing, IsRefusal}
 use Rattle.rv_tool.specs.declared.replay.FinishedRun.{FinishedRun}
 use Rattle.rv_tool.specs.Calls.{CallEnd, Call}
 use Rattle.rv_tool.specs.Changes.{input_beside}
 use Rattle.rv_tool.specs.Checks.{IsCheckReport, checked_input}
 use Rattle.rv_tool.specs.inner.Commands.{IsOneReport, IsVerdictReport, IsText, IsPrinted, IsSessionText, ComesTo, CommandComes, IsPut}
-use Rattle.rv_tool.specs.HeaderFiles.{header_of_text, header_in}
+use Rattle.rv_tool.specs.HeaderFiles.{header_in}
 use Rattle.rv_tool.specs.Headline.{IsReported, Ending, GivesUp, PrintsText, PrintsRefusal, PrintsSome, Ends}
 use Rattle.rv_tool.specs.Inputs.{InputValue, run_input}
 use Rattle.rv_tool.specs.Journals.{IsJournalReport, recordable_input}
 use Rattle.rv_tool.specs.Loaded.{generated_files}
-use Rattle.rv_tool.specs.Opaque.{EndsOnSomeInput, EndsAsOneOf, AnswersOpaque}
+use Rattle.rv_tool.specs.Opaque.{EndsOnSome, AnswersOpaque}
 use Rattle.rv_tool.specs.Output.{IsWritten, refusal_text, missing_text}
+use Rattle.rv_tool.specs.Possible.{MayInput, MayRunBeside, MayWatch, MayRecord, MayCheck, MayTable, MayHeader, MayControl}
 use Rattle.rv_tool.specs.Runs.{Prints, PrintsSession, AnswersBy, Answers}
-use Rattle.rv_tool.specs.Sessions.{Printed, IsSession, control_in}
-use Rattle.rv_tool.specs.SomeInputs.{IsSomeInput, IsSomeBeside, IsSomeWatch, IsSomeRecordable}
-use Rattle.rv_tool.specs.SomeTexts.{IsOfSomeText}
-use Rattle.rv_tool.specs.Tables.{table_text, table_in}
+use Rattle.rv_tool.specs.Sessions.{Printed, control_in}
+use Rattle.rv_tool.specs.Tables.{table_in}
 use Rattle.rv_tool.specs.Verdicts.{Verdicts}
 use Rattle.rv_tool.specs.Watched.{watched_input}
 use Rattle.rv_tool.specs.WatchReports.{IsWatchReport}
@@ -58,18 +57,23 @@ unread_put done e file told is same says = rw is (subst (λ (f : List ℕ). Prin
 abbrev Accepts : {Y : Type 0} → (Y → List Entry → List ℕ → ℕ → Type 0) → (Y → Ending) → CallEnd → Type 0
 Accepts {Y} Goes Accepted e = (y : Y) (text : List ℕ) (said : ℕ) → Goes y e.history text said → IsWritten e.before e.after text said e.status → Accepted y e
 
-module _ (c : Call) {Y : Type 0} (Is : Y → Type 0) (Goes : Y → List Entry → List ℕ → ℕ → Type 0) (Accepted : Y → Ending) (accepts : Accepts Goes Accepted c.end) (outcome : Files → Outcome Y) (told : Option Files) where
+module _ (c : Call) {Y : Type 0} (May : Outcome Y → Type 0) (Goes : Y → List Entry → List ℕ → ℕ → Type 0) (Accepted : Y → Ending) (accepts : Accepts Goes Accepted c.end) (outcome : Files → Outcome Y) (told : Option Files) where
   -- what was done and put ends in its own way
   done_ends : (y : Y) (done : FinishedRun) → Goes y done.closed done.text.items done.status → IsPut (Ok done) c.end → Accepted y c.end
   done_ends y done goes put = accepts y done.text.items done.status (subst (λ (h : List Entry). Goes y h done.text.items done.status) (sym put.1) goes) put.0
 
+  -- a refusal that has one of the numbers and was said ends the command
+  refusal_ends : (file : List ℕ) (refusal : Refusal) → IsRefusal refusal → PrintsText (refusal_text (Some file) refusal) 2 c.end → PrintsRefusal file refusal c.end
+  refusal_ends file refusal numbered (inl told) = inl (numbered, told.0, told.1)
+  refusal_ends file refusal numbered (inr up) = inr up
+
   -- on a store that tells no files
-  pub untold_ends : (result : Result FinishedRun BindFault) → ComesTo Is Goes outcome told c.faults_before c.faults_after result → IsPut result c.end → told ≡ None → EndsOnSomeInput (EndsAsOneOf Is Accepted) c
-  untold_ends (Ok done) comes put none = inl (comes.1.0, (comes.1.1, done_ends comes.1.0 done comes.1.2 put))
-  untold_ends (Err faults.Memory) comes up none = inr (inl ([], record { number = USAGE; line = 0 }, (omega arith, omega arith), inr up))
-  untold_ends (Err (faults.Refused file refusal)) comes says none = inr (inl (file, refusal, comes.0.0, says))
-  untold_ends (Err (faults.Unread file)) (inl lacks, named) says none = absurd (let both : Some lacks.0 ≡ None = rw (← lacks.1) none in cc)
-  untold_ends (Err (faults.Unread file)) (inr rose, named) says none = inr (inr (rose, file, says))
+  pub untold_ends : (result : Result FinishedRun BindFault) → ComesTo May Goes outcome told c.faults_before c.faults_after result → IsPut result c.end → told ≡ None → EndsOnSome May Accepted c
+  untold_ends (Ok done) comes put none = inl (accepted comes.1.0, comes.1.1, tt, done_ends comes.1.0 done comes.1.2 put)
+  untold_ends (Err faults.Memory) comes up none = inr up
+  untold_ends (Err (faults.Refused file refusal)) comes says none = inl (refused file refusal, comes.2, tt, refusal_ends file refusal comes.0.0 says)
+  untold_ends (Err (faults.Unread file)) (inl lacks, named, may) says none = absurd (let both : Some lacks.0 ≡ None = rw (← lacks.1) none in cc)
+  untold_ends (Err (faults.Unread file)) (inr rose, named, may) says none = inl (missing file, may, rose, says)
 
   module _ (no : (y : Y) → GivesUp c.end → Accepted y c.end) where
     -- want of memory ends every command
@@ -79,21 +83,17 @@ module _ (c : Call) {Y : Type 0} (Is : Y → Type 0) (Goes : Y → List Entry �
     gives_up (missing file) up = inr up
 
     -- on a store that tells its files
-    pub told_ends : (result : Result FinishedRun BindFault) → ComesTo Is Goes outcome told c.faults_before c.faults_after result → IsPut result c.end → (files : Files) → told ≡ Some files → AnswersBy Accepted outcome files c
+    pub told_ends : (result : Result FinishedRun BindFault) → ComesTo May Goes outcome told c.faults_before c.faults_after result → IsPut result c.end → (files : Files) → told ≡ Some files → AnswersBy Accepted outcome files c
     told_ends (Ok done) comes put files known =
         let found = comes.0 files known in
         inl (subst (λ (o : Outcome Y). Ends Accepted o c.end) (sym found.1) (done_ends found.0 done found.2 put))
     told_ends (Err faults.Memory) comes up files known = inl (gives_up (outcome files) up)
-    told_ends (Err (faults.Refused file refusal)) comes says files known = inl (subst (λ (o : Outcome Y). Ends Accepted o c.end) (sym (comes.0.1 files known)) (said says))
-      where
-        said : PrintsText (refusal_text (Some file) refusal) 2 c.end → PrintsRefusal file refusal c.end
-        said (inl told) = inl (comes.0.0, told.0, told.1)
-        said (inr up) = inr up
-    told_ends (Err (faults.Unread file)) (inl lacks, named) says files known =
+    told_ends (Err (faults.Refused file refusal)) comes says files known = inl (subst (λ (o : Outcome Y). Ends Accepted o c.end) (sym (comes.0.1 files known)) (refusal_ends file refusal comes.0.0 says))
+    told_ends (Err (faults.Unread file)) (inl lacks, named, may) says files known =
         let both : Some lacks.0 ≡ Some files = sym lacks.1 ∙ known in
         let same : lacks.0 ≡ files = cc in
         inl (subst (λ (o : Outcome Y). Ends Accepted o c.end) (sym (ap outcome (sym same) ∙ lacks.2)) says)
-    told_ends (Err (faults.Unread file)) (inr rose, named) says files known = inr (rose, file, named files known, says)
+    told_ends (Err (faults.Unread file)) (inr rose, named, may) says files known = inr (rose, file, named files known, says)
 
 -- where no fault was counted, no file is blamed
 no_blame : {Y : Type 0} (Accepted : Y → Ending) (outcome : Files → Outcome Y) (files : Files) (c : Call) → c.faults_before ≡ 0 → c.faults_after ≡ 0 → AnswersBy Accepted outcome files c → Ends Accepted (outcome files) c.end
@@ -113,76 +113,76 @@ pub record IsAnswered (asked : Option CommandValue) (told : Option Files) (c : C
 
 module _ (c : Call) (told : Option Files) (result : Result FinishedRun BindFault) (put : IsPut result c.end) where
   -- what goes with the value is told as it is
-  module _ {Y : Type 0} (Is : Y → Type 0) (Goes : Y → List Entry → List ℕ → ℕ → Type 0) (outcome : Files → Outcome Y) (comes : ComesTo Is Goes outcome told c.faults_before c.faults_after result) where
+  module _ {Y : Type 0} (May : Outcome Y → Type 0) (Goes : Y → List Entry → List ℕ → ℕ → Type 0) (outcome : Files → Outcome Y) (comes : ComesTo May Goes outcome told c.faults_before c.faults_after result) where
     report_told : (Weaker : Y → List Entry → List ℕ → ℕ → Type 0) → ((y : Y) (h : List Entry) (text : List ℕ) (said : ℕ) → Goes y h text said → Weaker y h text said) → (files : Files) → told ≡ Some files → AnswersBy (λ y. PrintsSome (Weaker y)) outcome files c
-    report_told Weaker weaker = told_ends c Is Goes (λ y. PrintsSome (Weaker y)) (λ y text said goes written. inl (text, said, weaker y c.end.history text said goes, written)) outcome told (λ y up. inr up) result comes put
+    report_told Weaker weaker = told_ends c May Goes (λ y. PrintsSome (Weaker y)) (λ y text said goes written. inl (text, said, weaker y c.end.history text said goes, written)) outcome told (λ y up. inr up) result comes put
 
-    report_untold : told ≡ None → EndsOnSomeInput (EndsAsOneOf Is (λ y. PrintsSome (Goes y))) c
-    report_untold = untold_ends c Is Goes (λ y. PrintsSome (Goes y)) (λ y text said goes written. inl (text, said, goes, written)) outcome told result comes put
+    report_untold : told ≡ None → EndsOnSome May (λ y. PrintsSome (Goes y)) c
+    report_untold = untold_ends c May Goes (λ y. PrintsSome (Goes y)) (λ y text said goes written. inl (text, said, goes, written)) outcome told result comes put
 
   -- a text that is one of these is printed
-  module _ (Is : List ℕ → Type 0) (outcome : Files → Outcome (List ℕ)) (comes : ComesTo Is IsPrinted outcome told c.faults_before c.faults_after result) where
+  module _ (May : Outcome (List ℕ) → Type 0) (outcome : Files → Outcome (List ℕ)) (comes : ComesTo May IsPrinted outcome told c.faults_before c.faults_after result) where
     text_told : (files : Files) → told ≡ Some files → AnswersBy Prints outcome files c
-    text_told = told_ends c Is IsPrinted Prints (λ y text said goes written. text_ends c.end y 0 text said goes written) outcome told (λ y up. inr up) result comes put
+    text_told = told_ends c May IsPrinted Prints (λ y text said goes written. text_ends c.end y 0 text said goes written) outcome told (λ y up. inr up) result comes put
 
-    text_untold : told ≡ None → EndsOnSomeInput (EndsAsOneOf Is Prints) c
-    text_untold = untold_ends c Is IsPrinted Prints (λ y text said goes written. text_ends c.end y 0 text said goes written) outcome told result comes put
+    text_untold : told ≡ None → EndsOnSome May Prints c
+    text_untold = untold_ends c May IsPrinted Prints (λ y text said goes written. text_ends c.end y 0 text said goes written) outcome told result comes put
 
   -- a command that was done and put is answered
   pub command_answered : (command : CommandValue) → IsWithin command → CommandComes command told c.faults_before c.faults_after result → IsAnswered (Some command) told c
   command_answered (replay bindings trace) within comes =
       let outcome : Files → Outcome InputValue = λ files. run_input files bindings trace in record {
-        answers = report_told (IsSomeInput trace) IsOneReport outcome comes (IsReported IsOneHistory) (λ y h text said goes. goes.0);
-        verdicts = report_told (IsSomeInput trace) IsOneReport outcome comes IsOneReport (λ y h text said goes. goes);
-        opaque = report_untold (IsSomeInput trace) IsOneReport outcome comes;
+        answers = report_told (MayInput bindings trace) IsOneReport outcome comes (IsReported IsOneHistory) (λ y h text said goes. goes.0);
+        verdicts = report_told (MayInput bindings trace) IsOneReport outcome comes IsOneReport (λ y h text said goes. goes);
+        opaque = report_untold (MayInput bindings trace) IsOneReport outcome comes;
       }
   command_answered (feed bindings trace) within comes =
       let outcome : Files → Outcome InputValue = λ files. run_input files bindings trace in record {
-        answers = report_told (IsSomeInput trace) IsVerdictReport outcome comes (IsReported IsLegal) (λ y h text said goes. goes.0);
-        verdicts = report_told (IsSomeInput trace) IsVerdictReport outcome comes IsVerdictReport (λ y h text said goes. goes);
-        opaque = report_untold (IsSomeInput trace) IsVerdictReport outcome comes;
+        answers = report_told (MayInput bindings trace) IsVerdictReport outcome comes (IsReported IsLegal) (λ y h text said goes. goes.0);
+        verdicts = report_told (MayInput bindings trace) IsVerdictReport outcome comes IsVerdictReport (λ y h text said goes. goes);
+        opaque = report_untold (MayInput bindings trace) IsVerdictReport outcome comes;
       }
   command_answered (feed_beside bindings trace script) within comes = record {
-    answers = report_told (IsSomeBeside trace script) (IsReported IsLegal) (λ files. input_beside files bindings trace script) comes (IsReported IsLegal) (λ y h text said goes. goes);
+    answers = report_told (MayRunBeside bindings trace script) (IsReported IsLegal) (λ files. input_beside files bindings trace script) comes (IsReported IsLegal) (λ y h text said goes. goes);
     verdicts = λ files known. tt;
-    opaque = report_untold (IsSomeBeside trace script) (IsReported IsLegal) (λ files. input_beside files bindings trace script) comes;
+    opaque = report_untold (MayRunBeside bindings trace script) (IsReported IsLegal) (λ files. input_beside files bindings trace script) comes;
   }
   command_answered (watch bindings trace monitor instance) within comes = record {
-    answers = report_told (IsSomeWatch trace monitor instance) IsWatchReport (λ files. watched_input files bindings trace monitor instance) comes IsWatchReport (λ y h text said goes. goes);
+    answers = report_told (MayWatch bindings trace monitor instance) IsWatchReport (λ files. watched_input files bindings trace monitor instance) comes IsWatchReport (λ y h text said goes. goes);
     verdicts = λ files known. tt;
-    opaque = report_untold (IsSomeWatch trace monitor instance) IsWatchReport (λ files. watched_input files bindings trace monitor instance) comes;
+    opaque = report_untold (MayWatch bindings trace monitor instance) IsWatchReport (λ files. watched_input files bindings trace monitor instance) comes;
   }
   command_answered (journal bindings trace) within comes = record {
-    answers = report_told (IsSomeRecordable trace) IsJournalReport (λ files. recordable_input files bindings trace) comes IsJournalReport (λ y h text said goes. goes);
+    answers = report_told (MayRecord bindings trace) IsJournalReport (λ files. recordable_input files bindings trace) comes IsJournalReport (λ y h text said goes. goes);
     verdicts = λ files known. tt;
-    opaque = report_untold (IsSomeRecordable trace) IsJournalReport (λ files. recordable_input files bindings trace) comes;
+    opaque = report_untold (MayRecord bindings trace) IsJournalReport (λ files. recordable_input files bindings trace) comes;
   }
   command_answered (check bindings trace judged) within comes = record {
-    answers = report_told (λ checked. IsSomeInput trace checked.input) IsCheckReport (λ files. checked_input files bindings trace judged) comes IsCheckReport (λ y h text said goes. goes);
+    answers = report_told (MayCheck bindings trace judged) IsCheckReport (λ files. checked_input files bindings trace judged) comes IsCheckReport (λ y h text said goes. goes);
     verdicts = λ files known. tt;
-    opaque = report_untold (λ checked. IsSomeInput trace checked.input) IsCheckReport (λ files. checked_input files bindings trace judged) comes;
+    opaque = report_untold (MayCheck bindings trace judged) IsCheckReport (λ files. checked_input files bindings trace judged) comes;
   }
   command_answered (table kind file) within comes = record {
-    answers = text_told (IsOfSomeText (table_text kind)) (λ files. table_in files kind file) comes;
+    answers = text_told (MayTable kind file) (λ files. table_in files kind file) comes;
     verdicts = λ files known. tt;
-    opaque = text_untold (IsOfSomeText (table_text kind)) (λ files. table_in files kind file) comes;
+    opaque = text_untold (MayTable kind file) (λ files. table_in files kind file) comes;
   }
   command_answered (header name file) within comes = record {
-    answers = text_told (IsOfSomeText (header_of_text name)) (λ files. header_in files name file) comes;
+    answers = text_told (MayHeader name file) (λ files. header_in files name file) comes;
     verdicts = λ files known. tt;
-    opaque = text_untold (IsOfSomeText (header_of_text name)) (λ files. header_in files name file) comes;
+    opaque = text_untold (MayHeader name file) (λ files. header_in files name file) comes;
   }
   command_answered (control bindings script) within comes =
       let outcome : Files → Outcome Printed = λ files. control_in files bindings script in record {
-        answers = told_ends c (IsSession script) IsSessionText PrintsSession (λ y text said goes written. text_ends c.end y.text y.status text said goes written) outcome told (λ y up. inr up) result comes put;
+        answers = told_ends c (MayControl bindings script) IsSessionText PrintsSession (λ y text said goes written. text_ends c.end y.text y.status text said goes written) outcome told (λ y up. inr up) result comes put;
         verdicts = λ files known. tt;
-        opaque = untold_ends c (IsSession script) IsSessionText PrintsSession (λ y text said goes written. text_ends c.end y.text y.status text said goes written) outcome told result comes put;
+        opaque = untold_ends c (MayControl bindings script) IsSessionText PrintsSession (λ y text said goes written. text_ends c.end y.text y.status text said goes written) outcome told result comes put;
       }
   command_answered (load blocks) few comes = record { answers = λ files known. load_reports blocks few c.end whole; verdicts = λ files known. load_ends blocks few c.end whole; opaque = λ none. load_ends blocks few c.end whole }
     where
       whole : Ends (λ y. PrintsSome (IsVerdictReport y)) (run_input (generated_files blocks) (codes "gen.rv") (codes "gen.txt")) c.end
       whole = no_blame (λ y. PrintsSome (IsVerdictReport y)) (λ files. run_input files (codes "gen.rv") (codes "gen.txt")) (generated_files blocks) (record c { faults_before = 0; faults_after = 0 }) refl refl
-          (told_ends (record c { faults_before = 0; faults_after = 0 }) (IsSomeInput (codes "gen.txt")) IsVerdictReport (λ y. PrintsSome (IsVerdictReport y)) (λ y text said goes written. inl (text, said, goes, written)) (λ files. run_input files (codes "gen.rv") (codes "gen.txt")) (Some (generated_files blocks)) (λ y up. inr up) result comes put (generated_files blocks) refl)
+          (told_ends (record c { faults_before = 0; faults_after = 0 }) (MayInput (codes "gen.rv") (codes "gen.txt")) IsVerdictReport (λ y. PrintsSome (IsVerdictReport y)) (λ y text said goes written. inl (text, said, goes, written)) (λ files. run_input files (codes "gen.rv") (codes "gen.txt")) (Some (generated_files blocks)) (λ y up. inr up) result comes put (generated_files blocks) refl)
 
 -- the words ask for the command that was done
 pub words_answered : (asked said : Option CommandValue) (told : Option Files) (c : Call) → said ≡ asked → IsAnswered said told c → IsAnswered asked told c

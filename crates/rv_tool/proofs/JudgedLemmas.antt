@@ -1,6 +1,6 @@
 -- The run that a journal is judged by: its works, and the monitors that halt it.
 use Rattle.std.proofs.Common.{◌≡◌, ◌≢◌, ◌⊎◌, ℕ, zero, suc, ◌%◌, ◌<◌, ◌≤◌, ◌^◌, ◌==◌, Bool, true, false, List, [], ◌∷◌, ◌++◌, length, map, get_or, refl, sym, ap, ◌∙◌, subst, inl, inr, arith, append_assoc}
-use Rattle.std.specs.Prelude.{Option, Some, None, All, AllPairs}
+use Rattle.std.specs.Prelude.{Option, Some, None, Ok, All, AllPairs}
 use Rattle.std.proofs.Math.Nat.{div-eq_of_lt}
 use Rattle.std.proofs.Math.Pow.{pow_mono}
 use Rattle.std.proofs.lemmas.List.{append-nil, length-map}
@@ -19,11 +19,12 @@ use Rattle.rv_check.specs.declared.reading.Verdict.{Verdict}
 use Rattle.rv_check.specs.Readings.{ReaderValue, with_more_text, grown}
 use Rattle.rv_check.specs.Verdicts.{Journal, VerdictHolds}
 use Rattle.rv_bind.specs.declared.bindings.Monitor.{Monitor}
+use Rattle.rv_bind.specs.Outcomes.{accepted}
 use Rattle.rv_tool.specs.declared.input.Prepared.{Prepared}
 use Rattle.rv_tool.specs.inner.Prepared.{prepared_value, IsPrepared}
 use Rattle.rv_tool.specs.Checks.{panic_bits, judged, IsJudged}
-use Rattle.rv_tool.specs.inner.Checks.{IsVerdict}
-use Rattle.rv_tool.specs.SomeInputs.{IsSomeInput}
+use Rattle.rv_tool.specs.inner.Checks.{JudgesSome}
+use Rattle.rv_tool.specs.Possible.{MayInput, MayCheck}
 use Rattle.rv_tool.specs.Inputs.{InputValue, run_of}
 use Rattle.rv_tool.specs.inner.JournalPieces.{IsSameRun, EnoughOf}
 use Rattle.rv_tool.proofs.PreparedLemmas.{get_or-works, works_counted}
@@ -118,10 +119,13 @@ module _ (ready : Prepared) (is : IsPrepared ready) (unchanged : ready.changes.i
   }
 
   -- the verdict is that on what was fed
-  pub verdict_some : (trace : List ℕ) → IsSomeInput trace (prepared_value ready) → IsVerdict trace verdict
-  verdict_some trace some =
-      let specs = (run_of (prepared_value ready)).specs in
-      (record { input = prepared_value ready; journal = r.journal.text }, some, judged_so r.journal.text (subst (λ (j : Journal). VerdictHolds j specs verdict) run (holds specs)))
+  pub verdict_some : (bindings trace journal : List ℕ) → MayInput bindings trace (accepted (prepared_value ready)) → JudgesSome (Ok verdict) (MayCheck bindings trace journal)
+  verdict_some bindings trace journal some =
+      let specs = (run_of (prepared_value ready)).specs in (
+        record { input = prepared_value ready; journal = r.journal.text },
+        (accepted (prepared_value ready), some, (Some r.journal.text, refl)),
+        judged_so r.journal.text (subst (λ (j : Journal). VerdictHolds j specs verdict) run (holds specs)),
+      )
 
   -- the verdict holds of all that the file holds
   pub verdict_judged : (held : Option (List ℕ)) → EnoughOf held r → (bytes : List ℕ) × (held ≡ Some bytes) × IsJudged (record { input = prepared_value ready; journal = bytes }) verdict

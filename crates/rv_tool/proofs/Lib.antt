@@ -15,14 +15,13 @@ pub mod LoadedLemmas
 pub mod NumberLemmas
 pub mod OneLemmas
 pub mod PiecesLemmas
+pub mod PossibleLemmas
 pub mod PreparedLemmas
 pub mod RecordableLemmas
 pub mod RecordingLemmas
 pub mod RefinesLemmas
 pub mod ReportedLemmas
 pub mod SessionLemmas
-pub mod SomeInputLemmas
-pub mod SomeTextLemmas
 pub mod VerdictLemmas
 pub mod WatchLemmas
 pub mod WidthLemmas

@@ -1,16 +1,10 @@
 -- A script, command by command.
 use Rattle.std.proofs.Common.{◌≡◌, ℕ, ◌+◌, ◌<◌, Bool, true, false, List, [], ◌∷◌, ◌++◌, drop, length, refl, sym, ap, ◌∙◌, subst, append_assoc}
-use Rattle.std.specs.Prelude.{slice_index_or, Result, Ok, Err, IfOk, if◌then◌else◌}
+use Rattle.std.specs.Prelude.{slice_index_or, if◌then◌else◌}
 use Rattle.std.proofs.lemmas.List.{drop_more, append-nil}
-use Rattle.rv_bind.specs.declared.fault.BindFault.{BindFault}
-use Rattle.rv_bind.specs.Values.{BoundValue}
-use Rattle.rv_bind.specs.WellFormed.{IsWellFormed}
 use Rattle.rv_control.specs.declared.script.Numbered.{Numbered}
 use Rattle.rv_control.specs.Trees.{ControlValue}
-use Rattle.rv_tool.specs.declared.control.Session.{Session}
-use Rattle.rv_tool.specs.inner.Faults.{IsOutcome}
-use Rattle.rv_tool.specs.inner.SessionValues.{session_value}
-use Rattle.rv_tool.specs.Sessions.{Printed, status_with, done_of, before, session_of, session_text, IsSession}
+use Rattle.rv_tool.specs.Sessions.{Printed, status_with, done_of, before, session_of}
 
 -- a part of a script was done: its texts, and whether a command was refused
 pub record RanSoFar (script : List ℕ) (opening : ControlValue) (commands : List Numbered) (place : ℕ) (tree : ControlValue) (text : List ℕ) (is_refused : Bool) : Type 0 where
@@ -67,8 +61,3 @@ module _ (script : List ℕ) (opening : ControlValue) (commands : List Numbered)
       let status_is : status_with is_refused 0 ≡ (session_of script opening commands).status =
       subst (λ (ns : List Numbered). status_with is_refused (session_of script tree ns).status ≡ (session_of script opening commands).status) none ran.status_is in
       λ i. record { text = (sym (append-nil text) ∙ text_is) i; status = status_is i }
-
--- what the text of a script came to is a session
-pub session_some : (script : List ℕ) (bound : BoundValue) (text : List ℕ) (result : Result Session BindFault) → IsWellFormed bound → IsOutcome session_value result (session_text script bound text) → IfOk result (λ session. IsSession script (session_value session))
-session_some script bound text (Ok session) formed tells = (bound, text, formed, tells)
-session_some script bound text (Err fault) formed tells = tt

@@ -12,8 +12,7 @@ pub mod CountsFit
 pub mod Output
 pub mod Runs
 pub mod Sessions
-pub mod SomeInputs
-pub mod SomeTexts
+pub mod Possible
 pub mod Tables
 pub mod Opaque
 pub mod Verdicts

@@ -1,11 +1,10 @@
 -- What a script of commands on the control files comes to: the texts of its commands in order, each by the files that the commands before it left.
-use Rattle.std.specs.Prelude.{◌≡◌, ℕ, Bool, true, false, List, [], ◌∷◌, ◌++◌, map, Some, Result, Ok, Err, if◌then◌else◌}
+use Rattle.std.specs.Prelude.{ℕ, Bool, true, false, List, [], ◌∷◌, ◌++◌, map, Some, Result, Ok, Err, if◌then◌else◌}
 use Rattle.rv_text.specs.declared.refusals.Refusal.{Refusal}
 use Rattle.rv_text.specs.Readings.{and_then}
 use Rattle.rv_io.specs.Files.{Files}
 use Rattle.rv_bind.specs.Values.{BoundValue}
 use Rattle.rv_bind.specs.Bound.{bound_of}
-use Rattle.rv_bind.specs.WellFormed.{IsWellFormed}
 use Rattle.rv_bind.specs.Outcomes.{Outcome, accepted, reading, of_file, of_name}
 use Rattle.rv_control.specs.declared.script.Command.{Command}
 use Rattle.rv_control.specs.declared.script.Command.TheVariants.{Read, Write}
@@ -76,7 +75,3 @@ session_in files script bound = of_name files script (session_text script bound)
 -- the bindings with each specification as its line is reached, and then the script
 abbrev pub control_in : Files → List ℕ → List ℕ → Outcome Printed
 control_in files bindings script = reading (bound_of files bindings) (λ bound. session_in files script bound)
-
--- the text of some script comes to this on the control files of some bindings
-abbrev pub IsSession : List ℕ → Printed → Type 0
-IsSession script printed = (bound : BoundValue) × (text : List ℕ) × IsWellFormed bound × (session_text script bound text ≡ accepted printed)

@@ -4,11 +4,13 @@ ghost use Rattle.rv_model.specs.Numbers.{number_of};
 ghost use Rattle.rv_core.specs.Judged.{JudgesBySpecs};
 ghost use Rattle.rv_bind.specs.FilePieces.{FailsAs};
 ghost use Rattle.rv_bind.specs.Outcomes.{BlamesReached, of_text, accepted};
+ghost use Rattle.rv_bind.specs.Possible.{IsUnread};
 ghost use Rattle.rv_feed.specs.Lane.{FitLanes, panics_of, works_of};
 ghost use Rattle.rv_tool.specs.Checks.{judged, verdict_text, verdict_status, checked_input};
-ghost use Rattle.rv_tool.specs.inner.Checks.{JudgesRead, IsVerdict};
+ghost use Rattle.rv_tool.specs.inner.Checks.{JudgesRead, JudgesSome};
 ghost use Rattle.rv_tool.specs.inner.JournalPieces.{IsSameRun, IsEnough};
 ghost use Rattle.rv_tool.specs.inner.Prepared.{prepared_value, IsPrepared};
+ghost use Rattle.rv_tool.specs.Possible.{MayCheck};
 
 use crate::input::{Prepared, read_input};
 use rv_bind::{BindFault, fetch};
@@ -115,6 +117,7 @@ fn take_pieces<S: Store>(
     ensures same { IsSameRun reader.old.journal reader.new.journal }
     ensures all { OnOk result (IsEnough (S.files store.old) journal.now reader.new) }
     ensures fails { FailsAs (S.files store.old) (S.files store.new) (S.faults store.old) (S.faults store.new) result (λ files. of_text journal.now (files journal.now) accepted) }
+    ensures unread { IfErr result (IsUnread journal.now) }
 {
     let mut place: u64 = 0;
     for piece in 0..u64::MAX {
@@ -147,6 +150,7 @@ fn take_journal<S: Store>(
     ensures same { OnOk result (IsSameRun reader.old.journal reader.new.journal) }
     ensures all { OnOk result (IsEnough (S.files store.old) journal.now reader.new) }
     ensures fails { FailsAs (S.files store.old) (S.files store.new) (S.faults store.old) (S.faults store.new) result (λ files. of_text journal.now (files journal.now) accepted) }
+    ensures unread { IfErr result (IsUnread journal.now) }
 {
     let Ok(mut buffer) = vec![in alloc; 0u8; PIECE] else {
         return Err(BindFault::Memory);
@@ -166,7 +170,7 @@ pub(crate) fn read_verdict<S: Store>(
     ensures later { S.faults store.old ≤ S.faults store.new }
     ensures value { JudgesRead (S.files store.old) (S.faults store.old) (S.faults store.new) result (λ files. checked_input files bindings.now trace.now journal.now) }
     ensures named { BlamesReached (S.files store.old) result (λ files. checked_input files bindings.now trace.now journal.now) }
-    ensures some { IfOk result (IsVerdict trace.now) }
+    ensures some { JudgesSome result (MayCheck bindings.now trace.now journal.now) }
 {
     let ready = read_input(alloc, store, bindings, trace)?;
     let Ok(mut reader) = reader(alloc, ready) else {

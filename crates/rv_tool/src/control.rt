@@ -2,13 +2,15 @@
 ghost use Rattle.std.specs.Prelude.{◌≡◌, ◌≤◌, ◌++◌, Some, IfOk, OnOk, OnErr};
 ghost use Rattle.rv_text.specs.Readings.{Gives};
 ghost use Rattle.rv_bind.specs.Outcomes.{ReadsOutcome, of_file};
+ghost use Rattle.rv_bind.specs.Possible.{MayCome, MayRead};
 ghost use Rattle.rv_bind.specs.BoundViews.{bound_value};
 ghost use Rattle.rv_bind.specs.WellFormed.{IsWellFormed};
 ghost use Rattle.rv_control.specs.Opening.{opening_tree};
 ghost use Rattle.rv_control.specs.Scripts.{script_of};
 ghost use Rattle.rv_tool.specs.Output.{refusal_text};
 ghost use Rattle.rv_tool.specs.inner.Faults.{IsOutcome};
-ghost use Rattle.rv_tool.specs.Sessions.{replied, done_of, session_of, session_text, session_in, control_in, control_value, IsSession};
+ghost use Rattle.rv_tool.specs.Sessions.{replied, done_of, session_of, session_text, session_in, control_in, control_value};
+ghost use Rattle.rv_tool.specs.Possible.{MayControl};
 ghost use Rattle.rv_tool.specs.inner.SessionValues.{session_value};
 
 use crate::output::refusal_line;
@@ -142,7 +144,7 @@ fn run_text(alloc: Global, script: &str, bound: &Bound, text: &[u8]) -> Result<S
 }
 
 /// Reads the script and does its commands.
-#[tactic(auto, using(crate::proofs::BlamesLemmas::script_named, crate::proofs::BlamesLemmas::tells_named, crate::proofs::SessionLemmas::session_some))]
+#[tactic(auto, using(crate::proofs::BlamesLemmas::script_named, crate::proofs::BlamesLemmas::tells_named, crate::proofs::PossibleLemmas::session_unread, crate::proofs::PossibleLemmas::session_may))]
 fn run_script<S: Store>(
     alloc: Global,
     store: &mut S,
@@ -151,7 +153,7 @@ fn run_script<S: Store>(
 ) -> Result<Session, BindFault>
     requires { IsWellFormed (bound_value bound.now) }
     ensures reads { ReadsOutcome session_value (S.files store.old) (S.files store.new) (S.faults store.old) (S.faults store.new) result (λ files. session_in files script.now (bound_value bound.now)) }
-    ensures some { IfOk result (λ session. IsSession script.now (session_value session)) }
+    ensures some { MayCome session_value result (MayRead script.now (session_text script.now (bound_value bound.now))) }
 {
     let text = read_file(alloc, store, script)?;
     run_text(alloc, script, bound, text.as_slice())
@@ -166,7 +168,7 @@ pub(crate) fn read_control<S: Store>(
     script: &str,
 ) -> Result<Session, BindFault>
     ensures reads { ReadsOutcome session_value (S.files store.old) (S.files store.new) (S.faults store.old) (S.faults store.new) result (λ files. control_in files bindings.now script.now) }
-    ensures some { IfOk result (λ session. IsSession script.now (session_value session)) }
+    ensures some { MayCome session_value result (MayControl bindings.now script.now) }
 {
     let bound = read_bindings(alloc, store, bindings)?;
     run_script(alloc, store, script, &bound)

@@ -2,12 +2,13 @@
 ghost use Rattle.std.specs.Prelude.{◌≡◌, ◌≤◌, ◌<◌, ◌^◌, Ok, Err, length, All, IfOk, IfErr};
 ghost use Rattle.rv_text.specs.Readings.{Gives};
 ghost use Rattle.rv_bind.specs.Outcomes.{ReadsOutcome};
+ghost use Rattle.rv_bind.specs.Possible.{MayCome, MayRead};
 ghost use Rattle.rv_control.specs.Opening.{opening_tree};
 ghost use Rattle.rv_feed.specs.Changes.{IsBelowHalt};
 ghost use Rattle.rv_tool.specs.Changes.{asked, asked_in, changes_of, changes_text, changes_in, input_beside};
 ghost use Rattle.rv_tool.specs.inner.Faults.{IsOutcome};
 ghost use Rattle.rv_tool.specs.inner.Prepared.{prepared_value, IsPrepared};
-ghost use Rattle.rv_tool.specs.SomeInputs.{IsOfSomeScript, IsSomeBeside};
+ghost use Rattle.rv_tool.specs.Possible.{MayRunBeside};
 
 use crate::control::commands_in;
 use crate::input::{Prepared, read_input};
@@ -100,7 +101,7 @@ fn changes_in_text(
 }
 
 /// Reads the script and gives its changes.
-#[tactic(auto, using(crate::proofs::BesideLemmas::changes_named, crate::proofs::BlamesLemmas::tells_named, crate::proofs::SomeInputLemmas::script_some))]
+#[tactic(auto, using(crate::proofs::BesideLemmas::changes_named, crate::proofs::BlamesLemmas::tells_named, crate::proofs::PossibleLemmas::script_unread, crate::proofs::PossibleLemmas::script_may))]
 fn read_changes<S: Store>(
     alloc: Global,
     store: &mut S,
@@ -110,7 +111,7 @@ fn read_changes<S: Store>(
     requires monitors { length bindings.now.monitors.items ≤ 32 }
     requires containers { length bindings.now.containers ≤ 32 }
     ensures reads { ReadsOutcome (λ changes. changes.items) (S.files store.old) (S.files store.new) (S.faults store.old) (S.faults store.new) result (λ files. changes_in files script.now (opening_tree bindings.now)) }
-    ensures some { IfOk result (λ changes. IsOfSomeScript script.now (opening_tree bindings.now) changes.items) }
+    ensures some { MayCome (λ changes. changes.items) result (MayRead script.now (changes_text script.now (opening_tree bindings.now))) }
     ensures below_halt { IfOk result (λ changes. All IsBelowHalt changes.items) }
 {
     let text = read_file(alloc, store, script)?;
@@ -118,7 +119,7 @@ fn read_changes<S: Store>(
 }
 
 /// Reads the bindings and the trace, and then the script that runs beside the CPUs.
-#[tactic(auto, using(crate::proofs::BesideLemmas::beside_named, crate::proofs::SomeInputLemmas::beside_some))]
+#[tactic(auto, using(crate::proofs::BesideLemmas::beside_named))]
 pub(crate) fn read_beside<S: Store>(
     alloc: Global,
     store: &mut S,
@@ -127,7 +128,7 @@ pub(crate) fn read_beside<S: Store>(
     script: &str,
 ) -> Result<Prepared, BindFault>
     ensures ready { IfOk result IsPrepared }
-    ensures some { IfOk result (λ ready. IsSomeBeside trace.now script.now (prepared_value ready)) }
+    ensures some { MayCome prepared_value result (MayRunBeside bindings.now trace.now script.now) }
     ensures reads { ReadsOutcome prepared_value (S.files store.old) (S.files store.new) (S.faults store.old) (S.faults store.new) result (λ files. input_beside files bindings.now trace.now script.now) }
 {
     let mut ready = read_input(alloc, store, bindings, trace)?;

@@ -2,10 +2,11 @@
 ghost use Rattle.std.specs.Prelude.{◌≡◌, ◌≤◌, true, IfOk};
 ghost use Rattle.rv_text.specs.Readings.{Gives};
 ghost use Rattle.rv_bind.specs.Outcomes.{ReadsOutcome, of_file};
+ghost use Rattle.rv_bind.specs.Possible.{MayCome};
 ghost use Rattle.rv_header.specs.Naming.{is_header_name};
 ghost use Rattle.rv_tool.specs.inner.Faults.{IsOutcome};
 ghost use Rattle.rv_tool.specs.HeaderFiles.{header_of_text, header_in};
-ghost use Rattle.rv_tool.specs.SomeTexts.{IsOfSomeText};
+ghost use Rattle.rv_tool.specs.Possible.{MayHeader};
 
 use rv_bind::{BindFault, read_file, refused};
 use rv_dot::read_dot;
@@ -36,7 +37,7 @@ fn named_header(alloc: Global, name: &str, file: &str, bytes: &[u8]) -> Result<V
 }
 
 /// The C tables of a file.
-#[tactic(auto, using(crate::proofs::BlamesLemmas::header_named, crate::proofs::BlamesLemmas::tells_named))]
+#[tactic(auto, using(crate::proofs::BlamesLemmas::header_named, crate::proofs::BlamesLemmas::tells_named, crate::proofs::PossibleLemmas::header_unread, crate::proofs::PossibleLemmas::header_may))]
 pub(crate) fn read_header<S: Store>(
     alloc: Global,
     store: &mut S,
@@ -45,7 +46,7 @@ pub(crate) fn read_header<S: Store>(
 ) -> Result<Vec<u8>, BindFault>
     requires { is_header_name name.now ≡ true }
     ensures reads { ReadsOutcome (λ text. text.items) (S.files store.old) (S.files store.new) (S.faults store.old) (S.faults store.new) result (λ files. header_in files name.now file.now) }
-    ensures some { IfOk result (λ text. IsOfSomeText (header_of_text name.now) text.items) }
+    ensures some { MayCome (λ text. text.items) result (MayHeader name.now file.now) }
 {
     let bytes = read_file(alloc, store, file)?;
     named_header(alloc, name, file, bytes.as_slice())

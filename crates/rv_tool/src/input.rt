@@ -1,6 +1,7 @@
 //! From the files to what a run begins with.
 ghost use Rattle.std.specs.Prelude.{◌≡◌, ◌≤◌, [], length, map, All, IfOk};
 ghost use Rattle.rv_bind.specs.Outcomes.{ReadsOutcome};
+ghost use Rattle.rv_bind.specs.Possible.{MayCome};
 ghost use Rattle.rv_bind.specs.BoundViews.{bound_value};
 ghost use Rattle.rv_bind.specs.WellFormed.{HaveTables, kinds_of, IsWellFormed};
 ghost use Rattle.rv_route.specs.Routed.{routed_value};
@@ -9,7 +10,7 @@ ghost use Rattle.rv_feed.specs.Existence.{HasOneHistory};
 ghost use Rattle.rv_feed.specs.Lane.{IsNewLane, works_of};
 ghost use Rattle.rv_tool.specs.Inputs.{opened, run_input, run_of};
 ghost use Rattle.rv_tool.specs.inner.Prepared.{prepared_value, IsPrepared};
-ghost use Rattle.rv_tool.specs.SomeInputs.{IsSomeInput};
+ghost use Rattle.rv_tool.specs.Possible.{MayInput};
 
 use crate::trace_text::read_routed;
 use rv_bind::{BindFault, Bindings, Bound, Monitor, read_bindings};
@@ -43,7 +44,7 @@ struct RunParts {
 }
 
 /// Reads the bindings and the trace.
-#[tactic(auto, using(crate::proofs::BlamesLemmas::input_named, crate::proofs::SomeInputLemmas::input_some))]
+#[tactic(auto, using(crate::proofs::BlamesLemmas::input_named))]
 pub(crate) fn read_input<S: Store>(
     alloc: Global,
     store: &mut S,
@@ -51,7 +52,7 @@ pub(crate) fn read_input<S: Store>(
     trace: &str,
 ) -> Result<Prepared, BindFault>
     ensures ready { IfOk result IsPrepared }
-    ensures some { IfOk result (λ ready. IsSomeInput trace.now (prepared_value ready)) }
+    ensures some { MayCome prepared_value result (MayInput bindings.now trace.now) }
     ensures unchanged { IfOk result (λ ready. ready.changes.items ≡ []) }
     ensures one { IfOk result (λ ready. HasOneHistory (run_of (prepared_value ready))) }
     ensures reads { ReadsOutcome prepared_value (S.files store.old) (S.files store.new) (S.faults store.old) (S.faults store.new) result (λ files. run_input files bindings.now trace.now) }

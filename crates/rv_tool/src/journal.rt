@@ -2,11 +2,12 @@
 ghost use Rattle.std.specs.Prelude.{◌≡◌, ◌≤◌, [], true, IfOk};
 ghost use Rattle.std.specs.List.{list_any};
 ghost use Rattle.rv_bind.specs.Outcomes.{ReadsOutcome, of_file, IsFaultOf};
+ghost use Rattle.rv_bind.specs.Possible.{MayCome};
 ghost use Rattle.rv_tool.specs.inner.Faults.{IsOutcome};
 ghost use Rattle.rv_tool.specs.Journals.{can_record, if_recordable, recordable_input, ends_instances, IsJournalReport};
 ghost use Rattle.rv_tool.specs.inner.Journals.{IsRecordable};
 ghost use Rattle.rv_tool.specs.inner.Prepared.{prepared_value, IsPrepared};
-ghost use Rattle.rv_tool.specs.SomeInputs.{IsSomeRecordable};
+ghost use Rattle.rv_tool.specs.Possible.{MayRecord};
 
 use crate::check::works;
 use crate::counts_fit::monitors_fit_counts;
@@ -62,7 +63,7 @@ fn recordable(alloc: Global, bindings: &str, ready: Prepared) -> Result<Prepared
 }
 
 /// Reads the bindings and the trace, and finds whether the monitors can be numbered.
-#[tactic(auto, using(crate::proofs::RecordableLemmas::numbered_named, crate::proofs::SomeInputLemmas::told_of_input))]
+#[tactic(auto, using(crate::proofs::RecordableLemmas::numbered_named))]
 pub(crate) fn read_recordable<S: Store>(
     alloc: Global,
     store: &mut S,
@@ -70,7 +71,7 @@ pub(crate) fn read_recordable<S: Store>(
     trace: &str,
 ) -> Result<Prepared, BindFault>
     ensures ready { IfOk result IsRecordable }
-    ensures some { IfOk result (λ ready. IsSomeRecordable trace.now (prepared_value ready)) }
+    ensures some { MayCome prepared_value result (MayRecord bindings.now trace.now) }
     ensures reads { ReadsOutcome prepared_value (S.files store.old) (S.files store.new) (S.faults store.old) (S.faults store.new) result (λ files. recordable_input files bindings.now trace.now) }
 {
     let ready = read_input(alloc, store, bindings, trace)?;

@@ -3,8 +3,9 @@ ghost use Rattle.std.specs.Prelude.{◌≡◌, ◌≤◌, IfOk};
 ghost use Rattle.rv_text.specs.Readings.{Gives};
 ghost use Rattle.rv_model.specs.Weights.{weight};
 ghost use Rattle.rv_bind.specs.Outcomes.{ReadsOutcome, of_file};
+ghost use Rattle.rv_bind.specs.Possible.{MayCome};
 ghost use Rattle.rv_tool.specs.inner.Faults.{IsOutcome};
-ghost use Rattle.rv_tool.specs.SomeTexts.{IsOfSomeText};
+ghost use Rattle.rv_tool.specs.Possible.{MayTable};
 ghost use Rattle.rv_tool.specs.Tables.{rule_text, table_text, table_in};
 
 use rv_bind::{BindFault, read_file, refused};
@@ -67,7 +68,7 @@ fn named_text(alloc: Global, kind: SpecKind, name: &str, bytes: &[u8]) -> Result
 }
 
 /// The table of a file.
-#[tactic(auto, using(crate::proofs::BlamesLemmas::table_named, crate::proofs::BlamesLemmas::tells_named))]
+#[tactic(auto, using(crate::proofs::BlamesLemmas::table_named, crate::proofs::BlamesLemmas::tells_named, crate::proofs::PossibleLemmas::table_unread, crate::proofs::PossibleLemmas::table_may))]
 pub(crate) fn read_table<S: Store>(
     alloc: Global,
     store: &mut S,
@@ -75,7 +76,7 @@ pub(crate) fn read_table<S: Store>(
     name: &str,
 ) -> Result<Vec<u8>, BindFault>
     ensures reads { ReadsOutcome (λ text. text.items) (S.files store.old) (S.files store.new) (S.faults store.old) (S.faults store.new) result (λ files. table_in files kind name.now) }
-    ensures some { IfOk result (λ text. IsOfSomeText (table_text kind) text.items) }
+    ensures some { MayCome (λ text. text.items) result (MayTable kind name.now) }
 {
     let bytes = read_file(alloc, store, name)?;
     named_text(alloc, kind, name, bytes.as_slice())

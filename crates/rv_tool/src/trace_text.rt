@@ -2,6 +2,7 @@
 ghost use Rattle.std.specs.Prelude.{◌≡◌, ◌<◌, ◌≤◌, ◌+◌, ◌⊎◌, [], length, IfOk, IfErr, OnOk};
 ghost use Rattle.rv_bind.specs.FilePieces.{FailsAs};
 ghost use Rattle.rv_bind.specs.Outcomes.{ReadsOutcome, of_file};
+ghost use Rattle.rv_bind.specs.Possible.{MayCome, MayFault, MayRead};
 ghost use Rattle.rv_bind.specs.BoundViews.{bound_value};
 ghost use Rattle.rv_bind.specs.WellFormed.{IsWellFormed, kinds_of};
 ghost use Rattle.rv_route.specs.Routed.{routed_value};
@@ -9,10 +10,9 @@ ghost use Rattle.rv_route.specs.Routing.{route_of};
 ghost use Rattle.rv_text.specs.Readings.{and_then};
 ghost use Rattle.rv_trace.specs.Traces.{trace_of};
 ghost use Rattle.rv_route.specs.Fitting.{WorksFit, FromRules};
-ghost use Rattle.rv_tool.specs.Inputs.{routed_in};
+ghost use Rattle.rv_tool.specs.Inputs.{routed_in, routed_text};
 ghost use Rattle.rv_tool.specs.inner.Faults.{IsOutcome};
 ghost use Rattle.rv_tool.specs.inner.Feeding.{MayBeFed, IsFileFed, IsAll};
-ghost use Rattle.rv_tool.specs.SomeInputs.{IsOfSomeTrace};
 
 use crate::routing::Routing;
 use rv_bind::{BindFault, Bound, fetch, refused};
@@ -24,6 +24,7 @@ use std::alloc::Global;
 const PIECE: usize = 65_536;
 
 /// Routes the next piece of the trace, and answers how many bytes it has.
+#[tactic(auto, using(crate::proofs::PossibleLemmas::trace_unread, crate::proofs::PossibleLemmas::trace_refused))]
 fn take_next<S: Store>(
     alloc: Global,
     store: &mut S,
@@ -41,6 +42,7 @@ fn take_next<S: Store>(
     ensures fed { IfOk result (λ count. IsFileFed (S.files store.old) trace.now (place + count) routing.new.lines.fed) }
     ensures all { IfOk result (λ count. count ≡ 0 → 0 < length buffer.old → IsAll (S.files store.old) trace.now routing.new.lines.fed) }
     ensures fails { FailsAs (S.files store.old) (S.files store.new) (S.faults store.old) (S.faults store.new) result (λ files. routed_in files trace.now (bound_value bound.now)) }
+    ensures some { IfErr result (λ fault. MayFault fault (MayRead trace.now (routed_text trace.now (bound_value bound.now)))) }
 {
     let count = fetch(alloc, store, trace, place as u64, buffer)?;
     match routing.take_piece(&bound.bindings, &buffer[..count]) {
@@ -64,6 +66,7 @@ fn take_pieces<S: Store>(
     ensures open { OnOk result (MayBeFed bound.now.bindings routing.new) }
     ensures all { OnOk result (IsAll (S.files store.old) trace.now routing.new.lines.fed) }
     ensures fails { FailsAs (S.files store.old) (S.files store.new) (S.faults store.old) (S.faults store.new) result (λ files. routed_in files trace.now (bound_value bound.now)) }
+    ensures some { IfErr result (λ fault. MayFault fault (MayRead trace.now (routed_text trace.now (bound_value bound.now)))) }
 {
     let mut place = 0;
     while place < READ_LIMIT {
@@ -98,6 +101,7 @@ fn take_trace<S: Store>(
     ensures open { OnOk result (MayBeFed bound.now.bindings routing.new) }
     ensures all { OnOk result (IsAll (S.files store.old) trace.now routing.new.lines.fed) }
     ensures fails { FailsAs (S.files store.old) (S.files store.new) (S.faults store.old) (S.faults store.new) result (λ files. routed_in files trace.now (bound_value bound.now)) }
+    ensures some { IfErr result (λ fault. MayFault fault (MayRead trace.now (routed_text trace.now (bound_value bound.now)))) }
 {
     let Ok(mut buffer) = vec![in alloc; 0u8; PIECE] else {
         return Err(BindFault::Memory);
@@ -115,7 +119,7 @@ pub(crate) fn read_routed<S: Store>(
     requires { IsWellFormed (bound_value bound.now) }
     ensures fit { IfOk result (λ routed. WorksFit (kinds_of bound.now.bindings.monitors.items) (length routed.tasks) routed.works.items) }
     ensures rules { IfOk result (λ routed. FromRules bound.now.bindings.rules.items routed.works.items) }
-    ensures some { IfOk result (λ routed. IsOfSomeTrace trace.now (bound_value bound.now) (routed_value routed)) }
+    ensures some { MayCome routed_value result (MayRead trace.now (routed_text trace.now (bound_value bound.now))) }
     ensures reads { ReadsOutcome routed_value (S.files store.old) (S.files store.new) (S.faults store.old) (S.faults store.new) result (λ files. routed_in files trace.now (bound_value bound.now)) }
 {
     let Ok(mut routing) = Routing::new(alloc, &bound.bindings) else {

@@ -1,13 +1,14 @@
 //! A run on several threads, with a reader of one slot beside them.
 ghost use Rattle.std.specs.Prelude.{◌≡◌, ◌≤◌, [], IfOk};
 ghost use Rattle.rv_bind.specs.Outcomes.{ReadsOutcome, of_file};
+ghost use Rattle.rv_bind.specs.Possible.{MayCome};
 ghost use Rattle.rv_tool.specs.inner.Faults.{IsOutcome};
 ghost use Rattle.rv_tool.specs.inner.LaneReports.{ReportsWatched};
 ghost use Rattle.rv_tool.specs.inner.Prepared.{prepared_value, IsPrepared};
 ghost use Rattle.rv_tool.specs.Watched.{watched_slot, watched_by, watched_input};
 ghost use Rattle.rv_tool.specs.WatchReports.{IsWatchReport};
 ghost use Rattle.rv_tool.specs.inner.WatchReports.{watch_value, IsPreparedWatch};
-ghost use Rattle.rv_tool.specs.SomeInputs.{IsSomeWatch};
+ghost use Rattle.rv_tool.specs.Possible.{MayWatch};
 
 use crate::input::{Prepared, read_input};
 use crate::replay::{FinishedRun, report};
@@ -66,7 +67,7 @@ pub(crate) fn read_watched<S: Store>(
     instance: &str,
 ) -> Result<PreparedWatch, BindFault>
     ensures ready { IfOk result IsPreparedWatch }
-    ensures some { IfOk result (λ watch. IsSomeWatch trace.now monitor.now instance.now (watch_value watch)) }
+    ensures some { MayCome watch_value result (MayWatch bindings.now trace.now monitor.now instance.now) }
     ensures reads { ReadsOutcome watch_value (S.files store.old) (S.files store.new) (S.faults store.old) (S.faults store.new) result (λ files. watched_input files bindings.now trace.now monitor.now instance.now) }
 {
     let ready = read_input(alloc, store, bindings, trace)?;

@@ -8,19 +8,19 @@ use Rattle.rv_bind.specs.declared.fault.BindFault.{BindFault}
 use Rattle.rv_bind.specs.declared.fault.BindFault.TheVariants as faults
 use Rattle.rv_bind.specs.FilePieces.{FaultRefines, FaultBlamesReached}
 use Rattle.rv_bind.specs.Outcomes.{Outcome, accepted}
+use Rattle.rv_bind.specs.Possible.{MayFault}
 use Rattle.rv_tool.specs.declared.replay.FinishedRun.{FinishedRun}
 use Rattle.rv_tool.specs.Changes.{input_beside}
 use Rattle.rv_tool.specs.Checks.{IsCheckReport, checked_input}
-use Rattle.rv_tool.specs.HeaderFiles.{header_of_text, header_in}
+use Rattle.rv_tool.specs.HeaderFiles.{header_in}
 use Rattle.rv_tool.specs.Headline.{Ending, GivesUp, PrintsText, IsReported}
 use Rattle.rv_tool.specs.Inputs.{InputValue, run_input}
 use Rattle.rv_tool.specs.Journals.{IsJournalReport, recordable_input}
 use Rattle.rv_tool.specs.Loaded.{generated_files}
 use Rattle.rv_tool.specs.Output.{IsWritten, refusal_text, missing_text}
-use Rattle.rv_tool.specs.Sessions.{Printed, IsSession, control_in}
-use Rattle.rv_tool.specs.SomeInputs.{IsSomeInput, IsSomeBeside, IsSomeWatch, IsSomeRecordable}
-use Rattle.rv_tool.specs.SomeTexts.{IsOfSomeText}
-use Rattle.rv_tool.specs.Tables.{table_text, table_in}
+use Rattle.rv_tool.specs.Possible.{MayInput, MayRunBeside, MayWatch, MayRecord, MayCheck, MayTable, MayHeader, MayControl}
+use Rattle.rv_tool.specs.Sessions.{Printed, control_in}
+use Rattle.rv_tool.specs.Tables.{table_in}
 use Rattle.rv_tool.specs.Verdicts.{HasOneVerdict, HasVerdicts}
 use Rattle.rv_tool.specs.Watched.{watched_input}
 use Rattle.rv_tool.specs.WatchReports.{IsWatchReport}
@@ -51,25 +51,25 @@ IsSessionText p h text status = IsText p.text p.status h text status
 
 -- ---- what a command comes to
 
--- what was done goes with what the files come to, where the store tells them, and with one of these on any store; or a fault is that of the files
-abbrev pub ComesTo : {Y : Type 0} → (Y → Type 0) → (Y → List Entry → List ℕ → ℕ → Type 0) → (Files → Outcome Y) → Option Files → ℕ → ℕ → Result FinishedRun BindFault → Type 0
-ComesTo {Y} Is Goes outcome told before now (Ok done) =
+-- what was done goes with what the files come to, where the store tells them, and with what may come on any store; or a fault is that of the files, and of an outcome that may come
+abbrev pub ComesTo : {Y : Type 0} → (Outcome Y → Type 0) → (Y → List Entry → List ℕ → ℕ → Type 0) → (Files → Outcome Y) → Option Files → ℕ → ℕ → Result FinishedRun BindFault → Type 0
+ComesTo {Y} May Goes outcome told before now (Ok done) =
     ((files : Files) → told ≡ Some files → (y : Y) × (outcome files ≡ accepted y) × Goes y done.closed done.text.items done.status)
-    × ((y : Y) × Is y × Goes y done.closed done.text.items done.status)
-ComesTo Is Goes outcome told before now (Err fault) = FaultRefines told before now fault outcome × FaultBlamesReached told fault outcome
+    × ((y : Y) × May (accepted y) × Goes y done.closed done.text.items done.status)
+ComesTo May Goes outcome told before now (Err fault) = FaultRefines told before now fault outcome × FaultBlamesReached told fault outcome × MayFault fault May
 
 -- by what the words ask for; the generated input is read from a store of its own
 abbrev pub CommandComes : CommandValue → Option Files → ℕ → ℕ → Result FinishedRun BindFault → Type 0
-CommandComes (replay bindings trace) = ComesTo (IsSomeInput trace) IsOneReport (λ files. run_input files bindings trace)
-CommandComes (feed bindings trace) = ComesTo (IsSomeInput trace) IsVerdictReport (λ files. run_input files bindings trace)
-CommandComes (feed_beside bindings trace script) = ComesTo (IsSomeBeside trace script) (IsReported IsLegal) (λ files. input_beside files bindings trace script)
-CommandComes (watch bindings trace monitor instance) = ComesTo (IsSomeWatch trace monitor instance) IsWatchReport (λ files. watched_input files bindings trace monitor instance)
-CommandComes (journal bindings trace) = ComesTo (IsSomeRecordable trace) IsJournalReport (λ files. recordable_input files bindings trace)
-CommandComes (check bindings trace judged) = ComesTo (λ c. IsSomeInput trace c.input) IsCheckReport (λ files. checked_input files bindings trace judged)
-CommandComes (load blocks) = λ told before now. ComesTo (IsSomeInput (codes "gen.txt")) IsVerdictReport (λ files. run_input files (codes "gen.rv") (codes "gen.txt")) (Some (generated_files blocks)) 0 0
-CommandComes (table kind file) = ComesTo (IsOfSomeText (table_text kind)) IsPrinted (λ files. table_in files kind file)
-CommandComes (header name file) = ComesTo (IsOfSomeText (header_of_text name)) IsPrinted (λ files. header_in files name file)
-CommandComes (control bindings script) = ComesTo (IsSession script) IsSessionText (λ files. control_in files bindings script)
+CommandComes (replay bindings trace) = ComesTo (MayInput bindings trace) IsOneReport (λ files. run_input files bindings trace)
+CommandComes (feed bindings trace) = ComesTo (MayInput bindings trace) IsVerdictReport (λ files. run_input files bindings trace)
+CommandComes (feed_beside bindings trace script) = ComesTo (MayRunBeside bindings trace script) (IsReported IsLegal) (λ files. input_beside files bindings trace script)
+CommandComes (watch bindings trace monitor instance) = ComesTo (MayWatch bindings trace monitor instance) IsWatchReport (λ files. watched_input files bindings trace monitor instance)
+CommandComes (journal bindings trace) = ComesTo (MayRecord bindings trace) IsJournalReport (λ files. recordable_input files bindings trace)
+CommandComes (check bindings trace judged) = ComesTo (MayCheck bindings trace judged) IsCheckReport (λ files. checked_input files bindings trace judged)
+CommandComes (load blocks) = λ told before now. ComesTo (MayInput (codes "gen.rv") (codes "gen.txt")) IsVerdictReport (λ files. run_input files (codes "gen.rv") (codes "gen.txt")) (Some (generated_files blocks)) 0 0
+CommandComes (table kind file) = ComesTo (MayTable kind file) IsPrinted (λ files. table_in files kind file)
+CommandComes (header name file) = ComesTo (MayHeader name file) IsPrinted (λ files. header_in files name file)
+CommandComes (control bindings script) = ComesTo (MayControl bindings script) IsSessionText (λ files. control_in files bindings script)
 
 -- it is what was done, or its want of memory as a fault
 abbrev pub IsFinished : Result FinishedRun AllocError → Result FinishedRun BindFault → Type 0

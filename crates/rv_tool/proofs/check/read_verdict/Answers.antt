@@ -3,6 +3,8 @@ use Rattle.std.specs.Prelude.{Option, Err}
 use Rattle.std.proofs.lemmas.Result.{err_from_is_err_and}
 use Rattle.rv_bind.specs.FilePieces.{FaultBlamesReached}
 use Rattle.rv_bind.specs.Outcomes.{of_text, accepted, reading}
+use Rattle.rv_bind.specs.Possible.{MayRead}
+use Rattle.rv_tool.specs.Possible.{MayInput}
 use Rattle.rv_bind.proofs.OutcomeLemmas.{Refines-later}
 use Rattle.rv_io.specs.Files.{Files}
 use Rattle.rv_check.specs.declared.reading.Verdict.{Verdict}
@@ -13,6 +15,7 @@ use Rattle.rv_tool.specs.inner.Prepared.{prepared_value}
 use Rattle.rv_tool.specs.inner.JournalPieces.{IsSameRun}
 use Rattle.rv_tool.proofs.CheckLemmas.{checked_comes, checked_named}
 use Rattle.rv_tool.proofs.JudgedLemmas.{verdict_judged, verdict_some}
+use Rattle.rv_tool.proofs.PossibleLemmas.{first_fails, journal_unread}
 use Rattle.rv_tool.proofs.check.read_verdict.Goals as goal
 
 pub returns-in_err-take_journal-clause-value : goal.returns-in_err-take_journal-clause-value
@@ -51,4 +54,16 @@ returns-clause-some g c =
     let ready = c.in_ok-ready.ready in
     let new = c.take_journal.new.reader in
     let run = subst (λ (j : Journal). IsSameRun j new.journal) (ap (λ (x : ReaderValue). x.journal) c.in-Ok.ensures.begins) c.in_ok-take_journal.ensures.same in
-    verdict_some ready c.in_ok-ready.ensures.ready c.in_ok-ready.ensures.unchanged c.in-Ok.ensures.judges new c.verdict.result run c.verdict.ensures.holds c.verdict.ensures.stays c.args.trace.now c.in_ok-ready.ensures.some
+    verdict_some ready c.in_ok-ready.ensures.ready c.in_ok-ready.ensures.unchanged c.in-Ok.ensures.judges new c.verdict.result run c.verdict.ensures.holds c.verdict.ensures.stays c.args.bindings.now c.args.trace.now c.args.journal.now c.in_ok-ready.ensures.some
+
+pub returns-in_err-take_journal-clause-some : goal.returns-in_err-take_journal-clause-some
+returns-in_err-take_journal-clause-some g c =
+    let given = err_from_is_err_and c.from_residual-in_err-take_journal.result c.from_residual-in_err-take_journal.ensures.1 in
+    rw (given.1, given.2)
+    (journal_unread c.args.bindings.now c.args.trace.now c.args.journal.now (prepared_value c.in_ok-ready.ready) c.in_ok-ready.ensures.some c.in_err-take_journal.field-0.0 c.in_err-take_journal.ensures.unread)
+
+pub returns-in_err-ready-clause-some : goal.returns-in_err-ready-clause-some
+returns-in_err-ready-clause-some g c =
+    let journal = c.args.journal.now in
+    let given = err_from_is_err_and c.from_residual.result c.from_residual.ensures.1 in
+    rw (given.1, given.2) (first_fails (MayInput c.args.bindings.now c.args.trace.now) (λ input. MayRead journal (λ text. accepted (record { input = input; journal = text }))) c.in_err-ready.field-0.0 c.in_err-ready.ensures.some)
