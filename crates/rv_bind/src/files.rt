@@ -9,18 +9,20 @@ ghost use Rattle.rv_bind.specs.Compiling.{Compiles};
 
 use crate::compile::{Compiled, compile};
 use crate::fault::{BindFault, LineFault};
+use crate::limits::TEXT_LIMIT;
 use rv_io::{ReadError, Store};
 use rv_model::{Name, SpecKind};
 use rv_text::{Refusal, Refused};
 use std::alloc::Global;
 
-/// The bytes of a file, up to the most that a store reads. It is unread where it is missing or a read failed.
+/// The bytes of a file that is refused past its first 1,048,576 bytes, so that no more than one byte behind them has
+/// to be read. It is unread where it is missing or a read failed.
 #[tactic(auto, using(crate::proofs::ReachedLemmas::unread_named))]
 pub fn read_file<S: Store>(alloc: Global, store: &mut S, name: &str) -> Result<Vec<u8>, BindFault>
     ensures reads { ReadsOutcome (λ text. text.items) (S.files store.old) (S.files store.new) (S.faults store.old) (S.faults store.new) result (λ files. of_name files name.now accepted) }
     ensures unread { IfErr result (IsUnread name.now) }
 {
-    match store.read(alloc, name) {
+    match store.read_short(alloc, name, TEXT_LIMIT) {
         Ok(text) => Ok(text),
         Err(ReadError::Memory) => Err(BindFault::Memory),
         Err(_) => Err(unread(alloc, name)),

@@ -1,5 +1,5 @@
 //! The files of the system: the trusted edge, so as little as can be.
-ghost use Rattle.std.specs.Prelude.{◌≡◌, ◌≤◌, ◌⊎◌, None, take, length, IsOk, IsErrOf, IfOk, IfSome, OnErr};
+ghost use Rattle.std.specs.Prelude.{◌≡◌, ◌≤◌, ◌+◌, ◌⊎◌, None, take, length, IsOk, IsErrOf, IfOk, IfSome, OnErr};
 ghost use Rattle.rv_io.specs.Calls.{risen};
 ghost use Rattle.rv_io.specs.Files.{Reads};
 ghost use Rattle.rv_io.specs.Pieces.{ReadsPiece};
@@ -186,6 +186,27 @@ impl<R: Files> Disk<'_, R> {
     }
 }
 
+impl<R: Files> Disk<'_, R> {
+    /// The bytes of a file, at most so many.
+    fn read_most(&mut self, alloc: Global, name: &str, most: usize) -> Result<Vec<u8>, ReadError>
+        ensures later { self.old ≤ self.new }
+        ensures read { Reads None name.now self.old self.new result }
+        ensures bound { IfOk result (λ bytes. length bytes.items ≤ most) }
+        ensures same { IsOk result ⊎ IsErrOf result ReadError.Memory → self.new ≡ self.old }
+        ensures fault { IsErrOf result ReadError.NoFile ⊎ IsErrOf result ReadError.Failed → self.new ≡ risen self.old }
+    {
+        let fault = match open(self.rt, name) {
+            Ok(mut file) => match read_front(&mut file, alloc, most) {
+                Err(fault) if fault != ReadError::Memory => fault,
+                answer => return answer,
+            },
+            Err(fault) => fault,
+        };
+        self.faults = self.faults.saturating_add(1);
+        Err(fault)
+    }
+}
+
 impl<R: Files> Store for Disk<'_, R> {
     ghost files = { λ _. None };
 
@@ -198,15 +219,17 @@ impl<R: Files> Store for Disk<'_, R> {
         ensures same { IsOk result ⊎ IsErrOf result ReadError.Memory → self.new ≡ self.old }
         ensures fault { IsErrOf result ReadError.NoFile ⊎ IsErrOf result ReadError.Failed → self.new ≡ risen self.old }
     {
-        let fault = match open(self.rt, name) {
-            Ok(mut file) => match read_front(&mut file, alloc, READ_LIMIT) {
-                Err(fault) if fault != ReadError::Memory => fault,
-                answer => return answer,
-            },
-            Err(fault) => fault,
-        };
-        self.faults = self.faults.saturating_add(1);
-        Err(fault)
+        self.read_most(alloc, name, READ_LIMIT)
+    }
+
+    fn read_short(&mut self, alloc: Global, name: &str, most: usize) -> Result<Vec<u8>, ReadError>
+        ensures later { self.old ≤ self.new }
+        ensures read { Reads None name.now self.old self.new result }
+        ensures bound { IfOk result (λ bytes. length bytes.items ≤ most + 1) }
+        ensures same { IsOk result ⊎ IsErrOf result ReadError.Memory → self.new ≡ self.old }
+        ensures fault { IsErrOf result ReadError.NoFile ⊎ IsErrOf result ReadError.Failed → self.new ≡ risen self.old }
+    {
+        self.read_most(alloc, name, most.saturating_add(1))
     }
 
     fn piece(

@@ -35,6 +35,17 @@ pub trait Store {
         ensures later { faults self.old ≤ faults self.new }
         ensures read { Reads (files self.old) name.now (faults self.old) (faults self.new) result };
 
+    /// The bytes of a file of which no reader looks further than one byte past `most`, as `read` gives them. Where the
+    /// store does not tell its files, it may leave out what comes behind that byte.
+    fn read_short(&mut self, alloc: Global, name: &str, most: usize) -> Result<Vec<u8>, ReadError>
+        ensures kept { files self.new ≡ files self.old }
+        ensures later { faults self.old ≤ faults self.new }
+        ensures read { Reads (files self.old) name.now (faults self.old) (faults self.new) result }
+    {
+        let _ = most;
+        self.read(alloc, name)
+    }
+
     /// Puts the bytes of a file from a place on into the front of `into`, as many as come at once, and answers how
     /// many. Only where there is no room, or no byte from that place on, there are none.
     fn piece(
