@@ -14,7 +14,7 @@ use Rattle.std.proofs.Math.Seq.{get_or-append_seam}
 use Rattle.std.specs.Prelude.{IfOk, OnOk}
 use Rattle.rv_model.specs.declared.record.Task.{Task}
 use Rattle.rv_slots.specs.declared.tasks.TaskFault.{TaskFault}
-use Rattle.rv_slots.specs.Tasks.{task_of, same_task, is_held, task_number, key_of, IsTask, AreNumbers}
+use Rattle.rv_slots.specs.Tasks.{task_of, same_task, is_held, task_number, task_key, IsTask, AreNumbers}
 
 -- what is not true
 not-true : (b : Bool) → (b ≡ true → ⊥) → b ≡ false
@@ -77,7 +77,7 @@ module _ (tasks : List Task) (task : Task) (nowhere : (n : ℕ) → slice_get ta
   not-held = list_any_none (same_task task) tasks other-at
 
 -- nor one whose key finds the number of another, or none
-pub stands-nowhere : (numbers : BTreeMap ℕ ℕ) (tasks : List Task) (task : Task) → AreNumbers numbers tasks → (found : Option ℕ) → get nat_cmp numbers (key_of task) ≡ found → ((n : ℕ) → found ≡ Some n → slice_get tasks n ≡ Some task → ⊥) → (n : ℕ) → slice_get tasks n ≡ Some task → ⊥
+pub stands-nowhere : (numbers : BTreeMap ℕ ℕ) (tasks : List Task) (task : Task) → AreNumbers numbers tasks → (found : Option ℕ) → get nat_cmp numbers (task_key task) ≡ found → ((n : ℕ) → found ≡ Some n → slice_get tasks n ≡ Some task → ⊥) → (n : ℕ) → slice_get tasks n ≡ Some task → ⊥
 stands-nowhere numbers tasks task are found is other n here = other n (sym is ∙ are task n here) here
 
 -- and one that the test does not find
@@ -121,8 +121,8 @@ pub stands-here : (tasks : List Task) (n : ℕ) (held task : Task) → n < lengt
 stands-here tasks n held task within is same = slice_get_read tasks (length tasks) n held refl within is ∙ ap Some (sym (same_task-equal held task same))
 
 -- tasks with one key are one
-key_of-one : (a b : Task) → IsTask a → IsTask b → key_of a ≡ key_of b → b ≡ a
-key_of-one a b is_a is_b = go (a.pid == 0) (b.pid == 0) refl refl
+task_key-one : (a b : Task) → IsTask a → IsTask b → task_key a ≡ task_key b → b ≡ a
+task_key-one a b is_a is_b = go (a.pid == 0) (b.pid == 0) refl refl
   where
     go : (x y : Bool) → (a.pid == 0) ≡ x → (b.pid == 0) ≡ y → cond x (2 * a.cpu) (2 * a.pid + 1) ≡ cond y (2 * b.cpu) (2 * b.pid + 1) → b ≡ a
     go true true zero_a zero_b same =
@@ -152,25 +152,25 @@ are-tasks tasks task tell is k d within = go k within
     go k within = pushed (λ t k. IsTask t) tasks task (λ t k here. subst IsTask (get_or_from_slice_get tasks k t t here) (tell k t (slice_get_within tasks k t here))) is (get_or (tasks ++ task ∷ []) k d) k (slice_get-get_or (tasks ++ task ∷ []) k d within)
 
 -- the map after an insert, by the task and not by its key
-pub are-numbered : (m n : BTreeMap ℕ ℕ) (tasks old : List Task) (task : Task) (key number : ℕ) → tasks ≡ old → key ≡ key_of task → number ≡ length old → Updates nat_cmp m n key (Some number) → Updates nat_cmp m n (key_of task) (Some (length tasks))
+pub are-numbered : (m n : BTreeMap ℕ ℕ) (tasks old : List Task) (task : Task) (key number : ℕ) → tasks ≡ old → key ≡ task_key task → number ≡ length old → Updates nat_cmp m n key (Some number) → Updates nat_cmp m n (task_key task) (Some (length tasks))
 are-numbered m n tasks old task key number same by last updates =
-    subst (λ (k : ℕ). Updates nat_cmp m n (key_of task) (Some k)) (last ∙ ap length (sym same)) (subst (λ (k : ℕ). Updates nat_cmp m n k (Some number)) by updates)
+    subst (λ (k : ℕ). Updates nat_cmp m n (task_key task) (Some k)) (last ∙ ap length (sym same)) (subst (λ (k : ℕ). Updates nat_cmp m n k (Some number)) by updates)
 
 -- the numbers after a new task's
-module _ (m n : BTreeMap ℕ ℕ) (tasks : List Task) (task : Task) (are : AreNumbers m tasks) (tell : All IsTask tasks) (is : IsTask task) (new : is_held tasks task ≡ false) (updates : Updates nat_cmp m n (key_of task) (Some (length tasks))) where
+module _ (m n : BTreeMap ℕ ℕ) (tasks : List Task) (task : Task) (are : AreNumbers m tasks) (tell : All IsTask tasks) (is : IsTask task) (new : is_held tasks task ≡ false) (updates : Updates nat_cmp m n (task_key task) (Some (length tasks))) where
   pub numbers-stay : AreNumbers n tasks
-  numbers-stay t k here = updates.2 (key_of t) (not-true (is_at (nat_cmp (key_of task)) (key_of t)) other) ∙ are t k here
+  numbers-stay t k here = updates.2 (task_key t) (not-true (is_at (nat_cmp (task_key task)) (task_key t)) other) ∙ are t k here
     where
       is_t : IsTask t
       is_t = subst IsTask (get_or_from_slice_get tasks k t t here) (tell k t (slice_get_within tasks k t here))
 
-      other : is_at (nat_cmp (key_of task)) (key_of t) ≡ true → ⊥
+      other : is_at (nat_cmp (task_key task)) (task_key t) ≡ true → ⊥
       other same =
-          let keys : key_of task ≡ key_of t = nat_cmp-IsAntisymmetric (key_of task) (key_of t) ((Equal-is (nat_cmp (key_of task) (key_of t))).0 same) in
-          nowhere tasks task new k (here ∙ ap Some (key_of-one task t is is_t keys))
+          let keys : task_key task ≡ task_key t = nat_cmp-IsAntisymmetric (task_key task) (task_key t) ((Equal-is (nat_cmp (task_key task) (task_key t))).0 same) in
+          nowhere tasks task new k (here ∙ ap Some (task_key-one task t is is_t keys))
 
   pub numbers-grow : AreNumbers n (tasks ++ task ∷ [])
   numbers-grow = pushed (λ t k. get_number t ≡ Some k) tasks task numbers-stay updates.1
     where
       get_number : Task → Option ℕ
-      get_number t = get nat_cmp n (key_of t)
+      get_number t = get nat_cmp n (task_key t)

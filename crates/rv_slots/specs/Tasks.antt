@@ -30,9 +30,9 @@ abbrev pub task_number : List Task → Task → ℕ
 task_number tasks task = position_or_len (same_task task) tasks
 
 -- the number by which a task is found: even for an idle task, and odd for every other
-abbrev pub key_of : Task → ℕ
-key_of task = if task.pid == 0 then 2 * task.cpu else 2 * task.pid + 1
+abbrev pub task_key : Task → ℕ
+task_key task = if task.pid == 0 then 2 * task.cpu else 2 * task.pid + 1
 
 -- each task's number is found by its key
 abbrev pub AreNumbers : BTreeMap ℕ ℕ → List Task → Type 0
-AreNumbers numbers tasks = (task : Task) (number : ℕ) → slice_get tasks number ≡ Some task → get nat_cmp numbers (key_of task) ≡ Some number
+AreNumbers numbers tasks = (task : Task) (number : ℕ) → slice_get tasks number ≡ Some task → get nat_cmp numbers (task_key task) ≡ Some number

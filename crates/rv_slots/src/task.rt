@@ -1,6 +1,6 @@
 //! What is one task.
 ghost use Rattle.std.specs.Prelude.{◌≡◌};
-ghost use Rattle.rv_slots.specs.Tasks.{key_of, task_of};
+ghost use Rattle.rv_slots.specs.Tasks.{task_key, task_of};
 
 use rv_model::Task;
 
@@ -15,8 +15,8 @@ pub(crate) fn task_of(pid: u32, cpu: u8) -> Task
 }
 
 /// The number by which a task is found.
-pub(crate) fn key_of(task: Task) -> u64
-    ensures { result ≡ key_of task }
+pub(crate) fn task_key(task: Task) -> u64
+    ensures { result ≡ task_key task }
 {
     if task.pid == 0 {
         2 * task.cpu as u64

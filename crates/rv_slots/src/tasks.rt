@@ -1,8 +1,8 @@
 //! The tasks of a run, in the order of their first use.
 ghost use Rattle.std.specs.Prelude.{◌≡◌, ◌<◌, ◌≤◌, ◌↔◌, ◌++◌, [], ◌∷◌, length, true, false, position, AllPairs, IsErrOf, IsNone, IfOk, OnOk, OnErr, slice_get, Some};
-ghost use Rattle.rv_slots.specs.Tasks.{task_of, same_task, is_held, with_task, task_number, key_of, IsTask};
+ghost use Rattle.rv_slots.specs.Tasks.{task_of, same_task, is_held, with_task, task_number, task_key, IsTask};
 
-use crate::task::{key_of, task_of};
+use crate::task::{task_key, task_of};
 use rv_model::Task;
 use std::alloc::{AllocError, Global};
 use std::collections::BTreeMap;
@@ -96,7 +96,7 @@ impl Tasks {
         ensures none { IsNone result ↔ (is_held self.now (task_of pid cpu) ≡ false) }
     {
         let task = task_of(pid, cpu);
-        match self.numbers.get(&key_of(task)) {
+        match self.numbers.get(&task_key(task)) {
             Some(number) if self.is_numbered(*number, task) => Some(*number),
             _ => None,
         }
@@ -187,7 +187,7 @@ impl Tasks {
         ensures err { OnErr result (self.new ≡ self.old) }
     {
         self.make_room()?;
-        self.numbers.insert(key_of(task), number)?;
+        self.numbers.insert(task_key(task), number)?;
         self.list.push(task)?;
         Ok(())
     }

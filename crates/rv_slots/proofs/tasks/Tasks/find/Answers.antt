@@ -4,7 +4,7 @@ use Rattle.std.specs.BTreeMap.{get}
 use Rattle.std.specs.Option.{option_copied}
 use Rattle.std.specs.Ordering.{nat_cmp}
 use Rattle.rv_model.specs.declared.record.Task.{Task}
-use Rattle.rv_slots.specs.Tasks.{task_of, is_held, same_task, key_of, AreNumbers}
+use Rattle.rv_slots.specs.Tasks.{task_of, is_held, same_task, task_key, AreNumbers}
 use Rattle.rv_slots.proofs.TaskLemmas.{held-at, not-held, no-position, one-number, stands-nowhere}
 use Rattle.rv_slots.proofs.tasks.Tasks.find.Goals as goal
 
@@ -20,7 +20,7 @@ returns-in-Some-clause-none c =
 another : (c : goal.Else-is_numbered) → is_held c.args.self.now (task_of c.args.pid c.args.cpu) ≡ false
 another c =
     let are : AreNumbers c.self.inside.numbers c.args.self.now = subst (AreNumbers c.self.inside.numbers) c.self.view_is c.self.invariant.2 in
-    let found : get nat_cmp c.self.inside.numbers (key_of c.task_of-task.result) ≡ Some c.in-Some.number.now = ap (get nat_cmp c.self.inside.numbers) (sym c.key_of.ensures) ∙ sym c.in-Some.ensures.value in
+    let found : get nat_cmp c.self.inside.numbers (task_key c.task_of-task.result) ≡ Some c.in-Some.number.now = ap (get nat_cmp c.self.inside.numbers) (sym c.task_key.ensures) ∙ sym c.in-Some.ensures.value in
     let nowhere = stands-nowhere c.self.inside.numbers c.args.self.now c.task_of-task.result are (Some c.in-Some.number.now) found (λ n same here.
     let one : c.in-Some.number.now ≡ n = one-number c.in-Some.number.now n same in
     let there : slice_get c.args.self.now c.in-Some.number.now ≡ Some c.task_of-task.result = rw one here in
@@ -35,7 +35,7 @@ none_is_some tasks task n same here = absurd (cc (same))
 none : (c : goal.In_default) → is_held c.args.self.now (task_of c.args.pid c.args.cpu) ≡ false
 none c =
     let are : AreNumbers c.self.inside.numbers c.args.self.now = subst (AreNumbers c.self.inside.numbers) c.self.view_is c.self.invariant.2 in
-    let found : get nat_cmp c.self.inside.numbers (key_of c.task_of-task.result) ≡ None = ap (get nat_cmp c.self.inside.numbers) (sym c.key_of.ensures) ∙ sym c.get.ensures.value ∙ ap option_copied c.in_default.is in
+    let found : get nat_cmp c.self.inside.numbers (task_key c.task_of-task.result) ≡ None = ap (get nat_cmp c.self.inside.numbers) (sym c.task_key.ensures) ∙ sym c.get.ensures.value ∙ ap option_copied c.in_default.is in
     let nowhere = stands-nowhere c.self.inside.numbers c.args.self.now c.task_of-task.result are None found (none_is_some c.args.self.now c.task_of-task.result) in
     ap (is_held c.args.self.now) (sym c.task_of-task.ensures) ∙ not-held c.args.self.now c.task_of-task.result nowhere
 
