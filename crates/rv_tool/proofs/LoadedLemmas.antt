@@ -1,20 +1,18 @@
 -- The generated input is one, and its report is that of one thread.
-use Rattle.std.proofs.Common.{◌≡◌, ◌≢◌, ◌⊎◌, ◌≤◌, ℕ, inl, inr, Bool, true, false, not, cond, ◌&&◌, List, [], ◌∷◌, length, Some, None, refl, sym, ap, ◌∙◌, subst, arith}
+use Rattle.std.proofs.Common.{◌≡◌, ◌≢◌, ◌⊎◌, ◌≤◌, ℕ, inl, inr, Bool, true, false, not, cond, ◌&&◌, List, [], ◌∷◌, Some, None, refl, ap, ◌∙◌, subst, arith}
 use Rattle.std.specs.Prelude.{Option, codes, bytes_eq, nat_lt, if◌then◌else◌}
-use Rattle.std.proofs.lemmas.Bool.{and_parts, not-true, ltb-false, false≢true}
+use Rattle.std.proofs.lemmas.Bool.{and_parts, not-true, ltb-false}
 use Rattle.std.proofs.lemmas.List.Elements.{All-nil, All-cons}
 use Rattle.rv_io.specs.Files.{front_read}
 use Rattle.rv_text.specs.Decimal.{decimal_of}
 use Rattle.rv_model.specs.declared.entry.Entry.{Entry}
 use Rattle.rv_model.specs.Histories.{IsLegal}
 use Rattle.rv_model.specs.Reactors.{is_panic}
-use Rattle.rv_model.specs.Records.{is_failure, is_stopped, records_of, status_of}
 use Rattle.rv_model.specs.declared.kind.SpecKind.{SpecKind}
 use Rattle.rv_model.specs.Words.{kind_named}
 use Rattle.rv_laws.proofs.StopLemmas.{all_lone_have_no_stop}
-use Rattle.rv_bind.specs.Outcomes.{Outcome, accepted, reading, of_file}
-use Rattle.rv_route.specs.Routing.{RoutedValue, route_of}
-use Rattle.rv_trace.specs.Traces.{trace_of}
+use Rattle.rv_bind.specs.Outcomes.{accepted, reading, of_file}
+use Rattle.rv_route.specs.Routing.{route_of}
 use Rattle.rv_gen.specs.declared.files.TheConstants.{MAX_BLOCKS}
 use Rattle.rv_gen.specs.Generated.{trace_text}
 use Rattle.rv_gen.proofs.LengthLemmas.{blocks-short}
@@ -30,7 +28,7 @@ use Rattle.rv_tool.specs.Loaded.{generated_files, load_input}
 use Rattle.rv_tool.specs.Loads.{EndsAsLoad}
 use Rattle.rv_tool.specs.inner.Commands.{IsVerdictReport}
 use Rattle.rv_tool.specs.Verdicts.{HasNoPanic, HasOneWriterIn, HasVerdicts, HasLoadVerdict, ReportsLoad}
-use Rattle.rv_tool.specs.Words.{CommandValue, replay, feed, feed_beside, journal, check, watch, table, header, control, load, load_of, table_command, header_command, command_of}
+use Rattle.rv_tool.specs.Words.{CommandValue, replay, feed, feed_beside, journal, check, watch, table, header, control, load, load_of, command_of}
 use Rattle.rv_tool.proofs.LoadLemmas.{front-short, load_bound}
 
 -- ---- the input
