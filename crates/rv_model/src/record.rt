@@ -12,19 +12,19 @@ pub enum Delivered {
     Racing,
 }
 
-/// One delivery of the trace, and what came of it. In this order of its fields it takes 64 bytes.
+/// One delivery of the trace, and what came of it.
 #[derive(Clone, Copy, Debug, Drop, PartialEq, Eq)]
 pub struct Record {
     /// The delivery's number in the whole trace.
     pub order: u32,
     /// The trace line, from 1.
     pub line: u32,
-    pub instance: u32,
     pub monitor: u8,
-    /// Whether the switches showed reacting on at its turn's look.
-    pub reacting: bool,
+    pub instance: u32,
     pub hit: Hit,
     pub outcome: Delivered,
+    /// Whether the switches showed reacting on at its turn's look.
+    pub reacting: bool,
 }
 
 /// A task of the trace. The idle task of each CPU has pid 0; any other task has `cpu` 0.
