@@ -1,4 +1,5 @@
 pub mod SetLemmas
+pub mod CoverLists
 pub mod CoverSays
 pub mod PairLists
 pub mod RowSets

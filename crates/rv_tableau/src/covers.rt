@@ -1,12 +1,12 @@
 //! The cover of a part and of a set of parts.
-//! Where a branch number is 0 the cover is empty at once, so that no list on the way is longer than the branch number of
-//! the set that is asked for: a factor 0 may stand beside a factor of 2^40.
+//! Covers are made part by part, each once, and none that is longer than the branch number of the set that is asked for:
+//! a factor 0 may stand beside a factor of 2^40.
 ghost use Rattle.std.specs.Prelude.{◌≡◌, ◌<◌, ◌≤◌, ◌++◌, ℕ, length, IfOk, OnOk};
 ghost use Rattle.rv_model.specs.Formulas.{ltl};
 ghost use Rattle.rv_nnf.specs.Parts.{OperandsBelow, part_value_at};
 ghost use Rattle.rv_nnf.specs.Views.{part_value, part_values};
-ghost use Rattle.rv_tableau.specs.inner.Covering.{AreBranchNumbers, cover_alone, cover_from, operands_of};
-ghost use Rattle.rv_tableau.specs.Cover.{label_cover as cover_of_label, part_cover as cover_of_part, cover_of};
+ghost use Rattle.rv_tableau.specs.inner.Covering.{AreBranchNumbers, AreCovers, IsCover, pairs_at, cover_alone, cover_from, operands_of};
+ghost use Rattle.rv_tableau.specs.Cover.{label_cover as cover_of_label, cover_of};
 
 use crate::branches::branch_number;
 use crate::pairs::{Pair, add_joined, label_pair, later_pair, unions};
@@ -96,31 +96,64 @@ fn cover_alone(alloc: Global, k: u8, part: &Part) -> Result<Vec<Pair>, AllocErro
     Ok(out)
 }
 
-/// The cover of part k.
-pub fn part_cover(
+/// The pairs of a cover that was made.
+fn pairs_of(covers: &[Vec<Pair>], k: usize) -> &[Pair]
+    requires { k < length covers.now }
+    ensures { result.now ≡ pairs_at covers.now k }
+{
+    covers[k].as_slice()
+}
+
+/// The cover of part k, from those of the parts before it. One of more than `most` pairs is left empty.
+fn next_cover(
     alloc: Global,
     parts: &[Part],
     numbers: &[u32],
-    k: u8,
+    most: u32,
+    covers: &[Vec<Pair>],
+    k: usize,
 ) -> Result<Vec<Pair>, AllocError>
     requires few { length parts.now ≤ 64 }
     requires below { (k : ℕ) → OperandsBelow k (part_value_at (part_values parts.now) k) }
     requires numbers { AreBranchNumbers (part_values parts.now) numbers.now }
+    requires covers { AreCovers (part_values parts.now) numbers.now most covers.now }
+    requires count { length covers.now ≡ k }
     requires place { k < length parts.now }
-    ensures { IfOk result (λ v. v.items ≡ cover_of_part (part_values parts.now) k) }
+    ensures { IfOk result (λ v. IsCover (part_values parts.now) numbers.now most k v.items) }
 {
-    if numbers[k as usize] == 0 {
+    if numbers[k] == 0 || most < numbers[k] {
         return Ok(Vec::new(alloc));
     }
-    let part = &parts[k as usize];
+    let part = &parts[k];
     match operands(part) {
         Some((i, j)) => {
-            let left = part_cover(alloc, parts, numbers, i)?;
-            let right = part_cover(alloc, parts, numbers, j)?;
-            cover_from(alloc, k, part, &left, &right)
+            let left = pairs_of(covers, i as usize);
+            let right = pairs_of(covers, j as usize);
+            cover_from(alloc, k as u8, part, left, right)
         }
-        None => cover_alone(alloc, k, part),
+        None => cover_alone(alloc, k as u8, part),
     }
+}
+
+/// The covers of all parts, each made once, by the parts' numbers. Those of more than `most` pairs are left empty.
+fn part_covers(
+    alloc: Global,
+    parts: &[Part],
+    numbers: &[u32],
+    most: u32,
+) -> Result<Vec<Vec<Pair>>, AllocError>
+    requires few { length parts.now ≤ 64 }
+    requires below { (k : ℕ) → OperandsBelow k (part_value_at (part_values parts.now) k) }
+    requires numbers { AreBranchNumbers (part_values parts.now) numbers.now }
+    ensures all { IfOk result (λ covers. length covers.items ≡ length parts.now) }
+    ensures covers { IfOk result (λ covers. AreCovers (part_values parts.now) numbers.now most covers.items) }
+{
+    let mut covers = Vec::new(alloc);
+    for k in 0..parts.len() {
+        let next = next_cover(alloc, parts, numbers, most, &covers, k)?;
+        covers.push(next)?;
+    }
+    Ok(covers)
 }
 
 /// The cover of a set of parts.
@@ -137,14 +170,15 @@ pub fn set_cover(
     ensures { IfOk result (λ v. v.items ≡ cover_of (part_values parts.now) set) }
 {
     let mut out = Vec::new(alloc);
-    if branch_number(parts, numbers, set) == 0 {
+    let most = branch_number(parts, numbers, set);
+    if most == 0 {
         return Ok(out);
     }
+    let covers = part_covers(alloc, parts, numbers, most)?;
     out.push(Pair { labels: 0, next: 0 })?;
     for k in 0..parts.len() {
         if has_bit(set, k) {
-            let next = part_cover(alloc, parts, numbers, k as u8)?;
-            out = unions(alloc, &out, &next)?;
+            out = unions(alloc, &out, pairs_of(&covers, k))?;
         }
     }
     Ok(out)

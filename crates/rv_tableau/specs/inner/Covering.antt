@@ -1,10 +1,11 @@
 -- The branch numbers that are kept, and the cover of a part from those of its operands.
-use Rattle.std.specs.Prelude.{◌≡◌, ℕ, ◌<◌, min, List, [], ◌∷◌, ◌++◌, length, slice_index, Option, Some, None}
+use Rattle.std.specs.Prelude.{◌≡◌, ℕ, ◌<◌, ◌≤◌, min, List, [], ◌∷◌, ◌++◌, map, length, slice_index, slice_index_or, Option, Some, None, Vec}
+use Rattle.std.specs.declared.alloc.Global.{Global}
 use Rattle.rv_nnf.specs.Parts.{PartValue, Label, Next, And, Or, Until, Release}
 use Rattle.rv_tableau.specs.declared.pairs.Pair.{Pair}
 use Rattle.rv_tableau.specs.Pairs.{later_alone, unions, and_later}
 use Rattle.rv_tableau.specs.Branches.{part_branches}
-use Rattle.rv_tableau.specs.Cover.{label_cover}
+use Rattle.rv_tableau.specs.Cover.{label_cover, part_cover}
 
 -- the branch number of each part, kept up to 4,097
 pub record AreBranchNumbers (ps : List PartValue) (numbers : List ℕ) : Type 0 where
@@ -37,3 +38,17 @@ cover_alone k (And i j) = []
 cover_alone k (Or i j) = []
 cover_alone k (Until i j) = []
 cover_alone k (Release i j) = []
+
+-- ---- covers that were made
+
+-- the pairs of the cover at an index, and none past the end
+abbrev pub pairs_at : List (Vec Pair Global) → ℕ → List Pair
+pairs_at covers k = slice_index_or (map (λ v. v.items) covers) k []
+
+-- the pairs are the cover of part k, unless its branch number is over `most`
+abbrev pub IsCover : List PartValue → List ℕ → ℕ → ℕ → List Pair → Type 0
+IsCover ps numbers most k pairs = slice_index numbers k ≤ most → pairs ≡ part_cover ps k
+
+-- the covers are so of the first parts
+abbrev pub AreCovers : List PartValue → List ℕ → ℕ → List (Vec Pair Global) → Type 0
+AreCovers ps numbers most covers = (k : ℕ) → k < length covers → IsCover ps numbers most k (pairs_at covers k)
