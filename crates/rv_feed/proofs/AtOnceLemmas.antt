@@ -33,13 +33,13 @@ use Rattle.rv_feed.proofs.OneLemmas.{legal-of-run, run-of}
 
 module _ {G : Type 0} (board : BoardId) (panics : ℕ → Bool) (h : List Entry) where
   -- the history has a feeder's script and nothing else by the numbers of its seat, and the lane has the script's records
-  record IsIn (old new : Feeder G) : Type 0 where
+  record IsIn (old new : Feeder G LaneValue) : Type 0 where
     work_is : new.lane.work ≡ old.lane.work
     whole : Whole board.setup panics [] h new.lane
     own : (before : List Entry) (e : Entry) (after : List Entry) → h ≡ before ++ e ∷ after → known_of old.seat.part e.seat ≡ true → e.seat ≡ 2 + old.lane.work.cpu
 
   -- a feeder that ran, and whose seat was joined
-  is-in : (old new : Feeder G) → RunsFeeder panics old new → IsSeated board old → ExtendsSeen h new.seat.part → IsIn old new
+  is-in : (old new : Feeder G LaneValue) → RunsFeeder panics old new → IsSeated board old → ExtendsSeen h new.seat.part → IsIn old new
   is-in old new runs seated later =
       let on : old.seat.board ≡ board = seated.fits.board_is in
       let fresh = seated.fresh in
@@ -59,7 +59,7 @@ module _ {G : Type 0} (board : BoardId) (panics : ℕ → Bool) (h : List Entry)
       }
 
   -- all feeders ran and the changes were made, from seats that had all numbers, and the history follows all seats
-  pub record IsFed (first actor actor' : SeatValue) (changes : List Change) (fs fs' : List (Feeder G)) : Type 0 where
+  pub record IsFed (first actor actor' : SeatValue) (changes : List Change) (fs fs' : List (Feeder G LaneValue)) : Type 0 where
     pub sound : IsSound board.setup (judges_of board.setup) h
     pub seated : All (IsSeated board) fs
     pub ran : AllZip (RunsFeeder panics) fs fs'
@@ -72,7 +72,7 @@ module _ {G : Type 0} (board : BoardId) (panics : ℕ → Bool) (h : List Entry)
     pub first_in : ExtendsSeen h first.part
     pub cover : (n : ℕ) → n < 67 → (known_of first.part n ≡ true) ⊎ ((known_of actor.part n ≡ true) ⊎ Any (λ f. known_of f.seat.part n ≡ true) fs)
 
-  module _ (first actor actor' : SeatValue) (changes : List Change) (fs fs' : List (Feeder G)) (fed : IsFed first actor actor' changes fs fs') where
+  module _ (first actor actor' : SeatValue) (changes : List Change) (fs fs' : List (Feeder G LaneValue)) (fed : IsFed first actor actor' changes fs fs') where
     -- each feeder's script is in the history
     all-in : AllZip IsIn fs fs'
     all-in = zip-with (RunsFeeder panics) (IsSeated board) (λ f. ExtendsSeen h f.seat.part) IsIn is-in fs fs' fed.ran fed.seated fed.feeders_in
@@ -88,7 +88,7 @@ module _ {G : Type 0} (board : BoardId) (panics : ℕ → Bool) (h : List Entry)
         ∙ ap reverse (zip-map (λ (l l' : LaneValue). l'.work ≡ l.work) (λ (l : LaneValue). l.work) (λ l l' same. same) (map (λ f. f.lane) fs) (map (λ f. f.lane) fs') (lanes fs fs' all-in))
         ∙ sym (map-reverse (λ (l : LaneValue). l.work) (map (λ f. f.lane) fs))
       where
-        lanes : (fs fs' : List (Feeder G)) → AllZip IsIn fs fs' → AllZip (λ (l l' : LaneValue). l'.work ≡ l.work) (map (λ f. f.lane) fs) (map (λ f. f.lane) fs')
+        lanes : (fs fs' : List (Feeder G LaneValue)) → AllZip IsIn fs fs' → AllZip (λ (l l' : LaneValue). l'.work ≡ l.work) (map (λ f. f.lane) fs) (map (λ f. f.lane) fs')
         lanes [] [] zip = tt
         lanes [] (f' ∷ fs') zip = absurd zip
         lanes (f ∷ fs) [] zip = absurd zip
@@ -104,7 +104,7 @@ module _ {G : Type 0} (board : BoardId) (panics : ℕ → Bool) (h : List Entry)
       ]
     ]
       where
-        of_works : Any (λ (f : Feeder G). e.seat ≡ 2 + f.lane.work.cpu) fs → Any (λ w. e.seat ≡ 2 + w.cpu) (works_of (lanes_of fs))
+        of_works : Any (λ (f : Feeder G LaneValue). e.seat ≡ 2 + f.lane.work.cpu) fs → Any (λ w. e.seat ≡ 2 + w.cpu) (works_of (lanes_of fs))
         of_works any =
             Any-map (λ (w : Work). e.seat ≡ 2 + w.cpu) (λ (l : LaneValue). l.work) (lanes_of fs)
             (Any-reverse (λ (l : LaneValue). e.seat ≡ 2 + l.work.cpu) (map (λ f. f.lane) fs) (Any-map (λ (l : LaneValue). e.seat ≡ 2 + l.work.cpu) (λ f. f.lane) fs any))
@@ -118,7 +118,7 @@ module _ {G : Type 0} (board : BoardId) (panics : ℕ → Bool) (h : List Entry)
         run-of board.setup panics h (lanes_of fs) (lanes_of fs') specs changes fed-works whole Says are
         (says (legal-of-run board.setup panics h (lanes_of fs) (lanes_of fs') specs changes fed-works whole fed.sound acts nobody))
 
-  module _ {first actor actor' : SeatValue} {changes : List Change} {fs fs' : List (Feeder G)} (fed : IsFed first actor actor' changes fs fs') where
+  module _ {first actor actor' : SeatValue} {changes : List Change} {fs fs' : List (Feeder G LaneValue)} (fed : IsFed first actor actor' changes fs fs') where
     -- the lanes come back where there are none
     pub lanes-back : {back left : List LaneValue} → back ≡ left ++ lanes_of fs' → left ≡ [] → back ≡ lanes_of fs'
     lanes-back is empty = is ∙ ap (λ (z : List LaneValue). z ++ lanes_of fs') empty
@@ -137,31 +137,31 @@ module _ {G : Type 0} (board : BoardId) (panics : ℕ → Bool) (h : List Entry)
 -- ---- from the calls of a run
 
 -- feeders that ran are on the same board
-pub ran-on : {G : Type 0} (board : BoardId) (panics : ℕ → Bool) (fs fs' : List (Feeder G)) → All (IsSeated board) fs → AllZip (RunsFeeder panics) fs fs' → All (λ (f : Feeder G). f.seat.board ≡ board) fs'
+pub ran-on : {G : Type 0} (board : BoardId) (panics : ℕ → Bool) (fs fs' : List (Feeder G LaneValue)) → All (IsSeated board) fs → AllZip (RunsFeeder panics) fs fs' → All (λ (f : Feeder G LaneValue). f.seat.board ≡ board) fs'
 ran-on {G} board panics fs fs' seated ran =
-    zip-right On (λ (f : Feeder G). f.seat.board ≡ board) (λ f f' on. on) fs fs'
-    (zip-with (RunsFeeder panics) (IsSeated board) (λ (f : Feeder G). Unit {0}) On (λ f f' runs seated free. runs.adds.grows.board ∙ seated.fits.board_is) fs fs' ran seated (λ k d lt. tt))
+    zip-right On (λ (f : Feeder G LaneValue). f.seat.board ≡ board) (λ f f' on. on) fs fs'
+    (zip-with (RunsFeeder panics) (IsSeated board) (λ (f : Feeder G LaneValue). Unit {0}) On (λ f f' runs seated free. runs.adds.grows.board ∙ seated.fits.board_is) fs fs' ran seated (λ k d lt. tt))
   where
-    On : Feeder G → Feeder G → Type 0
+    On : Feeder G LaneValue → Feeder G LaneValue → Type 0
     On f f' = f'.seat.board ≡ board
 
 -- and as many as there were lanes
-pub ran-many : {G : Type 0} (panics : ℕ → Bool) (lanes : List LaneValue) (fs fs' : List (Feeder G)) → lanes ≡ lanes_of fs → AllZip (RunsFeeder panics) fs fs' → length fs' ≡ length lanes
+pub ran-many : {G : Type 0} (panics : ℕ → Bool) (lanes : List LaneValue) (fs fs' : List (Feeder G LaneValue)) → lanes ≡ lanes_of fs → AllZip (RunsFeeder panics) fs fs' → length fs' ≡ length lanes
 ran-many {G} panics lanes fs fs' is ran =
-    sym (length_all_zip (RunsFeeder panics) fs fs' ran) ∙ sym (ap length is ∙ length-reverse (map (λ (f : Feeder G). f.lane) fs) ∙ length-map fs (λ (f : Feeder G). f.lane))
+    sym (length_all_zip (RunsFeeder panics) fs fs' ran) ∙ sym (ap length is ∙ length-reverse (map (λ (f : Feeder G LaneValue). f.lane) fs) ∙ length-map fs (λ (f : Feeder G LaneValue). f.lane))
 
 -- their lanes have room where theirs stood
-pub ran-room : {G : Type 0} (panics : ℕ → Bool) {lanes left : List LaneValue} (fs fs' : List (Feeder G)) (cap : ℕ) → lanes ≡ lanes_of fs → AllZip (RunsFeeder panics) fs fs' → left ≡ [] → length lanes ≤ cap → length left + length fs' ≤ cap
+pub ran-room : {G : Type 0} (panics : ℕ → Bool) {lanes left : List LaneValue} (fs fs' : List (Feeder G LaneValue)) (cap : ℕ) → lanes ≡ lanes_of fs → AllZip (RunsFeeder panics) fs fs' → left ≡ [] → length lanes ≤ cap → length left + length fs' ≤ cap
 ran-room {G} panics {lanes} {left} fs fs' cap is ran empty room =
     let many = ran-many panics lanes fs fs' is ran in
     let none : length left ≡ 0 = ap length empty in
     omega arith
 
 -- the seats were split off, the feeders and the control actor ran, and all seats were joined into the one that closed the board
-pub fed-from : {G : Type 0} {board : BoardId} {end : ℕ} {panics : ℕ → Bool} {h : List Entry} {old first actor actor' mid last : SeatValue} (changes : List Change) {lanes : List LaneValue} {fs fs' : List (Feeder G)}
+pub fed-from : {G : Type 0} {board : BoardId} {end : ℕ} {panics : ℕ → Bool} {h : List Entry} {old first actor actor' mid last : SeatValue} (changes : List Change) {lanes : List LaneValue} {fs fs' : List (Feeder G LaneValue)}
     → AreSeated board end old lanes [] fs → end ≡ 67 → first ≡ seat_value (part old.part.number 1 old.part.joined_in old.part.seen) old.board → actor ≡ seat_value (part 1 old.part.end [] old.part.seen) old.board
     → AllZip (RunsFeeder panics) fs fs' → DoesAll actor actor' (control_acts actor.board.setup.shape changes)
-    → Joins first actor' mid → HasTakenIn last mid → All (λ (f : Feeder G). HasTakenIn last f.seat) fs' → last.board ≡ board → Closes last h → IsFed board panics h first actor actor' changes fs fs'
+    → Joins first actor' mid → HasTakenIn last mid → All (λ (f : Feeder G LaneValue). HasTakenIn last f.seat) fs' → last.board ≡ board → Closes last h → IsFed board panics h first actor actor' changes fs fs'
 fed-from {G} {board} {end} {panics} {h} {old} {first} {actor} {actor'} {mid} {last} changes {lanes} {fs} {fs'} are all first_is actor_is ran did joins held feeders on closes =
     let mid_in : ExtendsSeen h mid.part = follows-then last mid h held closes.list in
     let same_board : actor.board ≡ board = ap (λ (s : SeatValue). s.board) actor_is ∙ are.is_first.board_is in
@@ -169,7 +169,7 @@ fed-from {G} {board} {end} {panics} {h} {old} {first} {actor} {actor'} {mid} {la
       sound = subst (λ (b : BoardId). IsSound b.setup (judges_of b.setup) h) on closes.sound;
       seated = are.seated;
       ran = ran;
-      feeders_in = All-weaker (λ (f : Feeder G). HasTakenIn last f.seat) (λ (f : Feeder G). ExtendsSeen h f.seat.part) (λ f holds. follows-then last f.seat h holds closes.list) fs' feeders;
+      feeders_in = All-weaker (λ (f : Feeder G LaneValue). HasTakenIn last f.seat) (λ (f : Feeder G LaneValue). ExtendsSeen h f.seat.part) (λ f holds. follows-then last f.seat h holds closes.list) fs' feeders;
       actor_is = ap (λ (s : SeatValue). s.part.number) actor_is;
       actor_fresh = record {
         has = let n : actor.part.number ≡ 1 = ap (λ (s : SeatValue). s.part.number) actor_is in let e : actor.part.end ≡ old.part.end = ap (λ (s : SeatValue). s.part.end) actor_is in let above = are.is_first.end in omega arith;

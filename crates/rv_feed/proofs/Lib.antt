@@ -16,7 +16,7 @@ pub mod OneLemmas
 pub mod PlaceLemmas
 pub mod RunLemmas
 pub mod SeatedLemmas
-pub mod SortedLemmas
 pub mod StayLemmas
 pub mod StepLemmas
 pub mod TurnLemmas
+pub mod ViewLemmas

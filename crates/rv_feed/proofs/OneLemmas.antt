@@ -14,14 +14,14 @@ use Rattle.rv_model.specs.Setups.{Setup}
 use Rattle.rv_model.specs.declared.work.Change.{Change}
 use Rattle.rv_model.specs.Scripts.{played, Plays, control_acts}
 use Rattle.rv_model.specs.Histories.{Input, input_with, AreJudges, IsSound, IsLegal, IsOneHistory, IsJustifiedBy, IsNoStop, Replays, IsInOrder, acts_of}
-use Rattle.rv_model.specs.Records.{records_of, sort_records, script_records, status_of, is_failure, is_stopped}
+use Rattle.rv_model.specs.Records.{records_of, sort_records, script_records, status_of}
 use Rattle.rv_model.specs.Works.{Work}
 use Rattle.rv_model.proofs.CutLemmas.{at_each-weaker}
+use Rattle.rv_model.proofs.SortedLemmas.{status-sorted}
 use Rattle.rv_core.specs.Core.{CoreValue}
 use Rattle.rv_core.specs.Setup.{judges_of}
 use Rattle.rv_feed.specs.Lane.{LaneValue, works_of, lane_records}
 use Rattle.rv_feed.specs.Order.{Whole, Ran}
-use Rattle.rv_feed.proofs.SortedLemmas.{any-sort}
 use Rattle.rv_feed.specs.Runs.{IsRunOf}
 
 -- nothing is asked of what is no stop
@@ -43,10 +43,6 @@ acts-none seat (e ∷ h) none =
     rw no (acts-none seat h (λ before f after eq. none (e ∷ before) f after (ap (λ (z : List Entry). e ∷ z) eq)))
 
 -- ---- records
-
--- a sort keeps the status
-pub status-sorted : (rs : List Record) → status_of (sort_records rs) ≡ status_of rs
-status-sorted rs = rw (any-sort is_failure rs, any-sort is_stopped rs) refl
 
 -- the scripts' records are the lanes'
 lane-records : (s : Setup) (panics : ℕ → Bool) (h : List Entry) (lanes : List LaneValue) → All (Whole s panics [] h) lanes

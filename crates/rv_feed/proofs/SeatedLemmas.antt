@@ -72,7 +72,7 @@ module _ (board : BoardId) where
     }
 
     -- the lane is seated
-    pub seated-more : {G : Type 0} (end : ℕ) (all : List LaneValue) (fs : List (Feeder G)) (f : Feeder G) → AreSeated board end old all (left ++ l ∷ []) fs → f.lane ≡ l → f.seat ≡ seat_value (part (2 + l.work.cpu) old.part.end [] old.part.seen) old.board
+    pub seated-more : {G : Type 0} (end : ℕ) (all : List LaneValue) (fs : List (Feeder G LaneValue)) (f : Feeder G LaneValue) → AreSeated board end old all (left ++ l ∷ []) fs → f.lane ≡ l → f.seat ≡ seat_value (part (2 + l.work.cpu) old.part.end [] old.part.seen) old.board
         → new ≡ seat_value (part old.part.number (2 + l.work.cpu) old.part.joined_in old.part.seen) old.board → AreSeated board end new all left (fs ++ f ∷ [])
     seated-more {G} end all fs f are lane seat first = record {
       is_first = record {
@@ -96,11 +96,11 @@ module _ (board : BoardId) where
       cover = λ n lt. elim (are.cover n lt) [
         | inl t ↦ elim (split_known old new f.seat (2 + l.work.cpu) n (ap (λ (s : SeatValue). s.part) first) (ap (λ (s : SeatValue). s.part) seat) t) [
           | inl a ↦ inl a
-          | inr b ↦ inr (Any-push (λ (f : Feeder G). known_of f.seat.part n ≡ true) fs f b)
+          | inr b ↦ inr (Any-push (λ (f : Feeder G LaneValue). known_of f.seat.part n ≡ true) fs f b)
         ]
-        | inr any ↦ inr (Any-front (λ (f : Feeder G). known_of f.seat.part n ≡ true) fs (f ∷ []) any)
+        | inr any ↦ inr (Any-front (λ (f : Feeder G LaneValue). known_of f.seat.part n ≡ true) fs (f ∷ []) any)
       ];
     }
       where
         one : lanes_of (fs ++ f ∷ []) ≡ l ∷ lanes_of fs
-        one = ap reverse (map-append (λ (f : Feeder G). f.lane) fs (f ∷ [])) ∙ reverse-append (map (λ (f : Feeder G). f.lane) fs) (f.lane ∷ []) ∙ ap (λ (m : LaneValue). m ∷ lanes_of fs) lane
+        one = ap reverse (map-append (λ (f : Feeder G LaneValue). f.lane) fs (f ∷ [])) ∙ reverse-append (map (λ (f : Feeder G LaneValue). f.lane) fs) (f.lane ∷ []) ∙ ap (λ (m : LaneValue). m ∷ lanes_of fs) lane

@@ -10,20 +10,20 @@ use Rattle.rv_feed.specs.Lane.{LaneValue}
 
 module _ {G : Type 0} where
   -- the feeder fits the board, and its seat has seen nothing
-  pub record IsSeated (board : BoardId) (f : Feeder G) : Type 0 where
+  pub record IsSeated (board : BoardId) (f : Feeder G LaneValue) : Type 0 where
     pub fits : FitsFeeder board f
     pub fresh : IsFresh f.seat
 
   -- the lanes of the feeders, in reverse order: feeders are made from the last lane to the first
-  abbrev pub lanes_of : List (Feeder G) → List LaneValue
+  abbrev pub lanes_of : List (Feeder G LaneValue) → List LaneValue
   lanes_of fs = reverse (map (λ f. f.lane) fs)
 
   -- every number below `end` is the first seat's or a feeder's
-  abbrev pub Cover : ℕ → SeatValue → List (Feeder G) → Type 0
+  abbrev pub Cover : ℕ → SeatValue → List (Feeder G LaneValue) → Type 0
   Cover end first fs = (n : ℕ) → n < end → (known_of first.part n ≡ true) ⊎ Any (λ f. known_of f.seat.part n ≡ true) fs
 
   -- each lane but those in `left` has a feeder, and the feeders and the first seat have all numbers below `end`
-  pub record AreSeated (board : BoardId) (end : ℕ) (first : SeatValue) (all left : List LaneValue) (fs : List (Feeder G)) : Type 0 where
+  pub record AreSeated (board : BoardId) (end : ℕ) (first : SeatValue) (all left : List LaneValue) (fs : List (Feeder G LaneValue)) : Type 0 where
     pub is_first : IsFirst board first
     pub seated : All (IsSeated board) fs
     pub lanes_are : all ≡ left ++ lanes_of fs

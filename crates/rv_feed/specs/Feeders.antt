@@ -3,21 +3,26 @@ use Rattle.std.specs.Prelude.{◌≡◌, ℕ, ◌+◌, Bool, All, Option, None, 
 use Rattle.std.proofs.Common.{◌⊎◌, inl, inr}
 use denote.MutBor.{MutBor}
 use Rattle.rv_model.specs.Scripts.{control_acts}
-use Rattle.rv_board.specs.Seats.{BoardId}
+use Rattle.rv_board.specs.Seats.{BoardId, SeatValue}
 use Rattle.rv_feed.specs.declared.changer.Changer.{Changer}
 use Rattle.rv_feed.specs.declared.feeder.Feeder.{Feeder}
 use Rattle.rv_feed.specs.Changes.{CanChange, IsBelowHalt, DoesAll}
 use Rattle.rv_feed.specs.Feeding.{CanFeed, Feeds}
+use Rattle.rv_feed.specs.Lane.{LaneValue}
+
+-- the seat is the CPU's on this board, and the lane is new and fits the board
+pub record FitsSeat (board : BoardId) (seat : SeatValue) (lane : LaneValue) : Type 0 where
+  pub board_is : seat.board ≡ board
+  pub seat_is : seat.part.number ≡ 2 + lane.work.cpu
+  pub lane_fits : CanFeed board lane
 
 module _ {G : Type 0} where
-  -- the seat is the CPU's on this board, and the lane is new and fits the board
-  pub record FitsFeeder (board : BoardId) (f : Feeder G) : Type 0 where
-    pub board_is : f.seat.board ≡ board
-    pub seat_is : f.seat.part.number ≡ 2 + f.lane.work.cpu
-    pub lane_fits : CanFeed board f.lane
+  -- the feeder's seat and its lane do so
+  abbrev pub FitsFeeder : BoardId → Feeder G LaneValue → Type 0
+  FitsFeeder board f = FitsSeat board f.seat f.lane
 
   -- the feeder's seat and records grow by a script of its lane's work
-  abbrev pub RunsFeeder : (ℕ → Bool) → Feeder G → Feeder G → Type 0
+  abbrev pub RunsFeeder : (ℕ → Bool) → Feeder G LaneValue → Feeder G LaneValue → Type 0
   RunsFeeder panics old new = Feeds panics old.seat new.seat old.lane new.lane
 
   -- the seat is the control actor's on this board, and no change names a switch from the halted one on

@@ -10,9 +10,10 @@ ghost use Rattle.rv_feed.specs.AtOnce.{lanes_of, AreSeated};
 ghost use Rattle.rv_feed.specs.Runs.{IsRunBySpecs};
 
 use crate::changer::{CONTROL, Changer};
+use crate::compact::CompactLane;
 use crate::feeder::Feeder;
 use crate::feeders::run_all;
-use crate::lane::{Lane, cpu_of};
+use crate::lane::cpu_of;
 use rv_board::{Board, BoardStart, Seat};
 use rv_core::Setup;
 use rv_io::Gate;
@@ -27,12 +28,17 @@ const ACTOR: u32 = 1;
 /// history.
 #[derive(Drop)]
 pub struct FedLanes {
-    pub lanes: Vec<Lane>,
+    pub lanes: Vec<CompactLane>,
     pub closed: Closed,
 }
 
 /// Makes the lane's feeder, whose new seat takes over the seat's numbers from that of the lane's CPU on.
-fn seat_lane<G: Gate>(board: &Board, seat: &mut Seat, lane: Lane, gate: &G) -> Feeder<G>
+fn seat_lane<G: Gate>(
+    board: &Board,
+    seat: &mut Seat,
+    lane: CompactLane,
+    gate: &G,
+) -> Feeder<G, CompactLane>
     requires board { seat.old.board ≡ board.now }
     requires range { (seat.old.part.number < 2 + lane.work.cpu) × (2 + lane.work.cpu < seat.old.part.end) }
     ensures lane { result.lane ≡ lane }
@@ -54,9 +60,9 @@ pub fn seat_lanes<G: Gate>(
     alloc: Global,
     board: &Board,
     seat: &mut Seat,
-    lanes: &mut Vec<Lane>,
+    lanes: &mut Vec<CompactLane>,
     gate: &G,
-) -> Result<Vec<Feeder<G>>, AllocError>
+) -> Result<Vec<Feeder<G, CompactLane>>, AllocError>
     requires seat { IsFirst board.now seat.old }
     requires end { 65 < seat.old.part.end }
     requires fit { All (FitsLane board.now.setup) lanes.old.items }
@@ -72,7 +78,7 @@ pub fn seat_lanes<G: Gate>(
     Ok(feeders)
 }
 
-fn put_back(lanes: &mut Vec<Lane>, lane: Lane)
+fn put_back(lanes: &mut Vec<CompactLane>, lane: CompactLane)
     requires { length lanes.old.items < lanes.old.cap }
     ensures lanes { lanes.new.items ≡ lanes.old.items ++ lane ∷ [] }
     ensures room { lanes.old.cap ≤ lanes.new.cap }
@@ -88,8 +94,8 @@ fn put_back(lanes: &mut Vec<Lane>, lane: Lane)
 pub fn join_all<G: Gate>(
     board: &Board,
     into: &mut Seat,
-    mut feeders: Vec<Feeder<G>>,
-    lanes: &mut Vec<Lane>,
+    mut feeders: Vec<Feeder<G, CompactLane>>,
+    lanes: &mut Vec<CompactLane>,
 )
     requires into { into.old.board ≡ board.now }
     requires seats { All (λ f. f.seat.board ≡ board.now) feeders.items }
@@ -118,7 +124,7 @@ pub fn feed<R: Threads + Sync, G: Gate + Send>(
     alloc: Global,
     setup: Setup,
     reactors: &[Reactor],
-    mut lanes: Vec<Lane>,
+    mut lanes: Vec<CompactLane>,
     changes: Vec<Change>,
     gate: &G,
 ) -> Result<FedLanes, AllocError>

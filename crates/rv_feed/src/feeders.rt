@@ -6,29 +6,29 @@ ghost use Rattle.rv_feed.specs.Lane.{panics_of};
 ghost use Rattle.rv_feed.specs.Feeders.{FitsFeeder, RunsFeeder, FitsChanger, RunsChanger, IfLent};
 
 use crate::changer::{Changer, run_changer};
-use crate::feeder::{Feeder, run_feeder};
+use crate::feeder::{CpuScript, Feeder};
 use rv_board::Board;
 use rv_io::Gate;
 use rv_model::Reactor;
 use std::thread::{Threads, join_mut};
 
-/// Runs the feeders' scripts at once: their list is halved until each has a thread of its own. Returns once all have
+/// Runs scripts at once: their list is halved until each has a thread of its own. Returns once all have
 /// ended.
 #[cycle(halves)]
-pub fn run_halves<R: Threads + Sync, G: Gate + Send>(
+pub fn run_halves<R: Threads + Sync, F: CpuScript + Send>(
     rt: &R,
     board: &Board,
     reactors: &[Reactor],
-    feeders: &mut [Feeder<G>],
+    feeders: &mut [F],
 )
-    requires { All (FitsFeeder board.now) feeders.old }
-    ensures { AllZip (RunsFeeder (panics_of reactors.now)) feeders.old feeders.new }
+    requires { All (F.fits board.now) feeders.old }
+    ensures { AllZip (F.runs (panics_of reactors.now)) feeders.old feeders.new }
 {
     if feeders.len() == 0 {
         return;
     }
     if feeders.len() == 1 {
-        run_feeder(board, reactors, &mut feeders[0]);
+        feeders[0].run(board, reactors);
         return;
     }
     let (low, high) = feeders.split_at_mut(feeders.len() / 2);
@@ -36,40 +36,40 @@ pub fn run_halves<R: Threads + Sync, G: Gate + Send>(
 }
 
 #[cycle(halves)]
-fn run_both<R: Threads + Sync, G: Gate + Send>(
+fn run_both<R: Threads + Sync, F: CpuScript + Send>(
     rt: &R,
     board: &Board,
     reactors: &[Reactor],
-    low: &mut [Feeder<G>],
-    high: &mut [Feeder<G>],
+    low: &mut [F],
+    high: &mut [F],
 )
     requires some { (0 < length low.old) × (0 < length high.old) }
-    requires low { All (FitsFeeder board.now) low.old }
-    requires high { All (FitsFeeder board.now) high.old }
-    ensures low { AllZip (RunsFeeder (panics_of reactors.now)) low.old low.new }
-    ensures high { AllZip (RunsFeeder (panics_of reactors.now)) high.old high.new }
+    requires low { All (F.fits board.now) low.old }
+    requires high { All (F.fits board.now) high.old }
+    ensures low { AllZip (F.runs (panics_of reactors.now)) low.old low.new }
+    ensures high { AllZip (F.runs (panics_of reactors.now)) high.old high.new }
 {
     let mut left = ||
-        requires { IsSync R.row × IsSend G.row × All (FitsFeeder board.now) low.now }
-        ensures { AllZip (RunsFeeder (panics_of reactors.entry.now)) low.entry.now low.exit.now }
+        requires { IsSync R.row × IsSend F.row × All (F.fits board.now) low.now }
+        ensures { AllZip (F.runs (panics_of reactors.entry.now)) low.entry.now low.exit.now }
     { run_halves(rt, board, reactors, low) };
     let mut right = ||
-        requires { IsSync R.row × IsSend G.row × All (FitsFeeder board.now) high.now }
-        ensures { AllZip (RunsFeeder (panics_of reactors.entry.now)) high.entry.now high.exit.now }
+        requires { IsSync R.row × IsSend F.row × All (F.fits board.now) high.now }
+        ensures { AllZip (F.runs (panics_of reactors.entry.now)) high.entry.now high.exit.now }
     { run_halves(rt, board, reactors, high) };
     join_mut(rt, &mut left, &mut right);
 }
 
-fn run_beside<R: Threads + Sync, G: Gate + Send>(
+fn run_beside<R: Threads + Sync, G: Gate + Send, F: CpuScript + Send>(
     rt: &R,
     board: &Board,
     reactors: &[Reactor],
     changer: &mut Changer<G>,
-    feeders: &mut [Feeder<G>],
+    feeders: &mut [F],
 )
-    requires feeders { All (FitsFeeder board.now) feeders.old }
+    requires feeders { All (F.fits board.now) feeders.old }
     requires changer { FitsChanger board.now changer.old }
-    ensures feeders { AllZip (RunsFeeder (panics_of reactors.now)) feeders.old feeders.new }
+    ensures feeders { AllZip (F.runs (panics_of reactors.now)) feeders.old feeders.new }
     ensures changer { RunsChanger changer.old changer.new }
 {
     let mut left = ||
@@ -77,23 +77,23 @@ fn run_beside<R: Threads + Sync, G: Gate + Send>(
         ensures { RunsChanger changer.entry.now changer.exit.now }
     { run_changer(board, changer) };
     let mut right = ||
-        requires { IsSync R.row × IsSend G.row × All (FitsFeeder board.now) feeders.now }
-        ensures { AllZip (RunsFeeder (panics_of reactors.entry.now)) feeders.entry.now feeders.exit.now }
+        requires { IsSync R.row × IsSend F.row × All (F.fits board.now) feeders.now }
+        ensures { AllZip (F.runs (panics_of reactors.entry.now)) feeders.entry.now feeders.exit.now }
     { run_halves(rt, board, reactors, feeders) };
     join_mut(rt, &mut left, &mut right);
 }
 
 /// Runs all scripts at once, with the control actor beside them where it has changes.
-pub(crate) fn run_all<R: Threads + Sync, G: Gate + Send>(
+pub(crate) fn run_all<R: Threads + Sync, G: Gate + Send, F: CpuScript + Send>(
     rt: &R,
     board: &Board,
     reactors: &[Reactor],
-    feeders: &mut [Feeder<G>],
+    feeders: &mut [F],
     changer: &mut Changer<G>,
 )
-    requires feeders { All (FitsFeeder board.now) feeders.old }
+    requires feeders { All (F.fits board.now) feeders.old }
     requires changer { FitsChanger board.now changer.old }
-    ensures feeders { AllZip (RunsFeeder (panics_of reactors.now)) feeders.old feeders.new }
+    ensures feeders { AllZip (F.runs (panics_of reactors.now)) feeders.old feeders.new }
     ensures changer { RunsChanger changer.old changer.new }
 {
     changer.seat.number();

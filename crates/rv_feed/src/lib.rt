@@ -3,6 +3,7 @@
 
 mod at_once;
 mod changer;
+mod compact;
 mod feeder;
 mod feeders;
 mod kept;
@@ -15,9 +16,10 @@ mod turn;
 
 pub use at_once::{FedLanes, feed, join_all, seat_lanes};
 pub use changer::Changer;
-pub use feeder::Feeder;
+pub use compact::{CompactLane, assert_lanes};
+pub use feeder::{CpuScript, Feeder};
 pub use feeders::{run_feeders, run_halves};
-pub use lane::{Lane, assert_lanes, is_panic};
+pub use lane::{Lane, is_panic};
 pub use laws::one_thread_has_a_history;
 pub use one::replay;
 pub use order::run_in_order;

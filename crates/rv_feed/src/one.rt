@@ -4,8 +4,8 @@ ghost use Rattle.rv_model.specs.Histories.{IsOneHistory};
 ghost use Rattle.rv_feed.specs.Lane.{FitLanes, panics_of, works_of, lane_records};
 ghost use Rattle.rv_feed.specs.Runs.{IsRunBySpecs};
 
-use crate::lane::Lane;
-use crate::order::run_in_order;
+use crate::compact::CompactLane;
+use crate::order::run_lanes;
 use rv_core::{Core, Setup};
 use rv_model::{Closed, Reactor};
 use std::alloc::{AllocError, Global};
@@ -16,13 +16,13 @@ pub fn replay(
     alloc: Global,
     setup: Setup,
     reactors: &[Reactor],
-    lanes: &mut [Lane],
+    lanes: &mut [CompactLane],
 ) -> Result<Closed, AllocError>
     requires { FitLanes setup lanes.old }
     ensures { IfOk result (λ h. IsRunBySpecs IsOneHistory setup (panics_of reactors.now) (works_of lanes.old) [] (lane_records lanes.new) h) }
 {
     let mut core = Core::new(alloc, setup)?;
-    run_in_order(&mut core, reactors, lanes);
+    run_lanes(&mut core, reactors, lanes);
     core.assert_invariant();
     Ok(core.close())
 }

@@ -6,7 +6,7 @@ ghost use Rattle.rv_core.specs.Deliveries.{FitsDelivery};
 ghost use Rattle.rv_feed.specs.Lane.{panics_of};
 ghost use Rattle.rv_feed.specs.inner.Turns.{PlaysTurn};
 
-use crate::lane::{Lane, delivery_at, is_panic, keep};
+use crate::lane::{Keeper, delivery_at, is_panic};
 use crate::player::Player;
 use rv_io::Gate;
 use rv_model::{Delivered, HALTED, REACTING, Reactor, Turn, fails, has_bit, is_enabled_by};
@@ -24,21 +24,21 @@ fn ends(reactors: &[Reactor], word: u64, monitor: u8, outcome: Delivered) -> boo
 }
 
 /// Plays one turn: a look, then the deliveries that it enables, whose records are kept. True where the script ends with it.
-pub(crate) fn play_turn<P: Player, G: Gate>(
+pub(crate) fn play_turn<P: Player, L: Keeper, G: Gate>(
     player: &mut P,
     shared: &P::Shared,
     reactors: &[Reactor],
     turn: &Turn,
-    lane: &mut Lane,
+    lane: &mut L,
     gate: &mut G,
 ) -> bool
     requires of { P.is_of player.old shared.now }
-    requires fit { All (FitsDelivery (P.setup player.old)) lane.old.work.deliveries }
+    requires fit { All (FitsDelivery (P.setup player.old)) (L.lane lane.old).work.deliveries }
     requires order { turn.now.from ≤ turn.now.to }
-    requires in_list { turn.now.to ≤ length lane.old.work.deliveries }
-    requires kept { length lane.old.records ≤ turn.now.from }
-    requires room { length lane.old.work.deliveries ≤ lane.old.room }
-    ensures { PlaysTurn (P.does lane.old.work.cpu) (P.setup player.old) (panics_of reactors.now) player.old player.new turn.now lane.old lane.new result }
+    requires in_list { turn.now.to ≤ length (L.lane lane.old).work.deliveries }
+    requires kept { length (L.lane lane.old).records ≤ turn.now.from }
+    requires room { length (L.lane lane.old).work.deliveries ≤ (L.lane lane.old).room }
+    ensures { PlaysTurn (P.does (L.lane lane.old).work.cpu) (P.setup player.old) (panics_of reactors.now) player.old player.new turn.now (L.lane lane.old) (L.lane lane.new) result }
 {
     let cpu = lane.work().cpu;
     let word = player.look(shared, cpu);
@@ -49,7 +49,7 @@ pub(crate) fn play_turn<P: Player, G: Gate>(
         let delivery = delivery_at(lane, place);
         if is_enabled_by(word, &delivery) {
             let outcome = player.serve(shared, cpu, &delivery, gate);
-            keep(lane, place, turn.line, outcome, has_bit(word, REACTING));
+            lane.keep(place, turn.line, outcome, has_bit(word, REACTING));
             if ends(reactors, word, delivery.monitor, outcome) {
                 player.halt(shared, cpu);
                 return true;

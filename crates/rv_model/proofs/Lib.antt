@@ -17,6 +17,7 @@ pub mod SeatLemmas
 pub mod SetLemmas
 pub mod SlotLemmas
 pub mod SortLemmas
+pub mod SortedLemmas
 pub mod StableLemmas
 pub mod TableJudgeLemmas
 pub mod TruthLemmas

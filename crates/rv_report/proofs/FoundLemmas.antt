@@ -1,6 +1,6 @@
 -- What one record more, one lane more and a sort make of what was found.
 use Rattle.std.proofs.Common.{◌≡◌, ℕ, ◌+◌, ◌<◌, true, false, List, [], ◌∷◌, ◌++◌, length, take, get_or, refl, sym, ap, ◌∙◌, subst, append-nil, append_assoc}
-use Rattle.std.specs.Prelude.{filter}
+use Rattle.std.specs.Prelude.{filter, flat_map}
 use Rattle.std.proofs.lemmas.Grind.{flat_map-append}
 use Rattle.std.proofs.lemmas.List.{take_more}
 use Rattle.std.proofs.lemmas.List.Elements.{filter-append}
@@ -8,12 +8,10 @@ use Rattle.rv_model.specs.declared.record.Record.{Record}
 use Rattle.rv_model.specs.declared.record.Task.{Task}
 use Rattle.rv_model.specs.Records.{sort_records, status_of}
 use Rattle.rv_model.specs.Reports.{Reported}
-use Rattle.rv_feed.specs.Lane.{LaneValue, lane_records}
+use Rattle.rv_model.proofs.SortedLemmas.{filter-sort, status-sorted}
 use Rattle.rv_report.specs.declared.found.Found.{Found}
 use Rattle.rv_report.specs.inner.Printed.{is_printed}
 use Rattle.rv_report.specs.inner.Tallies.{AreTallies, IsFound}
-use Rattle.rv_feed.proofs.OneLemmas.{status-sorted}
-use Rattle.rv_feed.proofs.SortedLemmas.{filter-sort}
 use Rattle.rv_report.proofs.TallyLemmas.{tallies-sort}
 
 module _ (monitors : List Reported) (tasks : List Task) (rs : List Record) (f f' : Found) where
@@ -48,10 +46,9 @@ module _ (monitors : List Reported) (tasks : List Task) (rs : List Record) (f f'
   }
 
 -- the records of one lane more
-pub lanes-more : (lanes : List LaneValue) (i : ℕ) (lane : LaneValue) → i < length lanes → lane ≡ get_or lanes i lane → lane_records (take (i + 1) lanes) ≡ lane_records (take i lanes) ++ lane.records
-lanes-more lanes i lane lt is =
-    ap lane_records (take_more lanes i lane lt ∙ ap (λ (l : LaneValue). take i lanes ++ l ∷ []) (sym is)) ∙ flat_map-append (λ (l : LaneValue). l.records) (take i lanes) (lane ∷ [])
-    ∙ ap (λ (rs : List Record). lane_records (take i lanes) ++ rs) (append-nil lane.records)
+pub lanes-more : {L : Type 0} (records : L → List Record) (lanes : List L) (i : ℕ) (lane : L) → i < length lanes → lane ≡ get_or lanes i lane → flat_map records (take (i + 1) lanes) ≡ flat_map records (take i lanes) ++ records lane
+lanes-more {L} records lanes i lane lt is =
+    ap (flat_map records) (take_more lanes i lane lt ∙ ap (λ (l : L). take i lanes ++ l ∷ []) (sym is)) ∙ flat_map-append records (take i lanes) (lane ∷ []) ∙ ap (λ (rs : List Record). flat_map records (take i lanes) ++ rs) (append-nil (records lane))
 
 -- one record more
 pub records-more : (monitors : List Reported) (tasks : List Task) (rs records : List Record) (i : ℕ) (d : Record) (f : Found) → i < length records → IsFound monitors tasks ((rs ++ take i records) ++ get_or records i d ∷ []) f

@@ -14,7 +14,7 @@ use Rattle.rv_model.specs.Reports.{Reported, instances_in, is_of_monitor, is_at,
 use Rattle.rv_report.specs.declared.tally.Tally.{Tally}
 use Rattle.rv_report.specs.inner.Tallies.{IsTally, AreTallies, tally_text}
 use Rattle.rv_report.proofs.CountLemmas.{count-none, count-yes, count-no}
-use Rattle.rv_feed.proofs.SortedLemmas.{count-sort, any-sort}
+use Rattle.rv_model.proofs.SortedLemmas.{count-sort, any-sort}
 
 -- ---- one record more
 

@@ -1,9 +1,8 @@
 //! The whole report.
-ghost use Rattle.std.specs.Prelude.{◌≡◌, List, length, IfOk};
+ghost use Rattle.std.specs.Prelude.{◌≡◌, List, length, flat_map, IfOk};
 ghost use Rattle.rv_model.specs.declared.record.Record.{Record};
 ghost use Rattle.rv_model.specs.Records.{sort_records};
 ghost use Rattle.rv_model.specs.Reports.{report_text};
-ghost use Rattle.rv_feed.specs.Lane.{lane_records};
 ghost use Rattle.rv_report.specs.Exit.{IsStatus};
 ghost use Rattle.rv_report.specs.Reported.{reported_of};
 ghost use Rattle.rv_report.specs.inner.Tallies.{IsFound};
@@ -12,8 +11,7 @@ use crate::found::Found;
 use crate::reactions::react_to;
 use crate::summary::summaries;
 use rv_bind::Bindings;
-use rv_feed::Lane;
-use rv_model::Record;
+use rv_model::{Record, RecordList};
 use rv_slots::Tasks;
 use rv_text::Line;
 use std::alloc::{AllocError, Global};
@@ -65,14 +63,14 @@ pub fn report(
 }
 
 /// The report of all lanes' records, in the order of the trace.
-pub fn report_lanes(
+pub fn report_lanes<L: RecordList>(
     alloc: Global,
     bindings: &Bindings,
     tasks: &Tasks,
-    lanes: &[Lane],
+    lanes: &[L],
 ) -> Result<RunReport, AllocError>
-    ensures text { IfOk result (λ report. report.text.items ≡ report_text (reported_of bindings.now) tasks.now (sort_records (lane_records lanes.now))) }
-    ensures status { IfOk result (λ report. IsStatus (lane_records lanes.now) report.status) }
+    ensures text { IfOk result (λ report. report.text.items ≡ report_text (reported_of bindings.now) tasks.now (sort_records (flat_map L.records lanes.now))) }
+    ensures status { IfOk result (λ report. IsStatus (flat_map L.records lanes.now) report.status) }
 {
     let mut found = Found::new(alloc, bindings, tasks)?;
     for lane in lanes {

@@ -15,7 +15,7 @@ use crate::trace_text::read_routed;
 use rv_bind::{BindFault, Bindings, Bound, Monitor, read_bindings};
 use rv_control::opening_switches;
 use rv_core::Setup;
-use rv_feed::{Lane, assert_lanes};
+use rv_feed::{CompactLane, assert_lanes};
 use rv_io::Store;
 use rv_model::{Change, CpuWork, Reactor, Scope};
 use rv_route::Routed;
@@ -30,7 +30,7 @@ pub(crate) struct Prepared {
     pub(crate) tasks: Tasks,
     pub(crate) setup: Setup,
     pub(crate) reactors: Vec<Reactor>,
-    pub(crate) lanes: Vec<Lane>,
+    pub(crate) lanes: Vec<CompactLane>,
     pub(crate) changes: Vec<Change>,
 }
 
@@ -39,7 +39,7 @@ pub(crate) struct Prepared {
 struct RunParts {
     setup: Setup,
     reactors: Vec<Reactor>,
-    lanes: Vec<Lane>,
+    lanes: Vec<CompactLane>,
 }
 
 /// Reads the bindings and the trace.
@@ -191,12 +191,12 @@ fn reactors(alloc: Global, monitors: &[Monitor]) -> Result<Vec<Reactor>, AllocEr
 }
 
 /// A lane for each work.
-fn lanes(alloc: Global, works: Vec<CpuWork>) -> Result<Vec<Lane>, AllocError>
+fn lanes(alloc: Global, works: Vec<CpuWork>) -> Result<Vec<CompactLane>, AllocError>
     ensures { IfOk result (λ lanes. (works_of lanes.items ≡ works.items) × All (λ lane. IsNewLane lane.work lane) lanes.items) }
 {
     let mut lanes = Vec::new(alloc);
     for work in works {
-        let lane = Lane::new(alloc, work)?;
+        let lane = CompactLane::new(alloc, work)?;
         lanes.push(lane)?;
     }
     Ok(lanes)

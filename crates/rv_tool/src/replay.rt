@@ -8,7 +8,7 @@ ghost use Rattle.rv_tool.specs.inner.Prepared.{prepared_value, IsPrepared};
 
 use crate::input::Prepared;
 use rv_bind::Bindings;
-use rv_feed::{Lane, replay};
+use rv_feed::{CompactLane, replay};
 use rv_model::Closed;
 use rv_report::{RunReport, report_lanes};
 use rv_slots::Tasks;
@@ -27,7 +27,7 @@ pub(crate) fn report(
     alloc: Global,
     bindings: &Bindings,
     tasks: &Tasks,
-    lanes: &[Lane],
+    lanes: &[CompactLane],
     closed: Closed,
 ) -> Result<FinishedRun, AllocError>
     ensures { IfOk result (ReportsLanes bindings.now tasks.now (lane_records lanes.now) closed) }

@@ -38,7 +38,7 @@ use Rattle.rv_watch.proofs.WordLemmas.{words-later, words-anywhere}
 
 module _ {G : Type 0} (board : BoardId) (panics : ℕ → Bool) (h : List Entry) where
   -- the calls of a watched run: seats were made and split off, the feeders and the watcher ran, all seats were joined, the last word was read, and the board was closed
-  pub record IsRun (slot last : ℕ) (start first own before mid read final : SeatValue) (lanes : List LaneValue) (fs fs' : List (Feeder G)) (w w' : Watcher G) : Type 0 where
+  pub record IsRun (slot last : ℕ) (start first own before mid read final : SeatValue) (lanes : List LaneValue) (fs fs' : List (Feeder G LaneValue)) (w w' : Watcher G) : Type 0 where
     pub start_is : start ≡ seat_value (part 0 67 [] []) board
     pub first_is : first ≡ seat_value (part start.part.number 66 start.part.joined_in start.part.seen) start.board
     pub own_is : own ≡ seat_value (part 66 start.part.end [] start.part.seen) start.board
@@ -48,14 +48,14 @@ module _ {G : Type 0} (board : BoardId) (panics : ℕ → Bool) (h : List Entry)
     pub ran : AllZip (RunsFeeder panics) fs fs'
     pub watched : WatchesSlot w w'
     pub permitted : HasTakenIn mid before
-    pub feeders : All (λ (f : Feeder G). HasTakenIn mid f.seat) fs'
+    pub feeders : All (λ (f : Feeder G LaneValue). HasTakenIn mid f.seat) fs'
     pub joins : Joins mid w'.seat read
     pub reads : SeatGrows read final []
     pub last_is : last ≡ word_of board.setup (judges_of board.setup) (reverse final.part.seen) slot
     pub closes : Closes final h
     pub on : final.board ≡ board
 
-  module _ (slot last : ℕ) (start first own before mid read final : SeatValue) (lanes : List LaneValue) (fs fs' : List (Feeder G)) (w w' : Watcher G) (run : IsRun slot last start first own before mid read final lanes fs fs' w w') where
+  module _ (slot last : ℕ) (start first own before mid read final : SeatValue) (lanes : List LaneValue) (fs fs' : List (Feeder G LaneValue)) (w w' : Watcher G) (run : IsRun slot last start first own before mid read final lanes fs fs' w w') where
     -- ---- what the last seat holds
 
     read-held : HasTakenIn final read
@@ -67,8 +67,8 @@ module _ {G : Type 0} (board : BoardId) (panics : ℕ → Bool) (h : List Entry)
     before-held : HasTakenIn final before
     before-held = holds-through final mid before mid-held run.permitted
 
-    feeders-held : All (λ (f : Feeder G). HasTakenIn final f.seat) fs'
-    feeders-held = All-weaker (λ (f : Feeder G). HasTakenIn mid f.seat) (λ (f : Feeder G). HasTakenIn final f.seat) (λ f holds. holds-through final mid f.seat mid-held holds) fs' run.feeders
+    feeders-held : All (λ (f : Feeder G LaneValue). HasTakenIn final f.seat) fs'
+    feeders-held = All-weaker (λ (f : Feeder G LaneValue). HasTakenIn mid f.seat) (λ (f : Feeder G LaneValue). HasTakenIn final f.seat) (λ f holds. holds-through final mid f.seat mid-held holds) fs' run.feeders
 
     watched-held : HasTakenIn final w'.seat
     watched-held = holds-through final read w'.seat read-held (holds-joined mid w'.seat read run.joins)
@@ -98,19 +98,19 @@ module _ {G : Type 0} (board : BoardId) (panics : ℕ → Bool) (h : List Entry)
     all-known n lt = elim (nat_lt_or n 66 (omega arith)) [
       | inl below ↦ elim (run.seated.cover n (let e = end-is in omega arith)) [
         | inl t ↦ before-held.within n t
-        | inr any ↦ (Any-implied (λ (f : Feeder G). known_of f.seat.part n ≡ true) (λ (f : Feeder G). known_of final.part n ≡ true) fs each any).4
+        | inr any ↦ (Any-implied (λ (f : Feeder G LaneValue). known_of f.seat.part n ≡ true) (λ (f : Feeder G LaneValue). known_of final.part n ≡ true) fs each any).4
       ]
       | inr is ↦ subst (λ (m : ℕ). known_of final.part m ≡ true) (sym is) (own-held.within 66 watcher-known)
     ]
       where
-        Knows : Feeder G → Feeder G → Type 0
+        Knows : Feeder G LaneValue → Feeder G LaneValue → Type 0
         Knows f f' = known_of f.seat.part n ≡ true → known_of final.part n ≡ true
 
         both : AllZip Knows fs fs'
-        both = zip-with (RunsFeeder panics) (IsSeated board) (λ (f : Feeder G). HasTakenIn final f.seat) Knows (λ f f' runs seated holds t. holds.within n (ap (λ (k : ℕ → Bool). k n) (same_known f.seat f'.seat _ runs.adds.grows) ∙ t)) fs fs' run.ran run.seated.seated feeders-held
+        both = zip-with (RunsFeeder panics) (IsSeated board) (λ (f : Feeder G LaneValue). HasTakenIn final f.seat) Knows (λ f f' runs seated holds t. holds.within n (ap (λ (k : ℕ → Bool). k n) (same_known f.seat f'.seat _ runs.adds.grows) ∙ t)) fs fs' run.ran run.seated.seated feeders-held
 
-        each : All (λ (f : Feeder G). known_of f.seat.part n ≡ true → known_of final.part n ≡ true) fs
-        each = zip-left Knows (λ (f : Feeder G). known_of f.seat.part n ≡ true → known_of final.part n ≡ true) (λ f f' k. k) fs fs' both
+        each : All (λ (f : Feeder G LaneValue). known_of f.seat.part n ≡ true → known_of final.part n ≡ true) fs
+        each = zip-left Knows (λ (f : Feeder G LaneValue). known_of f.seat.part n ≡ true → known_of final.part n ≡ true) (λ f f' k. k) fs fs' both
 
     -- so the history is the last seat's list
     whole : h ≡ final.part.seen
@@ -159,7 +159,7 @@ module _ {G : Type 0} (board : BoardId) (panics : ℕ → Bool) (h : List Entry)
       sound = subst (λ (b : BoardId). IsSound b.setup (judges_of b.setup) h) run.on run.closes.sound;
       seated = run.seated.seated;
       ran = run.ran;
-      feeders_in = All-weaker (λ (f : Feeder G). HasTakenIn final f.seat) (λ (f : Feeder G). ExtendsSeen h f.seat.part) (λ f holds. in-history f.seat holds) fs' feeders-held;
+      feeders_in = All-weaker (λ (f : Feeder G LaneValue). HasTakenIn final f.seat) (λ (f : Feeder G LaneValue). ExtendsSeen h f.seat.part) (λ f holds. in-history f.seat holds) fs' feeders-held;
       actor_is = refl;
       actor_fresh = record { has = run.seated.is_first.end; seen = refl };
       did = does-none actor (sound-empty board.setup (judges_of board.setup));

@@ -13,7 +13,7 @@ ghost use Rattle.rv_watch.specs.Words.{AreKept};
 use crate::watcher::{WATCHER, Watcher, watch};
 use rv_board::{Board, BoardStart};
 use rv_core::Setup;
-use rv_feed::{Feeder, Lane, join_all, run_halves, seat_lanes};
+use rv_feed::{CompactLane, Feeder, join_all, run_halves, seat_lanes};
 use rv_io::Gate;
 use rv_model::{Closed, Reactor};
 use std::alloc::{AllocError, Global};
@@ -27,7 +27,7 @@ const SEAT: u32 = 66;
 /// after the whole run, and the history.
 #[derive(Drop)]
 pub struct Watched {
-    pub lanes: Vec<Lane>,
+    pub lanes: Vec<CompactLane>,
     pub words: Vec<u64>,
     pub last: u64,
     pub closed: Closed,
@@ -38,7 +38,7 @@ fn run_then_tell<R: Threads + Sync, G: Gate + Send>(
     rt: &R,
     board: &Board,
     reactors: &[Reactor],
-    feeders: &mut [Feeder<G>],
+    feeders: &mut [Feeder<G, CompactLane>],
     done: &AtomicBool,
 )
     requires { All (FitsFeeder board.now) feeders.old }
@@ -53,7 +53,7 @@ fn run_watched<R: Threads + Sync, G: Gate + Send>(
     rt: &R,
     board: &Board,
     reactors: &[Reactor],
-    feeders: &mut [Feeder<G>],
+    feeders: &mut [Feeder<G, CompactLane>],
     watcher: &mut Watcher<G>,
 )
     requires feeders { All (FitsFeeder board.now) feeders.old }
@@ -80,7 +80,7 @@ pub fn feed_watched<R: Threads + Sync, G: Gate + Send>(
     alloc: Global,
     setup: Setup,
     reactors: &[Reactor],
-    mut lanes: Vec<Lane>,
+    mut lanes: Vec<CompactLane>,
     slot: u32,
     gate: &G,
 ) -> Result<Watched, AllocError>

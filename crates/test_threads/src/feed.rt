@@ -110,10 +110,9 @@ fn feeder_of<'a>(
 
 /// The outcome of the first delivery.
 fn outcome_of(lane: &Lane) -> Option<Delivered> {
-    if lane.count() > 0 {
-        Some(lane.record(0).outcome)
-    } else {
-        None
+    match lane.records.first() {
+        Some(record) => Some(record.outcome),
+        None => None,
     }
 }
 

@@ -11,24 +11,24 @@ use Rattle.rv_feed.proofs.at_once.join_all.Goals as goal
 pub loop-feeder-init : goal.loop-feeder-init
 loop-feeder-init g c = record {
   joined_in = [];
-  seats = joined-none (λ (f : Feeder g.row.G.Denot). f.seat) c.args.board.now c.args.into.now c.args.feeders.items c.requires.into c.requires.seats;
+  seats = joined-none (λ (f : Feeder g.row.G.Denot LaneValue). f.seat) c.args.board.now c.args.into.now c.args.feeders.items c.requires.into c.requires.seats;
   lanes = sym (append-nil c.args.lanes.now.items);
   room = c.requires.room;
 }
 
 pub join-requires-clause-from : goal.join-requires-clause-from
-join-requires-clause-from g c = joined-on (λ (f : Feeder g.row.G.Denot). f.seat) c.args.board.now c.pop.new.self.items c.loop-feeder.invariant.seats c.in-Some.ensures.items
+join-requires-clause-from g c = joined-on (λ (f : Feeder g.row.G.Denot LaneValue). f.seat) c.args.board.now c.pop.new.self.items c.loop-feeder.invariant.seats c.in-Some.ensures.items
 
 pub loop-feeder-preserved : goal.loop-feeder-preserved
 loop-feeder-preserved g c =
     let i = c.loop-feeder.invariant in
-    let f : Feeder g.row.G.Denot = c.in-Some.feeder in
+    let f : Feeder g.row.G.Denot LaneValue = c.in-Some.feeder in
     let put : c.put_back.new.lanes.items ≡ c.loop-feeder.lanes.items ++ f.lane ∷ [] = c.put_back.ensures.lanes in
     record {
       joined_in = f ∷ i.joined_in;
-      seats = joined-more (λ (f : Feeder g.row.G.Denot). f.seat) c.args.board.now c.pop.new.self.items i.seats c.in-Some.ensures.items c.join.ensures;
+      seats = joined-more (λ (f : Feeder g.row.G.Denot LaneValue). f.seat) c.args.board.now c.pop.new.self.items i.seats c.in-Some.ensures.items c.join.ensures;
       lanes = put ∙ ap (λ (z : List LaneValue). z ++ f.lane ∷ []) i.lanes ∙ append_assoc c.args.lanes.now.items (lanes_of i.joined_in) (f.lane ∷ [])
-          ∙ ap (λ (z : List LaneValue). c.args.lanes.now.items ++ z) (sym (map-reverse-more (λ (f : Feeder g.row.G.Denot). f.lane) f i.joined_in));
+          ∙ ap (λ (z : List LaneValue). c.args.lanes.now.items ++ z) (sym (map-reverse-more (λ (f : Feeder g.row.G.Denot LaneValue). f.lane) f i.joined_in));
       room =
           let a : length c.put_back.new.lanes.items ≡ length c.loop-feeder.lanes.items + 1 = ap length put ∙ length-append c.loop-feeder.lanes.items (f.lane ∷ []) in
           let b : length c.loop-feeder.feeders.items ≡ length c.pop.new.self.items + 1 = ap length c.in-Some.ensures.items ∙ length-append c.pop.new.self.items (f ∷ []) in

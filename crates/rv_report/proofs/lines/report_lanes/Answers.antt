@@ -1,50 +1,50 @@
 -- One lane more, and the records of all lanes in their order.
 use Rattle.std.proofs.Common.{◌≡◌, List, ◌∙◌, sym, subst, take}
+use Rattle.std.specs.Prelude.{flat_map}
 use Rattle.std.proofs.lemmas.List.{length-map, take_all}
 use Rattle.std.proofs.lemmas.Result.{IfOk-weaker}
 use Rattle.rv_model.specs.declared.record.Record.{Record}
 use Rattle.rv_model.specs.Records.{sort_records}
 use Rattle.rv_model.specs.Reports.{report_text}
-use Rattle.rv_feed.specs.Lane.{LaneValue, lane_records}
+use Rattle.rv_model.proofs.SortedLemmas.{status-sorted}
 use Rattle.rv_report.specs.Exit.{IsStatus}
 use Rattle.rv_report.specs.Reported.{reported, reported_of}
 use Rattle.rv_report.specs.inner.Tallies.{IsFound}
-use Rattle.rv_feed.proofs.OneLemmas.{status-sorted}
 use Rattle.rv_report.proofs.ExitLemmas.{status-is}
 use Rattle.rv_report.proofs.FoundLemmas.{lanes-more}
 use Rattle.rv_report.proofs.lines.report_lanes.Goals as goal
 
 pub loop-lane-preserved : goal.loop-lane-preserved
-loop-lane-preserved c =
+loop-lane-preserved g c =
     let b = c.args.bindings.now in
-    let lanes : List LaneValue = c.args.lanes.now in
+    let lanes : List g.row.L.Denot = c.args.lanes.now in
     let i = c.loop-lane.lane-index in
-    let lane : LaneValue = c.lane-item.result in
-    let more = c.in_ok-add_lane.ensures c.args.tasks.now (lane_records (take i lanes)) c.loop-lane.invariant in
-    subst (λ (rs : List Record). IsFound (reported_of b) c.args.tasks.now rs c.add_lane.new.self) (sym (lanes-more lanes i lane c.loop-lane-test.true c.lane-item.is)) more
+    let lane : g.row.L.Denot = c.lane-item.result in
+    let more = c.in_ok-add_lane.ensures c.args.tasks.now (flat_map g.L.RecordList.records (take i lanes)) c.loop-lane.invariant in
+    subst (λ (rs : List Record). IsFound (reported_of b) c.args.tasks.now rs c.add_lane.new.self) (sym (lanes-more g.L.RecordList.records lanes i lane c.loop-lane-test.true c.lane-item.is)) more
 
 pub report_found-requires : goal.report_found-requires
-report_found-requires c =
+report_found-requires g c =
     let b = c.args.bindings.now in
     (c.in_ok-sort.ensures (reported_of b) c.args.tasks.now _ c.loop-lane.invariant).tallies.many ∙ length-map b.monitors.items (reported b.containers)
 
 pub returns-clause-text : goal.returns-clause-text
-returns-clause-text c =
+returns-clause-text g c =
     let b = c.args.bindings.now in
-    let lanes : List LaneValue = c.args.lanes.now in
-    let rs : List Record = sort_records (lane_records lanes) in
+    let lanes : List g.row.L.Denot = c.args.lanes.now in
+    let rs : List Record = sort_records (flat_map g.L.RecordList.records lanes) in
     let found : IsFound (reported_of b) c.args.tasks.now rs c.sort.new.self =
-    c.in_ok-sort.ensures (reported_of b) c.args.tasks.now (lane_records lanes)
-    (subst (λ (ls : List LaneValue). IsFound (reported_of b) c.args.tasks.now (lane_records ls) c.loop-lane.found) (take_all c.loop-lane.lane-index lanes c.loop-lane-test.false) c.loop-lane.invariant) in
+    c.in_ok-sort.ensures (reported_of b) c.args.tasks.now (flat_map g.L.RecordList.records lanes)
+    (subst (λ (ls : List g.row.L.Denot). IsFound (reported_of b) c.args.tasks.now (flat_map g.L.RecordList.records ls) c.loop-lane.found) (take_all c.loop-lane.lane-index lanes c.loop-lane-test.false) c.loop-lane.invariant) in
     IfOk-weaker c.report_found.result (λ report. (us : List Record) → IsFound (reported_of b) c.args.tasks.now us c.sort.new.self → report.text.items ≡ report_text (reported_of b) c.args.tasks.now us)
     (λ report. report.text.items ≡ report_text (reported_of b) c.args.tasks.now rs) (λ report is. is rs found) c.report_found.ensures.text
 
 pub returns-clause-status : goal.returns-clause-status
-returns-clause-status c =
+returns-clause-status g c =
     let b = c.args.bindings.now in
-    let lanes : List LaneValue = c.args.lanes.now in
-    let rs : List Record = lane_records lanes in
+    let lanes : List g.row.L.Denot = c.args.lanes.now in
+    let rs : List Record = flat_map g.L.RecordList.records lanes in
     let found : IsFound (reported_of b) c.args.tasks.now (sort_records rs) c.sort.new.self =
     c.in_ok-sort.ensures (reported_of b) c.args.tasks.now rs
-    (subst (λ (ls : List LaneValue). IsFound (reported_of b) c.args.tasks.now (lane_records ls) c.loop-lane.found) (take_all c.loop-lane.lane-index lanes c.loop-lane-test.false) c.loop-lane.invariant) in
+    (subst (λ (ls : List g.row.L.Denot). IsFound (reported_of b) c.args.tasks.now (flat_map g.L.RecordList.records ls) c.loop-lane.found) (take_all c.loop-lane.lane-index lanes c.loop-lane-test.false) c.loop-lane.invariant) in
     IfOk-weaker c.report_found.result (λ report. report.status ≡ c.sort.new.self.status) (λ report. IsStatus rs report.status) (λ report is. status-is rs report.status (is ∙ found.status ∙ status-sorted rs)) c.report_found.ensures.status

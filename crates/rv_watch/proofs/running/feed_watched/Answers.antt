@@ -15,8 +15,8 @@ pub join_all-requires-clause-seats : goal.join_all-requires-clause-seats
 join_all-requires-clause-seats g c =
     let board = c.in_ok-board.field-0.board in
     let panics : ℕ → Bool = panics_of c.args.reactors.now in
-    let fs : List (Feeder g.row.G.Denot) = c.in_ok-feeders.feeders.items in
-    let fs' : List (Feeder g.row.G.Denot) = take c.in_ok-feeders.feeders.len (c.run_watched.new.feeders ++ drop (length c.run_watched.new.feeders) fs) in
+    let fs : List (Feeder g.row.G.Denot LaneValue) = c.in_ok-feeders.feeders.items in
+    let fs' : List (Feeder g.row.G.Denot LaneValue) = take c.in_ok-feeders.feeders.len (c.run_watched.new.feeders ++ drop (length c.run_watched.new.feeders) fs) in
     let ran = lent (RunsFeeder panics) c.in_ok-feeders.feeders.len fs c.as_mut_slice.result.now c.run_watched.new.feeders c.in_ok-feeders.feeders.ok.0 c.as_mut_slice.ensures.value c.run_watched.ensures.feeders in
     ran-on board panics fs fs' c.in_ok-feeders.ensures.feeders.seated ran
 
@@ -24,8 +24,8 @@ pub join_all-requires-clause-room : goal.join_all-requires-clause-room
 join_all-requires-clause-room g c =
     let board = c.in_ok-board.field-0.board in
     let panics : ℕ → Bool = panics_of c.args.reactors.now in
-    let fs : List (Feeder g.row.G.Denot) = c.in_ok-feeders.feeders.items in
-    let fs' : List (Feeder g.row.G.Denot) = take c.in_ok-feeders.feeders.len (c.run_watched.new.feeders ++ drop (length c.run_watched.new.feeders) fs) in
+    let fs : List (Feeder g.row.G.Denot LaneValue) = c.in_ok-feeders.feeders.items in
+    let fs' : List (Feeder g.row.G.Denot LaneValue) = take c.in_ok-feeders.feeders.len (c.run_watched.new.feeders ++ drop (length c.run_watched.new.feeders) fs) in
     let ran = lent (RunsFeeder panics) c.in_ok-feeders.feeders.len fs c.as_mut_slice.result.now c.run_watched.new.feeders c.in_ok-feeders.feeders.ok.0 c.as_mut_slice.ensures.value c.run_watched.ensures.feeders in
     let many = ran-many panics c.args.lanes.items fs fs' c.in_ok-feeders.ensures.feeders.lanes_are ran in
     let none : length c.seat_lanes.new.lanes.items ≡ 0 = ap length c.in_ok-feeders.ensures.empty in
@@ -36,8 +36,8 @@ pub returns-clause-words : goal.returns-clause-words
 returns-clause-words g c = λ specs mean.
     let board = c.in_ok-board.field-0.board in
     let panics : ℕ → Bool = panics_of c.args.reactors.now in
-    let fs : List (Feeder g.row.G.Denot) = c.in_ok-feeders.feeders.items in
-    let fs' : List (Feeder g.row.G.Denot) = take c.in_ok-feeders.feeders.len (c.run_watched.new.feeders ++ drop (length c.run_watched.new.feeders) fs) in
+    let fs : List (Feeder g.row.G.Denot LaneValue) = c.in_ok-feeders.feeders.items in
+    let fs' : List (Feeder g.row.G.Denot LaneValue) = take c.in_ok-feeders.feeders.len (c.run_watched.new.feeders ++ drop (length c.run_watched.new.feeders) fs) in
     let ran = lent (RunsFeeder panics) c.in_ok-feeders.feeders.len fs c.as_mut_slice.result.now c.run_watched.new.feeders c.in_ok-feeders.feeders.ok.0 c.as_mut_slice.ensures.value c.run_watched.ensures.feeders in
     let run : IsRun board panics c.close.result c.args.slot c.word-last.result c.in_ok-board.field-0.seat c.split-own.new.seat c.split-own.result c.seat_lanes.new.seat c.join_all.new.into c.join.new.into c.word-last.new.seat c.args.lanes.items fs fs' c.in_ok-watcher.watcher c.run_watched.new.watcher = record {
       start_is = c.in_ok-board.ensures.seat;
@@ -67,8 +67,8 @@ pub returns-clause-works : goal.returns-clause-works
 returns-clause-works g c =
     let board = c.in_ok-board.field-0.board in
     let panics : ℕ → Bool = panics_of c.args.reactors.now in
-    let fs : List (Feeder g.row.G.Denot) = c.in_ok-feeders.feeders.items in
-    let fs' : List (Feeder g.row.G.Denot) = take c.in_ok-feeders.feeders.len (c.run_watched.new.feeders ++ drop (length c.run_watched.new.feeders) fs) in
+    let fs : List (Feeder g.row.G.Denot LaneValue) = c.in_ok-feeders.feeders.items in
+    let fs' : List (Feeder g.row.G.Denot LaneValue) = take c.in_ok-feeders.feeders.len (c.run_watched.new.feeders ++ drop (length c.run_watched.new.feeders) fs) in
     let ran = lent (RunsFeeder panics) c.in_ok-feeders.feeders.len fs c.as_mut_slice.result.now c.run_watched.new.feeders c.in_ok-feeders.feeders.ok.0 c.as_mut_slice.ensures.value c.run_watched.ensures.feeders in
     let run : IsRun board panics c.close.result c.args.slot c.word-last.result c.in_ok-board.field-0.seat c.split-own.new.seat c.split-own.result c.seat_lanes.new.seat c.join_all.new.into c.join.new.into c.word-last.new.seat c.args.lanes.items fs fs' c.in_ok-watcher.watcher c.run_watched.new.watcher = record {
       start_is = c.in_ok-board.ensures.seat;
