@@ -1,7 +1,7 @@
 """Automaton files: docs/FORMATS.md, "Automaton files"."""
 import re
 
-from coverage_reference.texts import FILE_LIMIT, Refused
+from rv_coverage.texts import FILE_LIMIT, Refused
 
 KEYWORDS = {b"digraph", b"node", b"edge", b"graph", b"subgraph", b"strict"}
 WORD, STRING, MARK = "word", "string", "mark"

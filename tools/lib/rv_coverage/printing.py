@@ -1,7 +1,7 @@
 """What is printed of a run's counts: the facts of each monitor and of the trace, the findings, and how much was reached."""
-from coverage_reference.nearest import nearest
-from coverage_reference.tableau import labels_text
-from coverage_reference.texts import shown
+from rv_coverage.nearest import nearest
+from rv_coverage.tableau import labels_text
+from rv_coverage.texts import shown
 
 MOST_UNNAMED = 16  # events of the trace that no rule names
 

@@ -5,7 +5,7 @@ A formula is a tuple of its operator and its operands; an atom is ("atom", NAME)
 import functools
 import re
 
-from coverage_reference.texts import FILE_LIMIT, Refused
+from rv_coverage.texts import FILE_LIMIT, Refused
 
 UNARY = {b"always", b"eventually", b"next", b"not"}
 CHAINS = {b"and", b"or"}

@@ -1,10 +1,10 @@
 """Bindings: docs/FORMATS.md, "Bindings", and docs/DECISIONS.md, "Bindings"."""
 import re
 
-from coverage_reference.automata import automaton_of
-from coverage_reference.rules import rule_of
-from coverage_reference.tableau import table_of
-from coverage_reference.texts import FILE_LIMIT, Refused, lines_of, read, words_of
+from rv_coverage.automata import automaton_of
+from rv_coverage.rules import rule_of
+from rv_coverage.tableau import table_of
+from rv_coverage.texts import FILE_LIMIT, Refused, lines_of, read, words_of
 
 SYNTAX, TWICE, EVENT, ATOM, MONITORS, RULES = 18, 19, 20, 21, 22, 23
 MODES = (b"event", b"start", b"start_run", b"end")

@@ -2,8 +2,8 @@
 
 A tree is ("label", FORMULA), ("next", A), or ("and", "or", "until", "release") of two trees.
 """
-from coverage_reference.rules import holds_now
-from coverage_reference.texts import Refused
+from rv_coverage.rules import holds_now
+from rv_coverage.texts import Refused
 
 TEMPORAL = {"next", "until", "release", "weak_until", "always", "eventually"}
 MOST_PARTS, MOST_BRANCHES, MOST_NODES = 64, 4096, 31

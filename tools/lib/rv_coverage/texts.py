@@ -43,7 +43,7 @@ def words_of(line):
 
 def number_of(digits, most):
     """The number that one or more digits spell, where it is at most this; leading zeros count for nothing."""
-    if digits is None or not re.fullmatch(rb"[0-9]+", digits):
+    if digits is None or not digits.isdigit():  # (of bytes: one or more of ASCII)
         return None
     short = digits.lstrip(b"0")
     if len(short) > len(str(most)):

@@ -1,5 +1,5 @@
 """The names that come nearest to one, by Levenshtein's distance over bytes."""
-from coverage_reference.counting import LONGEST
+from rv_coverage.counting import LONGEST
 
 MOST_NEAR = 3
 FARTHEST = 3

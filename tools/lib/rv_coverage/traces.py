@@ -1,7 +1,8 @@
 """Lines of a trace: docs/FORMATS.md, "Trace text" and "Routing"."""
+import functools
 import re
 
-from coverage_reference.texts import Refused, lines_of, number_of, read, words_of
+from rv_coverage.texts import Refused, lines_of, number_of, read, words_of
 
 SYNTAX, LOST, CPUS, LONG = 24, 25, 26, 27
 MOST_LINES, MOST_BYTES = 1_000_000, 134_217_728
@@ -9,6 +10,12 @@ LAST_PID, LAST_CPU, LAST_NUMBER = 4_294_967_295, 63, 2**64 - 1
 HEAD = re.compile(rb"-([0-9]+)[ \t]+\[([0-9]+)\][ \t]")  # no head begins within one, so the first one ends first
 STAMP = re.compile(rb"([0-9]+)(?:\.([0-9]+))?:")
 WORD = re.compile(rb"[^ \t]+")
+
+
+@functools.cache
+def form_of(field):
+    """A field with its value, at the front or behind a blank."""
+    return re.compile(rb"(?:^|(?<=[ \t]))" + re.escape(field) + rb"=([^ \t]*)")
 
 
 class Event:
@@ -19,7 +26,7 @@ class Event:
 
     def value(self, field):
         """The value of a field, or None."""
-        found = re.search(rb"(?:^|(?<=[ \t]))" + re.escape(field) + rb"=([^ \t]*)", self.fields)
+        found = form_of(field).search(self.fields)
         return found[1] if found else None
 
     def passes(self, test):

@@ -2,8 +2,8 @@
 
 Phases, answers, levels and letters are those of docs/DEFINITIONS.md, "Phase and answer" and "Levels and the letter of a hit".
 """
-from coverage_reference.texts import Refused, number_of
-from coverage_reference.traces import LAST_PID, entries_of, time_of, trace_of
+from rv_coverage.texts import Refused, number_of
+from rv_coverage.traces import LAST_PID, entries_of, time_of, trace_of
 
 MOST_TASKS, MOST_DELIVERIES = 65_536, 4_000_000
 MOST_NAMES, LONGEST = 4096, 64  # names of events that are kept, and bytes of a name, of a value, of a stamp
@@ -82,7 +82,9 @@ class MonitorCount:
 
     def deliver(self, key, rule):
         """What a delivery is answered."""
-        instance = self.instances.setdefault(key, Instance(self.monitor))
+        if key not in self.instances:
+            self.instances[key] = Instance(self.monitor)
+        instance = self.instances[key]
         if rule.mode == b"end":
             instance.wait()
             answer = ENDED
