@@ -77,9 +77,12 @@ files:
 	mkdir -p "$(DESTDIR)$(BASHDIR)" "$(DESTDIR)$(ZSHDIR)"
 	$(fill) completion/rv.bash > "$(DESTDIR)$(BASHDIR)/$(PROGRAM)"
 	$(fill) completion/rv.zsh > "$(DESTDIR)$(ZSHDIR)/_$(PROGRAM)"
+	install -m 644 completion/rv-coverage.bash "$(DESTDIR)$(BASHDIR)/rv-coverage"
+	install -m 644 completion/rv-coverage.zsh "$(DESTDIR)$(ZSHDIR)/_rv-coverage"
 
 uninstall: name
 	rm -f "$(DESTDIR)$(BINDIR)/$(PROGRAM)" "$(DESTDIR)$(BASHDIR)/$(PROGRAM)" "$(DESTDIR)$(ZSHDIR)/_$(PROGRAM)"
+	rm -f "$(DESTDIR)$(BASHDIR)/rv-coverage" "$(DESTDIR)$(ZSHDIR)/_rv-coverage"
 	for link in "$(DESTDIR)$(BINDIR)"/rv-*; do \
 		case $$(readlink "$$link") in \
 		"../share/$(PROGRAM)/tools/"*) rm -f "$$link" "$(DESTDIR)$(MANDIR)/man1/$${link##*/}.1" ;; \

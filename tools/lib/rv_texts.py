@@ -86,12 +86,18 @@ def is_of_report(line):
     return any(form.fullmatch(line) for form in (VIOLATION, SUMMARY, REFUSAL, UNREAD))
 
 
-def violations_of(path):
-    """The violations of a report, in its order; `-` is standard input."""
+def failures_of(path):
+    """The violations of a report, in its order, and how many failures its summaries count, None where it has none; `-` is standard input."""
     lines = list(input_lines() if path == "-" else read_lines(path))
     if not any(map(is_of_report, lines)):
         raise Trouble(UNREADABLE, f"no line of {'standard input' if path == '-' else path} is one of a report: rv did not run, or it is another text")
-    return [found for found in map(VIOLATION.fullmatch, lines) if found]
+    summaries = [found for found in map(SUMMARY.fullmatch, lines) if found]
+    return [found for found in map(VIOLATION.fullmatch, lines) if found], sum(int(it["failures"]) for it in summaries) if summaries else None
+
+
+def violations_of(path):
+    """The violations alone."""
+    return failures_of(path)[0]
 
 
 # ---- lines of a trace

@@ -1,8 +1,9 @@
 -- The tasks of the generated trace: they are few, and each stays where it first stood.
-use Rattle.std.proofs.Common.{◌≡◌, ℕ, suc, ◌+◌, ◌<◌, ◌≤◌, inl, inr, Bool, true, false, not, cond, ◌||◌, ◌&&◌, eqb, List, [], ◌∷◌, ◌++◌, map, length, get_or, Some, refl, sym, ◌∙◌, ap, subst, arith, length-append}
+use Rattle.std.proofs.Common.{◌≡◌, ℕ, suc, ◌+◌, ◌<◌, ◌≤◌, inl, inr, Bool, true, false, not, cond, ◌||◌, ◌&&◌, ◌==◌, eqb, List, [], ◌∷◌, ◌++◌, map, length, get_or, Some, refl, sym, ◌∙◌, ap, ap₂, subst, arith, length-append}
 use Rattle.std.specs.Prelude.{All, slice_get}
 use Rattle.std.specs.List.{IsDistinct, list_any}
 use Rattle.std.proofs.lemmas.Bool.{false≢true, or_parts, or_cases, eq-eqb, eqb-true}
+use Rattle.std.proofs.lemmas.Bool.Decides.{Decides-eqb, Decides-and}
 use Rattle.std.proofs.lemmas.Cmp.{nat_eq_equiv}
 use Rattle.std.proofs.lemmas.List.{get_or_append_left, get_or-append-add, length-map, map-append}
 use Rattle.std.proofs.lemmas.List.Elements.{All-nil, All-head, All-tail, All-push}
@@ -11,7 +12,12 @@ use Rattle.std.proofs.lemmas.Map.Steps.{length-le_from_distinct_below}
 use Rattle.std.proofs.lemmas.Option.{slice_get-get_or, slice_get_within, get_or_from_slice_get}
 use Rattle.rv_model.specs.declared.record.Task.{Task}
 use Rattle.rv_slots.specs.Tasks.{same_task, is_held, with_task, task_number}
-use Rattle.rv_slots.proofs.TaskLemmas.{same_task-equal}
+
+-- tasks that the test takes for one are equal
+alike-equal : (a b : Task) → same_task a b ≡ true → b ≡ a
+alike-equal a b same =
+    let parts = (Decides-and (a.pid == b.pid) (a.cpu == b.cpu) (Decides-eqb a.pid b.pid) (Decides-eqb a.cpu b.cpu)).0 same in
+    ap₂ (λ pid cpu. record { pid = pid; cpu = cpu }) (sym parts.0) (sym parts.1)
 
 -- the task has one of the pids below 116, and is no idle task
 pub record IsLow (task : Task) : Type 0 where
@@ -76,7 +82,7 @@ held-there task (x ∷ tasks) held = go (same_task task x) refl (held-there task
   where
     go : (same : Bool) → same_task task x ≡ same → (is_held tasks task ≡ true → slice_get tasks (task_number tasks task) ≡ Some task) → (same || is_held tasks task) ≡ true
         → slice_get (x ∷ tasks) (cond (not same) (1 + task_number tasks task) 0) ≡ Some task
-    go true is later held = ap Some (same_task-equal task x is)
+    go true is later held = ap Some (alike-equal task x is)
     go false is later held = (let next : 1 + task_number tasks task ≡ suc (task_number tasks task) = omega arith in ap (slice_get (x ∷ tasks)) next ∙ later held)
 
 -- one that is not held comes last

@@ -99,7 +99,8 @@ abbrev pub acts_of : ℕ → List Entry → List Act
 acts_of seat [] = []
 acts_of seat (e ∷ h) = if e.seat == seat then e.act ∷ acts_of seat h else acts_of seat h
 
--- it is sound, each CPU plays its script, the control actor does its changes, and nobody else has an entry
+-- it is sound, each CPU plays its script, the control actor does its changes, and nobody else has an entry. By judges of
+-- the specifications and by tables that mean them it says the same (`TablesAreJudges` of rv_core)
 pub record IsLegal (input : Input) (js : List Judge) (h : List Entry) : Type 0 where
   pub sound : IsSound input.setup js h
   pub cpus : All (λ w. Plays input.setup input.panics w (played input.setup js (2 + w.cpu) (reverse h))) input.works

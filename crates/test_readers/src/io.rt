@@ -71,6 +71,20 @@ fn a_file_is_read_whole_and_a_missing_one_is_told(rt: HostRuntime) -> Result<(),
     Ok(())
 }
 
+#[test]
+fn a_file_is_read_one_byte_past_its_limit(rt: HostRuntime) -> Result<(), Fail> {
+    let name = "rv_io_short_test.txt";
+    let long = [b'x'; 5000];
+    fs::write(&rt, name, long.as_slice())?;
+    let mut disk = Disk::new(&rt);
+    let whole = disk.read_short(rt.alloc(), name, 4999);
+    let cut = disk.read_short(rt.alloc(), name, 4998);
+    fs::remove_file(&rt, name)?;
+    assert!(rt; whole?.len() == 5000);
+    assert!(rt; cut?.len() == 4999);
+    Ok(())
+}
+
 /// Whether the piece is this text, at the front of a buffer of dashes, or this fault.
 fn is_piece(piece: Result<usize, ReadError>, into: &[u8], wanted: Result<&str, ReadError>) -> bool {
     match (piece, wanted) {
