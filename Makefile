@@ -27,6 +27,8 @@ TOOLS := $(notdir $(wildcard tools/rv-*))
 OTHER_TOOLS := record compare-kernel draw
 PAGES := README.md CHANGELOG.md CONTRIBUTING.md docs
 MANUALS := rv.1 rv-tools.7 rv-bindings.5 rv-trace.5
+# pages of tools, which have their names; the other tools' pages are rv-tools(7)
+TOOL_MANUALS := rv-coverage.1
 
 fill = sed -e 's/@PROGRAM@/$(PROGRAM)/g' -e 's/@VERSION@/$(VERSION)/g' -e 's|@DATADIR@|$(SHOWN_DATADIR)|g'
 # rv-tools.7 becomes PROGRAM-tools.7
@@ -74,6 +76,7 @@ files:
 	for page in $(PAGES) examples monitors; do ln -sfn "../../$(PROGRAM)/$$page" "$(DESTDIR)$(DOCDIR)/$$page" || exit; done
 	$(foreach page,$(MANUALS),mkdir -p "$(DESTDIR)$(MANDIR)/man$(call section,$(page))" && \
 		$(fill) man/$(page).in > "$(DESTDIR)$(MANDIR)/man$(call section,$(page))/$(call manual,$(page))" &&) :
+	for page in $(TOOL_MANUALS); do $(fill) "man/$$page.in" > "$(DESTDIR)$(MANDIR)/man1/$$page" || exit; done
 	mkdir -p "$(DESTDIR)$(BASHDIR)" "$(DESTDIR)$(ZSHDIR)"
 	$(fill) completion/rv.bash > "$(DESTDIR)$(BASHDIR)/$(PROGRAM)"
 	$(fill) completion/rv.zsh > "$(DESTDIR)$(ZSHDIR)/_$(PROGRAM)"
@@ -93,7 +96,7 @@ uninstall: name
 
 # (man says what it finds on standard error, and ends with 0)
 check-man:
-	for page in $(MANUALS); do \
+	for page in $(MANUALS) $(TOOL_MANUALS); do \
 		said=$$($(fill) "man/$$page.in" | LC_ALL=C.UTF-8 MANROFFSEQ= MANWIDTH=80 man --warnings -E UTF-8 -l - 2>&1 > /dev/null); \
 		[ -z "$$said" ] || { echo "man/$$page.in: $$said" >&2; exit 1; }; \
 	done
