@@ -25,12 +25,14 @@ SHELL = /bin/sh
 # Tools keep their names, and those without the prefix have it below bin.
 TOOLS := $(notdir $(wildcard tools/rv-*))
 OTHER_TOOLS := record compare-kernel draw
+# those that share a completion, by their names below bin
+COMPLETED := $(filter-out rv-coverage,$(TOOLS) $(addprefix rv-,$(OTHER_TOOLS)))
 PAGES := README.md CHANGELOG.md CONTRIBUTING.md docs
 MANUALS := rv.1 rv-tools.7 rv-bindings.5 rv-trace.5
 # pages of tools, which have their names; the other tools' pages are rv-tools(7)
 TOOL_MANUALS := rv-coverage.1
 
-fill = sed -e 's/@PROGRAM@/$(PROGRAM)/g' -e 's/@VERSION@/$(VERSION)/g' -e 's|@DATADIR@|$(SHOWN_DATADIR)|g'
+fill = sed -e 's/@PROGRAM@/$(PROGRAM)/g' -e 's/@VERSION@/$(VERSION)/g' -e 's|@DATADIR@|$(SHOWN_DATADIR)|g' -e 's/@TOOLS@/$(COMPLETED)/g'
 # rv-tools.7 becomes PROGRAM-tools.7
 manual = $(patsubst rv%,$(PROGRAM)%,$(1))
 section = $(subst .,,$(suffix $(1)))
@@ -82,10 +84,14 @@ files:
 	$(fill) completion/rv.zsh > "$(DESTDIR)$(ZSHDIR)/_$(PROGRAM)"
 	install -m 644 completion/rv-coverage.bash "$(DESTDIR)$(BASHDIR)/rv-coverage"
 	install -m 644 completion/rv-coverage.zsh "$(DESTDIR)$(ZSHDIR)/_rv-coverage"
+	# bash looks for a file of the command's name
+	for tool in $(COMPLETED); do $(fill) completion/rv-tools.bash > "$(DESTDIR)$(BASHDIR)/$$tool" || exit; done
+	$(fill) completion/rv-tools.zsh > "$(DESTDIR)$(ZSHDIR)/_rv-tools"
 
 uninstall: name
 	rm -f "$(DESTDIR)$(BINDIR)/$(PROGRAM)" "$(DESTDIR)$(BASHDIR)/$(PROGRAM)" "$(DESTDIR)$(ZSHDIR)/_$(PROGRAM)"
-	rm -f "$(DESTDIR)$(BASHDIR)/rv-coverage" "$(DESTDIR)$(ZSHDIR)/_rv-coverage"
+	rm -f "$(DESTDIR)$(BASHDIR)/rv-coverage" "$(DESTDIR)$(ZSHDIR)/_rv-coverage" "$(DESTDIR)$(ZSHDIR)/_rv-tools"
+	for tool in $(COMPLETED); do rm -f "$(DESTDIR)$(BASHDIR)/$$tool"; done
 	for link in "$(DESTDIR)$(BINDIR)"/rv-*; do \
 		case $$(readlink "$$link") in \
 		"../share/$(PROGRAM)/tools/"*) rm -f "$$link" "$(DESTDIR)$(MANDIR)/man1/$${link##*/}.1" ;; \
