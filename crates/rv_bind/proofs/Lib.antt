@@ -2,7 +2,9 @@ pub mod BoundLemmas
 pub mod ChangeLemmas
 pub mod ChangedLemmas
 pub mod FormLemmas
+pub mod FrontLemmas
 pub mod KnownLemmas
+pub mod LinesAlike
 pub mod NumberLemmas
 pub mod OutcomeLemmas
 pub mod PossibleLemmas

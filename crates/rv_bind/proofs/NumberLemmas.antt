@@ -36,8 +36,8 @@ use Rattle.rv_bind.specs.Forms.{FormValue, on, holder_at, container_form, monito
 use Rattle.rv_bind.specs.MonitorLines.{rule_bound, change_bound, begin_bound}
 use Rattle.rv_bind.specs.Compiling.{compiled_of}
 use Rattle.rv_bind.specs.Bound.{compiled_in, form_in, place_for, container_bound}
-use Rattle.rv_bind.specs.Outcomes.{IsNumber, IsRefusal, IsFaultIn, Refines, accepted, reading, of_file, of_name}
-use Rattle.rv_bind.proofs.OutcomeLemmas.{of_name-reading}
+use Rattle.rv_bind.specs.Outcomes.{IsNumber, IsRefusal, IsFaultIn, Refines, accepted, of_file, text_front, front_named}
+use Rattle.rv_bind.proofs.FrontLemmas.{spec_front}
 
 -- ---- specifications
 
@@ -108,13 +108,13 @@ compiled_numbered kinds.Ltl text = then_numbered (ltl_of text) _ (ltl_numbered t
 
 -- what came of a file's specification that is refused
 pub spec_comes : (told : Option Files) (before now : ℕ) (kind : SpecKind) (file text : List ℕ) (fault : Refused) (given : BindFault) → IsFaultIn file fault given → Refuses fault (compiled_of kind text)
-    → ((files : Files) → told ≡ Some files → of_name files file accepted ≡ accepted text) → Refines (λ (compiled : Compiled). compiled) told before now (Err given) (λ files. compiled_in files kind file)
+    → ((files : Files) → told ≡ Some files → front_named files file ≡ accepted (text_front text)) → Refines (λ (compiled : Compiled). compiled) told before now (Err given) (λ files. compiled_in files kind file)
 spec_comes told before now kind file text refuseds.Memory given is refuses read = rw is tt
 spec_comes told before now kind file text (refuseds.Because refusal) faults.Memory is refuses read = tt
 spec_comes told before now kind file text (refuseds.Because refusal) (faults.Unread named) is refuses read = absurd is
 spec_comes told before now kind file text (refuseds.Because refusal) (faults.Refused named given) is refuses read = (
   rw is.1 (subst (λ (r : Result Compiled Refusal). IfErr r IsRefusal) refuses (compiled_numbered kind text)),
-  λ files known. rw (is.0, is.1) (of_name-reading files file (λ text. of_file file (compiled_of kind text)) ∙ ap (λ o. reading o (λ text. of_file file (compiled_of kind text))) (read files known) ∙ ap (of_file file) refuses),
+  λ files known. rw (is.0, is.1) (spec_front files kind file text (read files known) ∙ ap (of_file file) refuses),
 )
 
 -- ---- lines

@@ -1,5 +1,5 @@
 -- Without a file the reading goes the same way up to that file, so an unread file that a part names is reached in the whole.
-use Rattle.std.proofs.Common.{◌≡◌, ℕ, Bool, true, false, List, [], ◌∷◌, refl, ap, ◌∙◌, ◌⊎◌, inl, inr}
+use Rattle.std.proofs.Common.{◌≡◌, ℕ, Bool, true, false, List, [], ◌∷◌, refl, sym, ap, ◌∙◌, ◌⊎◌, inl, inr}
 use Rattle.std.specs.Prelude.{Option, Some, None, Result, Ok, Err, bytes_eq, option_map, IsErrAnd, if◌then◌else◌}
 use Rattle.std.proofs.lemmas.Slice.Eq.{bytes_eq-Decides}
 use Rattle.rv_text.specs.declared.refusals.Refusal.{Refusal}
@@ -18,8 +18,8 @@ use Rattle.rv_bind.specs.Forms.{FormValue, skipped, container, monitor, on, reac
 use Rattle.rv_bind.specs.Compiling.{compiled_of}
 use Rattle.rv_bind.specs.Bound.{nothing_bound, place_for, with_monitor, compiled_in, monitor_bound, form_bound, form_in, line_bound, lines_bound, bound_of}
 use Rattle.rv_bind.specs.inner.LineReads.{InLine}
-use Rattle.rv_bind.specs.Outcomes.{Outcome, accepted, refused, missing, reading, of_file, of_line, of_text, of_name, files_without, IsReached, BlamesReached, IsFaultOf, IsFaultIn}
-use Rattle.rv_bind.proofs.OutcomeLemmas.{of_name-reading}
+use Rattle.rv_bind.specs.Outcomes.{Outcome, accepted, refused, missing, reading, of_file, of_line, of_text, of_name, text_front, front_named, files_without, IsReached, BlamesReached, IsFaultOf, IsFaultIn}
+use Rattle.rv_bind.proofs.FrontLemmas.{front_named-reading, spec-looks, lines-looks}
 
 -- ---- an outcome without a file is that it is missing, or what it is with the file
 
@@ -60,9 +60,9 @@ of_name-local {X} name read each files file = go (bytes_eq name file) refl
     go true is = inl (ap (λ (f : List ℕ). missing f) ((bytes_eq-Decides name file).0 is))
     go false is = same (files name)
 
--- a text is read wherever its file is
-pub text-local : (name : List ℕ) → IsLocal (λ files. of_name files name accepted)
-text-local name = of_name-local name (λ files. accepted) (λ text files file. inr refl)
+-- a front is read wherever its file is
+front-local : (name : List ℕ) → IsLocal (λ files. front_named files name)
+front-local name = of_name-local name (λ files text. accepted (text_front text)) (λ text files file. inr refl)
 
 spec-local : (kind : SpecKind) (name : List ℕ) → IsLocal (λ files. compiled_in files kind name)
 spec-local kind name = of_name-local name (λ files text. of_file name (compiled_of kind text)) (λ text files file. inr refl)
@@ -116,13 +116,13 @@ behind_named X Z told (faults.Unread file) step y next is read named = λ files 
 ]
 
 module _ (told : Option Files) where
-  -- the file itself
-  pub unread_named : (X : Type 0) (name : List ℕ) (fault : BindFault) → (fault ≡ faults.Unread name) ⊎ (fault ≡ faults.Memory) → BlamesReached {X = X} told (Err fault) (λ files. of_name files name accepted)
-  unread_named X name fault (inl is) = rw is (λ files known. reached files)
+  -- the file itself, whatever is read of its text
+  pub unread_named : {Y : Type 0} (X : Type 0) (name : List ℕ) (read : List ℕ → Outcome Y) (fault : BindFault) → (fault ≡ faults.Unread name) ⊎ (fault ≡ faults.Memory) → BlamesReached {X = X} told (Err fault) (λ files. of_name files name read)
+  unread_named {Y} X name read fault (inl is) = rw is (λ files known. reached files)
     where
-      reached : (files : Files) → of_name (files_without name files) name accepted ≡ missing name
+      reached : (files : Files) → of_name (files_without name files) name read ≡ missing name
       reached files = let same : bytes_eq name name ≡ true = (bytes_eq-Decides name name).1 refl in rw same refl
-  unread_named X name fault (inr is) = rw is tt
+  unread_named X name read fault (inr is) = rw is tt
 
   -- a refusal names no unread file
   pub refused_named : {Y : Type 0} (X : Type 0) (file : List ℕ) (refusal : Refusal) (fault : BindFault) (outcome : Files → Outcome Y) → IsFaultOf fault file refusal → BlamesReached {X = X} told (Err fault) outcome
@@ -146,8 +146,8 @@ module _ (told : Option Files) where
       go (Err fault) h = refused_named Unit file (record { number = number; line = line }) fault outcome h
 
   -- an unread specification is read by its file
-  pub spec_named : (X Z : Type 0) (kind : SpecKind) (file : List ℕ) (fault : BindFault) → BlamesReached {X = X} told (Err fault) (λ files. of_name files file accepted) → BlamesReached {X = Z} told (Err fault) (λ files. compiled_in files kind file)
-  spec_named X Z kind file fault = step_named X Z told fault (λ files. of_name files file accepted) (λ files text. of_file file (compiled_of kind text)) (λ files. compiled_in files kind file) (λ files. of_name-reading files file (λ text. of_file file (compiled_of kind text)))
+  pub spec_named : (X Z : Type 0) (kind : SpecKind) (file : List ℕ) (fault : BindFault) → BlamesReached {X = X} told (Err fault) (λ files. front_named files file) → BlamesReached {X = Z} told (Err fault) (λ files. compiled_in files kind file)
+  spec_named X Z kind file fault = step_named X Z told fault (λ files. front_named files file) (λ files text. of_file file (compiled_of kind text)) (λ files. compiled_in files kind file) (λ files. front_named-reading (λ text. of_file file (compiled_of kind text)) (spec-looks kind file) files file)
 
   -- a monitor's specification is reached where there is room for the monitor
   pub monitor_named : (X Z : Type 0) (here : List ℕ) (line : ℕ) (bound : BoundValue) (name : List ℕ) (scope : Scope) (kind : SpecKind) (file : List ℕ) (holder : Option (List ℕ)) (place : Option ℕ) (fault : BindFault)
@@ -161,9 +161,9 @@ module _ (told : Option Files) where
   goes_on_named file line result read x next is named = rw is named
 
   -- unread bindings
-  pub bindings_named : (X Z : Type 0) (here : List ℕ) (fault : BindFault) → BlamesReached {X = X} told (Err fault) (λ files. of_name files here accepted) → BlamesReached {X = Z} told (Err fault) (λ files. bound_of files here)
+  pub bindings_named : (X Z : Type 0) (here : List ℕ) (fault : BindFault) → BlamesReached {X = X} told (Err fault) (λ files. front_named files here) → BlamesReached {X = Z} told (Err fault) (λ files. bound_of files here)
   bindings_named X Z here fault =
-      step_named X Z told fault (λ files. of_name files here accepted) (λ files text. lines_bound files here nothing_bound (lines_of text)) (λ files. bound_of files here) (λ files. of_name-reading files here (λ text. lines_bound files here nothing_bound (lines_of text)))
+      step_named X Z told fault (λ files. front_named files here) (λ files text. lines_bound files here nothing_bound (lines_of text)) (λ files. bound_of files here) (λ files. front_named-reading (λ text. lines_bound files here nothing_bound (lines_of text)) (lines-looks files here) files here)
 
   -- ---- line by line
 
@@ -172,17 +172,17 @@ module _ (told : Option Files) where
   Leads here bound lines = (files : Files) → (file : List ℕ) → told ≡ Some files → IsReached (λ files. bound_of files here) files file ⊎ (bound_of (files_without file files) here ≡ lines_bound (files_without file files) here bound lines)
 
   -- the bindings that were read lead to all their lines
-  pub lines_begin : (here text : List ℕ) → ((files : Files) → told ≡ Some files → of_name files here accepted ≡ accepted text) → Leads here nothing_bound (lines_of text)
-  lines_begin here text read files file known = elim (text-local here files file) [
+  pub lines_begin : (here text : List ℕ) → ((files : Files) → told ≡ Some files → front_named files here ≡ accepted (text_front text)) → Leads here nothing_bound (lines_of text)
+  lines_begin here text read files file known = elim (front-local here files file) [
     | inl reached ↦ inl (whole ∙ ap (λ o. reading o next) reached)
-    | inr same ↦ inr (whole ∙ ap (λ o. reading o next) (same ∙ read files known))
+    | inr same ↦ inr (whole ∙ ap (λ o. reading o next) (same ∙ read files known) ∙ sym (lines-looks (files_without file files) here text))
   ]
     where
       next : List ℕ → Outcome BoundValue
       next text = lines_bound (files_without file files) here nothing_bound (lines_of text)
 
-      whole : bound_of (files_without file files) here ≡ reading (of_name (files_without file files) here accepted) next
-      whole = of_name-reading (files_without file files) here next
+      whole : bound_of (files_without file files) here ≡ reading (front_named (files_without file files) here) next
+      whole = front_named-reading next (lines-looks (files_without file files) here) (files_without file files) here
 
   module _ (here : List ℕ) (bound : BoundValue) (line : LineText) (rest : List LineText) (leads : Leads here bound (line ∷ rest)) where
     -- where a line was read, they lead to the lines behind it

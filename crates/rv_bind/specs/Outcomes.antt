@@ -1,5 +1,5 @@
 -- What reading files comes to, in the stated order of the reading: a value, a refusal with its file, or a missing file.
-use Rattle.std.specs.Prelude.{◌≡◌, ◌≤◌, ◌⊎◌, ℕ, List, bytes_eq, Option, Some, None, Result, Ok, Err, option_map, if◌then◌else◌}
+use Rattle.std.specs.Prelude.{◌≡◌, ◌≤◌, ◌⊎◌, ℕ, ◌+◌, List, take, bytes_eq, Option, Some, None, Result, Ok, Err, option_map, if◌then◌else◌}
 use Rattle.rv_text.specs.declared.numbers.TheConstants.{USAGE, NO_INSTANCE}
 use Rattle.rv_text.specs.declared.refusals.Refusal.{Refusal}
 use Rattle.rv_text.specs.declared.refusals.Refused.{Refused}
@@ -7,6 +7,7 @@ use Rattle.rv_text.specs.declared.refusals.Refused.TheVariants as refuseds
 use Rattle.rv_io.specs.Files.{Files, Rose, front_read}
 use Rattle.rv_bind.specs.declared.fault.BindFault.{BindFault}
 use Rattle.rv_bind.specs.declared.fault.BindFault.TheVariants as faults
+use Rattle.rv_bind.specs.declared.limits.TheConstants.{TEXT_LIMIT}
 
 -- what files come to: a value, a refusal with its file, or a missing file
 pub data Outcome (Y : Type 0) : Type 0 where
@@ -40,6 +41,14 @@ of_text file (Some text) read = read text
 -- what is read of the file of this name, of which a store gives no more bytes than its limit
 abbrev pub of_name : {X : Type 0} → Files → List ℕ → (List ℕ → Outcome X) → Outcome X
 of_name files file read = of_text file (option_map front_read (files file)) read
+
+-- what a reader with a limit looks at: a text up to one byte past its first 1,048,576
+unfoldable pub text_front : List ℕ → List ℕ
+text_front text = take (TEXT_LIMIT + 1) text
+
+-- the same of the file of this name
+abbrev pub front_named : Files → List ℕ → Outcome (List ℕ)
+front_named files file = of_name files file (λ text. accepted (text_front text))
 
 -- the number is that of a refusal: `USAGE` is the first and `NO_INSTANCE` the last
 abbrev pub IsNumber : ℕ → Type 0

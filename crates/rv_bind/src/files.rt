@@ -2,7 +2,7 @@
 ghost use Rattle.std.specs.Prelude.{◌≡◌, ◌≤◌, IfOk, IfErr, length};
 ghost use Rattle.rv_bind.specs.FilePieces.{FailsAs, IsFilePiece};
 ghost use Rattle.rv_bind.specs.inner.LineReads.{InLine};
-ghost use Rattle.rv_bind.specs.Outcomes.{ReadsOutcome, IsFaultIn, accepted, of_name};
+ghost use Rattle.rv_bind.specs.Outcomes.{ReadsOutcome, IsFaultIn, accepted, front_named, of_name, text_front};
 ghost use Rattle.rv_bind.specs.Bound.{compiled_in, compiled_by};
 ghost use Rattle.rv_bind.specs.Possible.{IsUnread, MayCome, MayFind};
 ghost use Rattle.rv_bind.specs.Compiling.{Compiles};
@@ -15,11 +15,11 @@ use rv_model::{Name, SpecKind};
 use rv_text::{Refusal, Refused};
 use std::alloc::Global;
 
-/// The bytes of a file that is refused past its first 1,048,576 bytes, so that no more than one byte behind them has
-/// to be read. It is unread where it is missing or a read failed.
-#[tactic(auto, using(crate::proofs::ReachedLemmas::unread_named))]
+/// The bytes of a file that is refused past its first 1,048,576 bytes. Only up to one byte behind these are they the
+/// file's. It is unread where it is missing or a read failed.
+#[tactic(auto, using(crate::proofs::ReachedLemmas::unread_named), unfolding(crate::specs::Outcomes::text_front))]
 pub fn read_file<S: Store>(alloc: Global, store: &mut S, name: &str) -> Result<Vec<u8>, BindFault>
-    ensures reads { ReadsOutcome (λ text. text.items) (S.files store.old) (S.files store.new) (S.faults store.old) (S.faults store.new) result (λ files. of_name files name.now accepted) }
+    ensures reads { ReadsOutcome (λ text. text_front text.items) (S.files store.old) (S.files store.new) (S.faults store.old) (S.faults store.new) result (λ files. front_named files name.now) }
     ensures unread { IfErr result (IsUnread name.now) }
 {
     match store.read_short(alloc, name, TEXT_LIMIT) {

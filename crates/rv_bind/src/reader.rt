@@ -21,7 +21,7 @@ use std::alloc::{AllocError, Global};
 
 /// Reads the bindings of a file, line by line, and each specification when its line is reached. The first refusal or
 /// unread file decides, and the fault names its file. The refusal of a specification has no line (0).
-#[tactic(auto, using(crate::proofs::ReachedLemmas::bindings_named, crate::proofs::ReachedLemmas::lines_begin, crate::proofs::ReachedLemmas::rest_named, crate::proofs::PossibleLemmas::lines_may))]
+#[tactic(auto, using(crate::proofs::FrontLemmas::bindings_front, crate::proofs::ReachedLemmas::bindings_named, crate::proofs::ReachedLemmas::lines_begin, crate::proofs::ReachedLemmas::rest_named, crate::proofs::PossibleLemmas::lines_may))]
 pub fn read_bindings<S: Store>(alloc: Global, store: &mut S, name: &str) -> Result<Bound, BindFault>
     ensures formed { IfOk result (λ bound. IsWellFormed (bound_value bound)) }
     ensures reads { ReadsOutcome bound_value (S.files store.old) (S.files store.new) (S.faults store.old) (S.faults store.new) result (λ files. bound_of files name.now) }

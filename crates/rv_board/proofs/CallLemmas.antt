@@ -148,8 +148,8 @@ pub looks-by : {number end : ℕ} {table table' : TableId} {m m' : Ours} {found 
 looks-by {number} {end} {table} {table'} {m} {m'} {found} {old} u is same t = record { entry = entry_of m.0 m'.0 Look found t.0; acts = acts-by Look u is same t; found = sym t.0.word }
 
 -- what the two loads of a join tell
-joined-view : (table table' other : TableId) (v w x : View) (found : ℕ) → table' ≡ table → Saw word_at (joined v w) x 0 found → Joins (seat_value v.part (board_id table v.setup)) (seat_value w.part (board_id other w.setup)) (seat_value x.part (board_id table' x.setup))
-joined-view table table' other v w x found same s = record {
+joined-view : (table table' other : TableId) (v w x : View) (index found : ℕ) → table' ≡ table → Saw word_at (joined v w) x index found → Joins (seat_value v.part (board_id table v.setup)) (seat_value w.part (board_id other w.setup)) (seat_value x.part (board_id table' x.setup))
+joined-view table table' other v w x index found same s = record {
   own = follows x.part.seen v.part s.left;
   other = follows x.part.seen w.part s.right;
   sound = s.sound;
@@ -160,8 +160,8 @@ joined-view table table' other v w x found same s = record {
 }
 
 -- and of the seats as contracts see them
-pub joins-by : {table table' other : TableId} (v w : View) {m x : View} {found : ℕ} {old from : SeatValue} → m ≡ joined v w → seat_value v.part (board_id table v.setup) ≡ old → seat_value w.part (board_id other w.setup) ≡ from → table' ≡ table → Saw word_at m x 0 found
+pub joins-by : {table table' other : TableId} (v w : View) {m x : View} {index found : ℕ} {old from : SeatValue} → m ≡ joined v w → seat_value v.part (board_id table v.setup) ≡ old → seat_value w.part (board_id other w.setup) ≡ from → table' ≡ table → Saw word_at m x index found
     → Joins old from (seat_value x.part (board_id table' x.setup))
-joins-by {table} {table'} {other} v w {m} {x} {found} {old} {from} both is from-is same s =
+joins-by {table} {table'} {other} v w {m} {x} {index} {found} {old} {from} both is from-is same s =
     subst (λ (o : SeatValue × SeatValue). Joins o.0 o.1 (seat_value x.part (board_id table' x.setup))) (λ i. (is i, from-is i))
-    (joined-view table table' other v w x found same (subst (λ (z : View). Saw word_at z x 0 found) both s))
+    (joined-view table table' other v w x index found same (subst (λ (z : View). Saw word_at z x index found) both s))

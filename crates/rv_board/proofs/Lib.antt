@@ -10,6 +10,7 @@ pub mod NumberLemmas
 pub mod RaceLemmas
 pub mod RunSeatLemmas
 pub mod SoundLemmas
+pub mod SpacingLemmas
 pub mod SplitLemmas
 pub mod StepLemmas
 pub mod ViewLemmas

@@ -1,5 +1,5 @@
 -- The rule holds of a board that opens, and allows that a seat is split.
-use Rattle.std.proofs.Common.{◌≡◌, ◌≢◌, ⊎_elim, ℕ, zero, suc, ◌<◌, ◌≤◌, true, List, [], ◌∷◌, ◌++◌, length, set, refl, ap, sym, ◌∙◌, subst, arith}
+use Rattle.std.proofs.Common.{◌≡◌, ◌≢◌, ⊎_elim, ℕ, zero, suc, ◌<◌, ◌≤◌, true, List, [], ◌∷◌, ◌++◌, length, set, sum, refl, ap, sym, ◌∙◌, subst, arith}
 use Rattle.std.specs.Prelude.{slice_index}
 use mathlib.Core.Option.{some, some-injective, some-ne-none}
 use lib.ListN.{get_elem?}
@@ -11,21 +11,22 @@ use Rattle.rv_model.specs.Seats.{Seat, is_within}
 use Rattle.rv_core.specs.Setup.{IsSetup, judges_of}
 use Rattle.rv_board.specs.declared.view.View.{View}
 use Rattle.rv_board.specs.Known.{part}
+use Rattle.rv_board.specs.Places.{ArePlaced}
 use Rattle.rv_board.specs.inner.Known.{knows, Begun}
-use Rattle.rv_board.specs.Rule.{width, cut_left, cut_right}
-use Rattle.rv_board.specs.inner.Rule.{word_at, nothing_else, IsOpening, Fits, Kept, KeptPlainly, first_view}
+use Rattle.rv_board.specs.Rule.{cut_left, cut_right}
+use Rattle.rv_board.specs.inner.Rule.{word_at, nothing_else, IsOpening, Fits, Kept, KeptPlainly, first_view, width}
 use Rattle.rv_board.proofs.Knowing.{none_of, begun_blank, cut_left_within, cut_right_within}
 use Rattle.rv_board.proofs.ViewLemmas.{each_set, blank_within, apart_set, apart_snoc}
 use Rattle.rv_board.proofs.SoundLemmas.{sound-empty}
 use Rattle.rv_board.proofs.NumberLemmas.{none_among, range_left, range_right, cut_apart}
 
 -- the table at the start, whichever word stands for a history and whatever else is to hold
-pub opens_with : (code : Setup → List Entry → ℕ → ℕ) (also : List Entry → List View → Type 0) (k : Setup) (words : List ℕ) → IsSetup k → length words ≡ width k → ((i : ℕ) → i < width k → slice_index words i ≡ code k [] i)
-    → also [] (first_view k ∷ []) → Kept code also k (opening words [] (first_view k))
-opens_with code also k words is_setup wide each further = record {
+pub opens_with : (code : Setup → List Entry → ℕ → ℕ) (also : List Entry → List View → Type 0) (k : Setup) (words placed : List ℕ) → IsSetup k → length words ≡ width k → ((i : ℕ) → i < width k → slice_index words i ≡ code k [] i)
+    → ArePlaced (sum k.shape) words placed → also [] (first_view k ∷ []) → Kept code also k (opening placed [] (first_view k))
+opens_with code also k words placed is_setup wide each at further = record {
   history = [];
-  wide = wide;
-  words = each;
+  wide = at.room;
+  words = λ i low. at.each i (omega arith) ∙ each i low;
   machine = record { is_setup = is_setup; live = λ i low. tt };
   sound = sound-empty k (judges_of k);
   fits = fits;
@@ -51,8 +52,8 @@ opens_with code also k words is_setup wide each further = record {
     apart (suc i) j v w e f ne = absurd (some-ne-none v (sym e))
 
 -- the table of a board at the start
-pub opens : (k : Setup) (words : List ℕ) → IsOpening k words → KeptPlainly k (opening words [] (first_view k))
-opens k words o = opens_with word_at nothing_else k words o.is_setup o.wide o.each tt
+pub opens : (k : Setup) (words placed : List ℕ) → IsOpening k words → {slots : ℕ} → ArePlaced slots words placed → slots ≡ sum k.shape → KeptPlainly k (opening placed [] (first_view k))
+opens k words placed o {slots} at many = opens_with word_at nothing_else k words placed o.is_setup o.wide o.each (subst (λ (n : ℕ). ArePlaced n words placed) many at) tt
 
 -- who knows fewer numbers has seen as much
 begun_fewer : (history : List Entry) (p q : Seat) → Begun history p → ((n : ℕ) → knows q n ≡ true → knows p n ≡ true) → q.seen ≡ p.seen → Begun history q

@@ -14,8 +14,7 @@ use Rattle.rv_core.specs.Core.{IsCore}
 use Rattle.rv_core.proofs.CoreLemmas.{core-after, core-answer, fits-words}
 use Rattle.rv_core.specs.Setup.{IsSetup}
 use Rattle.rv_core.proofs.OpeningLemmas.{opening_words, core-opens}
-use Rattle.rv_board.specs.Rule.{width}
-use Rattle.rv_board.specs.inner.Rule.{word_at, IsMachine, IsOpening}
+use Rattle.rv_board.specs.inner.Rule.{word_at, IsMachine, IsOpening, width}
 use Rattle.rv_board.specs.inner.Steps.{made_after}
 
 -- the words that the history gives

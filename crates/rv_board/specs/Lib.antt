@@ -1,6 +1,7 @@
 pub mod Codes
 pub mod Deliveries
 pub mod Known
+pub mod Places
 pub mod Rule
 pub mod RunSeats
 pub mod Seats

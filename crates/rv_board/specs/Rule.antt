@@ -1,16 +1,10 @@
--- How many words a board has, and how the view of a seat is cut and joined.
-use Rattle.std.specs.Prelude.{ℕ, suc, nat_lt, List, [], ◌++◌, length, sum, if◌then◌else◌}
+-- How the view of a seat is cut and joined.
+use Rattle.std.specs.Prelude.{ℕ, nat_lt, List, [], ◌++◌, length, if◌then◌else◌}
 use Rattle.rv_model.specs.declared.entry.Entry.{Entry}
 use Rattle.rv_model.specs.Setups.{Setup}
 use Rattle.rv_model.specs.Seats.{Seat}
 use Rattle.rv_board.specs.declared.view.View.{View}
 use Rattle.rv_board.specs.Known.{numbers, part, blank}
-
--- how many words a board has: the switches, and a word for each slot
-abbrev pub width : Setup → ℕ
-width s = suc (sum s.shape)
-
--- ---- views
 
 -- a view from what its seat knows, what the two seats of a join knew, and the setup
 abbrev pub view : Seat → Seat → Seat → Setup → View

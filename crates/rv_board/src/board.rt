@@ -8,6 +8,7 @@ ghost use Rattle.rv_board.specs.Seats.{seat_value, SeatGrows, Looks, Does};
 
 use crate::rule::{ClearStep, EndStep, Law, LoadStep, LookStep, LowerStep, RaiseStep};
 use crate::seat::{SEATS, Seat};
+use crate::spacing::Spacing;
 use crate::view::View;
 use atomic_table::Table;
 use rv_core::{Setup, opening_words};
@@ -19,17 +20,18 @@ use std::marker::Model;
 /// The bit of the switches that halts a run.
 const HALTED: u64 = 1 << 34;
 
-/// The switches as word 0, then a word for each slot of the setup. Contracts see which board it is and its setup; the
-/// words are known by what seats have seen.
+/// The switches at place 0, and a word for each slot of the setup, at the place that the spacing gives it. Contracts see
+/// which board it is and its setup; the words are known by what seats have seen.
 #[derive(Drop)]
 pub struct Board {
     pub(crate) table: Table<Act, View, Setup, Law, Global>,
     pub(crate) setup: Setup,
+    pub(crate) spacing: Spacing,
 }
 
 impl Model for Board {
-    ghost use Rattle.std.specs.Prelude.{◌≡◌};
-    ghost use Rattle.rv_board.specs.Rule.{width};
+    ghost use Rattle.std.specs.Prelude.{◌≡◌, sum};
+    ghost use Rattle.rv_board.specs.Places.{room_of};
     ghost use Rattle.rv_board.specs.Seats.{BoardId, coded_board};
 
     ghost Value = { BoardId };
@@ -38,7 +40,7 @@ impl Model for Board {
 
     ghost view = { λ b. record { table = b.table.shared.table_id; setup = b.setup } };
 
-    ghost invariant = { λ b. (b.table.shared.key ≡ b.setup) × (b.table.shared.table_id.words ≡ width b.setup) };
+    ghost invariant = { λ b. (b.table.shared.key ≡ b.setup) × (b.table.shared.table_id.words ≡ room_of (sum b.setup.shape)) × (b.spacing ≡ sum b.setup.shape) };
 }
 
 /// A new board, and its first seat, which has all numbers, 0 to 66.
@@ -55,10 +57,16 @@ impl Board {
         ensures board { IfOk result (λ start. start.board.setup ≡ setup) }
         ensures seat { IfOk result (λ start. start.seat ≡ seat_value (part 0 67 [] []) start.board) }
     {
+        let spacing = Spacing::of(setup.shape.slots());
         let words = opening_words(alloc, &setup)?;
-        let (table, token) = Table::of_words(alloc, words.as_slice(), &setup)?;
+        let placed = spacing.spread(alloc, words)?;
+        let (table, token) = Table::of_words(alloc, placed.as_slice(), &setup)?;
         Ok(BoardStart {
-            board: Board { table, setup },
+            board: Board {
+                table,
+                setup,
+                spacing,
+            },
             seat: Seat {
                 token,
                 number: 0,
@@ -128,7 +136,7 @@ impl Board {
         let opening = self.setup.opening(slot);
         self.table
             .shared
-            .swap::<ClearStep>(&mut seat.token, slot as usize + 1, opening);
+            .swap::<ClearStep>(&mut seat.token, self.spacing.place(slot), opening);
     }
 
     /// Ends the slot's instance, as when its task is gone: it waits again with its starting levels, also where it was
@@ -141,7 +149,7 @@ impl Board {
         let opening = self.setup.opening(slot);
         self.table
             .shared
-            .swap::<EndStep>(&mut seat.token, slot as usize + 1, opening);
+            .swap::<EndStep>(&mut seat.token, self.spacing.place(slot), opening);
     }
 
     /// The word of a slot, by one load that makes no entry: the word after all entries that the seat has seen by then.
@@ -154,6 +162,6 @@ impl Board {
     {
         self.table
             .shared
-            .load::<LoadStep>(&mut seat.token, slot as usize + 1)
+            .load::<LoadStep>(&mut seat.token, self.spacing.place(slot))
     }
 }

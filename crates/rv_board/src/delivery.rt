@@ -34,7 +34,7 @@ impl Board {
         ensures { DeliversOrStops seat.old seat.new slot hit.now result }
     {
         let act = Act::Deliver { slot, hit: *hit };
-        let place = slot as usize + 1;
+        let place = self.spacing.place(slot);
         let shared = &self.table.shared;
         let table = self.setup.table(slot);
         let mut word = shared.load::<LoadStep>(&mut seat.token, place);

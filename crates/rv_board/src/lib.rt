@@ -8,6 +8,7 @@ mod limits;
 mod rule;
 mod seat;
 mod sharing;
+mod spacing;
 mod view;
 
 pub use board::{Board, BoardStart};
@@ -16,4 +17,5 @@ pub use rule::{Cut, Cutting, Joining};
 pub use rv_model::Delivered;
 pub use seat::{SEATS, Seat};
 pub use sharing::cut;
+pub use spacing::{LINE_WORDS, SPREAD_SLOTS, Spacing};
 pub use view::{Part, View};

@@ -26,7 +26,8 @@ use Rattle.rv_board.specs.Seats.{BoardId, SeatValue, Acts, Looks, Does}
 use Rattle.rv_board.proofs.GrowLemmas.{grows_none}
 use Rattle.rv_feed.specs.Feeding.{played_by, Adds}
 use Rattle.rv_feed.specs.inner.Composing.{adds-composes}
-use Rattle.rv_feed.specs.inner.Turns.{LooksAt, Halts, Serves, IsOneTurn}
+use Rattle.rv_feed.specs.Players.{LooksAt, Halts, Serves}
+use Rattle.rv_feed.specs.inner.Turns.{IsOneTurn}
 
 -- ---- one call
 

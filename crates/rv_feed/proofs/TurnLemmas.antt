@@ -14,7 +14,8 @@ use Rattle.rv_model.specs.inner.ScriptParts.{TurnPart}
 use Rattle.rv_model.proofs.ScriptPartLemmas.{part-nothing, part-join, last-join, part-one, last-one, part-quiet, turn-goes, turn-ends, turn-halted}
 use Rattle.rv_feed.specs.Lane.{LaneValue}
 use Rattle.rv_feed.specs.inner.Lane.{AddsRecords}
-use Rattle.rv_feed.specs.inner.Turns.{Composes, NoLooks, LooksAt, Halts, Serves, PartDone, PlaysTurn}
+use Rattle.rv_feed.specs.Players.{Composes, LooksAt, Halts, Serves}
+use Rattle.rv_feed.specs.inner.Turns.{NoLooks, PartDone, PlaysTurn}
 use Rattle.rv_feed.proofs.PlaceLemmas.{record-for, adds-nothing, adds-join, AtPlace, shown_to, shown_behind, hidden-more, shown-more, shown-split}
 
 -- neither has a look

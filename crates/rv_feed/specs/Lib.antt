@@ -6,6 +6,7 @@ pub mod Feeding
 pub mod Kept
 pub mod Lane
 pub mod Order
+pub mod Players
 pub mod Runs
 pub mod Turns
 pub mod inner

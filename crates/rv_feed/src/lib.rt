@@ -23,4 +23,6 @@ pub use lane::{Lane, is_panic};
 pub use laws::one_thread_has_a_history;
 pub use one::replay;
 pub use order::run_in_order;
+pub use player::Player;
 pub use rv_model::{Delivered, Record};
+pub use turn::ends_script;

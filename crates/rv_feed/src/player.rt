@@ -3,7 +3,7 @@ ghost use Rattle.std.specs.Prelude.{◌≡◌, ℕ, ◌+◌, List};
 ghost use Rattle.rv_model.specs.Scripts.{Played, hit_act};
 ghost use Rattle.rv_model.specs.Setups.{Setup};
 ghost use Rattle.rv_core.specs.Deliveries.{FitsDelivery};
-ghost use Rattle.rv_feed.specs.inner.Turns.{Composes, LooksAt, Serves, Halts};
+ghost use Rattle.rv_feed.specs.Players.{Composes, LooksAt, Serves, Halts};
 
 use rv_board::{Board, Seat};
 use rv_core::Core;
@@ -11,7 +11,7 @@ use rv_io::Gate;
 use rv_model::{Act, Answer, Delivered, Delivery, HALTED, Hit};
 
 /// What plays a CPU's script.
-pub(crate) trait Player {
+pub trait Player {
     /// What it shares with the players of other CPUs.
     type Shared;
 

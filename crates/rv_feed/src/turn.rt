@@ -12,7 +12,8 @@ use rv_io::Gate;
 use rv_model::{Delivered, HALTED, REACTING, Reactor, Turn, fails, has_bit, is_enabled_by};
 
 /// Whether a delivery with this outcome ends its script.
-fn ends(reactors: &[Reactor], word: u64, monitor: u8, outcome: Delivered) -> bool
+#[inline(always)]
+pub fn ends_script(reactors: &[Reactor], word: u64, monitor: u8, outcome: Delivered) -> bool
     ensures { result ≡ (failed_outcome outcome && (panics_of reactors.now monitor && has_bit word 33)) }
 {
     match outcome {
@@ -50,7 +51,7 @@ pub(crate) fn play_turn<P: Player, L: Keeper, G: Gate>(
         if is_enabled_by(word, &delivery) {
             let outcome = player.serve(shared, cpu, &delivery, gate);
             lane.keep(place, turn.line, outcome, has_bit(word, REACTING));
-            if ends(reactors, word, delivery.monitor, outcome) {
+            if ends_script(reactors, word, delivery.monitor, outcome) {
                 player.halt(shared, cpu);
                 return true;
             }

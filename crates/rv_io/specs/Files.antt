@@ -1,5 +1,5 @@
 -- What a store tells of its files, and what a read of it may answer.
-use Rattle.std.specs.Prelude.{◌≡◌, ◌⊎◌, ℕ, ◌-◌, ◌^◌, ◌<◌, List, take, Option, Some, None, Vec, Result, Ok, Err}
+use Rattle.std.specs.Prelude.{◌≡◌, ◌⊎◌, ℕ, ◌+◌, ◌-◌, ◌^◌, ◌<◌, List, take, Option, Some, None, Vec, Result, Ok, Err}
 use Rattle.std.specs.declared.alloc.Global.{Global}
 use Rattle.rv_io.specs.declared.store.ReadError.{ReadError}
 use Rattle.rv_io.specs.declared.store.ReadError.TheVariants.{NoFile, Failed, Memory}
@@ -17,14 +17,18 @@ Rose before now = (before < now) ⊎ (now ≡ 2 ^ 64 - 1)
 unfoldable pub front_read : List ℕ → List ℕ
 front_read bytes = take READ_LIMIT bytes
 
--- a read of a name where the files are told: that file's bytes, cut, or what there is of them
-abbrev pub ReadsKnown : Option (List ℕ) → ℕ → ℕ → Result (Vec ℕ Global) ReadError → Type 0
-ReadsKnown (Some bytes) before now (Ok read) = read.items ≡ front_read bytes
-ReadsKnown None before now (Ok read) = ⊥
-ReadsKnown (Some bytes) before now (Err NoFile) = ⊥
-ReadsKnown None before now (Err NoFile) = now ≡ before
-ReadsKnown _ before now (Err Failed) = Rose before now
-ReadsKnown _ before now (Err Memory) = Unit {0}
+-- the two texts are the same up to one byte past `most`
+abbrev pub AreAlikeTo : ℕ → List ℕ → List ℕ → Type 0
+AreAlikeTo most text other = take (most + 1) text ≡ take (most + 1) other
+
+-- a read of a name where the files are told: what may be read for that file's bytes, cut, or what there is of them
+abbrev pub ReadsKnown : (List ℕ → List ℕ → Type 0) → Option (List ℕ) → ℕ → ℕ → Result (Vec ℕ Global) ReadError → Type 0
+ReadsKnown IsRead (Some bytes) before now (Ok read) = IsRead read.items (front_read bytes)
+ReadsKnown IsRead None before now (Ok read) = ⊥
+ReadsKnown IsRead (Some bytes) before now (Err NoFile) = ⊥
+ReadsKnown IsRead None before now (Err NoFile) = now ≡ before
+ReadsKnown IsRead _ before now (Err Failed) = Rose before now
+ReadsKnown IsRead _ before now (Err Memory) = Unit {0}
 
 -- a read where the files are not told: no error without a fault, but for want of memory
 abbrev pub ReadsOpaque : ℕ → ℕ → Result (Vec ℕ Global) ReadError → Type 0
@@ -33,7 +37,15 @@ ReadsOpaque before now (Err NoFile) = Rose before now
 ReadsOpaque before now (Err Failed) = Rose before now
 ReadsOpaque before now (Err Memory) = Unit {0}
 
--- what a read of a name may answer, by what the store tells
+-- what a read of a name may answer, by what the store tells and what may be read for a file's bytes
+abbrev pub ReadsAs : (List ℕ → List ℕ → Type 0) → Option Files → List ℕ → ℕ → ℕ → Result (Vec ℕ Global) ReadError → Type 0
+ReadsAs IsRead (Some files) name before now result = ReadsKnown IsRead (files name) before now result
+ReadsAs IsRead None name before now result = ReadsOpaque before now result
+
+-- a read of the whole file
 abbrev pub Reads : Option Files → List ℕ → ℕ → ℕ → Result (Vec ℕ Global) ReadError → Type 0
-Reads (Some files) name before now result = ReadsKnown (files name) before now result
-Reads None name before now result = ReadsOpaque before now result
+Reads told name before now result = ReadsAs (λ read bytes. read ≡ bytes) told name before now result
+
+-- a read for one who looks no further than one byte past `most`
+abbrev pub ReadsShort : ℕ → Option Files → List ℕ → ℕ → ℕ → Result (Vec ℕ Global) ReadError → Type 0
+ReadsShort most told name before now result = ReadsAs (AreAlikeTo most) told name before now result

@@ -1,7 +1,7 @@
 //! The files of the system: the trusted edge, so as little as can be.
 ghost use Rattle.std.specs.Prelude.{◌≡◌, ◌≤◌, ◌+◌, ◌⊎◌, None, take, length, IsOk, IsErrOf, IfOk, IfSome, OnErr};
 ghost use Rattle.rv_io.specs.Calls.{risen};
-ghost use Rattle.rv_io.specs.Files.{Reads};
+ghost use Rattle.rv_io.specs.Files.{Reads, ReadsShort};
 ghost use Rattle.rv_io.specs.Pieces.{ReadsPiece};
 ghost use Rattle.rv_io.specs.inner.Reading.{ReadsMore};
 
@@ -224,7 +224,7 @@ impl<R: Files> Store for Disk<'_, R> {
 
     fn read_short(&mut self, alloc: Global, name: &str, most: usize) -> Result<Vec<u8>, ReadError>
         ensures later { self.old ≤ self.new }
-        ensures read { Reads None name.now self.old self.new result }
+        ensures read { ReadsShort most None name.now self.old self.new result }
         ensures bound { IfOk result (λ bytes. length bytes.items ≤ most + 1) }
         ensures same { IsOk result ⊎ IsErrOf result ReadError.Memory → self.new ≡ self.old }
         ensures fault { IsErrOf result ReadError.NoFile ⊎ IsErrOf result ReadError.Failed → self.new ≡ risen self.old }

@@ -1,5 +1,5 @@
 //! A piece of a text that is held.
-ghost use Rattle.std.specs.Prelude.{◌≡◌, ◌≤◌, drop, length, IfSome};
+ghost use Rattle.std.specs.Prelude.{◌≡◌, ◌≤◌, ◌-◌, drop, length, min, unwrap_or, IfSome};
 ghost use Rattle.rv_io.specs.Pieces.{IsPiece};
 
 /// What stands from a place on.
@@ -18,7 +18,7 @@ fn rest_of(bytes: &[u8], from: u64) -> &[u8]
 pub fn piece_of(bytes: &[u8], from: u64, most: Option<usize>, into: &mut [u8]) -> usize
     requires { IfSome most (λ most. 1 ≤ most) }
     ensures piece { IsPiece bytes.now from into.old into.new result }
-    ensures cut { IfSome most (λ most. result ≤ most) }
+    ensures count { result ≡ min (unwrap_or most (length into.old)) (min (length into.old) (length bytes.now - from)) }
 {
     let rest = rest_of(bytes, from);
     let fits = rest.len().min(into.len());

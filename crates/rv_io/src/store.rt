@@ -1,6 +1,6 @@
 //! What gives files by their names.
 ghost use Rattle.std.specs.Prelude.{◌≡◌, ◌≤◌, ℕ, Option};
-ghost use Rattle.rv_io.specs.Files.{Files, Reads};
+ghost use Rattle.rv_io.specs.Files.{Files, Reads, ReadsShort};
 ghost use Rattle.rv_io.specs.Pieces.{ReadsPiece};
 
 use std::alloc::Global;
@@ -35,12 +35,12 @@ pub trait Store {
         ensures later { faults self.old ≤ faults self.new }
         ensures read { Reads (files self.old) name.now (faults self.old) (faults self.new) result };
 
-    /// The bytes of a file of which no reader looks further than one byte past `most`, as `read` gives them. Where the
-    /// store does not tell its files, it may leave out what comes behind that byte.
+    /// The same for one who looks no further than one byte past `most`: only up to that byte are they as `read` gives
+    /// them.
     fn read_short(&mut self, alloc: Global, name: &str, most: usize) -> Result<Vec<u8>, ReadError>
         ensures kept { files self.new ≡ files self.old }
         ensures later { faults self.old ≤ faults self.new }
-        ensures read { Reads (files self.old) name.now (faults self.old) (faults self.new) result }
+        ensures read { ReadsShort most (files self.old) name.now (faults self.old) (faults self.new) result }
     {
         let _ = most;
         self.read(alloc, name)

@@ -35,10 +35,10 @@ pub record Tried (old : SeatValue) (u w : View) (slot first lost raw : ℕ) : Ty
   pub has : old.part.number < old.part.end
 
 -- it is known by what the call has
-pub tried : {number end left lost raw slot first : ℕ} {table : TableId} {me : Ours} {u w : View} {old : CountedValue} {board : BoardId} → IsCountedSeat number end left me → counted_value (seat_value me.0.part (board_id table me.0.setup)) left ≡ old → old.seat.board ≡ board → slot < sum board.setup.shape
-    → SawCounted me.0 u (slot + 1) first → LostCounted u w slot lost raw → Tried old.seat u w slot first lost raw
-tried {number} {end} {left} {lost} {raw} {slot} {first} {table} {me} {u} {w} {old} {board} c seen of low saw since = record {
-  saw = subst (λ (v : View). SawCounted v u (slot + 1) first) (opened_is c.usable (ap (λ (f : CountedValue). f.seat) seen)) saw;
+pub tried : {number end left lost raw slot index first : ℕ} {table : TableId} {me : Ours} {u w : View} {old : CountedValue} {board : BoardId} → IsCountedSeat number end left me → counted_value (seat_value me.0.part (board_id table me.0.setup)) left ≡ old → old.seat.board ≡ board → slot < sum board.setup.shape
+    → index ≡ slot + 1 → SawCounted me.0 u index first → LostCounted u w slot lost raw → Tried old.seat u w slot first lost raw
+tried {number} {end} {left} {lost} {raw} {slot} {index} {first} {table} {me} {u} {w} {old} {board} c seen of low at saw since = record {
+  saw = subst (λ (z : View × ℕ). SawCounted z.0 u z.1 first) (λ j. (opened_is c.usable (ap (λ (f : CountedValue). f.seat) seen) j, at j)) saw;
   since = since;
   low = subst (λ (b : BoardId). slot < sum b.setup.shape) (sym of) low;
   has = subst (λ (f : CountedValue). f.seat.part.number < f.seat.part.end) seen c.usable.has;

@@ -13,8 +13,8 @@ use Rattle.rv_word.specs.Words.{packed}
 use Rattle.rv_core.specs.Setup.{IsSetup, FitsShape, table_at, judges_of}
 use Rattle.rv_core.proofs.OpeningLemmas as plain
 use Rattle.rv_core.proofs.PlaceLemmas.{monitor_of-lt}
-use Rattle.rv_board.specs.Rule.{width}
-use Rattle.rv_board.specs.inner.Rule.{first_view}
+use Rattle.rv_board.specs.Places.{ArePlaced}
+use Rattle.rv_board.specs.inner.Rule.{first_view, width}
 use Rattle.rv_board.proofs.SplitLemmas.{opens_with}
 use Rattle.rv_board.proofs.WordSteps.{opening-is}
 use Rattle.rv_journal.specs.declared.words.Width.{Width}
@@ -97,5 +97,5 @@ opens-counted s widths k are rows = record {
         get_or-list_of (counted_opening s) (sum s.shape) slot 0 inside ∙ ap (λ (n : ℕ). counted_word (rows_at s slot) n 0) (sym (opening-word s widths k.fits are slot inside k))
 
 -- the table of a counted board at the start
-pub opens-by : (k : Setup) (words : List ℕ) → OpensCounted k words → KeptCounted k (opening {S = Act} words [] (first_view k))
-opens-by k words o = opens_with counted_at (also_counted k) k words o.is_setup o.wide o.each o.counted
+pub opens-by : (k : Setup) (words placed : List ℕ) → OpensCounted k words → {slots : ℕ} → ArePlaced slots words placed → slots ≡ sum k.shape → KeptCounted k (opening {S = Act} placed [] (first_view k))
+opens-by k words placed o {slots} at many = opens_with counted_at (also_counted k) k words placed o.is_setup o.wide o.each (subst (λ (n : ℕ). ArePlaced n words placed) many at) o.counted

@@ -45,13 +45,13 @@ pub record LostCounted (u w : View) (slot lost raw : ℕ) : Type 0 where
 
 module _ (slot : ℕ) where
   -- at the first load no try is lost
-  pub counted-none : {v u : View} {raw : ℕ} → slot < sum u.setup.shape → SawCounted v u (slot + 1) raw → LostCounted u u slot 0 raw
-  counted-none {v} {u} {raw} low s =
+  pub counted-none : {v u : View} {index raw : ℕ} → slot < sum u.setup.shape → index ≡ slot + 1 → SawCounted v u index raw → LostCounted u u slot 0 raw
+  counted-none {v} {u} {index} {raw} low at s =
       let saw = s.0 in
       let setup : u.setup ≡ v.setup = ap (λ (z : View). z.setup) saw.same in
       let sound : IsSound u.setup (judges_of u.setup) u.part.seen = subst (λ (k : Setup). IsSound k (judges_of k) u.part.seen) (sym setup) saw.sound in
       let counted : FitsCounts u.setup u.part.seen = subst (λ (k : Setup). FitsCounts k u.part.seen) (sym setup) s.1 in
-      let is : raw ≡ counted_at u.setup u.part.seen (slot + 1) = saw.word ∙ ap (λ (k : Setup). counted_at k u.part.seen (slot + 1)) (sym setup) in record {
+      let is : raw ≡ counted_at u.setup u.part.seen (slot + 1) = saw.word ∙ (λ j. counted_at (sym setup j) u.part.seen (at j)) in record {
         plain = record {
           same = subst (λ (z : View). z ≡ with_seen z z.part.seen) (sym saw.same) refl;
           rest = [];
@@ -66,12 +66,12 @@ module _ (slot : ℕ) where
       }
 
   -- one more try is lost, since another seat changed the word
-  pub counted-more : {u w x : View} {lost raw found : ℕ} → slot < sum u.setup.shape → LostCounted u w slot lost raw → SawCounted w x (slot + 1) found → found ≢ raw → LostCounted u x slot (lost + 1) found
-  counted-more {u} {w} {x} {lost} {raw} {found} low l s ne =
+  pub counted-more : {u w x : View} {index lost raw found : ℕ} → slot < sum u.setup.shape → index ≡ slot + 1 → LostCounted u w slot lost raw → SawCounted w x index found → found ≢ raw → LostCounted u x slot (lost + 1) found
+  counted-more {u} {w} {x} {index} {lost} {raw} {found} low at l s ne =
       let p = l.plain in
       let saw = s.0 in
       let setup : w.setup ≡ u.setup = ap (λ (z : View). z.setup) p.same in
-      let here : found ≡ counted_at u.setup x.part.seen (slot + 1) = saw.word ∙ ap (λ (k : Setup). counted_at k x.part.seen (slot + 1)) setup in
+      let here : found ≡ counted_at u.setup x.part.seen (slot + 1) = saw.word ∙ (λ j. counted_at (setup j) x.part.seen (at j)) in
       let sound : IsSound u.setup (judges_of u.setup) x.part.seen = subst (λ (k : Setup). IsSound k (judges_of k) x.part.seen) setup saw.sound in
       let counted : FitsCounts u.setup x.part.seen = subst (λ (k : Setup). FitsCounts k x.part.seen) setup s.1 in
       let moved : counted_at u.setup (w.part.seen ++ saw.rest) (slot + 1) ≢ counted_at u.setup w.part.seen (slot + 1) = λ same. ne (here ∙ (ap (λ (h : List Entry). counted_at u.setup h (slot + 1)) saw.list ∙ (same ∙ sym l.raw_is))) in

@@ -57,8 +57,8 @@ module _ {number end left at : ℕ} (me : Ours) (c : IsCountedSeat number end le
       }
 
 -- a seat that another was joined into, after its load
-pub seat-joined : {number end left : ℕ} (m : Ours) {m' : Ours} (w : View) {found : ℕ} → IsCountedSeat number end left m → SawCounted (joined m.0 w) m'.0 0 found → m'.1 ≡ [] → IsCountedSeat number end left m'
-seat-joined {number} {end} {left} m {m'} w {found} c s held =
+pub seat-joined : {number end left : ℕ} (m : Ours) {m' : Ours} (w : View) {index found : ℕ} → IsCountedSeat number end left m → SawCounted (joined m.0 w) m'.0 index found → m'.1 ≡ [] → IsCountedSeat number end left m'
+seat-joined {number} {end} {left} m {m'} w {index} {found} c s held =
     let saw = s.0 in
     let u = c.usable in
     let has = u.has in

@@ -11,7 +11,7 @@ use Rattle.rv_model.specs.Histories.{IsSound}
 use Rattle.rv_core.specs.Setup.{table_at, judges_of}
 use Rattle.rv_core.specs.Advance.{FitsTable, WhatFits, advanced}
 use Rattle.rv_board.specs.declared.view.View.{View}
-use Rattle.rv_board.specs.Rule.{width}
+use Rattle.rv_board.specs.inner.Rule.{place_in, width}
 use Rattle.rv_board.specs.inner.Steps.{Ours}
 use Rattle.rv_board.proofs.CallLemmas.{may}
 use Rattle.rv_board.proofs.RaceLemmas.{raced}
@@ -52,18 +52,18 @@ module _ {k : Setup} {u w : View} {slot lost raw : ℕ} (l : LostCounted u w slo
 
 module _ {k : Setup} (slots id : ℕ) {number end left : ℕ} {me : Ours} (c : IsCountedSeat number end left me) (setup : me.0.setup ≡ k) where
   -- a load
-  pub counted-loads : (i : ℕ) → i < width k → Allows (KeptCounted k) slots id me i (λ n. n) (IsCountedLoad (step slots i 0 0 none) me)
-  counted-loads i inside = sees k slots id me i inside setup c.usable.has
+  pub counted-loads : (i : ℕ) {place : ℕ} → place ≡ place_in k i → i < width k → Allows (KeptCounted k) slots id me place (λ n. n) (IsCountedLoad (step slots place 0 0 none) me)
+  counted-loads i at inside = sees k slots id me i at inside setup c.usable.has
 
   -- a compare-exchange to the next word
-  pub counted-exchanges : (slot old : ℕ) {new : ℕ} (hit : Hit) → 0 < left → slot < sum k.shape → FitsTable (table_at k slot) hit → WhatFits hit.what → IsBelow (32 - rows_at k slot) hit.what → new ≡ next_counted (table_at k slot) (rows_at k slot) old hit
-      → Allows (KeptCounted k) slots id me (slot + 1) (λ n. either (n == old) new n) (IsCountedExchange (step slots (slot + 1) old new (some (Deliver slot hit))) me)
-  counted-exchanges slot old {new} hit some_left low fits bits below is =
-      let room = c.room in tries k slots id me slot old new hit low (may k number end me (Deliver slot hit) c.usable setup (low, fits) bits tt tt) (omega arith) below is
+  pub counted-exchanges : (slot old : ℕ) {new place : ℕ} (hit : Hit) → place ≡ place_in k (slot + 1) → 0 < left → slot < sum k.shape → FitsTable (table_at k slot) hit → WhatFits hit.what → IsBelow (32 - rows_at k slot) hit.what → new ≡ next_counted (table_at k slot) (rows_at k slot) old hit
+      → Allows (KeptCounted k) slots id me place (λ n. either (n == old) new n) (IsCountedExchange (step slots place old new (some (Deliver slot hit))) me)
+  counted-exchanges slot old {new} hit at some_left low fits bits below is =
+      let room = c.room in tries k slots id me slot old new hit at low (may k number end me (Deliver slot hit) c.usable setup (low, fits) bits tt tt) (omega arith) below is
 
   -- a stop, which three lost tries have earned
-  pub counted-stops : {u : View} (slot : ℕ) {lost raw : ℕ} → 0 < left → slot < sum k.shape → u.part.number < u.part.end → 3 ≤ lost → LostCounted u me.0 slot lost raw
-      → Allows (KeptCounted k) slots id me (slot + 1) (λ n. bit_and n 4294967295) (IsCountedStop (step slots (slot + 1) 4294967295 0 none) me)
-  counted-stops {u} slot {lost} {raw} some_left low has three l =
+  pub counted-stops : {u : View} (slot : ℕ) {lost raw place : ℕ} → place ≡ place_in k (slot + 1) → 0 < left → slot < sum k.shape → u.part.number < u.part.end → 3 ≤ lost → LostCounted u me.0 slot lost raw
+      → Allows (KeptCounted k) slots id me place (λ n. bit_and n 4294967295) (IsCountedStop (step slots place 4294967295 0 none) me)
+  counted-stops {u} slot {lost} {raw} at some_left low has three l =
       let room = c.room in
-      stops k slots id me slot low record { setup = setup; has = c.usable.has; small = c.usable.small; fits = low; bits = tt; permitted = tt; justified = raced has three l.plain } (omega arith)
+      stops k slots id me slot at low record { setup = setup; has = c.usable.has; small = c.usable.small; fits = low; bits = tt; permitted = tt; justified = raced has three l.plain } (omega arith)

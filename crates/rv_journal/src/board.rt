@@ -10,24 +10,25 @@ use crate::rule::CountedLaw;
 use crate::seat::{CountedSeat, MAX_ENTRIES};
 use crate::words::{Width, counted_word};
 use atomic_table::Table;
-use rv_board::{SEATS, View};
+use rv_board::{SEATS, Spacing, View};
 use rv_core::Setup;
 use rv_model::Act;
 use rv_slots::Shape;
 use std::alloc::{AllocError, Global};
 use std::marker::Model;
 
-/// The switches as word 0, then a counted word for each slot of the setup. Contracts see which board it is and its
-/// setup.
+/// The switches at place 0, and a counted word for each slot of the setup, at the place that the spacing gives it.
+/// Contracts see which board it is and its setup.
 #[derive(Drop)]
 pub struct CountedBoard {
     pub(crate) table: Table<Act, View, Setup, CountedLaw, Global>,
     pub(crate) setup: Setup,
+    pub(crate) spacing: Spacing,
 }
 
 impl Model for CountedBoard {
-    ghost use Rattle.std.specs.Prelude.{◌≡◌};
-    ghost use Rattle.rv_board.specs.Rule.{width};
+    ghost use Rattle.std.specs.Prelude.{◌≡◌, sum};
+    ghost use Rattle.rv_board.specs.Places.{room_of};
     ghost use Rattle.rv_board.specs.Seats.{BoardId, coded_board};
 
     ghost Value = { BoardId };
@@ -36,7 +37,7 @@ impl Model for CountedBoard {
 
     ghost view = { λ b. record { table = b.table.shared.table_id; setup = b.setup } };
 
-    ghost invariant = { λ b. (b.table.shared.key ≡ b.setup) × (b.table.shared.table_id.words ≡ width b.setup) };
+    ghost invariant = { λ b. (b.table.shared.key ≡ b.setup) × (b.table.shared.table_id.words ≡ room_of (sum b.setup.shape)) × (b.spacing ≡ sum b.setup.shape) };
 }
 
 /// A new board, and its first seat, which has all numbers, 0 to 66.
@@ -81,10 +82,16 @@ impl CountedBoard {
         ensures board { IfOk result (λ start. start.board.setup ≡ setup) }
         ensures seat { IfOk result (λ start. start.seat ≡ counted_value (seat_value (part 0 67 [] []) start.board) 4000000) }
     {
+        let spacing = Spacing::of(setup.shape.slots());
         let words = opening_words(alloc, &setup, &widths)?;
-        let (table, token) = Table::of_words(alloc, words.as_slice(), &setup)?;
+        let placed = spacing.spread(alloc, words)?;
+        let (table, token) = Table::of_words(alloc, placed.as_slice(), &setup)?;
         Ok(CountedStart {
-            board: CountedBoard { table, setup },
+            board: CountedBoard {
+                table,
+                setup,
+                spacing,
+            },
             seat: CountedSeat {
                 token,
                 number: 0,

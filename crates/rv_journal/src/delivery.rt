@@ -42,7 +42,7 @@ impl CountedBoard {
         ensures left { seat.new.left + 1 ≡ seat.old.left }
     {
         let act = Act::Deliver { slot, hit: *hit };
-        let place = slot as usize + 1;
+        let place = self.spacing.place(slot);
         let shared = &self.table.shared;
         let table = self.setup.table(slot);
         let rows = rows_of(&self.setup, slot);

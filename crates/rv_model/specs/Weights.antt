@@ -2,8 +2,8 @@
 use Rattle.std.specs.Prelude.{ℕ, ◌+◌, ◌*◌}
 use Rattle.rv_model.specs.Ltl.{Ltl}
 
--- how many constants, atoms and operators a formula has, with both operands of `equivalent` twice, and `f weak_until g`
--- as `g release (f or g)`
+-- how many constants, atoms and operators a formula has, with `equivalent` as three operators on both its operands twice,
+-- and `f weak_until g` as `g release (f or g)`
 abbrev pub weight : Ltl → ℕ
 weight Ltl.True = 1
 weight Ltl.False = 1

@@ -11,7 +11,7 @@ use Rattle.rv_model.specs.declared.record.Record.{Record}
 use Rattle.rv_model.specs.declared.record.Task.{Task}
 use Rattle.rv_model.specs.Reactors.{reaction_front}
 use Rattle.rv_model.specs.Reports.{Reported, said_text, reaction_text, fault_text, instance_text, failed_text, record_text}
-use Rattle.rv_report.specs.inner.Printed.{set_if, is_loud, is_printing, is_printed}
+use Rattle.rv_report.specs.Printed.{set_if, is_loud, is_printing, is_printed}
 
 -- a test has two answers
 yes_or_no : (b : Bool) → (b ≡ true) ⊎ (b ≡ false)

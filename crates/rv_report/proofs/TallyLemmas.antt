@@ -12,7 +12,8 @@ use Rattle.rv_model.specs.Numbers.{list_of}
 use Rattle.rv_model.specs.Records.{is_failure, is_stopped, is_ended, sort_records}
 use Rattle.rv_model.specs.Reports.{Reported, instances_in, is_of_monitor, is_at, count_text, summary_text}
 use Rattle.rv_report.specs.declared.tally.Tally.{Tally}
-use Rattle.rv_report.specs.inner.Tallies.{IsTally, AreTallies, tally_text}
+use Rattle.rv_report.specs.Tallies.{IsTally, AreTallies}
+use Rattle.rv_report.specs.inner.Tallies.{tally_text}
 use Rattle.rv_report.proofs.CountLemmas.{count-none, count-yes, count-no}
 use Rattle.rv_model.proofs.SortedLemmas.{count-sort, any-sort}
 

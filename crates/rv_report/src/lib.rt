@@ -15,4 +15,5 @@ mod tally;
 pub use automaton_table::automaton_text;
 pub use exit::status;
 pub use formula_table::nodes_text;
-pub use lines::{RunReport, report, report_lanes};
+pub use found::Found;
+pub use lines::{RunReport, report, report_found, report_lanes};

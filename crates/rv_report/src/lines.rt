@@ -1,11 +1,11 @@
 //! The whole report.
-ghost use Rattle.std.specs.Prelude.{◌≡◌, List, length, flat_map, IfOk};
+ghost use Rattle.std.specs.Prelude.{◌≡◌, List, flat_map, IfOk};
 ghost use Rattle.rv_model.specs.declared.record.Record.{Record};
 ghost use Rattle.rv_model.specs.Records.{sort_records};
 ghost use Rattle.rv_model.specs.Reports.{report_text};
 ghost use Rattle.rv_report.specs.Exit.{IsStatus};
 ghost use Rattle.rv_report.specs.Reported.{reported_of};
-ghost use Rattle.rv_report.specs.inner.Tallies.{IsFound};
+ghost use Rattle.rv_report.specs.Tallies.{IsFound};
 
 use crate::found::Found;
 use crate::reactions::react_to;
@@ -26,15 +26,15 @@ pub struct RunReport {
 }
 
 /// The report of what was found.
-fn report_found(
+pub fn report_found(
     alloc: Global,
     bindings: &Bindings,
     tasks: &Tasks,
     found: &Found,
 ) -> Result<RunReport, AllocError>
-    requires { length found.now.tallies.items ≡ length bindings.now.monitors.items }
+    requires { (rs : List Record) × IsFound (reported_of bindings.now) tasks.now rs found.now }
     ensures text { IfOk result (λ report. (rs : List Record) → IsFound (reported_of bindings.now) tasks.now rs found.now → report.text.items ≡ report_text (reported_of bindings.now) tasks.now rs) }
-    ensures status { IfOk result (λ report. report.status ≡ found.now.status) }
+    ensures status { IfOk result (λ report. (rs : List Record) → IsFound (reported_of bindings.now) tasks.now rs found.now → IsStatus rs report.status) }
 {
     let mut out = Line::new(alloc);
     for record in &found.printed {

@@ -2,7 +2,8 @@
 ghost use Rattle.std.specs.Prelude.{◌≡◌, ◌++◌, [], OnOk, IfOk, slice_get, slice_index_or};
 ghost use Rattle.rv_model.specs.Reports.{event_text, state_text, fault_text, record_text};
 ghost use Rattle.rv_react.specs.Reactions.{shown_fault};
-ghost use Rattle.rv_report.specs.inner.Printed.{failed_set, is_loud, is_printed, reaction_to};
+ghost use Rattle.rv_report.specs.Printed.{failed_set, is_loud, is_printed};
+ghost use Rattle.rv_report.specs.inner.Printed.{reaction_to};
 ghost use Rattle.rv_report.specs.Reported.{reported, reported_of};
 
 use crate::instances::{display_name, place};

@@ -4,7 +4,8 @@ ghost use Rattle.rv_model.specs.declared.record.Record.{Record};
 ghost use Rattle.rv_model.specs.declared.record.Task.{Task};
 ghost use Rattle.rv_model.specs.Reports.{instances_in, summaries_text};
 ghost use Rattle.rv_report.specs.Reported.{reported, reported_of};
-ghost use Rattle.rv_report.specs.inner.Tallies.{AreTallies, tally_text};
+ghost use Rattle.rv_report.specs.Tallies.{AreTallies};
+ghost use Rattle.rv_report.specs.inner.Tallies.{tally_text};
 
 use crate::instances::display_name;
 use crate::tally::Tally;

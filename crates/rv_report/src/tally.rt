@@ -2,7 +2,7 @@
 ghost use Rattle.std.specs.Prelude.{◌≡◌, ◌+◌, ◌<◌, ◌==◌, ◌||◌, ℕ, List, [], ◌∷◌, ◌++◌, false, length, count_by, IfOk, OnOk, slice_index_or, if◌then◌else◌};
 ghost use Rattle.rv_model.specs.declared.record.Record.{Record};
 ghost use Rattle.rv_model.specs.Records.{is_failure, is_stopped, is_ended};
-ghost use Rattle.rv_report.specs.inner.Tallies.{IsTally};
+ghost use Rattle.rv_report.specs.Tallies.{IsTally};
 
 use rv_model::{Answer, Delivered, Record};
 use std::alloc::{AllocError, Global};

@@ -1,8 +1,8 @@
 -- A line's rules are those of its event.
-use Rattle.std.proofs.Common.{◌≡◌, ℕ, ◌+◌, Bool, true, false, cond, List, [], ◌∷◌, drop, Option, Some, None, Result, Ok, Err, refl, sym, ap, ◌∙◌, subst}
-use Rattle.std.specs.Prelude.{All, IfSome, filter, bytes_eq}
-use Rattle.std.specs.Option.{is_some}
-use Rattle.std.proofs.lemmas.List.Elements.{All-head, All-tail, filter_passes}
+use Rattle.std.proofs.Common.{◌≡◌, ℕ, ◌+◌, Bool, true, false, cond, List, [], ◌∷◌, drop, Result, Ok, Err, refl, sym, ap, ◌∙◌, subst}
+use Rattle.std.specs.Prelude.{All, filter, bytes_eq}
+use Rattle.std.specs.List.{IsAmong}
+use Rattle.std.proofs.lemmas.List.Elements.{All-get_or, All-head, All-tail, filter_passes}
 use Rattle.rv_text.specs.declared.refusals.Refusal.{Refusal}
 use Rattle.rv_text.specs.Readings.{and_then}
 use Rattle.rv_trace.specs.declared.line.TraceLine.{TraceLine}
@@ -14,7 +14,7 @@ use Rattle.rv_route.specs.declared.event.Event.{Event}
 use Rattle.rv_route.specs.declared.asking.Ask.TheVariants as asks
 use Rattle.rv_route.specs.Asking.{text_at, ask_of}
 use Rattle.rv_route.specs.inner.Asking.{ask_on}
-use Rattle.rv_route.specs.Events.{is_on_event, IsEventOf, Index, event_at, AreEventsOf, HasEvent, IsIndexOf}
+use Rattle.rv_route.specs.Events.{is_on_event, IsEventOf, HasEvent, IsIndexOf}
 use Rattle.rv_route.specs.LineByLine.{Routes, answer, line_routes}
 use Rattle.rv_route.proofs.EventLemmas.{same_bytes, At}
 use Rattle.rv_route.proofs.RoutingLemmas.{rule-more}
@@ -51,28 +51,24 @@ module _ (text : List ℕ) (line : TraceLine) (monitors : List Monitor) where
 
 -- ---- the event of a name
 
-module _ (name : List ℕ) where
-  -- what the index has for a name asks for the rules that are on it
-  pub found-event : (rules : List OnValue) (index : Index) (event : Event) → IsIndexOf rules index → event_at index name ≡ Some event → IsEventOf rules name event
-  unfolding AreEventsOf
-  found-event rules index event of is = subst (λ (found : Option Event). IfSome found (IsEventOf rules name)) is (of.events name)
+module _ (name : List ℕ) (index : List Event) where
+  -- an event of the index that has the name asks for the rules that are on it
+  pub found-event : (rules : List OnValue) (event : Event) → IsIndexOf rules index → IsAmong index event → event.name ≡ name → IsEventOf rules name event
+  found-event rules event of among named =
+      let asks : IsEventOf rules event.name event = subst (λ (e : Event). IsEventOf rules e.name e) (sym among.1.1) (All-get_or (λ (e : Event). IsEventOf rules e.name e) index among.0 event among.1.0 of.events) in
+      subst (λ (n : List ℕ). IsEventOf rules n event) named asks
 
   -- where each rule has its event, no rule is on a name without one
-  none-on : (index : Index) (rules : List OnValue) → event_at index name ≡ None → All (λ (rule : OnValue). HasEvent index rule.event) rules → filter (is_on_event name) rules ≡ []
-  unfolding HasEvent
-  none-on index [] none has = refl
-  none-on index (rule ∷ rules) none has = go (is_on_event name rule) refl (none-on index rules none (All-tail (λ (r : OnValue). HasEvent index r.event) rule rules has))
+  none-on : (rules : List OnValue) → (¬ HasEvent index name) → All (λ (rule : OnValue). HasEvent index rule.event) rules → filter (is_on_event name) rules ≡ []
+  none-on [] none has = refl
+  none-on (rule ∷ rules) none has = go (is_on_event name rule) refl (none-on rules none (All-tail (λ (r : OnValue). HasEvent index r.event) rule rules has))
     where
       go : (on : Bool) → is_on_event name rule ≡ on → filter (is_on_event name) rules ≡ [] → cond on (rule ∷ filter (is_on_event name) rules) (filter (is_on_event name) rules) ≡ []
-      go true on rest =
-          let there : is_some (event_at index rule.event) ≡ true = All-head (λ (r : OnValue). HasEvent index r.event) rule rules has in
-          let gone : event_at index rule.event ≡ None = ap (event_at index) (sym (same_bytes name rule.event on)) ∙ none in
-          let never : false ≡ true = sym (ap is_some gone) ∙ there in
-          cc
+      go true on rest = absurd (none (subst (HasEvent index) (sym (same_bytes name rule.event on)) (All-head (λ (r : OnValue). HasEvent index r.event) rule rules has)))
       go false off rest = rest
 
 -- where the index has no event, no rule is on it
-pub line-none : (text : List ℕ) (line : TraceLine) (monitors : List Monitor) (rules : List OnValue) (index : Index) (routes : Routes) → IsIndexOf rules index → event_at index (text_at text line.name) ≡ None → line_routes text line monitors rules routes ≡ Ok routes
+pub line-none : (text : List ℕ) (line : TraceLine) (monitors : List Monitor) (rules : List OnValue) (index : List Event) (routes : Routes) → IsIndexOf rules index → (¬ HasEvent index (text_at text line.name)) → line_routes text line monitors rules routes ≡ Ok routes
 unfolding line_routes
 line-none text line monitors rules index routes of none =
     line-on text line monitors rules routes ∙ ap (λ (rs : List OnValue). line_routes text line monitors rs routes) (none-on (text_at text line.name) index rules none of.has)

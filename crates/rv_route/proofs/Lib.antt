@@ -8,6 +8,7 @@ pub mod FittingLemmas
 pub mod IndexLemmas
 pub mod LaneLemmas
 pub mod LineTurnLemmas
+pub mod ListingLemmas
 pub mod MoveLemmas
 pub mod NotedLemmas
 pub mod RoutedLemmas

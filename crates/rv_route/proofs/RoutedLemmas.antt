@@ -31,7 +31,7 @@ NamesEach-more place [] count line names = (sym names, omega arith, refl)
 NamesEach-more place (turn ∷ turns) count line names = (names.0, names.1, NamesEach-more turn.to turns count line names.2)
 
 -- with one more delivery, a lane's turns still name its deliveries in order, each once
-lane_grows : (lane : LaneValue) (line : ℕ) (delivery : Delivery) → IsLane lane → IsLane (with_delivery lane line delivery)
+pub lane_grows : (lane : LaneValue) (line : ℕ) (delivery : Delivery) → IsLane lane → IsLane (with_delivery lane line delivery)
 lane_grows lane line delivery names = rw length-append (go (ends_with lane.turns line) refl)
   where
     go : (b : Bool) → ends_with lane.turns line ≡ b → NamesEach 0 (if b then longer lane.turns (length lane.deliveries + 1) else lane.turns ++ record { line = line; from = length lane.deliveries; to = length lane.deliveries + 1 } ∷ []) (length lane.deliveries + 1)

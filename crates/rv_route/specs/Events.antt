@@ -1,11 +1,6 @@
 -- Rules by the events that they are on, and the fields that they name.
-use Rattle.std.specs.Prelude.{◌≡◌, ℕ, Bool, List, All, map, filter, Option, Some, IsSome, IfSome, option_map, option_and_then, nat_eq, bytes_eq, slice_get, Vec}
-use Rattle.std.specs.List.{find, AllZip}
-use Rattle.std.specs.Hash.FoldHasher as folding
-use Rattle.std.specs.HashMap.{get, HashMap}
-use Rattle.std.specs.declared.alloc.Global.{Global}
-use Rattle.std.specs.declared.hash.BuildHasherDefault.{BuildHasherDefault}
-use Rattle.std.specs.declared.hash.FoldHasher.{FoldHasher}
+use Rattle.std.specs.Prelude.{◌≡◌, ℕ, Bool, List, All, Any, map, filter, Some, IfSome, option_map, bytes_eq, slice_get}
+use Rattle.std.specs.List.{AllZip}
 use Rattle.rv_bind.specs.declared.bindings.Test.{Test}
 use Rattle.rv_bind.specs.declared.bindings.Test.TheVariants.{Is, IsNot}
 use Rattle.rv_bind.specs.RuleValues.{OnValue}
@@ -41,31 +36,11 @@ is_on_event event rule = bytes_eq event rule.event
 abbrev pub IsEventOf : List OnValue → List ℕ → Event → Type 0
 IsEventOf rules name event = AllZip (IsAsked rules event.fields) event.rules.items (filter (is_on_event name) rules)
 
--- the kit's hash of a name, which takes all bytes at once
-unfoldable pub key_of : List ℕ → ℕ
-key_of name = folding.finish (folding.write folding.initial name)
-
--- events by the hashes of their names
-abbrev pub Index : Type 0
-Index = HashMap ℕ (Vec Event Global) (BuildHasherDefault FoldHasher)
-
--- the event of a name among these
-abbrev pub event_among : List ℕ → List Event → Option Event
-event_among name events = find (λ event. bytes_eq name event.name) events
-
--- the event of a name
-unfoldable pub event_at : Index → List ℕ → Option Event
-event_at index name = option_and_then (λ events. event_among name events.items) (get nat_eq index (key_of name))
-
--- the event of each name asks for the rules that are on the name
-unfoldable pub AreEventsOf : List OnValue → Index → Type 0
-AreEventsOf rules index = (name : List ℕ) → IfSome (event_at index name) (IsEventOf rules name)
-
 -- the name has an event
-unfoldable pub HasEvent : Index → List ℕ → Type 0
-HasEvent index name = IsSome (event_at index name)
+unfoldable pub HasEvent : List Event → List ℕ → Type 0
+HasEvent index name = Any (λ event. event.name ≡ name) index
 
 -- each event asks for its rules, and each rule has its event
-pub record IsIndexOf (rules : List OnValue) (index : Index) : Type 0 where
-  pub events : AreEventsOf rules index
+pub record IsIndexOf (rules : List OnValue) (index : List Event) : Type 0 where
+  pub events : All (λ event. IsEventOf rules event.name event) index
   pub has : All (λ rule. HasEvent index rule.event) rules

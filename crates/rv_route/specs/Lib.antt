@@ -6,6 +6,7 @@ pub mod Lanes
 pub mod Laws
 pub mod LineByLine
 pub mod Lines
+pub mod Listing
 pub mod Routed
 pub mod Routers
 pub mod Routing

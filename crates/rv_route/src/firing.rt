@@ -1,9 +1,11 @@
 //! What the rules do on one line.
-ghost use Rattle.std.specs.Prelude.{filter};
+ghost use Rattle.std.specs.Prelude.{◌≡◌, filter, map};
 ghost use Rattle.rv_route.specs.Asking.{text_at};
 ghost use Rattle.rv_route.specs.Events.{is_on_event, IsEventOf, IsIndexOf};
 ghost use Rattle.rv_route.specs.Lines.{IsRoutable};
 ghost use Rattle.rv_route.specs.LineByLine.{GivesRoutes, line_routes};
+ghost use Rattle.rv_route.specs.Listing.{target_of};
+ghost use Rattle.rv_route.specs.inner.Gathering.{GathersLine};
 
 use crate::asking::ask_for;
 use crate::deliveries::Deliveries;
@@ -25,7 +27,9 @@ pub(crate) fn take(
 ) -> Result<(), Refused>
     requires line { IsRoutable text.now line.now }
     requires index { IsIndexOf bindings.now.rules.items index.now }
-    ensures { GivesRoutes result deliveries.new (line_routes text.now line.now bindings.now.monitors.items bindings.now.rules.items deliveries.old) }
+    requires targets { deliveries.old.targets ≡ map target_of bindings.now.rules.items }
+    ensures gives { GivesRoutes result deliveries.new.routes (line_routes text.now line.now bindings.now.monitors.items bindings.now.rules.items deliveries.old.routes) }
+    ensures kept { GathersLine line.now.number deliveries.old deliveries.new }
 {
     match event_at(index, &text[line.name.from as usize..line.name.to as usize]) {
         Some(event) => fire(deliveries, bindings, event, text, line, finds),
@@ -44,7 +48,9 @@ fn fire(
 ) -> Result<(), Refused>
     requires line { IsRoutable text.now line.now }
     requires event { IsEventOf bindings.now.rules.items (text_at text.now line.now.name) event.now }
-    ensures { GivesRoutes result deliveries.new (line_routes text.now line.now bindings.now.monitors.items (filter (is_on_event (text_at text.now line.now.name)) bindings.now.rules.items) deliveries.old) }
+    requires targets { deliveries.old.targets ≡ map target_of bindings.now.rules.items }
+    ensures gives { GivesRoutes result deliveries.new.routes (line_routes text.now line.now bindings.now.monitors.items (filter (is_on_event (text_at text.now line.now.name)) bindings.now.rules.items) deliveries.old.routes) }
+    ensures kept { GathersLine line.now.number deliveries.old deliveries.new }
 {
     let fields = &text[line.fields.from as usize..line.fields.to as usize];
     finds.look_up(fields, &event.fields)?;
@@ -52,7 +58,7 @@ fn fire(
     for asked in &event.rules {
         let rule = &bindings.rules[asked.rule];
         let ask = ask_for(&bindings.monitors, rule, asked, line, fields, found);
-        deliveries.answer(line, rule, ask)?;
+        deliveries.answer(line, rule, asked.rule, ask)?;
     }
     Ok(())
 }

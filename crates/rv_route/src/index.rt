@@ -1,48 +1,80 @@
 //! The events that rules are on, by their names.
-ghost use Rattle.std.specs.Prelude.{◌≡◌, ℕ, List, IfOk, OnOk, option_copied};
-ghost use Rattle.rv_route.specs.Events.{key_of, event_among, event_at, HasEvent, AreEventsOf, IsIndexOf};
-ghost use Rattle.rv_route.specs.inner.Events.{IsNoted};
+ghost use Rattle.std.specs.Prelude.{◌≡◌, ◌≢◌, ◌<◌, [], ◌∷◌, ◌++◌, List, ℕ, All, IfOk, IfSome, IfNone, OnOk, slice_get};
+ghost use Rattle.std.specs.List.{IsAmong};
+ghost use Rattle.rv_route.specs.Events.{IsEventOf, HasEvent, IsIndexOf};
+ghost use Rattle.rv_route.specs.inner.Events.{key_of};
 
 use crate::asking::has_value;
 use crate::event::{Event, event_of};
-use indexmap::IndexMap;
 use rv_bind::On;
 use std::alloc::{AllocError, Global};
-use std::hash::{FoldHasher, Hasher};
+use std::collections::BTreeMap;
+use std::marker::Model;
 
-/// Events by the hashes of their names. Those whose names share a hash stand together.
-pub(crate) type Index = IndexMap<u64, Vec<Event>>;
+/// How many keys there are.
+pub(crate) const KEYS: usize = 512;
 
-/// The hash of a name. A slice's own hash would take each byte by itself.
+/// Events by their names.
+#[derive(Drop)]
+pub(crate) struct Index {
+    events: Vec<Event>,
+    /// The place of the first event of each key.
+    firsts: Vec<Option<usize>>,
+    /// The places of the other events. No names that are chosen make an ordered map slow.
+    others: BTreeMap<Vec<u8>, usize>,
+}
+
+impl Model for Index {
+    ghost use Rattle.std.specs.Prelude.{List};
+    ghost use Rattle.rv_route.specs.declared.event.Event.{Event};
+    ghost use Rattle.rv_route.specs.inner.Events.{LeadToAll};
+
+    ghost Value = { List Event };
+
+    ghost view = { λ i. i.events.items };
+
+    ghost invariant = { λ i. LeadToAll i.firsts.items i.others i.events.items };
+}
+
+/// A number that most names have for themselves, from their first, middle and last byte and their length.
 #[inline(always)]
-fn key_of(name: &[u8]) -> u64
-    ensures { result ≡ key_of name.now }
+fn key_of(name: &[u8]) -> usize
+    ensures key { result ≡ key_of name.now }
+    ensures few { result < KEYS }
 {
-    let mut hasher = FoldHasher::default();
-    hasher.write(name);
-    hasher.finish()
+    if name.is_empty() {
+        return 0;
+    }
+    let first = name[0] as usize;
+    let middle = name[name.len() / 2] as usize;
+    let last = name[name.len() - 1] as usize;
+    (((first * 3 + middle) * 3 + last) * 3 + name.len() % 256) % KEYS
 }
 
 /// The event of a name, if a rule is on it.
 #[inline(always)]
 pub(crate) fn event_at<'a>(index: &'a Index, name: &[u8]) -> Option<&'a Event>
-    ensures { option_copied result ≡ event_at index.now name.now }
+    ensures among { IfSome result (λ event. IsAmong index.now event.now) }
+    ensures named { IfSome result (λ event. event.now.name ≡ name.now) }
+    ensures none { IfNone result (¬ HasEvent index.now name.now) }
 {
-    match index.get(&key_of(name)) {
-        Some(events) => event_among(events.as_slice(), name),
-        None => None,
+    let events = index.events.as_slice();
+    match named_at(events, index.firsts[key_of(name)], name) {
+        Some(event) => Some(event),
+        None => named_at(events, index.others.get(name).copied(), name),
     }
 }
 
-/// The event of a name among these.
+/// The event at the place, if the name is its own.
 #[inline(always)]
-fn event_among<'a>(events: &'a [Event], name: &[u8]) -> Option<&'a Event>
-    ensures { option_copied result ≡ event_among name.now events.now }
+fn named_at<'a>(events: &'a [Event], place: Option<usize>, name: &[u8]) -> Option<&'a Event>
+    ensures among { IfSome result (λ event. IsAmong events.now event.now) }
+    ensures named { IfSome result (λ event. event.now.name ≡ name.now) }
+    ensures none { IfNone result (IfSome place (λ at. IfSome (slice_get events.now at) (λ event. event.name ≢ name.now))) }
 {
-    for event in events {
-        if has_value(name, event.name.bytes()) {
-            return Some(event);
-        }
+    let event = events.get(place?)?;
+    if has_value(name, event.name.bytes()) {
+        return Some(event);
     }
     None
 }
@@ -51,17 +83,28 @@ fn event_among<'a>(events: &'a [Event], name: &[u8]) -> Option<&'a Event>
 pub(crate) fn index_of(alloc: Global, rules: &[On]) -> Result<Index, AllocError>
     ensures { IfOk result (IsIndexOf rules.now) }
 {
-    let mut index = IndexMap::new(alloc);
+    let mut index = no_events(alloc)?;
     for rule in rules {
         note(alloc, &mut index, rules, rule.event.bytes())?;
     }
     Ok(index)
 }
 
+/// The index of no rules.
+fn no_events(alloc: Global) -> Result<Index, AllocError>
+    ensures { IfOk result (λ index. index ≡ []) }
+{
+    Ok(Index {
+        events: Vec::new(alloc),
+        firsts: vec![in alloc; None; KEYS]?,
+        others: BTreeMap::new(alloc),
+    })
+}
+
 /// The event of this name is kept too.
 fn note(alloc: Global, index: &mut Index, rules: &[On], name: &[u8]) -> Result<(), AllocError>
-    requires { AreEventsOf rules.now index.old }
-    ensures events { OnOk result (AreEventsOf rules.now index.new) }
+    requires { All (λ event. IsEventOf rules.now event.name event) index.old }
+    ensures events { OnOk result (All (λ event. IsEventOf rules.now event.name event) index.new) }
     ensures noted { OnOk result (HasEvent index.new name.now) }
     ensures kept { OnOk result ((other : List ℕ) → HasEvent index.old other → HasEvent index.new other) }
 {
@@ -69,17 +112,24 @@ fn note(alloc: Global, index: &mut Index, rules: &[On], name: &[u8]) -> Result<(
         return Ok(());
     }
     let event = event_of(alloc, rules, name)?;
-    add(alloc, index, name, event)?;
+    add(alloc, index, event)?;
     Ok(())
 }
 
-/// The event of a new name is kept too.
-fn add(alloc: Global, index: &mut Index, name: &[u8], event: Event) -> Result<(), AllocError>
-    ensures { OnOk result (IsNoted index.old index.new name.now event) }
+/// The event of a new name comes last.
+fn add(alloc: Global, index: &mut Index, event: Event) -> Result<(), AllocError>
+    requires new { ¬ HasEvent index.old event.name }
+    ensures { OnOk result (index.new ≡ index.old ++ event ∷ []) }
 {
-    let key = key_of(name);
-    let mut events = index.swap_remove(&key).unwrap_or(Vec::new(alloc));
-    events.push(event)?;
-    index.insert(key, events)?;
+    let place = index.events.len();
+    let key = key_of(event.name.bytes());
+    if index.firsts[key].is_some() {
+        let name = Vec::from_slice(alloc, event.name.bytes())?;
+        index.others.insert(name, place)?;
+        index.events.push(event)?;
+    } else {
+        index.events.push(event)?;
+        index.firsts[key] = Some(place);
+    }
     Ok(())
 }

@@ -2,6 +2,7 @@
 #![tactic(auto)]
 
 mod asking;
+mod collector;
 mod deliveries;
 mod event;
 mod field_tests;
@@ -11,14 +12,17 @@ mod index;
 mod lanes;
 mod laws;
 mod limits;
+mod listing;
 mod routed;
 mod router;
 mod tracing;
 
 pub use asking::Ask;
+pub use collector::Collector;
 pub use deliveries::MAX_DELIVERIES;
 pub use laws::{lines_are_routed_alike, lines_make_the_whole, works_are_from_rules};
 pub use limits::limits_are_numerals;
+pub use listing::{DeliveryList, Listed, RoutedList, Target};
 pub use routed::Routed;
 pub use router::Router;
 pub use tracing::route;

@@ -7,13 +7,9 @@ ghost use Rattle.rv_route.specs.Routed.{routed_value};
 ghost use Rattle.rv_route.specs.Routers.{IsFor, RoutesLine};
 ghost use Rattle.rv_route.specs.LineByLine.{no_routes, works_of};
 
-use crate::deliveries::Deliveries;
-use crate::finds::Finds;
-use crate::firing::take;
-use crate::index::{Index, index_of};
-use crate::routed::{Routed, works_in};
+use crate::collector::Collector;
+use crate::routed::Routed;
 use rv_bind::Bindings;
-use rv_model::CpuWork;
 use rv_text::Refused;
 use rv_trace::TraceLine;
 use std::alloc::{AllocError, Global};
@@ -22,31 +18,21 @@ use std::marker::Model;
 /// What has been routed, and what is needed to route on. After a refusal every line is refused so.
 #[derive(Drop)]
 pub struct Router {
-    index: Index,
-    /// What a line's fields have.
-    finds: Finds,
-    deliveries: Deliveries,
-    /// Room for the works, so that the end takes no memory.
-    works: Vec<CpuWork>,
-    next: u64,
-    refused: Option<Refused>,
+    collector: Collector,
 }
 
 impl Model for Router {
-    ghost use Rattle.std.specs.Prelude.{◌≡◌, ◌≤◌, [], None, All};
-    ghost use Rattle.std.specs.Vec.{vec_capacity};
+    ghost use Rattle.std.specs.Prelude.{◌≡◌, false};
     ghost use Rattle.std.specs.Coded.{codes};
-    ghost use Rattle.indexmap.specs.Layout.{hash_map_code};
-    ghost use Rattle.rv_route.specs.Lanes.{IsLane};
     ghost use Rattle.rv_route.specs.Routers.{RouterValue};
 
     ghost Value = { RouterValue };
 
-    ghost coded = { Prim.hlevel (codes, hash_map_code) };
+    ghost coded = { Prim.hlevel codes };
 
-    ghost view = { λ r. record { index = r.index; routes = r.deliveries; next = r.next; refused = r.refused } };
+    ghost view = { λ r. r.collector };
 
-    ghost invariant = { λ r. (r.works.items ≡ []) × (64 ≤ vec_capacity r.works) × (r.refused ≡ None → All IsLane r.deliveries.lanes) };
+    ghost invariant = { λ r. r.collector.listed ≡ false };
 }
 
 impl Router {
@@ -58,16 +44,8 @@ impl Router {
         ensures next { IfOk result (λ router. router.next ≡ 0) }
         ensures accepted { IfOk result (λ router. router.refused ≡ None) }
     {
-        let index = index_of(alloc, bindings.rules.as_slice())?;
-        let deliveries = Deliveries::new(alloc)?;
-        let works = Vec::with_capacity(alloc, 64)?;
         Ok(Router {
-            index,
-            finds: Finds::new(alloc),
-            deliveries,
-            works,
-            next: 0,
-            refused: None,
+            collector: Collector::new(alloc, bindings)?,
         })
     }
 
@@ -84,24 +62,7 @@ impl Router {
         ensures takes { RoutesLine bindings.now text.now line.now self.old result self.new }
         ensures made { IsFor bindings.now self.new }
     {
-        self.next = line.number as u64 + 1;
-        if let Some(refused) = self.refused {
-            return Err(refused);
-        }
-        match take(
-            &mut self.deliveries,
-            bindings,
-            &self.index,
-            text,
-            line,
-            &mut self.finds,
-        ) {
-            Ok(()) => Ok(()),
-            Err(refused) => {
-                self.refused = Some(refused);
-                Err(refused)
-            }
-        }
+        self.collector.line(bindings, text, line)
     }
 
     /// What was routed. It takes no memory.
@@ -110,15 +71,6 @@ impl Router {
         ensures value { routed_value result ≡ record { tasks = self.routes.tasks; works = works_of self.routes.lanes } }
         ensures fit { (kinds : List MonitorKind) → FitsLines kinds self.next self.routes → WorksFit kinds (length result.tasks) result.works.items }
     {
-        let Router {
-            deliveries,
-            works,
-            ..
-        } = self;
-        let Deliveries { tasks, lanes, .. } = deliveries;
-        Routed {
-            tasks,
-            works: works_in(works, lanes),
-        }
+        self.collector.end()
     }
 }

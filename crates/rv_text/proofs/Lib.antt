@@ -5,5 +5,6 @@ pub mod SelectLemmas
 pub mod TextLineLemmas
 pub mod WordLemmas
 pub mod LinesStand
+pub mod LoadLemmas
 pub mod AscendingLemmas
 pub mod PieceLemmas

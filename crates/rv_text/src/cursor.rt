@@ -2,7 +2,7 @@
 ghost use Rattle.std.specs.Prelude.{◌≡◌, ◌<◌, ◌≤◌, ◌+◌, List, [], ◌∷◌, length, min, true, IfSome, IfNone};
 ghost use Rattle.rv_text.specs.TextLines.{LineText, line_text, lines_from, lines_of, line_end, next_number, is_line_start};
 
-use memchr::memchr;
+use crate::bytes::find_byte;
 use std::marker::Model;
 
 /// A line of a text.
@@ -73,16 +73,15 @@ impl<'a> Cursor<'a> {
 }
 
 /// The first line end from a place on, or the end of the text.
+#[inline(always)]
+#[tactic(auto, unfolding(crate::specs::TextLines::line_end))]
 pub fn line_end(text: &[u8], from: usize) -> usize
     requires { from ≤ length text.now }
     ensures value { result ≡ line_end text.now from }
     ensures low { from ≤ result }
     ensures high { result ≤ length text.now }
 {
-    match memchr(b'\n', &text[from..]) {
-        Some(offset) => from + offset,
-        None => text.len(),
-    }
+    find_byte(b'\n', text, from)
 }
 
 /// The place behind the line end that stands here, if one does.

@@ -1,6 +1,7 @@
 //! What every reader of the tool shares: places in a text, decimal numbers and refusals.
 #![tactic(auto)]
 
+mod bytes;
 mod cursor;
 mod decimals;
 mod laws;
@@ -14,6 +15,7 @@ mod statuses;
 mod unread;
 mod words;
 
+pub use bytes::find_byte;
 pub use cursor::{Cursor, TextLine, line_end, next_number, past_line_end};
 pub use decimals::decimal;
 pub use laws::numbers_are_numerals;

@@ -5,8 +5,8 @@ use Rattle.rv_io.specs.Files.{Files}
 use Rattle.rv_bind.specs.declared.fault.BindFault.{BindFault}
 use Rattle.rv_bind.specs.Values.{BoundValue}
 use Rattle.rv_bind.specs.Bound.{bound_of}
-use Rattle.rv_bind.specs.Outcomes.{Outcome, accepted, reading, of_name, BlamesReached, ReadsOutcome}
-use Rattle.rv_bind.proofs.OutcomeLemmas.{of_name-reading}
+use Rattle.rv_bind.specs.Outcomes.{Outcome, accepted, reading, front_named, BlamesReached, ReadsOutcome}
+use Rattle.rv_bind.proofs.FrontLemmas.{front_named-reading}
 use Rattle.rv_bind.proofs.ReachedLemmas.{IsLocal, reading-local, of_name-local, bound-local, step_named}
 use Rattle.rv_bind.proofs.ReadsLemmas.{step_reads, later_reads, behind_reads}
 use Rattle.rv_model.specs.declared.work.Change.{Change}
@@ -15,6 +15,7 @@ use Rattle.rv_control.specs.Trees.{ControlValue}
 use Rattle.rv_tool.specs.Inputs.{InputValue, routed_text, routed_in, run_input}
 use Rattle.rv_tool.specs.Sessions.{control_value}
 use Rattle.rv_tool.specs.Changes.{changes_text, changes_in, input_beside}
+use Rattle.rv_tool.proofs.LookLemmas.{changes-looks}
 
 -- what the bindings and a trace make
 abbrev made : BoundValue → RoutedValue → Outcome InputValue
@@ -28,9 +29,9 @@ input-local bindings trace =
 
 module _ (told : Option Files) where
   -- an unread script is read by its file
-  pub changes_named : (X Z : Type 0) (script : List ℕ) (tree : ControlValue) (fault : BindFault) → BlamesReached {X = X} told (Err fault) (λ files. of_name files script accepted) → BlamesReached {X = Z} told (Err fault) (λ files. changes_in files script tree)
+  pub changes_named : (X Z : Type 0) (script : List ℕ) (tree : ControlValue) (fault : BindFault) → BlamesReached {X = X} told (Err fault) (λ files. front_named files script) → BlamesReached {X = Z} told (Err fault) (λ files. changes_in files script tree)
   changes_named X Z script tree fault =
-      step_named X Z told fault (λ files. of_name files script accepted) (λ files text. changes_text script tree text) (λ files. changes_in files script tree) (λ files. of_name-reading files script (changes_text script tree))
+      step_named X Z told fault (λ files. front_named files script) (λ files text. changes_text script tree text) (λ files. changes_in files script tree) (λ files. front_named-reading (changes_text script tree) (changes-looks script tree) files script)
 
   module _ (bindings trace script : List ℕ) where
     next : Files → InputValue → Outcome InputValue

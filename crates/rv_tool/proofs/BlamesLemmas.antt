@@ -6,7 +6,8 @@ use Rattle.rv_bind.specs.declared.fault.BindFault.{BindFault}
 use Rattle.rv_bind.specs.declared.fault.BindFault.TheVariants as faults
 use Rattle.rv_bind.specs.Values.{BoundValue}
 use Rattle.rv_bind.specs.Bound.{bound_of}
-use Rattle.rv_bind.specs.Outcomes.{Outcome, accepted, reading, of_file, of_name, BlamesReached, ReadsOutcome}
+use Rattle.rv_bind.specs.Outcomes.{Outcome, accepted, reading, of_file, of_name, front_named, BlamesReached, ReadsOutcome}
+use Rattle.rv_bind.proofs.FrontLemmas.{front_named-reading}
 use Rattle.rv_bind.proofs.OutcomeLemmas.{of_name-reading}
 use Rattle.rv_bind.proofs.ReachedLemmas.{bound-local, step_named}
 use Rattle.rv_bind.proofs.ReadsLemmas.{step_reads, later_reads, behind_reads}
@@ -17,6 +18,7 @@ use Rattle.rv_tool.specs.Inputs.{InputValue, routed_text, routed_in, run_input}
 use Rattle.rv_tool.specs.Sessions.{Printed, session_text, session_in, control_in}
 use Rattle.rv_tool.specs.HeaderFiles.{header_of_text, header_in}
 use Rattle.rv_tool.specs.Tables.{table_text, table_in}
+use Rattle.rv_tool.proofs.LookLemmas.{table-looks, header-looks, session-looks}
 
 module _ (told : Option Files) where
   -- what a text comes to names no unread file
@@ -32,19 +34,19 @@ module _ (told : Option Files) where
       step_named X Z told fault (λ files. of_name files trace accepted) (λ files text. routed_text trace bound text) (λ files. routed_in files trace bound) (λ files. of_name-reading files trace (routed_text trace bound))
 
   -- a specification whose table is asked for is read by its file
-  pub table_named : (X Z : Type 0) (kind : SpecKind) (file : List ℕ) (fault : BindFault) → BlamesReached {X = X} told (Err fault) (λ files. of_name files file accepted) → BlamesReached {X = Z} told (Err fault) (λ files. table_in files kind file)
+  pub table_named : (X Z : Type 0) (kind : SpecKind) (file : List ℕ) (fault : BindFault) → BlamesReached {X = X} told (Err fault) (λ files. front_named files file) → BlamesReached {X = Z} told (Err fault) (λ files. table_in files kind file)
   table_named X Z kind file fault =
-      step_named X Z told fault (λ files. of_name files file accepted) (λ files text. of_file file (table_text kind text)) (λ files. table_in files kind file) (λ files. of_name-reading files file (λ text. of_file file (table_text kind text)))
+      step_named X Z told fault (λ files. front_named files file) (λ files text. of_file file (table_text kind text)) (λ files. table_in files kind file) (λ files. front_named-reading (λ text. of_file file (table_text kind text)) (table-looks kind file) files file)
 
   -- an automaton whose C tables are asked for is read by its file
-  pub header_named : (X Z : Type 0) (name file : List ℕ) (fault : BindFault) → BlamesReached {X = X} told (Err fault) (λ files. of_name files file accepted) → BlamesReached {X = Z} told (Err fault) (λ files. header_in files name file)
+  pub header_named : (X Z : Type 0) (name file : List ℕ) (fault : BindFault) → BlamesReached {X = X} told (Err fault) (λ files. front_named files file) → BlamesReached {X = Z} told (Err fault) (λ files. header_in files name file)
   header_named X Z name file fault =
-      step_named X Z told fault (λ files. of_name files file accepted) (λ files text. of_file file (header_of_text name text)) (λ files. header_in files name file) (λ files. of_name-reading files file (λ text. of_file file (header_of_text name text)))
+      step_named X Z told fault (λ files. front_named files file) (λ files text. of_file file (header_of_text name text)) (λ files. header_in files name file) (λ files. front_named-reading (λ text. of_file file (header_of_text name text)) (header-looks name file) files file)
 
   -- an unread script is read by its file
-  pub script_named : (X Z : Type 0) (script : List ℕ) (bound : BoundValue) (fault : BindFault) → BlamesReached {X = X} told (Err fault) (λ files. of_name files script accepted) → BlamesReached {X = Z} told (Err fault) (λ files. session_in files script bound)
+  pub script_named : (X Z : Type 0) (script : List ℕ) (bound : BoundValue) (fault : BindFault) → BlamesReached {X = X} told (Err fault) (λ files. front_named files script) → BlamesReached {X = Z} told (Err fault) (λ files. session_in files script bound)
   script_named X Z script bound fault =
-      step_named X Z told fault (λ files. of_name files script accepted) (λ files text. session_text script bound text) (λ files. session_in files script bound) (λ files. of_name-reading files script (session_text script bound))
+      step_named X Z told fault (λ files. front_named files script) (λ files text. session_text script bound text) (λ files. session_in files script bound) (λ files. front_named-reading (session_text script bound) (session-looks script bound) files script)
 
   -- what the bindings name, the commands name
   pub control_named : (X Z : Type 0) (bindings script : List ℕ) (fault : BindFault) → BlamesReached {X = X} told (Err fault) (λ files. bound_of files bindings) → BlamesReached {X = Z} told (Err fault) (λ files. control_in files bindings script)

@@ -9,9 +9,11 @@ pub mod CpuLemmas
 pub mod FeedingLemmas
 pub mod FitLemmas
 pub mod FrontLemmas
+pub mod FrontReads
 pub mod JudgedLemmas
 pub mod LoadLemmas
 pub mod LoadedLemmas
+pub mod LookLemmas
 pub mod NumberLemmas
 pub mod OneLemmas
 pub mod PiecesLemmas
@@ -21,6 +23,7 @@ pub mod RecordableLemmas
 pub mod RecordingLemmas
 pub mod RefinesLemmas
 pub mod ReportedLemmas
+pub mod RoutedLemmas
 pub mod SessionLemmas
 pub mod VerdictLemmas
 pub mod WatchLemmas

@@ -1,5 +1,5 @@
 -- What one thread tells: nothing is stopped, and the input determines the report.
-use Rattle.std.proofs.Common.{◌≡◌, ◌≢◌, ℕ, List, map, sym, ap, ◌∙◌}
+use Rattle.std.proofs.Common.{◌≡◌, ◌≢◌, ℕ, List, map, sym, ap, ◌∙◌, subst}
 use Rattle.std.specs.Prelude.{Result, Ok, Err, IfOk}
 use Rattle.std.specs.declared.alloc.AllocError.{AllocError}
 use Rattle.rv_model.specs.declared.entry.Entry.{Entry}
@@ -12,12 +12,14 @@ use Rattle.rv_model.proofs.OneJudgeLemmas.{lists-same}
 use Rattle.rv_model.proofs.UniqueLemmas.{one_has_no_stop, one_is_unique}
 use Rattle.rv_report.specs.Reported.{reported}
 use Rattle.rv_laws.proofs.StatusLemmas.{free_gives_no_six}
-use Rattle.rv_tool.specs.declared.input.Prepared.{Prepared}
+use Rattle.rv_replay.proofs.RunLemmas.{fresh-works}
+use Rattle.rv_route.specs.Listing.{works_listed}
+use Rattle.rv_tool.specs.declared.listed.PreparedList.{PreparedList}
 use Rattle.rv_tool.specs.declared.replay.FinishedRun.{FinishedRun}
 use Rattle.rv_tool.specs.inner.Commands.{IsOneReport}
 use Rattle.rv_tool.specs.Headline.{IsReported}
 use Rattle.rv_tool.specs.Inputs.{InputValue, run_of}
-use Rattle.rv_tool.specs.inner.Prepared.{prepared_value, IsPrepared}
+use Rattle.rv_tool.specs.inner.Listed.{listed_value, IsPreparedList}
 use Rattle.rv_tool.specs.Verdicts.{HasOneVerdict}
 
 module _ (i : InputValue) (apart : LinesApart (run_of i).works) (h : List Entry) (text : List ℕ) (status : ℕ) (is : IsReported IsOneHistory i h text status) where
@@ -43,6 +45,6 @@ module _ (i : InputValue) (apart : LinesApart (run_of i).works) (h : List Entry)
   has_one_verdict = record { no_stop = free; not_six = no_six; only = same_report }
 
 -- a run on one thread of what is ready has its verdict
-pub runs_one : (ready : Prepared) (ran : Result FinishedRun AllocError) → IsPrepared ready → IfOk ran (λ done. IsReported IsOneHistory (prepared_value ready) done.closed done.text.items done.status) → IfOk ran (λ done. IsOneReport (prepared_value ready) done.closed done.text.items done.status)
-runs_one ready (Ok done) is reported = (reported, has_one_verdict (prepared_value ready) is.lanes.apart done.closed done.text.items done.status reported)
+pub runs_one : (ready : PreparedList) (ran : Result FinishedRun AllocError) → IsPreparedList ready → IfOk ran (λ done. IsReported IsOneHistory (listed_value ready) done.closed done.text.items done.status) → IfOk ran (λ done. IsOneReport (listed_value ready) done.closed done.text.items done.status)
+runs_one ready (Ok done) is reported = (reported, has_one_verdict (listed_value ready) (subst LinesApart (fresh-works (works_listed ready.list)) is.fits.lanes.apart) done.closed done.text.items done.status reported)
 runs_one ready (Err none) is done = done

@@ -168,9 +168,9 @@ module _ (bindings : Bindings) where
   taken-refused old new router late refusal t r = refused-read (passed_text old) (take new.taken new.fed) (part_read old.ended old.fed) refusal r.lines t.answers r.read
 
   -- nothing was routed of no text
-  pub none-routed : (router : RouterValue) (late : Option Refused) → IsFor bindings router → router.routes ≡ no_routes → router.next ≡ 0 → router.refused ≡ None → late ≡ None → IsRouted bindings [] router late
+  pub none_routed : (router : RouterValue) (late : Option Refused) → IsFor bindings router → router.routes ≡ no_routes → router.next ≡ 0 → router.refused ≡ None → late ≡ None → IsRouted bindings [] router late
   unfolding trace_of lines_of lines_from select lines_at all_read routes_of
-  none-routed router late made routes next refused late_is = record {
+  none_routed router late made routes next refused late_is = record {
     lines = [];
     read = refl;
     made = made;

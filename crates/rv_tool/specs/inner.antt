@@ -6,6 +6,7 @@ pub mod Feeding
 pub mod JournalPieces
 pub mod Journals
 pub mod LaneReports
+pub mod Listed
 pub mod Pieces
 pub mod Prepared
 pub mod SessionValues

@@ -101,7 +101,7 @@ fn changes_in_text(
 }
 
 /// Reads the script and gives its changes.
-#[tactic(auto, using(crate::proofs::BesideLemmas::changes_named, crate::proofs::BlamesLemmas::tells_named, crate::proofs::PossibleLemmas::script_unread, crate::proofs::PossibleLemmas::script_may))]
+#[tactic(auto, using(crate::proofs::BesideLemmas::changes_named, crate::proofs::PossibleLemmas::script_unread, crate::proofs::PossibleLemmas::script_may))]
 fn read_changes<S: Store>(
     alloc: Global,
     store: &mut S,

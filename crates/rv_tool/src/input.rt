@@ -35,12 +35,11 @@ pub(crate) struct Prepared {
     pub(crate) changes: Vec<Change>,
 }
 
-/// The parts of what is ready that are made of monitors, tables and works.
+/// The parts of what is ready that are made of monitors and tables.
 #[derive(Drop)]
-struct RunParts {
-    setup: Setup,
-    reactors: Vec<Reactor>,
-    lanes: Vec<CompactLane>,
+pub(crate) struct RunParts {
+    pub(crate) setup: Setup,
+    pub(crate) reactors: Vec<Reactor>,
 }
 
 /// Reads the bindings and the trace.
@@ -88,16 +87,12 @@ fn prepare(alloc: Global, bound: Bound, routed: Routed) -> Result<Prepared, Allo
 {
     let Bound { bindings, tables } = bound;
     let Routed { tasks, works } = routed;
-    let RunParts {
-        setup,
-        reactors,
-        lanes,
-    } = make_parts(
+    let lanes = lanes(alloc, works)?;
+    let RunParts { setup, reactors } = make_parts(
         alloc,
         bindings.monitors.as_slice(),
         tasks.len(),
         tables,
-        works,
     )?;
     Ok(Prepared {
         bindings,
@@ -109,29 +104,22 @@ fn prepare(alloc: Global, bound: Bound, routed: Routed) -> Result<Prepared, Allo
     })
 }
 
-/// What the monitors make of their tables and of the works of so many tasks.
-fn make_parts(
+/// What the monitors make of their tables for so many tasks.
+pub(crate) fn make_parts(
     alloc: Global,
     monitors: &[Monitor],
     tasks: u32,
     tables: Vec<Table>,
-    works: Vec<CpuWork>,
 ) -> Result<RunParts, AllocError>
     requires monitors { length monitors.now ≤ 32 }
     requires tasks { tasks ≤ 65536 }
     requires tables { HaveTables (kinds_of monitors.now) tables.items }
     ensures setup { IfOk result (λ parts. parts.setup ≡ opened monitors.now tables.items tasks) }
     ensures reactors { IfOk result (λ parts. parts.reactors.items ≡ map (λ m. m.reactor) monitors.now) }
-    ensures lanes { IfOk result (λ parts. (works_of parts.lanes.items ≡ works.items) × All (λ lane. IsNewLane lane.work lane) parts.lanes.items) }
 {
-    let lanes = lanes(alloc, works)?;
     let reactors = reactors(alloc, monitors)?;
     let setup = opening(alloc, monitors, tasks, tables)?;
-    Ok(RunParts {
-        setup,
-        reactors,
-        lanes,
-    })
+    Ok(RunParts { setup, reactors })
 }
 
 /// The setup of a run with so many tasks.

@@ -10,6 +10,7 @@ mod header;
 mod input;
 mod journal;
 mod laws;
+mod listed;
 mod load;
 mod output;
 mod replay;

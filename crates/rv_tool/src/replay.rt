@@ -1,16 +1,17 @@
 //! A run on one thread.
-ghost use Rattle.std.specs.Prelude.{◌≡◌, [], IfOk};
+ghost use Rattle.std.specs.Prelude.{◌≡◌, length, IfOk};
 ghost use Rattle.rv_model.specs.Histories.{IsOneHistory};
 ghost use Rattle.rv_feed.specs.Lane.{lane_records};
 ghost use Rattle.rv_tool.specs.Headline.{IsReported};
 ghost use Rattle.rv_tool.specs.inner.LaneReports.{ReportsLanes};
-ghost use Rattle.rv_tool.specs.inner.Prepared.{prepared_value, IsPrepared};
+ghost use Rattle.rv_tool.specs.inner.Listed.{listed_value, IsPreparedList};
 
-use crate::input::Prepared;
+use crate::listed::PreparedList;
 use rv_bind::Bindings;
-use rv_feed::{CompactLane, replay};
+use rv_feed::CompactLane;
 use rv_model::Closed;
-use rv_report::{RunReport, report_lanes};
+use rv_replay::{Replayed, replay_list};
+use rv_report::{RunReport, report_found, report_lanes};
 use rv_slots::Tasks;
 use std::alloc::{AllocError, Global};
 
@@ -40,23 +41,23 @@ pub(crate) fn report(
     })
 }
 
-/// The whole run, its scripts in the order of the trace, and its report.
-pub(crate) fn replayed(alloc: Global, mut ready: Prepared) -> Result<FinishedRun, AllocError>
-    requires ready { IsPrepared ready }
-    requires unchanged { ready.changes.items ≡ [] }
-    ensures { IfOk result (λ done. IsReported IsOneHistory (prepared_value ready) done.closed done.text.items done.status) }
+/// The whole run, its deliveries in the order of the trace, and its report.
+pub(crate) fn replayed(alloc: Global, ready: PreparedList) -> Result<FinishedRun, AllocError>
+    requires { IsPreparedList ready }
+    ensures { IfOk result (λ done. IsReported IsOneHistory (listed_value ready) done.closed done.text.items done.status) }
 {
-    let closed = replay(
+    let Replayed { closed, found } = replay_list(
         alloc,
         ready.setup,
-        ready.reactors.as_slice(),
-        ready.lanes.as_mut_slice(),
-    )?;
-    report(
-        alloc,
         &ready.bindings,
         &ready.tasks,
-        ready.lanes.as_slice(),
+        ready.reactors.as_slice(),
+        &ready.list,
+    )?;
+    let RunReport { text, status } = report_found(alloc, &ready.bindings, &ready.tasks, &found)?;
+    Ok(FinishedRun {
+        status,
+        text,
         closed,
-    )
+    })
 }

@@ -19,6 +19,7 @@ use crate::feed_beside::read_beside;
 use crate::header::read_header;
 use crate::input::read_input;
 use crate::journal::{read_recordable, recorded};
+use crate::listed::read_listed;
 use crate::load::{BINDINGS, TRACE, generated_store};
 use crate::output::{missing_line, put_text, refusal_line};
 use crate::replay::{FinishedRun, replayed};
@@ -85,7 +86,7 @@ fn run<R: Threads + Sync, S: Store, G: Gate + Send>(
 {
     match command {
         ToolCommand::Replay { bindings, trace } => {
-            let ready = read_input(alloc, store, bindings, trace)?;
+            let ready = read_listed(alloc, store, bindings, trace)?;
             ended(replayed(alloc, ready))
         }
         ToolCommand::Feed { bindings, trace } => {

@@ -4,7 +4,7 @@ use Rattle.std.proofs.lemmas.Bool.{false≢true, and_parts, and_from, and_left, 
 use Rattle.std.proofs.lemmas.List.{get_or_past}
 use Rattle.rv_text.specs.Places.{is_digit, is_blank, least}
 use Rattle.rv_text.specs.declared.runs.ByteClass.TheVariants as kinds
-use Rattle.rv_text.proofs.LeastLemmas.{run_end-each, least-is, least-before, least-at}
+use Rattle.rv_text.proofs.LeastLemmas.{run_end-each, least-before, least-at}
 use Rattle.rv_trace.specs.declared.head.Head.{Head}
 use Rattle.rv_trace.specs.Heads.{first_some, some_or, head_at, head_of, is_head, head_ending, IsHead}
 
@@ -138,10 +138,6 @@ before_dash text from count none d below =
       | inl front ↦ none d front
       | inr rest ↦ not_head text d (λ dash. false≢true (sym (least-before (is_dash text) from count d rest below) ∙ eq-eqb _ _ dash))
     ]
-
--- the first dash, by what holds of it
-pub dash-is : (text : List ℕ) (from place : ℕ) → from ≤ place → place ≤ length text → ((k : ℕ) → from ≤ k → k < place → is_dash text k ≡ false) → (place < length text → is_dash text place ≡ true) → place ≡ least (is_dash text) from (length text - from)
-dash-is text from place low high none at = sym (least-is (is_dash text) from (length text - from) place low (omega arith) none (λ h. at (omega arith)))
 
 -- what is known at the first dash of the rest
 pub next_dash : (text : List ℕ) (from place : ℕ) → from ≤ length text → place ≡ least (is_dash text) from (length text - from) → place ≤ length text

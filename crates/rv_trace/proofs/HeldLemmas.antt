@@ -23,28 +23,27 @@ looks-first held from within = record {
   none = λ k low high. absurd (omega arith);
 }
 
--- the stream grows by a piece, and what was passed of it is let go
+-- what was passed of the stream is let go, and it grows by a piece
 pub held-fed : (fed held piece : List ℕ) (passed from searched number first last : ℕ) → IsHeldPart fed held passed from searched number first last false →
-    IsHeldPart (fed ++ piece) (drop from (held ++ piece)) (passed + from) 0 (searched - from) number 0 0 false
+    IsHeldPart (fed ++ piece) (drop from held ++ piece) (passed + from) 0 (searched - from) number 0 0 false
 held-fed fed held piece passed from searched number first last is =
     let low : passed ≤ length fed = is.piece.low in
     let order : from ≤ searched = is.looks.order in
     let within : searched ≤ length held = is.looks.within in
     let size : length held + passed ≡ length fed = omega (arith, ap {B = ℕ} length is.piece.is, length-drop passed fed) in
-    let longer : length (held ++ piece) ≡ length held + length piece = length-append held piece in
     let whole : length (fed ++ piece) ≡ length fed + length piece = length-append fed piece in
-    let rest : length (drop from (held ++ piece)) ≡ length (held ++ piece) - from = length-drop from (held ++ piece) in
+    let rest : length (drop from held ++ piece) ≡ length held - from + length piece = length-append (drop from held) piece ∙ ap (λ n. n + length piece) (length-drop from held) in
     let place : passed + from + 0 ≡ passed + from = omega arith in
     record {
       piece = record {
-        is = ap (λ text. drop from (text ++ piece)) is.piece.is ∙ ap (drop from) (sym (drop-append-le passed fed piece low)) ∙ drop-drop from passed (fed ++ piece);
+        is = sym (drop-append-le from held piece (omega arith)) ∙ ap (λ text. drop from (text ++ piece)) is.piece.is ∙ ap (drop from) (sym (drop-append-le passed fed piece low)) ∙ drop-drop from passed (fed ++ piece);
         low = omega arith;
       };
       looks = record {
         order = omega arith;
         within = omega arith;
         none = λ k l h e. is.looks.none (from + k) (omega arith) (omega arith)
-            (sym (get_or_append_left held piece 0 (from + k) (omega arith)) ∙ sym (get_or-drop from (held ++ piece) k 0) ∙ e);
+            (sym (get_or-drop from held k 0) ∙ sym (get_or_append_left (drop from held) piece 0 k (omega (arith, length-drop from held))) ∙ e);
       };
       fits = omega (arith, is.fits);
       order = omega arith;

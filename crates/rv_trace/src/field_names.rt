@@ -1,5 +1,5 @@
 //! Names of fields that are looked for together, in one walk over the words of a line.
-ghost use Rattle.std.specs.Prelude.{◌≡◌, ◌≢◌, ◌<◌, ◌≤◌, ◌+◌, ℕ, [], true, length, slice_index, slice_get, All, Some, IfOk, OnOk};
+ghost use Rattle.std.specs.Prelude.{◌≡◌, ◌≢◌, ◌⊎◌, ◌<◌, ◌≤◌, ◌+◌, ◌∷◌, ◌++◌, ℕ, [], true, length, slice_index, slice_get, All, Some, IfOk, OnOk, OnErr};
 ghost use Rattle.std.specs.List.{list_all};
 ghost use Rattle.rv_text.specs.Places.{run_end};
 ghost use Rattle.rv_text.specs.declared.runs.ByteClass.TheVariants as kinds;
@@ -92,6 +92,8 @@ impl FieldNames {
     pub fn place(&mut self, alloc: Global, name: &[u8]) -> Result<usize, AllocError>
         ensures place { IfOk result (λ place. slice_get self.new place ≡ Some name.now) }
         ensures grown { OnOk result (Extends self.old self.new) }
+        ensures appended { OnOk result ((self.new ≡ self.old) ⊎ (self.new ≡ self.old ++ name.now ∷ [])) }
+        ensures err { OnErr result (self.new ≡ self.old) }
     {
         if let Some(place) = self.places.get(name) {
             return Ok(*place);

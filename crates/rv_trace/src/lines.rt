@@ -1,5 +1,5 @@
 //! The lines of a stream that is fed in pieces and never held whole.
-ghost use Rattle.std.specs.Prelude.{◌≡◌, ◌≤◌, ◌++◌, ◌&&◌, [], true, false, not, drop, take, length, IsTrue, IfOk, IfSome, IfNone, OnOk, OnErr};
+ghost use Rattle.std.specs.Prelude.{◌≡◌, ◌≤◌, ◌++◌, ◌&&◌, [], true, false, not, drop, take, length, vec_capacity, IsTrue, IfOk, IfSome, IfNone, OnOk, OnErr};
 ghost use Rattle.rv_trace.specs.Lines.{LiesIn};
 ghost use Rattle.rv_trace.specs.Streams.{TakesNextLine};
 
@@ -43,7 +43,8 @@ impl Model for Lines {
 /// Lets go of so many bytes at the front.
 fn let_go(held: &mut Vec<u8>, count: usize)
     requires { count ≤ length held.old.items }
-    ensures { held.new.items ≡ drop count held.old.items }
+    ensures items { held.new.items ≡ drop count held.old.items }
+    ensures capacity { vec_capacity held.new ≡ vec_capacity held.old }
 {
     if count > 0 {
         let kept = held.len() - count;
@@ -81,8 +82,10 @@ impl Lines {
         ensures err { OnErr result (self.new ≡ self.old) }
         ensures kept { OnOk result (take self.new.taken self.new.fed ≡ take self.old.taken self.old.fed) }
     {
-        self.held.extend_from_slice(piece)?;
+        // Room comes first, so that nothing is let go before a refusal.
+        self.held.reserve(piece.len().saturating_sub(self.at.from))?;
         let_go(&mut self.held, self.at.from);
+        self.held.extend_from_slice(piece).unwrap();
         self.stream.append(piece);
         self.passed += self.at.from;
         self.at = At {

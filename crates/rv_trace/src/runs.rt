@@ -124,17 +124,6 @@ fn word_in(text: &[u8], place: usize) -> usize
     first_set(stops.to_bitmask())
 }
 
-/// How many of the next bytes are no dashes.
-#[inline(always)]
-fn undashed_in(text: &[u8], place: usize) -> usize
-    requires { place + WIDTH ≤ length text.now }
-    ensures { IsRunIn (λ byte. not (byte == 45)) text.now place WIDTH result }
-{
-    let bytes = u8x16::from_slice(&text[place..]);
-    let stops = bytes.simd_eq(u8x16::splat(b'-'));
-    first_set(stops.to_bitmask())
-}
-
 /// The first blank from a place on, from which less than a load is left, or the end.
 #[inline(never)]
 fn last_word_end(text: &[u8], place: usize) -> usize
@@ -238,28 +227,6 @@ pub(crate) fn blanks_end(text: &[u8], from: usize) -> usize
         return from + 1;
     }
     far_blanks_end(text, from)
-}
-
-/// The first dash from `from` on, or the end.
-#[inline(always)]
-pub(crate) fn dash_from(text: &[u8], from: usize) -> usize
-    requires { from ≤ length text.now }
-    ensures value { result ≡ least (λ place. slice_index text.now place == 45) from (length text.now - from) }
-    ensures low { from ≤ result }
-    ensures high { result ≤ length text.now }
-{
-    let mut place = from;
-    while text.len() - place >= WIDTH {
-        let run = undashed_in(text, place);
-        place += run;
-        if run < WIDTH {
-            return place;
-        }
-    }
-    while place < text.len() && text[place] != b'-' {
-        place += 1;
-    }
-    place
 }
 
 /// The same digits, of which those before `end` spell a number that is too large with another one.

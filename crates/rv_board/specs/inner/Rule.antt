@@ -1,6 +1,6 @@
 -- The rule that the shared words keep between any two steps: one sound history gives them, and each seat has seen a
 -- beginning of it.
-use Rattle.std.specs.Prelude.{◌≡◌, ◌≢◌, ℕ, zero, suc, ◌<◌, true, false, List, [], length, reverse, sum, slice_index}
+use Rattle.std.specs.Prelude.{◌≡◌, ◌≢◌, ℕ, zero, suc, ◌/◌, ◌<◌, true, false, List, [], length, reverse, sum, slice_index}
 use mathlib.Core.Option.{some}
 use lib.ListN.{get_elem?}
 use Rattle.atomic_table.specs.Table.{State}
@@ -15,20 +15,33 @@ use Rattle.rv_core.specs.Setup.{IsSetup, judges_of, table_at}
 use Rattle.rv_core.specs.Core.{IsLive, slot_phase}
 use Rattle.rv_board.specs.declared.view.View.{View}
 use Rattle.rv_board.specs.Known.{part, blank}
+use Rattle.rv_board.specs.Places.{stride_of, place_of, room_of}
 use Rattle.rv_board.specs.inner.Known.{knows, Begun, with_list}
-use Rattle.rv_board.specs.Rule.{width, view}
+use Rattle.rv_board.specs.Rule.{view}
 
 -- the word at an index, as a history gives it: the switches at 0, and the word of slot n at n + 1
 abbrev pub word_at : Setup → List Entry → ℕ → ℕ
 word_at s history zero = switches_of s.switches (reverse history)
 word_at s history (suc slot) = word_of s (judges_of s) (reverse history) slot
 
+-- how many words a board has: the switches, and a word for each slot
+abbrev pub width : Setup → ℕ
+width s = suc (sum s.shape)
+
+-- the index of the word at a place
+abbrev pub index_at : ℕ → ℕ → ℕ
+index_at slots place = place / stride_of slots
+
+-- the place of the word of an index
+abbrev pub place_in : Setup → ℕ → ℕ
+place_in s = place_of (sum s.shape)
+
 -- the setup is well formed, and each instance that runs after the history is in some row of its table
 pub record IsMachine (s : Setup) (history : List Entry) : Type 0 where
   pub is_setup : IsSetup s
   pub live : (i : ℕ) → i < sum s.shape → IsLive (table_judge (table_at s i)) (slot_phase s (reverse history) i)
 
--- the words that a board opens with are those of an empty history
+-- the words that a board opens with, one behind another, are those of an empty history
 pub record IsOpening (s : Setup) (words : List ℕ) : Type 0 where
   pub is_setup : IsSetup s
   pub wide : length words ≡ width s
@@ -47,12 +60,12 @@ pub record Fits (history : List Entry) (v : View) : Type 0 where
   -- no number that may still be handed on has an entry
   pub unused : entries_of (is_within (suc v.part.number) v.part.end) history ≡ []
 
--- there is one sound history, which gives the words by `code`; each seat has seen a beginning of it, no two seats know
+-- there is one sound history, which gives the words at their places by `code`; each seat has seen a beginning of it, no two seats know
 -- one number, and `also` holds of the history and the views.
 pub record Kept (code : Setup → List Entry → ℕ → ℕ) (also : List Entry → List View → Type 0) (s : Setup) (t : State Act View) : Type 0 where
   pub history : List Entry
-  pub wide : length t.words ≡ width s
-  pub words : (i : ℕ) → i < width s → slice_index t.words i ≡ code s history i
+  pub wide : length t.words ≡ room_of (sum s.shape)
+  pub words : (i : ℕ) → i < width s → slice_index t.words (place_in s i) ≡ code s history i
   pub machine : IsMachine s history
   pub sound : IsSound s (judges_of s) history
   pub fits : (j : ℕ) (v : View) → get_elem? t.views j ≡ some v → Fits history v

@@ -1,5 +1,5 @@
 -- What the seat that takes a step learns by it, for each kind of step of a board.
-use Rattle.std.specs.Prelude.{◌≡◌, ℕ, ◌-◌, ◌==◌, List, [], ◌∷◌, ◌++◌, reverse, MatchBool}
+use Rattle.std.specs.Prelude.{◌≡◌, ℕ, ◌-◌, ◌==◌, List, [], ◌∷◌, ◌++◌, reverse, sum, MatchBool}
 use Rattle.std.specs.Int.{bit_not, w64}
 use mathlib.Core.Option.{Option, some, none}
 use Rattle.atomic_table.specs.Table.{Me, Step}
@@ -14,16 +14,16 @@ use Rattle.rv_core.specs.Setup.{judges_of, word_index, table_of_act, start_of_ac
 use Rattle.rv_board.specs.declared.view.View.{View}
 use Rattle.rv_model.specs.Seats.{entries_of}
 use Rattle.rv_board.specs.inner.Known.{knows, Begun}
-use Rattle.rv_board.specs.inner.Rule.{word_at, with_seen}
+use Rattle.rv_board.specs.inner.Rule.{word_at, with_seen, index_at}
 
 -- from the view `v` on, the seat has seen the history so far, which has no new entry of its own, and found the word
 -- that this history gives
-pub record Saw (code : Setup → List Entry → ℕ → ℕ) (v w : View) (place found : ℕ) : Type 0 where
+pub record Saw (code : Setup → List Entry → ℕ → ℕ) (v w : View) (index found : ℕ) : Type 0 where
   pub same : w ≡ with_seen v w.part.seen
   pub rest : List Entry
   pub list : w.part.seen ≡ v.part.seen ++ rest
   pub none : entries_of (knows v.part) rest ≡ []
-  pub word : found ≡ code v.setup w.part.seen place
+  pub word : found ≡ code v.setup w.part.seen index
   pub sound : IsSound v.setup (judges_of v.setup) w.part.seen
   pub left : Begun w.part.seen v.left
   pub right : Begun w.part.seen v.right
@@ -51,6 +51,10 @@ pub record Made (code : Setup → List Entry → ℕ → ℕ) (v w : View) (act 
 abbrev pub Ours : Type 0
 Ours = Me Act View
 
+-- the index of the word that a seat's step is on
+abbrev pub index_of : Step Act → Ours → ℕ
+index_of st m = index_at (sum m.0.setup.shape) st.word
+
 -- the act that a step names, and a look where it names none
 abbrev pub step_answer : Option Act → Act
 step_answer (some act) = act
@@ -60,7 +64,7 @@ step_answer none = Look
 
 -- a load adds no entry
 abbrev pub IsLoadStep : Step Act → Ours → ℕ → Ours → Type 0
-IsLoadStep st m found m' = Saw word_at m.0 m'.0 st.word found × (m'.1 ≡ m.1)
+IsLoadStep st m found m' = Saw word_at m.0 m'.0 (index_of st m) found × (m'.1 ≡ m.1)
 
 -- the step adds its act, whatever word it finds
 abbrev pub IsActStep : Act → Ours → ℕ → Ours → Type 0
@@ -68,11 +72,11 @@ IsActStep act m found m' = Made word_at m.0 m'.0 act found × (m'.1 ≡ m.1)
 
 -- a compare-exchange adds its act where it finds the word that it expects, and else no entry
 abbrev pub IsExchangeStep : Step Act → Ours → ℕ → Ours → Type 0
-IsExchangeStep st m found m' = MatchBool (found == st.first) (Made word_at m.0 m'.0 (step_answer st.said) found) (Saw word_at m.0 m'.0 st.word found) × (m'.1 ≡ m.1)
+IsExchangeStep st m found m' = MatchBool (found == st.first) (Made word_at m.0 m'.0 (step_answer st.said) found) (Saw word_at m.0 m'.0 (index_of st m) found) × (m'.1 ≡ m.1)
 
--- a swap of 0 into word n + 1 stops slot n
+-- a swap of 0 into the word of index n + 1 stops slot n
 abbrev pub IsStopStep : Step Act → Ours → ℕ → Ours → Type 0
-IsStopStep st = IsActStep (Stop (st.word - 1))
+IsStopStep st m = IsActStep (Stop (index_of st m - 1)) m
 
 -- a load of the switches that counts as a look
 abbrev pub IsLookStep : Step Act → Ours → ℕ → Ours → Type 0
@@ -86,10 +90,10 @@ IsRaiseStep st = IsActStep (Raise st.first)
 abbrev pub IsLowerStep : Step Act → Ours → ℕ → Ours → Type 0
 IsLowerStep st = IsActStep (Lower (bit_not w64 st.first))
 
--- a swap of the opening word into word n + 1 clears slot n
+-- a swap of the opening word into the word of index n + 1 clears slot n
 abbrev pub IsClearStep : Step Act → Ours → ℕ → Ours → Type 0
-IsClearStep st = IsActStep (Clear (st.word - 1))
+IsClearStep st m = IsActStep (Clear (index_of st m - 1)) m
 
--- a swap of the opening word into word n + 1, at an event that ends it, ends the instance of slot n
+-- a swap of the opening word into the word of index n + 1, at an event that ends it, ends the instance of slot n
 abbrev pub IsEndStep : Step Act → Ours → ℕ → Ours → Type 0
-IsEndStep st = IsActStep (End (st.word - 1))
+IsEndStep st m = IsActStep (End (index_of st m - 1)) m

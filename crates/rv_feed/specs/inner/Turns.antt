@@ -1,17 +1,13 @@
 -- What a CPU does in one delivery and in one turn, on any machine.
-use Rattle.std.specs.Prelude.{◌≡◌, ℕ, ◌-◌, ◌^◌, Bool, List, [], ◌∷◌, ◌++◌, ◌≤◌, filter, length, reverse, slice_range}
-use Rattle.rv_model.specs.declared.entry.Act.TheVariants.{Look, Raise}
-use Rattle.rv_model.specs.declared.entry.Answer.{Answer}
+use Rattle.std.specs.Prelude.{◌≡◌, ℕ, ◌-◌, Bool, List, [], ◌∷◌, ◌++◌, ◌≤◌, filter, length, reverse, slice_range}
+use Rattle.rv_model.specs.declared.entry.Act.TheVariants.{Look}
 use Rattle.rv_model.specs.declared.entry.Answer.TheVariants.{Looked}
 use Rattle.rv_model.specs.declared.entry.Entry.{Entry}
-use Rattle.rv_model.specs.declared.record.Delivered.{Delivered}
 use Rattle.rv_model.specs.declared.record.Record.{Record}
-use Rattle.rv_model.specs.declared.work.Delivery.{Delivery}
 use Rattle.rv_model.specs.declared.work.Turn.{Turn}
 use Rattle.rv_model.specs.Histories.{IsNoStop, IsPermittedTo, look_count}
-use Rattle.rv_model.specs.Records.{outcome_of, failed_outcome}
 use Rattle.rv_model.specs.inner.ScriptParts.{TurnPart, ScriptOr}
-use Rattle.rv_model.specs.Scripts.{Played, played, is_enabled_by, fails, Makes}
+use Rattle.rv_model.specs.Scripts.{Played, played, is_enabled_by}
 use Rattle.rv_model.specs.Setups.{Setup}
 use Rattle.rv_core.specs.Core.{CoreValue}
 use Rattle.rv_core.specs.Setup.{judges_of}
@@ -44,33 +40,7 @@ IsOneTurn (p ∷ ps) = (p.0.act ≡ Look) × NoLooks ps
 
 -- ---- a turn on any machine; `does old new ps` says that its CPU played these from the one value to the other
 
--- what it did, and then something more, is what it did
-abbrev pub Composes : {M : Type 0} → (M → M → List Played → Type 0) → Type 0
-Composes {M} does = (a b c : M) (ps : List Played) (q : Played) (qs : List Played) → does a b ps → does b c (q ∷ qs) → does a c (ps ++ q ∷ qs)
-
 module _ {M : Type 0} (does : M → M → List Played → Type 0) where
-  -- the CPU made a look, which found the switches `word`
-  pub record LooksAt (old new : M) (word : ℕ) : Type 0 where
-    pub entry : Entry
-    pub act_is : entry.act ≡ Look
-    pub did : does old new ((entry, Looked word) ∷ [])
-
-  -- the CPU halted the run
-  pub record Halts (old new : M) : Type 0 where
-    pub entry : Entry
-    pub answer : Answer
-    pub act_is : entry.act ≡ Raise (2 ^ 34)
-    pub did : does old new ((entry, answer) ∷ [])
-
-  -- the CPU made the delivery, or stopped the slot in its place, and its entry and answer give the outcome
-  pub record Serves (s : Setup) (old new : M) (d : Delivery) (outcome : Delivered) : Type 0 where
-    pub entry : Entry
-    pub answer : Answer
-    pub makes : Makes s d (entry, answer)
-    pub did : does old new ((entry, answer) ∷ [])
-    pub outcome_is : outcome_of entry.act answer ≡ outcome
-    pub fails_is : fails answer ≡ failed_outcome outcome
-
   -- of a turn, the CPU made the look and those deliveries before the index `place` that the look enables
   pub record PartDone (s : Setup) (panics : ℕ → Bool) (old cur : M) (word : ℕ) (turn : Turn) (lane lane' : LaneValue) (place : ℕ) : Type 0 where
     pub look : Entry

@@ -7,13 +7,13 @@ use Rattle.rv_model.specs.declared.hit.Hit.{Hit}
 use Rattle.rv_model.specs.Table.{Table}
 use Rattle.rv_core.specs.Advance.{advanced}
 use Rattle.rv_board.specs.declared.view.View.{View}
-use Rattle.rv_board.specs.inner.Steps.{Ours, Saw, Made, step_answer}
+use Rattle.rv_board.specs.inner.Steps.{Ours, Saw, Made, index_of, step_answer}
 use Rattle.rv_journal.specs.CountedWords.{FitsCounts}
 use Rattle.rv_journal.specs.inner.CountedWords.{counted_word, word_in, count_in, counted_at}
 
 -- the seat has seen the history so far, which fits counts, and found the counted word that it gives
 abbrev pub SawCounted : View → View → ℕ → ℕ → Type 0
-SawCounted v w place found = Saw counted_at v w place found × FitsCounts v.setup w.part.seen
+SawCounted v w index found = Saw counted_at v w index found × FitsCounts v.setup w.part.seen
 
 -- the seat has seen the history so far and added its act; the list fits counts before and after
 pub record MadeCounted (v w : View) (act : Act) (found : ℕ) : Type 0 where
@@ -23,15 +23,15 @@ pub record MadeCounted (v w : View) (act : Act) (found : ℕ) : Type 0 where
 
 -- a load adds no entry
 abbrev pub IsCountedLoad : Step Act → Ours → ℕ → Ours → Type 0
-IsCountedLoad st m found m' = SawCounted m.0 m'.0 st.word found × (m'.1 ≡ m.1)
+IsCountedLoad st m found m' = SawCounted m.0 m'.0 (index_of st m) found × (m'.1 ≡ m.1)
 
 -- a compare-exchange adds its act where it finds the word that it expects, and else no entry
 abbrev pub IsCountedExchange : Step Act → Ours → ℕ → Ours → Type 0
-IsCountedExchange st m found m' = MatchBool (found == st.first) (MadeCounted m.0 m'.0 (step_answer st.said) found) (SawCounted m.0 m'.0 st.word found) × (m'.1 ≡ m.1)
+IsCountedExchange st m found m' = MatchBool (found == st.first) (MadeCounted m.0 m'.0 (step_answer st.said) found) (SawCounted m.0 m'.0 (index_of st m) found) × (m'.1 ≡ m.1)
 
--- an `and` of word n + 1 that leaves its count alone stops slot n
+-- an `and` of the word of index n + 1 that leaves its count alone stops slot n
 abbrev pub IsCountedStop : Step Act → Ours → ℕ → Ours → Type 0
-IsCountedStop st m found m' = MadeCounted m.0 m'.0 (Stop (st.word - 1)) found × (m'.1 ≡ m.1)
+IsCountedStop st m found m' = MadeCounted m.0 m'.0 (Stop (index_of st m - 1)) found × (m'.1 ≡ m.1)
 
 -- ---- the next word of a delivery
 

@@ -1,8 +1,8 @@
--- The words that a counted board opens with.
+-- The words that a counted board opens with, one behind another.
 use Rattle.std.specs.Prelude.{◌≡◌, ℕ, ◌<◌, List, [], length, slice_index}
 use Rattle.rv_model.specs.Setups.{Setup}
 use Rattle.rv_core.specs.Setup.{IsSetup}
-use Rattle.rv_board.specs.Rule.{width}
+use Rattle.rv_board.specs.inner.Rule.{width}
 use Rattle.rv_journal.specs.CountedWords.{FitsCounts}
 use Rattle.rv_journal.specs.inner.CountedWords.{counted_at}
 

@@ -1,41 +1,15 @@
--- What records come to: a tally for each monitor, those whose reaction is printed, and the exit status.
-use Rattle.std.specs.Prelude.{◌≡◌, ℕ, ◌<◌, ◌&&◌, false, List, [], ◌∷◌, ◌++◌, length, filter, count_by, slice_index_or}
-use Rattle.std.specs.List.{list_any}
+-- The text of a tally, and one record more.
+use Rattle.std.specs.Prelude.{ℕ, List, [], ◌∷◌, ◌++◌, count_by}
 use Rattle.rv_model.specs.declared.record.Record.{Record}
 use Rattle.rv_model.specs.declared.record.Task.{Task}
-use Rattle.rv_model.specs.Records.{is_failure, is_stopped, status_of}
-use Rattle.rv_model.specs.Reports.{Reported, instances_in, is_of_monitor, is_at, count_text}
-use Rattle.rv_report.specs.declared.found.Found.{Found}
+use Rattle.rv_model.specs.Reports.{Reported, count_text}
 use Rattle.rv_report.specs.declared.tally.Tally.{Tally}
-use Rattle.rv_report.specs.inner.Printed.{is_printed}
-
--- the tally of a monitor with so many instances over these records
-pub record IsTally (monitor instances : ℕ) (rs : List Record) (t : Tally) : Type 0 where
-  pub many : length t.seen.items ≡ instances
-  pub seen : (k : ℕ) → k < instances → slice_index_or t.seen.items k false ≡ list_any (is_at monitor k) rs
-  pub deliveries : t.deliveries ≡ count_by (is_of_monitor monitor) rs
-  pub failures : t.failures ≡ count_by (λ r. is_of_monitor monitor r && is_failure r) rs
-  pub stopped : t.stopped ≡ count_by (λ r. is_of_monitor monitor r && is_stopped r) rs
+use Rattle.rv_report.specs.Tallies.{AreTallies}
 
 -- the line of a monitor that is shown so, by its tally
 abbrev pub tally_text : List ℕ → Tally → List ℕ
 tally_text shown t = count_text shown (count_by (λ b. b) t.seen.items) t.deliveries t.failures t.stopped
 
--- the tallies of all monitors
-pub record AreTallies (monitors : List Reported) (tasks : List Task) (rs : List Record) (ts : List Tally) : Type 0 where
-  pub many : length ts ≡ length monitors
-  pub each : (k : ℕ) (m : Reported) (t : Tally) → k < length monitors → IsTally k (instances_in tasks (slice_index_or monitors k m).scope) rs (slice_index_or ts k t)
-
 -- the tallies of any records become those of these and one more
 abbrev pub CountsRecord : Record → List Tally → List Tally → Type 0
 CountsRecord r old new = (monitors : List Reported) (tasks : List Task) (rs : List Record) → AreTallies monitors tasks rs old → AreTallies monitors tasks (rs ++ r ∷ []) new
-
--- the tallies of these records, those of them whose reaction is printed, and their status
-pub record IsFound (monitors : List Reported) (tasks : List Task) (rs : List Record) (f : Found) : Type 0 where
-  pub tallies : AreTallies monitors tasks rs f.tallies.items
-  pub printed : f.printed.items ≡ filter (is_printed monitors) rs
-  pub status : f.status ≡ status_of rs
-
--- what was found of any records becomes what is found of these and more
-abbrev pub FindsMore : List Reported → List Record → Found → Found → Type 0
-FindsMore monitors more old new = (tasks : List Task) (rs : List Record) → IsFound monitors tasks rs old → IsFound monitors tasks (rs ++ more) new

@@ -10,7 +10,7 @@ use Rattle.rv_tool.specs.inner.Pieces.{passed_text, IsRouted}
 pub record MayBeFed (bindings : Bindings) (r : Routing) : Type 0 where
   pub unended : r.lines.ended ≡ false
   pub idle : r.lines.idle ≡ true
-  pub routed : IsRouted bindings (passed_text r.lines) r.router r.late
+  pub routed : IsRouted bindings (passed_text r.lines) r.collector r.late
 
 -- so many bytes of a file were fed, and none where there is no file
 abbrev pub FedOf : Option (List ℕ) → ℕ → List ℕ → Type 0

@@ -1,8 +1,10 @@
-use Rattle.std.proofs.Common.{◌≡◌, List, ℕ, Ok, subst}
+use Rattle.std.proofs.Common.{◌≡◌, List, ℕ, Ok, ap, ◌∙◌, subst}
 use Rattle.rv_text.specs.Readings.{Refuses}
 use Rattle.rv_bind.specs.Bound.{compiled_in}
 use Rattle.rv_bind.specs.Compiling.{compiled_of}
 use Rattle.rv_bind.specs.declared.compile.Compiled.{Compiled}
+use Rattle.rv_bind.specs.Outcomes.{of_file}
+use Rattle.rv_bind.proofs.FrontLemmas.{spec_front}
 use Rattle.rv_bind.proofs.NumberLemmas.{spec_comes}
 use Rattle.rv_bind.proofs.PossibleLemmas.{spec_may}
 use Rattle.rv_bind.proofs.ReachedLemmas.{file_named}
@@ -18,6 +20,18 @@ returns-clause-reads g c =
       later = c.in_ok-text.ensures.reads.later;
       value = spec_comes told _ _ c.args.kind c.args.file.now c.in_ok-text.text.items fault _ c.refused.ensures refuses c.in_ok-text.ensures.reads.value;
       named = file_named told Compiled c.args.file.now fault c.refused.result (λ files. compiled_in files c.args.kind c.args.file.now) c.refused.ensures;
+    }
+
+pub returns-in-Ok-clause-reads : goal.returns-in-Ok-clause-reads
+returns-in-Ok-clause-reads g c =
+    let file = c.args.file.now in
+    let gives = subst (λ (text : List ℕ). compiled_of c.args.kind text ≡ Ok c.in-Ok.compiled) c.as_slice.ensures.value c.in-Ok.ensures.gives in
+    let reads = c.in_ok-text.ensures.reads in
+    record {
+      kept = reads.kept;
+      later = reads.later;
+      value = λ files known. spec_front files c.args.kind file c.in_ok-text.text.items (reads.value files known) ∙ ap (of_file file) gives;
+      named = tt;
     }
 
 pub returns-in-Ok-clause-some : goal.returns-in-Ok-clause-some

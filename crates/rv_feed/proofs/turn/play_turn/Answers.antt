@@ -6,7 +6,7 @@ use Rattle.rv_core.specs.Deliveries.{FitsDelivery}
 use Rattle.rv_feed.proofs.PlaceLemmas.{place-inside, at-place, holds-at, kept-at}
 use Rattle.rv_feed.proofs.TurnLemmas.{of-cpu, turn-start, turn-off, turn-all, turn-hidden, turn-shown, turn-last}
 use Rattle.rv_feed.proofs.turn.play_turn.Goals as goal
-use Rattle.rv_feed.proofs.turn.play_turn.Goals.{then-is_enabled_by+else-ends, else-is_enabled_by}
+use Rattle.rv_feed.proofs.turn.play_turn.Goals.{then-is_enabled_by+else-ends_script, else-is_enabled_by}
 
 pub returns-then-has_bit : goal.returns-then-has_bit
 returns-then-has_bit g c =
@@ -25,15 +25,15 @@ serve-outcome-requires-clause-fits g c =
     let same = g.met.P.Player.same_setup c.behind-lane.inside.cpu _ _ _ inv.did in
     subst (λ (s : Setup). FitsDelivery s c.delivery_at-delivery.result) (sym same) (holds-at at (FitsDelivery (g.P.Player.setup c.args.player.now)) c.requires.fit)
 
-pub returns-then-ends : goal.returns-then-ends
-returns-then-ends g c =
+pub returns-then-ends_script : goal.returns-then-ends_script
+returns-then-ends_script g c =
     let inv = c.loop-place.invariant in
     let cpu = c.behind-lane.inside.cpu in
     let at = at-place c.args.turn.now inv.kept c.loop-place.auto.place c.loop-place-test.true c.requires.in_list c.delivery_at-delivery.ensures in
     of-cpu g.P.Player.does (ap (λ (w : Work). w.cpu) (c.behind-lane.view_is ∙ c.work.ensures))
     (turn-last inv at (g.met.P.Player.composes cpu)
     (sym c.is_enabled_by.ensures ∙ c.if-is_enabled_by.true) (g.met.P.Player.same_setup cpu _ _ _ inv.did) c.serve-outcome.ensures (kept-at c.args.turn.now.line c.look-word.result c.loop-place.place c.delivery_at-delivery.ensures c.keep.ensures c.has_bit-then-is_enabled_by.ensures)
-    (sym c.has_bit.ensures ∙ c.if-has_bit.false) (sym c.ends.ensures ∙ c.if-ends.true) c.halt.ensures)
+    (sym c.has_bit.ensures ∙ c.if-has_bit.false) (sym c.ends_script.ensures ∙ c.if-ends_script.true) c.halt.ensures)
 
 pub loop-place-preserved : goal.loop-place-preserved
 loop-place-preserved g c =
@@ -41,9 +41,9 @@ loop-place-preserved g c =
     let cpu = c.behind-lane.inside.cpu in
     let at = at-place c.args.turn.now inv.kept c.loop-place.auto.place c.loop-place-test.true c.requires.in_list c.delivery_at-delivery.ensures in
     elim c.if-is_enabled_by.branch [
-      | then-is_enabled_by+else-ends w ↦ rw (w.player-is, w.lane-is) (turn-shown inv at (g.met.P.Player.composes cpu)
+      | then-is_enabled_by+else-ends_script w ↦ rw (w.player-is, w.lane-is) (turn-shown inv at (g.met.P.Player.composes cpu)
           (sym c.is_enabled_by.ensures ∙ w.if-is_enabled_by.true) (g.met.P.Player.same_setup cpu _ _ _ inv.did) w.serve-outcome.ensures (kept-at c.args.turn.now.line c.look-word.result c.loop-place.place c.delivery_at-delivery.ensures w.keep.ensures w.has_bit-then-is_enabled_by.ensures)
-          (sym w.ends.ensures ∙ w.if-ends.false))
+          (sym w.ends_script.ensures ∙ w.if-ends_script.false))
       | else-is_enabled_by w ↦ rw (w.player-is, w.lane-is) (turn-hidden inv at (sym c.is_enabled_by.ensures ∙ w.if-is_enabled_by.false))
     ]
 

@@ -1,15 +1,11 @@
 -- All records are found.
-use Rattle.std.proofs.Common.{[], ◌∙◌}
-use Rattle.std.proofs.lemmas.List.{length-map}
-use Rattle.rv_report.specs.Reported.{reported, reported_of}
-use Rattle.rv_report.specs.inner.Tallies.{IsFound}
+use Rattle.std.proofs.Common.{[]}
+use Rattle.rv_report.specs.Reported.{reported_of}
+use Rattle.rv_report.specs.Tallies.{IsFound}
 use Rattle.rv_report.proofs.lines.report.Goals as goal
 
 pub report_found-requires : goal.report_found-requires
-report_found-requires c =
-    let b = c.args.bindings.now in
-    let found : IsFound (reported_of b) c.args.tasks.now c.args.records.now c.add_all.new.self = c.in_ok-add_all.ensures c.args.tasks.now [] c.in_ok-found.ensures in
-    found.tallies.many ∙ length-map b.monitors.items (reported b.containers)
+report_found-requires c = (c.args.records.now, c.in_ok-add_all.ensures c.args.tasks.now [] c.in_ok-found.ensures)
 
 pub returns : goal.returns
 returns c =

@@ -6,4 +6,4 @@ use Rattle.rv_report.specs.Reported.{reported_of}
 use Rattle.rv_report.proofs.lines.report_found.Given as goal
 
 abbrev pub invariant-loop-record : goal.invariant-loop-record
-invariant-loop-record l = l.out ≡ flat_map (λ r. record_text (slice_get (reported_of l.bindings) r.monitor) l.tasks r) (take l.record-index l.found.printed.items)
+invariant-loop-record l = l.out ≡ flat_map (λ r. record_text (slice_get (reported_of l.bindings) r.monitor) l.tasks r) (take l.record-index l.found-inside.printed.items)

@@ -1,17 +1,16 @@
 -- One lane more, and the records of all lanes in their order.
 use Rattle.std.proofs.Common.{◌≡◌, List, ◌∙◌, sym, subst, take}
 use Rattle.std.specs.Prelude.{flat_map}
-use Rattle.std.proofs.lemmas.List.{length-map, take_all}
 use Rattle.std.proofs.lemmas.Result.{IfOk-weaker}
 use Rattle.rv_model.specs.declared.record.Record.{Record}
 use Rattle.rv_model.specs.Records.{sort_records}
 use Rattle.rv_model.specs.Reports.{report_text}
 use Rattle.rv_model.proofs.SortedLemmas.{status-sorted}
 use Rattle.rv_report.specs.Exit.{IsStatus}
-use Rattle.rv_report.specs.Reported.{reported, reported_of}
-use Rattle.rv_report.specs.inner.Tallies.{IsFound}
+use Rattle.rv_report.specs.Reported.{reported_of}
+use Rattle.rv_report.specs.Tallies.{IsFound}
 use Rattle.rv_report.proofs.ExitLemmas.{status-is}
-use Rattle.rv_report.proofs.FoundLemmas.{lanes-more}
+use Rattle.rv_report.proofs.FoundLemmas.{lanes-more, lanes-sorted}
 use Rattle.rv_report.proofs.lines.report_lanes.Goals as goal
 
 pub loop-lane-preserved : goal.loop-lane-preserved
@@ -26,25 +25,24 @@ loop-lane-preserved g c =
 pub report_found-requires : goal.report_found-requires
 report_found-requires g c =
     let b = c.args.bindings.now in
-    (c.in_ok-sort.ensures (reported_of b) c.args.tasks.now _ c.loop-lane.invariant).tallies.many ∙ length-map b.monitors.items (reported b.containers)
+    (_, lanes-sorted g.L.RecordList.records (reported_of b) c.args.tasks.now c.args.lanes.now c.loop-lane.lane-index _ _ c.loop-lane-test.false (c.in_ok-sort.ensures (reported_of b) c.args.tasks.now) c.loop-lane.invariant)
 
 pub returns-clause-text : goal.returns-clause-text
 returns-clause-text g c =
-    let b = c.args.bindings.now in
-    let lanes : List g.row.L.Denot = c.args.lanes.now in
-    let rs : List Record = sort_records (flat_map g.L.RecordList.records lanes) in
-    let found : IsFound (reported_of b) c.args.tasks.now rs c.sort.new.self =
-    c.in_ok-sort.ensures (reported_of b) c.args.tasks.now (flat_map g.L.RecordList.records lanes)
-    (subst (λ (ls : List g.row.L.Denot). IsFound (reported_of b) c.args.tasks.now (flat_map g.L.RecordList.records ls) c.loop-lane.found) (take_all c.loop-lane.lane-index lanes c.loop-lane-test.false) c.loop-lane.invariant) in
-    IfOk-weaker c.report_found.result (λ report. (us : List Record) → IsFound (reported_of b) c.args.tasks.now us c.sort.new.self → report.text.items ≡ report_text (reported_of b) c.args.tasks.now us)
-    (λ report. report.text.items ≡ report_text (reported_of b) c.args.tasks.now rs) (λ report is. is rs found) c.report_found.ensures.text
+    let monitors = reported_of c.args.bindings.now in
+    let tasks = c.args.tasks.now in
+    let rs : List Record = sort_records (flat_map g.L.RecordList.records c.args.lanes.now) in
+    let found : IsFound monitors tasks rs c.sort.new.self =
+    lanes-sorted g.L.RecordList.records monitors tasks c.args.lanes.now c.loop-lane.lane-index _ _ c.loop-lane-test.false (c.in_ok-sort.ensures monitors tasks) c.loop-lane.invariant in
+    IfOk-weaker c.report_found.result (λ report. (us : List Record) → IsFound monitors tasks us c.sort.new.self → report.text.items ≡ report_text monitors tasks us)
+    (λ report. report.text.items ≡ report_text monitors tasks rs) (λ report is. is rs found) c.report_found.ensures.text
 
 pub returns-clause-status : goal.returns-clause-status
 returns-clause-status g c =
-    let b = c.args.bindings.now in
-    let lanes : List g.row.L.Denot = c.args.lanes.now in
-    let rs : List Record = flat_map g.L.RecordList.records lanes in
-    let found : IsFound (reported_of b) c.args.tasks.now (sort_records rs) c.sort.new.self =
-    c.in_ok-sort.ensures (reported_of b) c.args.tasks.now rs
-    (subst (λ (ls : List g.row.L.Denot). IsFound (reported_of b) c.args.tasks.now (flat_map g.L.RecordList.records ls) c.loop-lane.found) (take_all c.loop-lane.lane-index lanes c.loop-lane-test.false) c.loop-lane.invariant) in
-    IfOk-weaker c.report_found.result (λ report. report.status ≡ c.sort.new.self.status) (λ report. IsStatus rs report.status) (λ report is. status-is rs report.status (is ∙ found.status ∙ status-sorted rs)) c.report_found.ensures.status
+    let monitors = reported_of c.args.bindings.now in
+    let tasks = c.args.tasks.now in
+    let rs : List Record = flat_map g.L.RecordList.records c.args.lanes.now in
+    let found : IsFound monitors tasks (sort_records rs) c.sort.new.self =
+    lanes-sorted g.L.RecordList.records monitors tasks c.args.lanes.now c.loop-lane.lane-index _ _ c.loop-lane-test.false (c.in_ok-sort.ensures monitors tasks) c.loop-lane.invariant in
+    IfOk-weaker c.report_found.result (λ report. (us : List Record) → IsFound monitors tasks us c.sort.new.self → IsStatus us report.status)
+    (λ report. IsStatus rs report.status) (λ report is. status-is rs report.status ((is (sort_records rs) found).value ∙ status-sorted rs)) c.report_found.ensures.status

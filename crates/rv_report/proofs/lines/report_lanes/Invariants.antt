@@ -2,7 +2,7 @@
 use Rattle.std.proofs.Common.{take}
 use Rattle.std.specs.Prelude.{flat_map}
 use Rattle.rv_report.specs.Reported.{reported_of}
-use Rattle.rv_report.specs.inner.Tallies.{IsFound}
+use Rattle.rv_report.specs.Tallies.{IsFound}
 use Rattle.rv_report.proofs.lines.report_lanes.Given as goal
 
 abbrev pub invariant-loop-lane : goal.invariant-loop-lane

@@ -5,7 +5,8 @@ use Rattle.rv_model.specs.Reports.{Reported, instances_in, summaries_text}
 use Rattle.rv_bind.specs.declared.bindings.Monitor.{Monitor}
 use Rattle.rv_report.specs.declared.tally.Tally.{Tally}
 use Rattle.rv_report.specs.Reported.{reported, reported_of}
-use Rattle.rv_report.specs.inner.Tallies.{IsTally, tally_text}
+use Rattle.rv_report.specs.Tallies.{IsTally}
+use Rattle.rv_report.specs.inner.Tallies.{tally_text}
 use Rattle.rv_report.proofs.SummaryLemmas.{summaries-more}
 use Rattle.rv_report.proofs.TallyLemmas.{line-is}
 use Rattle.rv_report.proofs.summary.summaries.Goals as goal

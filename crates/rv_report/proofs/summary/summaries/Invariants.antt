@@ -4,7 +4,7 @@ use Rattle.rv_model.specs.declared.record.Record.{Record}
 use Rattle.rv_model.specs.declared.record.Task.{Task}
 use Rattle.rv_model.specs.Reports.{summaries_text}
 use Rattle.rv_report.specs.Reported.{reported_of}
-use Rattle.rv_report.specs.inner.Tallies.{AreTallies}
+use Rattle.rv_report.specs.Tallies.{AreTallies}
 use Rattle.rv_report.proofs.summary.summaries.Given as goal
 
 abbrev pub invariant-loop-place : goal.invariant-loop-place

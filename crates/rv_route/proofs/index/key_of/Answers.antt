@@ -1,8 +1,13 @@
-use Rattle.std.proofs.Common.{ap, ◌∙◌}
-use Rattle.std.specs.Hash.FoldHasher as folding
-use Rattle.rv_route.specs.Events.{key_of}
+use Rattle.std.proofs.Common.{◌≡◌, length, refl, rules}
+use Rattle.rv_route.specs.inner.Events.{key_of}
+use Rattle.rv_route.proofs.NotedLemmas.{key-none}
 use Rattle.rv_route.proofs.index.key_of.Goals as goal
 
-pub returns : goal.returns
+pub returns-then-is_empty-clause-key : goal.returns-then-is_empty-clause-key
+returns-then-is_empty-clause-key c =
+    let empty : length c.args.name.now ≡ 0 = search rules in
+    key-none c.args.name.now empty
+
+pub returns-clause-key : goal.returns-clause-key
 unfolding key_of
-returns c = c.finish.ensures ∙ ap folding.finish (c.write.ensures ∙ ap (λ state. folding.write state c.args.name.now) c.default-hasher.ensures)
+returns-clause-key c = refl

@@ -1,24 +1,20 @@
-use Rattle.std.proofs.Common.{sym, ap, ◌∙◌}
-use Rattle.std.specs.Option.{is_some}
+use Rattle.std.proofs.Common.{List, ℕ, sym, ◌∙◌, subst}
+use Rattle.rv_route.specs.declared.event.Event.{Event}
 use Rattle.rv_route.specs.Events.{HasEvent}
-use Rattle.rv_route.proofs.NotedLemmas.{noted-all, noted-new, noted-kept, copied-some}
+use Rattle.rv_route.proofs.NotedLemmas.{has-event, has-none, has-last, has-front}
 use Rattle.rv_route.proofs.index.note.Goals as goal
 
 pub returns-then-is_some-clause-noted : goal.returns-then-is_some-clause-noted
-unfolding HasEvent
-returns-then-is_some-clause-noted c = ap is_some (sym c.event_at.ensures) ∙ copied-some c.event_at.result ∙ sym c.is_some.ensures ∙ c.if-is_some.true
+returns-then-is_some-clause-noted c = has-event c.args.index.now c.args.name.now c.event_at.result (sym c.is_some.ensures ∙ c.if-is_some.true) c.event_at.ensures.among c.event_at.ensures.named
 
-pub returns-clause-events : goal.returns-clause-events
-returns-clause-events c =
-    let new = ap is_some (sym c.event_at.ensures) ∙ copied-some c.event_at.result ∙ sym c.is_some.ensures ∙ c.if-is_some.false in
-    noted-all c.args.index.now c.add.new.index c.args.name.now c.in_ok-event.event c.in_ok-event.ensures.name new c.in_ok-add.ensures c.args.rules.now c.requires c.in_ok-event.ensures.rules
+pub add-requires : goal.add-requires
+add-requires c =
+    let none = has-none c.args.index.now c.args.name.now c.event_at.result (sym c.is_some.ensures ∙ c.if-is_some.false) c.event_at.ensures.none in
+    record { new = subst (λ (name : List ℕ). ¬ HasEvent c.args.index.now name) (sym c.in_ok-event.ensures.name) none }
 
 pub returns-clause-noted : goal.returns-clause-noted
 returns-clause-noted c =
-    let new = ap is_some (sym c.event_at.ensures) ∙ copied-some c.event_at.result ∙ sym c.is_some.ensures ∙ c.if-is_some.false in
-    noted-new c.args.index.now c.add.new.index c.args.name.now c.in_ok-event.event c.in_ok-event.ensures.name new c.in_ok-add.ensures
+    subst (λ (index : List Event). HasEvent index c.args.name.now) (sym c.in_ok-add.ensures) (has-last c.args.index.now c.in_ok-event.event c.args.name.now c.in_ok-event.ensures.name)
 
 pub returns-clause-kept : goal.returns-clause-kept
-returns-clause-kept c =
-    let new = ap is_some (sym c.event_at.ensures) ∙ copied-some c.event_at.result ∙ sym c.is_some.ensures ∙ c.if-is_some.false in
-    noted-kept c.args.index.now c.add.new.index c.args.name.now c.in_ok-event.event c.in_ok-event.ensures.name new c.in_ok-add.ensures
+returns-clause-kept c other has = subst (λ (index : List Event). HasEvent index other) (sym c.in_ok-add.ensures) (has-front c.args.index.now c.in_ok-event.event other has)

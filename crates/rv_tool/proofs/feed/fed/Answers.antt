@@ -2,7 +2,7 @@ use Rattle.std.proofs.Common.{List, refl, ◌∙◌, subst}
 use Rattle.std.specs.Prelude.{IfOk}
 use Rattle.std.proofs.lemmas.Result.{IfOk-weaker}
 use Rattle.rv_model.specs.Histories.{IsLegal}
-use Rattle.rv_feed.specs.Lane.{LaneValue, lane_records}
+use Rattle.rv_feed.specs.Lane.{LaneValue, lane_records, works_of}
 use Rattle.rv_tool.specs.declared.replay.FinishedRun.{FinishedRun}
 use Rattle.rv_tool.specs.Headline.{IsReported}
 use Rattle.rv_tool.specs.inner.LaneReports.{ReportsLanes}
@@ -17,6 +17,6 @@ returns g c =
     IfOk-weaker c.report.result (ReportsLanes ready.bindings ready.tasks (lane_records run.lanes.items) run.closed)
     (λ (done : FinishedRun). IsReported IsLegal (prepared_value ready) done.closed done.text.items done.status)
     (λ (done : FinishedRun) is.
-    reported_is IsLegal (prepared_value ready) ready.setup c.as_slice.result.now ready.lanes.items ready.changes.items c.requires.setup (c.as_slice.ensures.value ∙ c.requires.reactors) refl refl
+    reported_is IsLegal (prepared_value ready) ready.setup c.as_slice.result.now (works_of ready.lanes.items) ready.changes.items c.requires.setup (c.as_slice.ensures.value ∙ c.requires.reactors) refl refl
     (lane_records run.lanes.items) done.closed done.text.items done.status (rw is.history_is (c.in_ok-run.ensures.legal _ c.requires.mean)) is.text_is is.status_is)
     (subst (λ (ls : List LaneValue). IfOk c.report.result (ReportsLanes ready.bindings ready.tasks (lane_records ls) run.closed)) c.as_slice-2.ensures.value c.report.ensures)

@@ -12,8 +12,9 @@ pub returns-clause-ready : goal.returns-clause-ready
 returns-clause-ready c =
     let parts = c.in_ok-setup.field-0 in
     let are = c.in_ok-setup.ensures in
-    let made = ready_made c.args.bound.bindings.monitors.items c.as_slice.result.now c.args.bound.tables.items parts.setup c.len.result (length c.args.routed.tasks) c.args.routed.works.items parts.lanes.items
-    c.requires.formed.tables c.requires.fit are.setup c.as_slice.ensures.value c.len.ensures.length are.lanes.0 are.lanes.1 in
+    let given = c.in_ok-lanes.ensures in
+    let made = ready_made c.args.bound.bindings.monitors.items c.as_slice.result.now c.args.bound.tables.items parts.setup c.len.result (length c.args.routed.tasks) c.args.routed.works.items c.in_ok-lanes.lanes.items
+    c.requires.formed.tables c.requires.fit are.setup c.as_slice.ensures.value c.len.ensures.length given.0 given.1 in
     record {
       setup = made.again;
       reactors = are.reactors ∙ ap (map (λ (m : Monitor). m.reactor)) c.as_slice.ensures.value;
@@ -26,7 +27,7 @@ returns-clause-ready c =
       few_containers = c.requires.formed.few_containers;
       tables = made.tables;
       routed = made.routed;
-      rules = subst (FromRules c.args.bound.bindings.rules.items) (sym are.lanes.0) c.requires.rules;
+      rules = subst (FromRules c.args.bound.bindings.rules.items) (sym given.0) c.requires.rules;
     }
 
 pub returns-clause-value : goal.returns-clause-value
@@ -35,6 +36,6 @@ returns-clause-value c =
     let are = c.in_ok-setup.ensures in
     λ i. record {
       bound = record { containers = bindings.containers; monitors = bindings.monitors.items; rules = bindings.rules.items; items = bindings.items.items; tables = ap (λ (s : Setup). s.tables) are.setup i };
-      routed = record { tasks = c.args.routed.tasks; works = are.lanes.0 i };
+      routed = record { tasks = c.args.routed.tasks; works = c.in_ok-lanes.ensures.0 i };
       changes = c.new.ensures.items i;
     }

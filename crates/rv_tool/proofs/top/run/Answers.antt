@@ -8,6 +8,7 @@ use Rattle.rv_tool.specs.Checks.{CheckedValue, IsCheckReport, checked_input}
 use Rattle.rv_tool.specs.Headline.{IsReported}
 use Rattle.rv_tool.specs.inner.Commands.{IsOneReport, IsVerdictReport, IsSessionText}
 use Rattle.rv_tool.specs.Inputs.{run_input}
+use Rattle.rv_tool.specs.inner.Listed.{listed_value}
 use Rattle.rv_tool.specs.inner.Prepared.{prepared_value}
 use Rattle.rv_tool.specs.Journals.{IsJournalReport, recordable_input}
 use Rattle.rv_tool.specs.Possible.{MayInput, MayRunBeside, MayWatch, MayRecord, MayCheck, MayControl}
@@ -24,7 +25,7 @@ use Rattle.rv_tool.proofs.top.run.Goals as goal
 pub returns-in_ok-ready-in-Replay-clause-comes : goal.returns-in_ok-ready-in-Replay-clause-comes
 returns-in_ok-ready-in-Replay-clause-comes g c =
     let words = c.in-Replay in let read = c.in_ok-ready-in-Replay in
-    rw words.is (run_comes prepared_value (MayInput words.bindings.now words.trace.now) IsOneReport (λ files. run_input files words.bindings.now words.trace.now) _ _ _ read.ready c.replayed.result c.ended.result read.ensures.reads.value read.ensures.some
+    rw words.is (run_comes listed_value (MayInput words.bindings.now words.trace.now) IsOneReport (λ files. run_input files words.bindings.now words.trace.now) _ _ _ read.ready c.replayed.result c.ended.result read.ensures.reads.value read.ensures.some
     (runs_one read.ready c.replayed.result read.ensures.ready c.replayed.ensures) c.ended.ensures)
 
 pub returns-in_ok-ready-in-Feed-clause-comes : goal.returns-in_ok-ready-in-Feed-clause-comes

@@ -12,6 +12,7 @@ invariant-loop-place g l =
     × (length l.buffer ≡ length l.fn.buffer)
     × MayBeFed l.bound.bindings l.routing
     × IsFileFed (g.S.Store.files l.fn.store) l.trace l.place l.routing.lines.fed
+    × (l.routing.collector.listed ≡ l.fn.routing.collector.listed)
 
 abbrev pub decreases-loop-place : goal.decreases-loop-place
 decreases-loop-place g l = READ_LIMIT - l.place

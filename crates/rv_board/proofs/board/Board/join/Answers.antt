@@ -3,6 +3,7 @@ use Rattle.rv_board.specs.inner.Steps.{Ours}
 use Rattle.rv_board.proofs.JoinLemmas.{joins}
 use Rattle.rv_board.proofs.CallLemmas.{joins-by}
 use Rattle.rv_board.proofs.MeetLemmas.{meets}
+use Rattle.rv_board.proofs.SpacingLemmas.{front-place}
 use Rattle.rv_board.proofs.StepLemmas.{sees}
 use Rattle.rv_board.proofs.board.Board.join.Goals as goal
 
@@ -17,7 +18,7 @@ load-requires c =
     let m = meets c.into.view_is c.requires.into c.self.view_is c.self.invariant in
     let j = c.join_seat.ensures in
     let has = subst (λ (m : Ours). m.0.part.number < m.0.part.end) (sym j.2) c.into.invariant.has in
-    (j.0 ∙ m.table_is, m.front, sees _ _ _ c.join_seat.new.seat.me 0 (omega arith) (ap (λ (m : Ours). m.0.setup) j.2 ∙ m.setup_is) has)
+    (j.0 ∙ m.table_is, m.front, sees _ _ _ c.join_seat.new.seat.me 0 (front-place _) (omega arith) (ap (λ (m : Ours). m.0.setup) j.2 ∙ m.setup_is) has)
 
 pub returns : goal.returns
 returns c =

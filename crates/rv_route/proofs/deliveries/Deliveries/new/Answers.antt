@@ -1,13 +1,10 @@
-use Rattle.std.proofs.Common.{◌≡◌, [], List, refl, ◌∙◌, ap, arith, replicate}
-use Rattle.rv_model.specs.declared.record.Task.{Task}
-use Rattle.rv_route.specs.Lanes.{LaneValue}
-use Rattle.rv_route.specs.LineByLine.{Routes, no_routes, no_lane}
+-- No task, 64 empty lanes and an empty list.
+use Rattle.std.proofs.Common.{◌≡◌, ◌∙◌, ap, arith, replicate}
+use Rattle.rv_route.specs.LineByLine.{no_lane}
+use Rattle.rv_route.proofs.ListingLemmas.{gathered-none}
 use Rattle.rv_route.proofs.deliveries.Deliveries.new.Goals as goal
 
--- no task, and 64 empty lanes
-made : (tasks : List Task) (lanes : List LaneValue) → tasks ≡ [] → lanes ≡ replicate 64 no_lane → (let routes : Routes = record { tasks = tasks; lanes = lanes; count = 0 } in routes ≡ no_routes)
-unfolding no_routes
-made tasks lanes none empty = rw (none, empty) refl
-
-pub returns : goal.returns
-returns c = let all : c.loop-cpu.cpu ≡ 64 = omega arith in made _ _ c.new-2.ensures (c.loop-cpu.invariant ∙ ap (λ n. replicate n no_lane) all)
+pub returns-clause-routes : goal.returns-clause-routes
+returns-clause-routes c =
+    let all : c.loop-cpu.cpu ≡ 64 = omega arith in
+    gathered-none c.new-2.result c.in_ok-targets.targets.items c.loop-cpu.lanes.items c.new-3.result.items c.args.listed c.new-2.ensures (c.loop-cpu.invariant ∙ ap (λ n. replicate n no_lane) all) c.new-3.ensures.items

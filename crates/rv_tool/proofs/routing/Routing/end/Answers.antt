@@ -8,7 +8,7 @@ use Rattle.rv_tool.proofs.routing.Routing.end.Goals as goal
 
 pub returns-clause-value : goal.returns-clause-value
 returns-clause-value c =
-    all-routed c.args.bindings.now c.args.self.lines.fed c.route_rest.new.router None (routed_value c.end.result) refl c.in_ok-route_rest.ensures.routed c.end.ensures.value
+    all-routed c.args.bindings.now c.args.self.lines.fed c.route_rest.new.collector None (routed_value c.end.result) refl c.in_ok-route_rest.ensures.routed c.end.ensures.value
 
 pub returns-clause-rules : goal.returns-clause-rules
 returns-clause-rules c =

@@ -1,0 +1,11 @@
+pub mod EndLemmas
+pub mod FollowLemmas
+pub mod GroupLemmas
+pub mod GrownLemmas
+pub mod ListedLemmas
+pub mod OwnLemmas
+pub mod OwnWorkLemmas
+pub mod PresentLemmas
+pub mod RunLemmas
+pub mod StandLemmas
+pub mod StepLemmas

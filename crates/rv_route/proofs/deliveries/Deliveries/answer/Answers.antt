@@ -1,0 +1,14 @@
+-- A new task leaves the list as it was.
+use Rattle.std.proofs.Common.{sym, ap, ◌∙◌, subst}
+use Rattle.rv_route.specs.Listing.{AreBelow}
+use Rattle.rv_route.specs.inner.Gathering.{Gathered}
+use Rattle.rv_route.proofs.deliveries.Deliveries.answer.Goals as goal
+
+pub returns-in-Ok-clause-kept : goal.returns-in-Ok-clause-kept
+returns-in-Ok-clause-kept c =
+    let kept = c.deliver-in-Ok.ensures.kept in
+    record {
+      targets = kept.targets ∙ ap (λ (g : Gathered). g.targets) c.self.view_is;
+      listed = kept.listed ∙ ap (λ (g : Gathered). g.listed) c.self.view_is;
+      lines = λ next le below. kept.lines next le (subst (AreBelow next) (sym (ap (λ (g : Gathered). g.list) c.self.view_is)) below);
+    }
