@@ -4,6 +4,7 @@ pub mod FollowLemmas
 pub mod JudgedLemmas
 pub mod LevelLemmas
 pub mod OpeningLemmas
+pub mod PhaseLemmas
 pub mod PlaceLemmas
 pub mod SwitchLemmas
 pub mod TableLemmas

@@ -15,7 +15,7 @@ use Rattle.rv_model.specs.Stepping.{IsTable}
 use Rattle.rv_model.specs.Phases.{Phase, waiting, running, stopped, turn, letter_at, level_by, level_after, phase_after}
 use Rattle.rv_model.specs.SharedWords.{packed}
 use Rattle.rv_model.proofs.NumberLemmas.{number_of-lt, number_of-same, number_of-bits}
-use Rattle.rv_core.specs.Advance.{WhatFits, levels_after, letter_by, set_turn, moved, advanced, acted}
+use Rattle.rv_core.specs.Advance.{PulseFits, WhatFits, levels_after, letter_by, set_turn, moved, advanced, acted}
 use Rattle.rv_core.specs.Setup.{word_index}
 use Rattle.rv_core.specs.Core.{IsLive}
 use Rattle.rv_core.proofs.LevelLemmas.{levels_are_bits}
@@ -50,13 +50,13 @@ levels-are Nothing was fits = refl
 levels-are (Ltl on off pulse) was fits = levels_are_bits.levels_of was on off pulse fits.0.0 fits.0.1
 
 -- the letter, by the levels with the hit
-letter-is : (w : What) (now : ℕ → Bool) → WhatFits w → letter_at now w ≡ letter_by w (number_of now 32)
+pub letter-is : (w : What) (now : ℕ → Bool) → PulseFits w → letter_at now w ≡ letter_by w (number_of now 32)
 -- the letter, by the levels with the hit
 letter-is (Da _) now fits = refl
 -- the letter, by the levels with the hit
 letter-is Nothing now fits = refl
 -- the letter, by the levels with the hit
-letter-is (Ltl on off pulse) now fits = levels_are_bits.letters now on off pulse fits.1
+letter-is (Ltl on off pulse) now fits = levels_are_bits.letters now on off pulse fits
 
 module _ (t : Table) (it : IsTable t) (j : Judge) (judges : JudgesByTable t j) where
   -- a hit on what goes
@@ -71,7 +71,7 @@ module _ (t : Table) (it : IsTable t) (j : Judge) (judges : JudgesByTable t j) w
       let word_is : packed j old p ≡ set_of j p * 2 ^ 32 + old = packed-going j old p going in
       let levels : levels_after hit.what old ≡ new = sym (levels-are hit.what was fits) in
       let turn_of : set_turn t (set_of j p) hit.mode (letter_by hit.what new) ≡ shown j (turn j p hit.mode letter) =
-      ap (λ (x : Letter). set_turn t (set_of j p) hit.mode x) (sym (letter-is hit.what now fits)) ∙ turn-is t it j judges p going live hit.mode letter in
+      ap (λ (x : Letter). set_turn t (set_of j p) hit.mode x) (sym (letter-is hit.what now fits.1)) ∙ turn-is t it j judges p going live hit.mode letter in
       ap (λ (w : ℕ). advanced t w hit) word_is
       ∙ advanced-halves t (set_of j p) old hit (number_of-lt was 32) (set-positive j p going live)
       ∙ ap (λ (n : ℕ). moved t (set_of j p) n hit) levels

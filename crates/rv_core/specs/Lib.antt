@@ -4,5 +4,6 @@ pub mod Deliveries
 pub mod Following
 pub mod Judged
 pub mod Levels
+pub mod RowPhases
 pub mod Setup
 pub mod inner

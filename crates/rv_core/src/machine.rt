@@ -1,14 +1,20 @@
 //! The machine, which does any act after any others.
-ghost use Rattle.std.specs.Prelude.{IfOk, ◌≡◌, []};
+ghost use Rattle.std.specs.Prelude.{IfOk, ◌≡◌, ◌≢◌, ◌<◌, [], reverse, sum};
 ghost use Rattle.rv_model.specs.Histories.{Replays};
+ghost use Rattle.rv_model.specs.Phases.{level, letter_at, rows_of, stopped};
+ghost use Rattle.rv_model.specs.Setups.{judge_of, start_of};
+ghost use Rattle.rv_core.specs.RowPhases.{phase_at, row_phase};
 ghost use Rattle.rv_core.specs.Setup.{FitsAct, IsSetup, judges_of};
 ghost use Rattle.rv_core.specs.Core.{Steps, CoreValue, IsCore};
 ghost use Rattle.rv_core.specs.Judged.{JudgesBySpecs};
 
 use crate::act::{act_on, word_index};
+use crate::phase::{RowPhase, phase_in};
 use crate::setup::Setup;
-use rv_model::{Act, Answer, Closed, Entry, Keeps};
+use crate::turn::letter_by;
+use rv_model::{Act, Answer, Closed, Entry, Keeps, Letter, What};
 use rv_slots::Shape;
+use rv_word::atoms_of;
 use std::alloc::{AllocError, Global};
 use std::marker::Model;
 
@@ -79,6 +85,32 @@ impl Core {
         ensures { result.now ≡ self.now.setup.shape }
     {
         &self.setup.shape
+    }
+
+    /// What the slot's instance is doing.
+    #[inline(always)]
+    pub fn phase(&self, slot: u32) -> RowPhase
+        requires { slot < sum self.now.setup.shape }
+        ensures { result ≡ row_phase (judge_of self.now.setup (judges_of self.now.setup) slot) (phase_at self.now slot) }
+    {
+        phase_in(self.words[slot as usize + 1])
+    }
+
+    /// The letter of a hit, by the slot's levels as they are. A stopped instance has none.
+    #[inline(always)]
+    pub fn letter(&self, slot: u32, what: &What) -> Letter
+        requires { slot < sum self.now.setup.shape }
+        ensures { phase_at self.now slot ≢ stopped → result ≡ letter_at (level (start_of self.now.setup slot) (reverse self.now.history) slot) what.now }
+    {
+        letter_by(what, atoms_of(self.words[slot as usize + 1]))
+    }
+
+    /// The rows of no letters, from which the slot's first letter is judged.
+    pub fn start(&self, slot: u32) -> u32
+        requires { slot < sum self.now.setup.shape }
+        ensures { result ≡ rows_of (judge_of self.now.setup (judges_of self.now.setup) slot) [] }
+    {
+        self.setup.table(slot).start()
     }
 
     /// Does the act, whatever acts came before, and adds its entry to the history.
