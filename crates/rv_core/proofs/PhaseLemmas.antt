@@ -15,7 +15,8 @@ use Rattle.rv_word.specs.Words.{set_in, atoms_in}
 use Rattle.rv_core.specs.Advance.{PulseFits, letter_by}
 use Rattle.rv_core.specs.Core.{IsCore, IsLive}
 use Rattle.rv_core.specs.declared.phase.RowPhase.TheVariants as by_rows
-use Rattle.rv_core.specs.RowPhases.{phase_by, phase_at, row_phase}
+use Rattle.rv_core.specs.RowPhases.{phase_at, row_phase}
+use Rattle.rv_core.specs.inner.SetPhases.{phase_by}
 use Rattle.rv_core.specs.Setup.{IsSetup, judges_of, table_at}
 use Rattle.rv_core.proofs.CoreLemmas.{judge-at, table_at-is}
 use Rattle.rv_core.proofs.LevelLemmas.{levels_are_bits}

@@ -1,5 +1,5 @@
 -- What an instance is doing, with the rows in the place of the letters that reach them.
-use Rattle.std.specs.Prelude.{ℕ, ◌==◌, reverse, if◌then◌else◌}
+use Rattle.std.specs.Prelude.{ℕ, reverse}
 use Rattle.rv_model.specs.Judging.{Judge}
 use Rattle.rv_model.specs.Phases.{Phase, waiting, running, stopped, phase_of, rows_of}
 use Rattle.rv_model.specs.Setups.{judge_of, start_of}
@@ -7,10 +7,6 @@ use Rattle.rv_core.specs.declared.phase.RowPhase.{RowPhase}
 use Rattle.rv_core.specs.declared.phase.RowPhase.TheVariants as by_rows
 use Rattle.rv_core.specs.Core.{CoreValue}
 use Rattle.rv_core.specs.Setup.{judges_of}
-
--- of a set of rows: no row is stopped, row 0 alone waits
-abbrev pub phase_by : ℕ → RowPhase
-phase_by set = if set == 0 then by_rows.Stopped else if set == 1 then by_rows.Waiting else by_rows.Running set
 
 -- of a phase
 abbrev pub row_phase : Judge → Phase → RowPhase

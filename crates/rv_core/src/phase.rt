@@ -1,7 +1,7 @@
 //! What an instance is doing, read from its word.
 ghost use Rattle.std.specs.Prelude.{◌≡◌};
 ghost use Rattle.rv_word.specs.Words.{set_in};
-ghost use Rattle.rv_core.specs.RowPhases.{phase_by};
+ghost use Rattle.rv_core.specs.inner.SetPhases.{phase_by};
 
 use rv_word::set_of;
 
