@@ -1,13 +1,14 @@
 //! What an act makes of its word.
 ghost use Rattle.std.specs.Prelude.{◌≡◌, ◌<◌, ◌^◌, sum};
-ghost use Rattle.rv_model.specs.Setups.{start_of};
+ghost use Rattle.rv_model.specs.declared.entry.Act.TheVariants.{Deliver};
+ghost use Rattle.rv_model.specs.Setups.{monitor_of, start_of};
 ghost use Rattle.rv_word.specs.Words.{packed};
-ghost use Rattle.rv_core.specs.Advance.{acted};
-ghost use Rattle.rv_core.specs.Setup.{FitsAct, ActFits, word_index, table_of_act, start_of_act};
+ghost use Rattle.rv_core.specs.Advance.{WhatFits, acted};
+ghost use Rattle.rv_core.specs.Setup.{FitsAct, ActFits, word_index, table_at, table_of_act, start_of_act};
 
 use crate::setup::Setup;
 use crate::word::{Step, advance};
-use rv_model::{Act, Answer};
+use rv_model::{Act, Answer, Hit};
 use rv_word::STOPPED;
 
 /// The place of an act's word: the switches, and then a word for each slot.
@@ -35,6 +36,19 @@ fn opened(setup: &Setup, slot: u32, answer: Answer) -> Step
         word: setup.opening(slot),
         answer,
     }
+}
+
+/// The word after a delivery to a slot of this monitor, and the answer.
+#[inline(always)]
+pub(crate) fn deliver_on(setup: &Setup, monitor: u8, slot: u32, word: u64, hit: &Hit) -> Step
+    requires fits { FitsAct setup.now (Deliver slot hit.now) }
+    requires monitor { monitor ≡ monitor_of setup.now.shape slot }
+    ensures answer { result.answer ≡ (acted (table_at setup.now slot) 0 word (Deliver slot hit.now)).0 }
+    ensures word { result.word ≡ (acted (table_at setup.now slot) 0 word (Deliver slot hit.now)).1 }
+    ensures range { result.word < 2 ^ 64 }
+    ensures fits { WhatFits hit.now.what }
+{
+    advance(setup.table_of(monitor, slot), word, hit)
 }
 
 /// The word after the act, and the answer.

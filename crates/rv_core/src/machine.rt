@@ -2,17 +2,18 @@
 ghost use Rattle.std.specs.Prelude.{IfOk, ◌≡◌, ◌≢◌, ◌<◌, [], reverse, sum};
 ghost use Rattle.rv_model.specs.Histories.{Replays};
 ghost use Rattle.rv_model.specs.Phases.{level, letter_at, rows_of, stopped};
-ghost use Rattle.rv_model.specs.Setups.{judge_of, start_of};
+ghost use Rattle.rv_model.specs.declared.entry.Act.TheVariants.{Deliver};
+ghost use Rattle.rv_model.specs.Setups.{judge_of, monitor_of, start_of};
 ghost use Rattle.rv_core.specs.RowPhases.{phase_at, row_phase};
 ghost use Rattle.rv_core.specs.Setup.{FitsAct, IsSetup, judges_of};
 ghost use Rattle.rv_core.specs.Core.{Steps, CoreValue, IsCore};
 ghost use Rattle.rv_core.specs.Judged.{JudgesBySpecs};
 
-use crate::act::{act_on, word_index};
+use crate::act::{act_on, deliver_on, word_index};
 use crate::phase::{RowPhase, phase_in};
 use crate::setup::Setup;
 use crate::turn::letter_by;
-use rv_model::{Act, Answer, Closed, Entry, Keeps, Letter, What};
+use rv_model::{Act, Answer, Closed, Entry, Hit, Keeps, Letter, What};
 use rv_slots::Shape;
 use rv_word::atoms_of;
 use std::alloc::{AllocError, Global};
@@ -131,6 +132,27 @@ impl Core {
         };
         self.history.push(&entry);
         step.answer
+    }
+
+    /// Delivers to a slot of this monitor, as `step` does, which has to look for the monitor.
+    #[inline(always)]
+    pub fn deliver(&mut self, seat: u32, monitor: u8, slot: u32, hit: &Hit) -> Answer
+        requires fits { FitsAct self.old.setup (Deliver slot hit.now) }
+        requires monitor { monitor ≡ monitor_of self.old.setup.shape slot }
+        ensures { Steps self.old self.new seat (Deliver slot hit.now) result }
+    {
+        let place = slot as usize + 1;
+        let before = self.words[place];
+        let delivered = deliver_on(&self.setup, monitor, slot, before, hit);
+        self.words[place] = delivered.word;
+        let entry = Entry {
+            seat,
+            act: Act::Deliver { slot, hit: *hit },
+            before,
+            after: delivered.word,
+        };
+        self.history.push(&entry);
+        delivered.answer
     }
 
     /// The history.

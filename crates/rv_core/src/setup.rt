@@ -52,6 +52,17 @@ impl Setup {
         pack(1, self.starts[place.monitor as usize])
     }
 
+    /// The table of a slot of this monitor.
+    #[inline(always)]
+    pub(crate) fn table_of(&self, monitor: u8, slot: u32) -> &Table
+        requires slot { slot < sum self.now.shape }
+        requires monitor { monitor ≡ monitor_of self.now.shape slot }
+        ensures { result.now ≡ table_at self.now slot }
+    {
+        let _slot = slot;
+        &self.tables[monitor as usize]
+    }
+
     /// The table of a slot.
     pub fn table(&self, slot: u32) -> &Table
         requires { slot < sum self.now.shape }

@@ -28,6 +28,7 @@ fn failed(rows: u32) -> Turned
 }
 
 /// Of an instance that waits.
+#[inline(always)]
 fn from_waiting(table: &Table, mode: Mode, letter: Letter) -> Turned
     ensures answer { result.answer ≡ (from_waiting table.now mode letter).0 }
     ensures set { result.set ≡ (from_waiting table.now mode letter).1 }
