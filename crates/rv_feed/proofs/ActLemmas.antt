@@ -1,5 +1,5 @@
 -- The act of a hit fits the machine, and everybody may do it.
-use Rattle.std.proofs.Common.{◌≡◌, ℕ, ◌<◌, Bool, true, false, cond, refl, sum}
+use Rattle.std.proofs.Common.{◌≡◌, ℕ, ◌<◌, Bool, true, false, cond, refl, sum, sym, ap}
 use Rattle.std.specs.Prelude.{MatchBool}
 use Rattle.rv_model.specs.declared.entry.Act.{Act}
 use Rattle.rv_model.specs.declared.entry.Act.TheVariants.{Deliver, End}
@@ -22,6 +22,10 @@ fits-hit s slot hit inside fits = go (is_end hit.mode) fits
     go : (b : Bool) → MatchBool b (hit.what ≡ Nothing) (FitsTable (table_at s slot) hit) → FitsAct s (cond b (End slot) (Deliver slot hit))
     go true f = inside
     go false f = (inside, f)
+
+-- the act of a hit, by whether it ends
+pub act-of : (slot : ℕ) (hit : Hit) (b : Bool) → is_end hit.mode ≡ b → cond b (End slot) (Deliver slot hit) ≡ hit_act slot hit
+act-of slot hit b is = ap (λ (e : Bool). cond e (End slot) (Deliver slot hit)) (sym is)
 
 -- a hit that is no end fits the table
 pub fits-delivered : (s : Setup) (slot : ℕ) (hit : Hit) → is_end hit.mode ≡ false → FitsHit (table_at s slot) hit → FitsTable (table_at s slot) hit

@@ -1,6 +1,6 @@
 //! What plays a script: the machine of one thread, or a seat of a board.
 ghost use Rattle.std.specs.Prelude.{◌≡◌, ℕ, ◌+◌, List};
-ghost use Rattle.rv_model.specs.Scripts.{Played, hit_act};
+ghost use Rattle.rv_model.specs.Scripts.{Played};
 ghost use Rattle.rv_model.specs.Setups.{Setup};
 ghost use Rattle.rv_core.specs.Deliveries.{FitsDelivery};
 ghost use Rattle.rv_feed.specs.Players.{Composes, LooksAt, Serves, Halts};
@@ -8,7 +8,7 @@ ghost use Rattle.rv_feed.specs.Players.{Composes, LooksAt, Serves, Halts};
 use rv_board::{Board, Seat};
 use rv_core::Core;
 use rv_io::Gate;
-use rv_model::{Act, Answer, Delivered, Delivery, HALTED, Hit};
+use rv_model::{Act, Answer, Delivered, Delivery, HALTED};
 
 /// What plays a CPU's script.
 pub trait Player {
@@ -56,18 +56,6 @@ pub trait Player {
     ghost composes: { (cpu : ℕ) → Composes (does cpu) };
 }
 
-/// The act of a hit on its slot: an end, or a delivery.
-#[inline(always)]
-fn hit_act(slot: u32, hit: &Hit) -> Act
-    ensures { result ≡ hit_act slot hit.now }
-{
-    if hit.mode.is_end() {
-        Act::End { slot }
-    } else {
-        Act::Deliver { slot, hit: *hit }
-    }
-}
-
 /// On one thread the machine plays for each CPU, as its seat.
 impl Player for Core {
     ghost use Rattle.std.proofs.Common.{ap};
@@ -99,7 +87,11 @@ impl Player for Core {
         _gate: &mut G,
     ) -> Delivered {
         let slot = self.shape().slot(delivery.monitor, delivery.instance);
-        Delivered::Done(self.step(2 + cpu as u32, &hit_act(slot, &delivery.hit)))
+        let seat = 2 + cpu as u32;
+        if delivery.hit.mode.is_end() {
+            return Delivered::Done(self.step(seat, &Act::End { slot }));
+        }
+        Delivered::Done(self.deliver(seat, delivery.monitor, slot, &delivery.hit))
     }
 
     fn halt(&mut self, _shared: &(), cpu: u8) {
