@@ -12,7 +12,8 @@ use Rattle.rv_bind.proofs.ReadsLemmas.{step_reads, later_reads, behind_reads}
 use Rattle.rv_model.specs.declared.work.Change.{Change}
 use Rattle.rv_route.specs.Routing.{RoutedValue}
 use Rattle.rv_control.specs.Trees.{ControlValue}
-use Rattle.rv_tool.specs.Inputs.{InputValue, routed_text, routed_in, run_input}
+use Rattle.rv_stream.specs.RoutedTraces.{routed_text, routed_in}
+use Rattle.rv_tool.specs.Inputs.{InputValue, run_input}
 use Rattle.rv_tool.specs.Sessions.{control_value}
 use Rattle.rv_tool.specs.Changes.{changes_text, changes_in, input_beside}
 use Rattle.rv_tool.proofs.LookLemmas.{changes-looks}

@@ -1,38 +1,24 @@
 -- The unread file that a part of a reading names is reached in the whole.
 use Rattle.std.proofs.Common.{◌≡◌, ℕ, ◌≤◌, List, [], refl}
-use Rattle.std.specs.Prelude.{Option, Some, Result, Ok, Err}
+use Rattle.std.specs.Prelude.{Option, Some, Result, Err}
 use Rattle.rv_io.specs.Files.{Files}
 use Rattle.rv_bind.specs.declared.fault.BindFault.{BindFault}
-use Rattle.rv_bind.specs.declared.fault.BindFault.TheVariants as faults
 use Rattle.rv_bind.specs.Values.{BoundValue}
 use Rattle.rv_bind.specs.Bound.{bound_of}
-use Rattle.rv_bind.specs.Outcomes.{Outcome, accepted, reading, of_file, of_name, front_named, BlamesReached, ReadsOutcome}
+use Rattle.rv_bind.specs.Outcomes.{accepted, reading, of_file, front_named, BlamesReached, ReadsOutcome}
 use Rattle.rv_bind.proofs.FrontLemmas.{front_named-reading}
-use Rattle.rv_bind.proofs.OutcomeLemmas.{of_name-reading}
 use Rattle.rv_bind.proofs.ReachedLemmas.{bound-local, step_named}
 use Rattle.rv_bind.proofs.ReadsLemmas.{step_reads, later_reads, behind_reads}
 use Rattle.rv_route.specs.Routing.{RoutedValue}
 use Rattle.rv_model.specs.declared.kind.SpecKind.{SpecKind}
-use Rattle.rv_tool.specs.inner.Faults.{IsOutcome}
-use Rattle.rv_tool.specs.Inputs.{InputValue, routed_text, routed_in, run_input}
+use Rattle.rv_stream.specs.RoutedTraces.{routed_in}
+use Rattle.rv_tool.specs.Inputs.{InputValue, run_input}
 use Rattle.rv_tool.specs.Sessions.{Printed, session_text, session_in, control_in}
 use Rattle.rv_tool.specs.HeaderFiles.{header_of_text, header_in}
 use Rattle.rv_tool.specs.Tables.{table_text, table_in}
 use Rattle.rv_tool.proofs.LookLemmas.{table-looks, header-looks, session-looks}
 
 module _ (told : Option Files) where
-  -- what a text comes to names no unread file
-  pub tells_named : {X Y W : Type 0} (view : X → Y) (result : Result X BindFault) (text : Outcome Y) (outcome : Files → Outcome W) → IsOutcome view result text → BlamesReached told result outcome
-  tells_named view (Ok x) text outcome tells = tt
-  tells_named view (Err faults.Memory) text outcome tells = tt
-  tells_named view (Err (faults.Refused file refusal)) text outcome tells = tt
-  tells_named view (Err (faults.Unread file)) text outcome tells = absurd tells
-
-  -- an unread trace is read by its file
-  pub trace_named : (X Z : Type 0) (trace : List ℕ) (bound : BoundValue) (fault : BindFault) → BlamesReached {X = X} told (Err fault) (λ files. of_name files trace accepted) → BlamesReached {X = Z} told (Err fault) (λ files. routed_in files trace bound)
-  trace_named X Z trace bound fault =
-      step_named X Z told fault (λ files. of_name files trace accepted) (λ files text. routed_text trace bound text) (λ files. routed_in files trace bound) (λ files. of_name-reading files trace (routed_text trace bound))
-
   -- a specification whose table is asked for is read by its file
   pub table_named : (X Z : Type 0) (kind : SpecKind) (file : List ℕ) (fault : BindFault) → BlamesReached {X = X} told (Err fault) (λ files. front_named files file) → BlamesReached {X = Z} told (Err fault) (λ files. table_in files kind file)
   table_named X Z kind file fault =

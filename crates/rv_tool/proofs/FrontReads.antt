@@ -10,14 +10,14 @@ use Rattle.rv_bind.specs.Values.{BoundValue}
 use Rattle.rv_bind.specs.Outcomes.{Outcome, ReadsOutcome, of_file, of_name, text_front, front_named}
 use Rattle.rv_bind.proofs.FrontLemmas.{LooksAtFront, of_front}
 use Rattle.rv_control.specs.Trees.{ControlValue}
-use Rattle.rv_tool.specs.inner.Faults.{IsOutcome}
+use Rattle.rv_stream.specs.Faults.{IsOutcome}
 use Rattle.rv_tool.specs.Tables.{table_text, table_in}
 use Rattle.rv_tool.specs.HeaderFiles.{header_of_text, header_in}
 use Rattle.rv_tool.specs.Sessions.{Printed, session_text, session_in}
 use Rattle.rv_tool.specs.Changes.{changes_text, changes_in}
-use Rattle.rv_tool.proofs.BlamesLemmas.{tells_named}
+use Rattle.rv_stream.proofs.BlamesLemmas.{tells_named}
 use Rattle.rv_tool.proofs.LookLemmas.{table-looks, header-looks, session-looks, changes-looks}
-use Rattle.rv_tool.proofs.RefinesLemmas.{tells_comes}
+use Rattle.rv_stream.proofs.RefinesLemmas.{tells_comes}
 
 module _ (told left : Option Files) (before now : ℕ) (file : List ℕ) (read : Vec ℕ Global) (reads : ReadsOutcome (λ (text : Vec ℕ Global). text_front text.items) told left before now (Ok read) (λ files. front_named files file)) where
   front_reads : {X Y : Type 0} (view : X → Y) (outcome : List ℕ → Outcome Y) → LooksAtFront outcome → (result : Result X BindFault) → IsOutcome view result (outcome read.items)

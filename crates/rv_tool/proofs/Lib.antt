@@ -6,9 +6,7 @@ pub mod CheckLemmas
 pub mod CommandLemmas
 pub mod CountsFitLemmas
 pub mod CpuLemmas
-pub mod FeedingLemmas
 pub mod FitLemmas
-pub mod FrontLemmas
 pub mod FrontReads
 pub mod JudgedLemmas
 pub mod LoadLemmas
@@ -16,14 +14,11 @@ pub mod LoadedLemmas
 pub mod LookLemmas
 pub mod NumberLemmas
 pub mod OneLemmas
-pub mod PiecesLemmas
 pub mod PossibleLemmas
 pub mod PreparedLemmas
 pub mod RecordableLemmas
 pub mod RecordingLemmas
-pub mod RefinesLemmas
 pub mod ReportedLemmas
-pub mod RoutedLemmas
 pub mod SessionLemmas
 pub mod VerdictLemmas
 pub mod WatchLemmas

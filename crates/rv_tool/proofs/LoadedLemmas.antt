@@ -23,7 +23,8 @@ use Rattle.rv_generated.proofs.AcceptedLemmas.{trace-accepted}
 use Rattle.rv_tool.specs.Calls.{CallEnd}
 use Rattle.rv_tool.specs.GeneratedBound.{LoadIsAccepted}
 use Rattle.rv_tool.specs.Headline.{IsReported, PrintsSome, Ends}
-use Rattle.rv_tool.specs.Inputs.{InputValue, run_of, routed_text, routed_in}
+use Rattle.rv_stream.specs.RoutedTraces.{routed_text, routed_in}
+use Rattle.rv_tool.specs.Inputs.{InputValue, run_of}
 use Rattle.rv_tool.specs.Loaded.{generated_files, load_input}
 use Rattle.rv_tool.specs.Loads.{EndsAsLoad}
 use Rattle.rv_tool.specs.inner.Commands.{IsVerdictReport}

@@ -7,28 +7,20 @@ use Rattle.rv_model.specs.Setups.{Setup}
 use Rattle.rv_model.specs.Table.{Table}
 use Rattle.rv_model.specs.Histories.{Input}
 use Rattle.rv_slots.specs.Shapes.{count_of}
-use Rattle.rv_trace.specs.Traces.{trace_of}
 use Rattle.rv_bind.specs.declared.bindings.Monitor.{Monitor}
 use Rattle.rv_bind.specs.Values.{BoundValue}
 use Rattle.rv_bind.specs.Bound.{bound_of}
-use Rattle.rv_bind.specs.Outcomes.{Outcome, accepted, reading, of_file, of_name}
-use Rattle.rv_route.specs.Routing.{RoutedValue, route_of}
+use Rattle.rv_bind.specs.Outcomes.{Outcome, accepted, reading}
+use Rattle.rv_route.specs.Routing.{RoutedValue}
 use Rattle.rv_control.specs.Opening.{opening_switches}
 use Rattle.rv_feed.specs.Lane.{panics_of}
+use Rattle.rv_stream.specs.RoutedTraces.{routed_in}
 
 -- the bindings, what each CPU has to do, and the changes of the control actor
 pub record InputValue : Type 0 where
   pub bound : BoundValue
   pub routed : RoutedValue
   pub changes : List Change
-
--- what the text of the trace comes to under the bindings: the trace by lines, then the routing by lines
-abbrev pub routed_text : List ℕ → BoundValue → List ℕ → Outcome RoutedValue
-routed_text trace bound text = reading (of_file trace (trace_of text)) (λ lines. of_file trace (route_of bound.monitors bound.rules text lines))
-
--- what the trace's file comes to under the bindings; it may be missing
-abbrev pub routed_in : Files → List ℕ → BoundValue → Outcome RoutedValue
-routed_in files trace bound = of_name files trace (routed_text trace bound)
 
 -- the bindings with each specification as its line is reached, and then the trace; nothing changes beside them
 abbrev pub run_input : Files → List ℕ → List ℕ → Outcome InputValue

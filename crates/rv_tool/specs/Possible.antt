@@ -10,7 +10,8 @@ use Rattle.rv_route.specs.Routing.{RoutedValue}
 use Rattle.rv_tool.specs.Changes.{changes_text}
 use Rattle.rv_tool.specs.Checks.{CheckedValue}
 use Rattle.rv_tool.specs.HeaderFiles.{header_of_text}
-use Rattle.rv_tool.specs.Inputs.{InputValue, routed_text}
+use Rattle.rv_stream.specs.RoutedTraces.{routed_text}
+use Rattle.rv_tool.specs.Inputs.{InputValue}
 use Rattle.rv_tool.specs.Journals.{if_recordable}
 use Rattle.rv_tool.specs.Sessions.{Printed, control_value, session_text}
 use Rattle.rv_tool.specs.Tables.{table_text}

@@ -1,13 +1,10 @@
 pub mod Checks
 pub mod Commands
 pub mod CountsFit
-pub mod Faults
-pub mod Feeding
 pub mod JournalPieces
 pub mod Journals
 pub mod LaneReports
 pub mod Listed
-pub mod Pieces
 pub mod Prepared
 pub mod SessionValues
 pub mod WatchReports

@@ -6,7 +6,7 @@ ghost use Rattle.rv_bind.specs.Possible.{MayCome, MayRead};
 ghost use Rattle.rv_control.specs.Opening.{opening_tree};
 ghost use Rattle.rv_feed.specs.Changes.{IsBelowHalt};
 ghost use Rattle.rv_tool.specs.Changes.{asked, asked_in, changes_of, changes_text, changes_in, input_beside};
-ghost use Rattle.rv_tool.specs.inner.Faults.{IsOutcome};
+ghost use Rattle.rv_stream.specs.Faults.{IsOutcome};
 ghost use Rattle.rv_tool.specs.inner.Prepared.{prepared_value, IsPrepared};
 ghost use Rattle.rv_tool.specs.Possible.{MayRunBeside};
 
@@ -81,7 +81,7 @@ fn changes_of(
 }
 
 /// The changes of the text of a script.
-#[tactic(auto, using(crate::proofs::NumberLemmas::changes_numbered, crate::proofs::NumberLemmas::fault_tells))]
+#[tactic(auto, using(crate::proofs::NumberLemmas::changes_numbered, rv_stream::proofs::NumberLemmas::fault_tells))]
 fn changes_in_text(
     alloc: Global,
     script: &str,

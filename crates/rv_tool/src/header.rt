@@ -4,7 +4,7 @@ ghost use Rattle.rv_text.specs.Readings.{Gives};
 ghost use Rattle.rv_bind.specs.Outcomes.{ReadsOutcome, of_file};
 ghost use Rattle.rv_bind.specs.Possible.{MayCome};
 ghost use Rattle.rv_header.specs.Naming.{is_header_name};
-ghost use Rattle.rv_tool.specs.inner.Faults.{IsOutcome};
+ghost use Rattle.rv_stream.specs.Faults.{IsOutcome};
 ghost use Rattle.rv_tool.specs.HeaderFiles.{header_of_text, header_in};
 ghost use Rattle.rv_tool.specs.Possible.{MayHeader};
 
@@ -25,7 +25,7 @@ fn header_of_text(alloc: Global, name: &str, bytes: &[u8]) -> Result<Vec<u8>, Re
 }
 
 /// The same, with the file in its fault.
-#[tactic(auto, using(crate::proofs::NumberLemmas::header_numbered, crate::proofs::NumberLemmas::fault_tells))]
+#[tactic(auto, using(crate::proofs::NumberLemmas::header_numbered, rv_stream::proofs::NumberLemmas::fault_tells))]
 fn named_header(alloc: Global, name: &str, file: &str, bytes: &[u8]) -> Result<Vec<u8>, BindFault>
     requires { is_header_name name.now ≡ true }
     ensures { IsOutcome (λ text. text.items) result (of_file file.now (header_of_text name.now bytes.now)) }

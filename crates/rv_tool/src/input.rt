@@ -12,7 +12,7 @@ ghost use Rattle.rv_tool.specs.Inputs.{opened, run_input, run_of};
 ghost use Rattle.rv_tool.specs.inner.Prepared.{prepared_value, IsPrepared};
 ghost use Rattle.rv_tool.specs.Possible.{MayInput};
 
-use crate::trace_text::read_routed;
+use rv_stream::read_routed;
 use rv_bind::{BindFault, Bindings, Bound, Monitor, read_bindings};
 use rv_control::opening_switches;
 use rv_core::Setup;

@@ -6,11 +6,12 @@ ghost use Rattle.rv_bind.specs.Possible.{MayCome};
 ghost use Rattle.rv_bind.specs.WellFormed.{IsWellFormed};
 ghost use Rattle.rv_route.specs.Routed.{list_value};
 ghost use Rattle.rv_tool.specs.Inputs.{run_input};
-ghost use Rattle.rv_tool.specs.inner.Listed.{IsListed, IsPreparedList, listed_value};
+ghost use Rattle.rv_stream.specs.Listed.{IsListed};
+ghost use Rattle.rv_tool.specs.inner.Listed.{IsPreparedList, listed_value};
 ghost use Rattle.rv_tool.specs.Possible.{MayInput};
 
 use crate::input::{RunParts, make_parts};
-use crate::trace_text::read_list;
+use rv_stream::read_list;
 use rv_bind::{BindFault, Bindings, Bound, read_bindings};
 use rv_core::Setup;
 use rv_io::Store;

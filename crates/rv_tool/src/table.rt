@@ -4,7 +4,7 @@ ghost use Rattle.rv_text.specs.Readings.{Gives};
 ghost use Rattle.rv_model.specs.Weights.{weight};
 ghost use Rattle.rv_bind.specs.Outcomes.{ReadsOutcome, of_file};
 ghost use Rattle.rv_bind.specs.Possible.{MayCome};
-ghost use Rattle.rv_tool.specs.inner.Faults.{IsOutcome};
+ghost use Rattle.rv_stream.specs.Faults.{IsOutcome};
 ghost use Rattle.rv_tool.specs.Possible.{MayTable};
 ghost use Rattle.rv_tool.specs.Tables.{rule_text, table_text, table_in};
 
@@ -57,7 +57,7 @@ fn table_text(alloc: Global, kind: SpecKind, bytes: &[u8]) -> Result<Vec<u8>, Re
 }
 
 /// The same, with the file in its fault.
-#[tactic(auto, using(crate::proofs::NumberLemmas::table_numbered, crate::proofs::NumberLemmas::fault_tells))]
+#[tactic(auto, using(crate::proofs::NumberLemmas::table_numbered, rv_stream::proofs::NumberLemmas::fault_tells))]
 fn named_text(alloc: Global, kind: SpecKind, name: &str, bytes: &[u8]) -> Result<Vec<u8>, BindFault>
     ensures { IsOutcome (λ text. text.items) result (of_file name.now (table_text kind bytes.now)) }
 {

@@ -1,21 +1,10 @@
 -- What a run on one thread begins with: the deliveries of the trace as one list.
-use Rattle.std.specs.Prelude.{◌≡◌, ◌<◌, ◌≤◌, [], All, AllPairs, length, map}
+use Rattle.std.specs.Prelude.{◌≡◌, ◌<◌, ◌≤◌, [], length, map}
 use Rattle.rv_core.specs.Judged.{AllMean}
-use Rattle.rv_bind.specs.declared.bindings.Bindings.{Bindings}
-use Rattle.rv_bind.specs.WellFormed.{kinds_of}
 use Rattle.rv_replay.specs.Lists.{FitsList}
-use Rattle.rv_route.specs.declared.listing.RoutedList.{RoutedList}
-use Rattle.rv_route.specs.Fitting.{WorksFit, FromRules}
 use Rattle.rv_route.specs.Listing.{works_listed}
 use Rattle.rv_tool.specs.declared.listed.PreparedList.{PreparedList}
 use Rattle.rv_tool.specs.Inputs.{InputValue, setup_of}
-
--- the works of the list fit the monitors of the bindings and come of their rules, its lines never descend, and its CPUs are below 64
-pub record IsListed (bindings : Bindings) (routed : RoutedList) : Type 0 where
-  pub fit : WorksFit (kinds_of bindings.monitors.items) (length routed.tasks) (works_listed routed.list)
-  pub rules : FromRules bindings.rules.items (works_listed routed.list)
-  pub ascend : AllPairs (λ d e. d.line ≤ e.line) routed.list
-  pub cpus : All (λ d. d.cpu < 64) routed.list
 
 -- the bindings and the works of the list, as the files gave them; nothing changes beside them
 abbrev pub listed_value : PreparedList → InputValue

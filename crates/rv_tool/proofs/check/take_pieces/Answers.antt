@@ -6,10 +6,10 @@ use Rattle.rv_bind.specs.FilePieces.{FailsAs, FaultBlamesReached, IsFilePiece}
 use Rattle.rv_bind.specs.Outcomes.{Outcome, of_text, accepted}
 use Rattle.rv_bind.proofs.OutcomeLemmas.{Refines-later}
 use Rattle.rv_check.specs.Readings.{ReaderValue}
-use Rattle.rv_tool.specs.inner.Feeding.{FedOf}
+use Rattle.rv_stream.specs.Feeding.{FedOf}
 use Rattle.rv_tool.proofs.CheckLemmas.{whole_comes, whole_named, fed_all, fed_enough}
 use Rattle.rv_tool.proofs.JudgedLemmas.{same_longer}
-use Rattle.rv_tool.proofs.FeedingLemmas.{fed-more}
+use Rattle.rv_stream.proofs.FeedingLemmas.{fed-more}
 use Rattle.rv_tool.proofs.check.take_pieces.Goals as goal
 
 pub returns-in_err-count-clause-fails : goal.returns-in_err-count-clause-fails

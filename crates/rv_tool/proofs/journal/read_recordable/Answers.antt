@@ -4,7 +4,8 @@ use Rattle.rv_bind.specs.Possible.{Only}
 use Rattle.rv_tool.specs.inner.Prepared.{prepared_value}
 use Rattle.rv_tool.specs.Journals.{if_recordable}
 use Rattle.rv_tool.specs.Possible.{MayInput}
-use Rattle.rv_tool.proofs.PossibleLemmas.{first_fails, next_comes, only_may}
+use Rattle.rv_stream.proofs.PossibleLemmas.{only_may}
+use Rattle.rv_tool.proofs.PossibleLemmas.{first_fails, next_comes}
 use Rattle.rv_tool.proofs.journal.read_recordable.Goals as goal
 
 pub returns-clause-some : goal.returns-clause-some

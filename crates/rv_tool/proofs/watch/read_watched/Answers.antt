@@ -5,7 +5,8 @@ use Rattle.rv_bind.specs.Outcomes.{of_file}
 use Rattle.rv_bind.specs.Possible.{Only}
 use Rattle.rv_tool.specs.Possible.{MayInput}
 use Rattle.rv_tool.specs.Watched.{watched_slot, watched_by}
-use Rattle.rv_tool.proofs.PossibleLemmas.{first_fails, next_comes, only_may}
+use Rattle.rv_stream.proofs.PossibleLemmas.{only_may}
+use Rattle.rv_tool.proofs.PossibleLemmas.{first_fails, next_comes}
 use Rattle.rv_tool.proofs.watch.read_watched.Goals as goal
 
 pub returns-clause-some : goal.returns-clause-some

@@ -1,0 +1,5 @@
+pub mod Faults
+pub mod Feeding
+pub mod Listed
+pub mod RoutedTraces
+pub mod inner
