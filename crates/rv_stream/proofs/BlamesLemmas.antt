@@ -8,7 +8,7 @@ use Rattle.rv_bind.specs.Values.{BoundValue}
 use Rattle.rv_bind.specs.Outcomes.{Outcome, accepted, of_name, BlamesReached}
 use Rattle.rv_bind.proofs.OutcomeLemmas.{of_name-reading}
 use Rattle.rv_bind.proofs.ReachedLemmas.{step_named}
-use Rattle.rv_stream.specs.Faults.{IsOutcome}
+use Rattle.rv_stream.specs.inner.Faults.{IsOutcome}
 use Rattle.rv_stream.specs.RoutedTraces.{routed_text, routed_in}
 
 module _ (told : Option Files) where

@@ -19,7 +19,7 @@ use Rattle.rv_bind.specs.Values.{BoundValue}
 use Rattle.rv_bind.specs.FilePieces.{FaultRefines, PieceIn, IsFilePiece}
 use Rattle.rv_bind.specs.Outcomes.{accepted, refused, reading, of_file, of_text, IsFaultIn}
 use Rattle.rv_route.specs.Routing.{route_of}
-use Rattle.rv_stream.specs.Feeding.{FedOf, IsFileFed, IsAll}
+use Rattle.rv_stream.specs.inner.Feeding.{FedOf, IsFileFed, IsAll}
 use Rattle.rv_stream.specs.RoutedTraces.{routed_text, routed_in}
 use Rattle.rv_stream.proofs.FrontLemmas.{front_refused}
 use Rattle.rv_stream.proofs.NumberLemmas.{refusal_numbered, trace_numbered}

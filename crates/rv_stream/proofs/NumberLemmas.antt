@@ -20,7 +20,7 @@ use Rattle.rv_bind.proofs.NumberLemmas.{then_numbered}
 use Rattle.rv_slots.specs.declared.tasks.TheConstants.{MAX_TASKS}
 use Rattle.rv_route.specs.declared.deliveries.TheConstants.{MAX_DELIVERIES}
 use Rattle.rv_route.specs.Routing.{Firing, is_no_pid, tasks_of, firings_of, first_fault, routed_by, unless_refused, route_of}
-use Rattle.rv_stream.specs.Faults.{IsOutcome}
+use Rattle.rv_stream.specs.inner.Faults.{IsOutcome}
 
 -- ---- what is read of a text
 

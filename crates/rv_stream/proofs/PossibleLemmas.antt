@@ -16,7 +16,7 @@ use Rattle.rv_bind.specs.Possible.{Only, MayRead, IsUnread, MayFault, MayCome}
 use Rattle.rv_bind.specs.Values.{BoundValue}
 use Rattle.rv_bind.proofs.PossibleLemmas.{unread_may}
 use Rattle.rv_route.specs.Routing.{route_of}
-use Rattle.rv_stream.specs.Faults.{IsOutcome}
+use Rattle.rv_stream.specs.inner.Faults.{IsOutcome}
 use Rattle.rv_stream.specs.RoutedTraces.{routed_text}
 
 -- ---- one file

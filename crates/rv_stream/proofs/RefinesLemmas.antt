@@ -8,7 +8,7 @@ use Rattle.rv_bind.specs.Values.{BoundValue}
 use Rattle.rv_bind.specs.Outcomes.{Outcome, accepted, reading, of_name, Refines}
 use Rattle.rv_bind.proofs.OutcomeLemmas.{of_name-reading}
 use Rattle.rv_route.specs.Routing.{RoutedValue}
-use Rattle.rv_stream.specs.Faults.{IsOutcome}
+use Rattle.rv_stream.specs.inner.Faults.{IsOutcome}
 use Rattle.rv_stream.specs.RoutedTraces.{routed_text, routed_in}
 
 -- what a text comes to is what the files come to

@@ -9,8 +9,8 @@ use Rattle.rv_bind.specs.Possible.{MayCome, MayRead}
 use Rattle.rv_bind.specs.Values.{BoundValue}
 use Rattle.rv_route.specs.Routing.{RoutedValue, route_of}
 use Rattle.rv_trace.specs.Traces.{trace_of}
-use Rattle.rv_stream.specs.Faults.{IsOutcome}
-use Rattle.rv_stream.specs.Feeding.{IsAll}
+use Rattle.rv_stream.specs.inner.Faults.{IsOutcome}
+use Rattle.rv_stream.specs.inner.Feeding.{IsAll}
 use Rattle.rv_stream.specs.RoutedTraces.{routed_text, routed_in}
 use Rattle.rv_stream.proofs.BlamesLemmas.{tells_named}
 use Rattle.rv_stream.proofs.FrontLemmas.{of_file-and_then}

@@ -1,2 +1,4 @@
+pub mod Faults
+pub mod Feeding
 pub mod Pieces
 pub mod Routings

@@ -11,8 +11,8 @@ ghost use Rattle.rv_text.specs.Readings.{and_then};
 ghost use Rattle.rv_trace.specs.Traces.{trace_of};
 ghost use Rattle.rv_route.specs.Fitting.{WorksFit, FromRules};
 ghost use Rattle.rv_stream.specs.RoutedTraces.{routed_in, routed_text};
-ghost use Rattle.rv_stream.specs.Faults.{IsOutcome};
-ghost use Rattle.rv_stream.specs.Feeding.{IsFileFed, IsAll};
+ghost use Rattle.rv_stream.specs.inner.Faults.{IsOutcome};
+ghost use Rattle.rv_stream.specs.inner.Feeding.{IsFileFed, IsAll};
 ghost use Rattle.rv_stream.specs.inner.Routings.{MayBeFed};
 ghost use Rattle.rv_stream.specs.Listed.{IsListed};
 

@@ -10,7 +10,7 @@ use Rattle.rv_bind.specs.FilePieces.{FaultRefines, FaultBlamesReached, PieceIn, 
 use Rattle.rv_bind.specs.Outcomes.{Outcome, accepted, refused, missing, reading, of_text, of_name, files_without, BlamesReached}
 use Rattle.rv_bind.proofs.ReachedLemmas.{step_named, behind_named}
 use Rattle.rv_tool.specs.Checks.{CheckedValue, checked_input}
-use Rattle.rv_stream.specs.Feeding.{FedOf, IsFileFed}
+use Rattle.rv_stream.specs.inner.Feeding.{FedOf, IsFileFed}
 use Rattle.rv_tool.specs.Inputs.{InputValue, run_input}
 use Rattle.rv_tool.specs.inner.JournalPieces.{EnoughOf, IsEnough}
 use Rattle.rv_tool.proofs.BesideLemmas.{input-local}

@@ -10,7 +10,7 @@ use Rattle.rv_bind.specs.Values.{BoundValue}
 use Rattle.rv_bind.specs.Outcomes.{Outcome, ReadsOutcome, of_file, of_name, text_front, front_named}
 use Rattle.rv_bind.proofs.FrontLemmas.{LooksAtFront, of_front}
 use Rattle.rv_control.specs.Trees.{ControlValue}
-use Rattle.rv_stream.specs.Faults.{IsOutcome}
+use Rattle.rv_stream.specs.inner.Faults.{IsOutcome}
 use Rattle.rv_tool.specs.Tables.{table_text, table_in}
 use Rattle.rv_tool.specs.HeaderFiles.{header_of_text, header_in}
 use Rattle.rv_tool.specs.Sessions.{Printed, session_text, session_in}

@@ -14,7 +14,7 @@ use Rattle.rv_bind.proofs.ReachedLemmas.{step_named}
 use Rattle.rv_tool.specs.declared.input.Prepared.{Prepared}
 use Rattle.rv_tool.specs.Inputs.{InputValue, run_input}
 use Rattle.rv_text.specs.declared.numbers.TheConstants.{NOT_NUMBERED}
-use Rattle.rv_stream.specs.Faults.{IsOutcome}
+use Rattle.rv_stream.specs.inner.Faults.{IsOutcome}
 use Rattle.rv_tool.specs.Journals.{ends_instances, can_record, if_recordable, recordable_input}
 use Rattle.rv_tool.specs.inner.Journals.{IsRecordable}
 use Rattle.rv_tool.specs.CountsFit.{monitors_fit_counts}

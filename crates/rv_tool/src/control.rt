@@ -8,7 +8,7 @@ ghost use Rattle.rv_bind.specs.WellFormed.{IsWellFormed};
 ghost use Rattle.rv_control.specs.Opening.{opening_tree};
 ghost use Rattle.rv_control.specs.Scripts.{script_of};
 ghost use Rattle.rv_tool.specs.Output.{refusal_text};
-ghost use Rattle.rv_stream.specs.Faults.{IsOutcome};
+ghost use Rattle.rv_stream.specs.inner.Faults.{IsOutcome};
 ghost use Rattle.rv_tool.specs.Sessions.{replied, done_of, session_of, session_text, session_in, control_in, control_value};
 ghost use Rattle.rv_tool.specs.Possible.{MayControl};
 ghost use Rattle.rv_tool.specs.inner.SessionValues.{session_value};

@@ -4,7 +4,7 @@ ghost use Rattle.rv_text.specs.Readings.{Gives};
 ghost use Rattle.rv_bind.specs.Outcomes.{ReadsOutcome, of_file};
 ghost use Rattle.rv_bind.specs.Possible.{MayCome};
 ghost use Rattle.rv_header.specs.Naming.{is_header_name};
-ghost use Rattle.rv_stream.specs.Faults.{IsOutcome};
+ghost use Rattle.rv_stream.specs.inner.Faults.{IsOutcome};
 ghost use Rattle.rv_tool.specs.HeaderFiles.{header_of_text, header_in};
 ghost use Rattle.rv_tool.specs.Possible.{MayHeader};
 

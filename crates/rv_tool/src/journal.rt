@@ -3,7 +3,7 @@ ghost use Rattle.std.specs.Prelude.{◌≡◌, ◌≤◌, [], true, IfOk};
 ghost use Rattle.std.specs.List.{list_any};
 ghost use Rattle.rv_bind.specs.Outcomes.{ReadsOutcome, of_file, IsFaultOf};
 ghost use Rattle.rv_bind.specs.Possible.{MayCome};
-ghost use Rattle.rv_stream.specs.Faults.{IsOutcome};
+ghost use Rattle.rv_stream.specs.inner.Faults.{IsOutcome};
 ghost use Rattle.rv_tool.specs.Journals.{can_record, if_recordable, recordable_input, ends_instances, IsJournalReport};
 ghost use Rattle.rv_tool.specs.inner.Journals.{IsRecordable};
 ghost use Rattle.rv_tool.specs.inner.Prepared.{prepared_value, IsPrepared};

@@ -4,7 +4,7 @@ ghost use Rattle.rv_text.specs.Readings.{Gives};
 ghost use Rattle.rv_model.specs.Weights.{weight};
 ghost use Rattle.rv_bind.specs.Outcomes.{ReadsOutcome, of_file};
 ghost use Rattle.rv_bind.specs.Possible.{MayCome};
-ghost use Rattle.rv_stream.specs.Faults.{IsOutcome};
+ghost use Rattle.rv_stream.specs.inner.Faults.{IsOutcome};
 ghost use Rattle.rv_tool.specs.Possible.{MayTable};
 ghost use Rattle.rv_tool.specs.Tables.{rule_text, table_text, table_in};
 

@@ -2,7 +2,7 @@
 ghost use Rattle.std.specs.Prelude.{◌≡◌, ◌≤◌, [], IfOk};
 ghost use Rattle.rv_bind.specs.Outcomes.{ReadsOutcome, of_file};
 ghost use Rattle.rv_bind.specs.Possible.{MayCome};
-ghost use Rattle.rv_stream.specs.Faults.{IsOutcome};
+ghost use Rattle.rv_stream.specs.inner.Faults.{IsOutcome};
 ghost use Rattle.rv_tool.specs.inner.LaneReports.{ReportsWatched};
 ghost use Rattle.rv_tool.specs.inner.Prepared.{prepared_value, IsPrepared};
 ghost use Rattle.rv_tool.specs.Watched.{watched_slot, watched_by, watched_input};

@@ -4,7 +4,7 @@ use Rattle.rv_bind.specs.BoundViews.{bound_value}
 use Rattle.rv_bind.specs.Outcomes.{of_name, accepted}
 use Rattle.rv_bind.proofs.ReachedLemmas.{file_named}
 use Rattle.rv_route.specs.Routing.{RoutedValue}
-use Rattle.rv_stream.specs.Feeding.{FedOf}
+use Rattle.rv_stream.specs.inner.Feeding.{FedOf}
 use Rattle.rv_stream.specs.RoutedTraces.{routed_in}
 use Rattle.rv_stream.proofs.FeedingLemmas.{fed-more, fed-end, refused-comes}
 use Rattle.rv_stream.proofs.trace_text.take_next.Goals as goal

@@ -1,7 +1,7 @@
 -- What was fed so far is the front of the file, and its lines were routed.
 use Rattle.std.proofs.Common.{◌-◌, ◌≡◌, ◌≤◌, length}
 use Rattle.rv_io.specs.declared.store.TheConstants.{READ_LIMIT}
-use Rattle.rv_stream.specs.Feeding.{IsFileFed}
+use Rattle.rv_stream.specs.inner.Feeding.{IsFileFed}
 use Rattle.rv_stream.specs.inner.Routings.{MayBeFed}
 use Rattle.rv_stream.proofs.trace_text.take_pieces.Given as goal
 

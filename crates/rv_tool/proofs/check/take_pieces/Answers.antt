@@ -6,7 +6,7 @@ use Rattle.rv_bind.specs.FilePieces.{FailsAs, FaultBlamesReached, IsFilePiece}
 use Rattle.rv_bind.specs.Outcomes.{Outcome, of_text, accepted}
 use Rattle.rv_bind.proofs.OutcomeLemmas.{Refines-later}
 use Rattle.rv_check.specs.Readings.{ReaderValue}
-use Rattle.rv_stream.specs.Feeding.{FedOf}
+use Rattle.rv_stream.specs.inner.Feeding.{FedOf}
 use Rattle.rv_tool.proofs.CheckLemmas.{whole_comes, whole_named, fed_all, fed_enough}
 use Rattle.rv_tool.proofs.JudgedLemmas.{same_longer}
 use Rattle.rv_stream.proofs.FeedingLemmas.{fed-more}

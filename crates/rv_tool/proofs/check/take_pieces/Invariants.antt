@@ -1,6 +1,6 @@
 -- What was fed so far is the front of the file.
 use Rattle.std.proofs.Common.{◌≡◌, ◌≤◌, length}
-use Rattle.rv_stream.specs.Feeding.{IsFileFed}
+use Rattle.rv_stream.specs.inner.Feeding.{IsFileFed}
 use Rattle.rv_tool.specs.inner.JournalPieces.{IsSameRun}
 use Rattle.rv_tool.proofs.check.take_pieces.Given as goal
 

@@ -1,6 +1,6 @@
 use Rattle.std.proofs.Common.{List, ℕ, subst}
 use Rattle.rv_bind.specs.BoundViews.{bound_value}
-use Rattle.rv_stream.specs.Faults.{IsOutcome}
+use Rattle.rv_stream.specs.inner.Faults.{IsOutcome}
 use Rattle.rv_tool.specs.inner.SessionValues.{session_value}
 use Rattle.rv_tool.specs.Sessions.{session_text}
 use Rattle.rv_tool.proofs.FrontReads.{session_reads}

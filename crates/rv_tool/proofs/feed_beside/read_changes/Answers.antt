@@ -3,7 +3,7 @@ use Rattle.std.specs.Prelude.{Vec}
 use Rattle.std.specs.declared.alloc.Global.{Global}
 use Rattle.rv_control.specs.Opening.{opening_tree}
 use Rattle.rv_model.specs.declared.work.Change.{Change}
-use Rattle.rv_stream.specs.Faults.{IsOutcome}
+use Rattle.rv_stream.specs.inner.Faults.{IsOutcome}
 use Rattle.rv_tool.specs.Changes.{changes_text}
 use Rattle.rv_tool.proofs.FrontReads.{changes_reads}
 use Rattle.rv_tool.proofs.feed_beside.read_changes.Goals as goal

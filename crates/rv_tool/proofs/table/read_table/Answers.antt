@@ -2,7 +2,7 @@ use Rattle.std.proofs.Common.{List, ℕ, subst}
 use Rattle.std.specs.Prelude.{Vec}
 use Rattle.std.specs.declared.alloc.Global.{Global}
 use Rattle.rv_bind.specs.Outcomes.{of_file}
-use Rattle.rv_stream.specs.Faults.{IsOutcome}
+use Rattle.rv_stream.specs.inner.Faults.{IsOutcome}
 use Rattle.rv_tool.specs.Tables.{table_text}
 use Rattle.rv_tool.proofs.FrontReads.{table_reads}
 use Rattle.rv_tool.proofs.table.read_table.Goals as goal
