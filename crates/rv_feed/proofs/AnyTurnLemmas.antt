@@ -2,6 +2,8 @@
 use Rattle.std.proofs.Common.{◌≡◌, ℕ, zero, suc, ◌+◌, ◌-◌, ◌^◌, ◌≤◌, Bool, true, false, ◌&&◌, [], ◌∷◌, ◌++◌, length, arith, refl, ap, get_or}
 use Rattle.std.proofs.lemmas.List.{get_or_default}
 use Rattle.rv_model.specs.declared.entry.Act.TheVariants.{Look, Raise}
+use Rattle.rv_model.specs.declared.hit.Mode.TheVariants.{Event}
+use Rattle.rv_model.specs.declared.hit.What.TheVariants.{Nothing}
 use Rattle.rv_model.specs.declared.record.Delivered.{Delivered}
 use Rattle.rv_model.specs.declared.record.Delivered.TheVariants.{Done}
 use Rattle.rv_model.specs.declared.work.Delivery.{Delivery}
@@ -11,13 +13,16 @@ use Rattle.rv_model.specs.Records.{failed_outcome}
 use Rattle.rv_model.specs.Scripts.{is_enabled_by}
 use Rattle.rv_model.specs.Setups.{Setup}
 use Rattle.rv_core.specs.Core.{CoreValue}
-use Rattle.rv_feed.specs.Kept.{no_delivery}
 use Rattle.rv_feed.specs.Lane.{LaneValue}
 use Rattle.rv_feed.specs.inner.Lane.{AddsRecords}
 use Rattle.rv_feed.specs.inner.Turns.{PartDone, PlaysTurn}
 use Rattle.rv_feed.proofs.AnyActLemmas.{DoesAfter, does-composes, entry_of, answer_of, after, act_for, looks, halts, serves}
 use Rattle.rv_feed.proofs.PlaceLemmas.{AtPlace, record-for}
 use Rattle.rv_feed.proofs.TurnLemmas.{turn-start, turn-off, turn-all, turn-hidden, turn-shown, turn-last}
+
+-- the delivery that is read where an index is past the end
+abbrev no_delivery : Delivery
+no_delivery = record { order = 0; monitor = 0; instance = 0; hit = record { mode = Event; what = Nothing } }
 
 -- the seat played the turn, to some machine, with some lane after it
 pub record SomeTurn (seat : ℕ) (panics : ℕ → Bool) (old : CoreValue) (turn : Turn) (lane : LaneValue) : Type 0 where

@@ -10,10 +10,10 @@ ghost use Rattle.rv_feed.specs.AtOnce.{lanes_of, AreSeated};
 ghost use Rattle.rv_feed.specs.Runs.{IsRunBySpecs};
 
 use crate::changer::{CONTROL, Changer};
-use crate::compact::CompactLane;
 use crate::feeder::Feeder;
 use crate::feeders::run_all;
 use crate::lane::cpu_of;
+use crate::recording::{Recorder, RecordingLane};
 use rv_board::{Board, BoardStart, Seat};
 use rv_core::Setup;
 use rv_io::Gate;
@@ -27,18 +27,18 @@ const ACTOR: u32 = 1;
 /// What a run at once came to: the lanes, with their records and in the order in which they were given, and the
 /// history.
 #[derive(Drop)]
-pub struct FedLanes {
-    pub lanes: Vec<CompactLane>,
+pub struct FedLanes<C: Recorder> {
+    pub lanes: Vec<RecordingLane<C>>,
     pub closed: Closed,
 }
 
 /// Makes the lane's feeder, whose new seat takes over the seat's numbers from that of the lane's CPU on.
-fn seat_lane<G: Gate>(
+fn seat_lane<G: Gate, C: Recorder>(
     board: &Board,
     seat: &mut Seat,
-    lane: CompactLane,
+    lane: RecordingLane<C>,
     gate: &G,
-) -> Feeder<G, CompactLane>
+) -> Feeder<G, RecordingLane<C>>
     requires board { seat.old.board ≡ board.now }
     requires range { (seat.old.part.number < 2 + lane.work.cpu) × (2 + lane.work.cpu < seat.old.part.end) }
     ensures lane { result.lane ≡ lane }
@@ -56,13 +56,13 @@ fn seat_lane<G: Gate>(
 
 /// A feeder for each lane, from the last lane to the first, each with a new seat split off from the first one. All
 /// lanes are taken out of the vector, whose room stays for `join_all`. The one error is want of memory.
-pub fn seat_lanes<G: Gate>(
+pub fn seat_lanes<G: Gate, C: Recorder>(
     alloc: Global,
     board: &Board,
     seat: &mut Seat,
-    lanes: &mut Vec<CompactLane>,
+    lanes: &mut Vec<RecordingLane<C>>,
     gate: &G,
-) -> Result<Vec<Feeder<G, CompactLane>>, AllocError>
+) -> Result<Vec<Feeder<G, RecordingLane<C>>>, AllocError>
     requires seat { IsFirst board.now seat.old }
     requires end { 65 < seat.old.part.end }
     requires fit { All (FitsLane board.now.setup) lanes.old.items }
@@ -78,7 +78,7 @@ pub fn seat_lanes<G: Gate>(
     Ok(feeders)
 }
 
-fn put_back(lanes: &mut Vec<CompactLane>, lane: CompactLane)
+fn put_back<C: Recorder>(lanes: &mut Vec<RecordingLane<C>>, lane: RecordingLane<C>)
     requires { length lanes.old.items < lanes.old.cap }
     ensures lanes { lanes.new.items ≡ lanes.old.items ++ lane ∷ [] }
     ensures room { lanes.old.cap ≤ lanes.new.cap }
@@ -91,11 +91,11 @@ fn put_back(lanes: &mut Vec<CompactLane>, lane: CompactLane)
 
 /// Joins the seats of all feeders into one, and appends their lanes to `lanes`, in the order that they had before
 /// `seat_lanes`. Asks for no memory.
-pub fn join_all<G: Gate>(
+pub fn join_all<G: Gate, C: Recorder>(
     board: &Board,
     into: &mut Seat,
-    mut feeders: Vec<Feeder<G, CompactLane>>,
-    lanes: &mut Vec<CompactLane>,
+    mut feeders: Vec<Feeder<G, RecordingLane<C>>>,
+    lanes: &mut Vec<RecordingLane<C>>,
 )
     requires into { into.old.board ≡ board.now }
     requires seats { All (λ f. f.seat.board ≡ board.now) feeders.items }
@@ -119,15 +119,15 @@ pub fn join_all<G: Gate>(
 /// Runs the lanes' scripts and the changes at once, and gives the lanes with their records, and a legal history. Which
 /// one it is, the schedule decides. The lanes ascend by their CPUs. The one error is want of memory, before the first
 /// entry.
-pub fn feed<R: Threads + Sync, G: Gate + Send>(
+pub fn feed<R: Threads + Sync, G: Gate + Send, C: Recorder + Send>(
     rt: &R,
     alloc: Global,
     setup: Setup,
     reactors: &[Reactor],
-    mut lanes: Vec<CompactLane>,
+    mut lanes: Vec<RecordingLane<C>>,
     changes: Vec<Change>,
     gate: &G,
-) -> Result<FedLanes, AllocError>
+) -> Result<FedLanes<C>, AllocError>
     requires fit { All (FitsLane setup) lanes.items }
     requires ascend { AllPairs (λ l m. l.work.cpu < m.work.cpu) lanes.items }
     requires changes { All IsBelowHalt changes.items }

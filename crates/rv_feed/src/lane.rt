@@ -63,20 +63,32 @@ impl Keeper for Lane {
     }
 
     fn keep(&mut self, index: u32, line: u32, outcome: Delivered, reacting: bool) {
-        let delivery = self.work.deliveries[index as usize];
-        let record = Record {
-            order: delivery.order,
+        let record = record_on(
+            &self.work.deliveries[index as usize],
             line,
-            monitor: delivery.monitor,
-            instance: delivery.instance,
-            hit: delivery.hit,
             outcome,
             reacting,
-        };
+        );
         match self.records.push(record) {
             Ok(()) => (),
             Err(_) => unreachable!(),
         }
+    }
+}
+
+/// The record of a delivery that a turn of this line made, with what came of it.
+#[inline(always)]
+pub fn record_on(delivery: &Delivery, line: u32, outcome: Delivered, reacting: bool) -> Record
+    ensures { result ≡ record_on line outcome reacting delivery.now }
+{
+    Record {
+        order: delivery.order,
+        line,
+        instance: delivery.instance,
+        monitor: delivery.monitor,
+        reacting,
+        hit: delivery.hit,
+        outcome,
     }
 }
 

@@ -7,5 +7,6 @@ pub mod OwnLemmas
 pub mod OwnWorkLemmas
 pub mod PresentLemmas
 pub mod RunLemmas
+pub mod SendLemmas
 pub mod StandLemmas
 pub mod StepLemmas

@@ -1,7 +1,10 @@
-//! A run on one thread over one list of deliveries, in the order of the trace.
+//! A run on one thread over one list of deliveries, in the order of the trace, and lanes of which no more is kept than the
+//! report needs.
 #![tactic(auto)]
 
+mod digested;
 mod turn;
 mod walk;
 
+pub use digested::{Digested, report_lanes};
 pub use walk::{Replayed, replay_list};

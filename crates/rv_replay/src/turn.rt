@@ -10,9 +10,9 @@ ghost use Rattle.rv_replay.specs.inner.Turns.{PlaysListed};
 
 use rv_bind::Bindings;
 use rv_core::Core;
-use rv_feed::{Player, ends_script};
+use rv_feed::{Player, ends_script, record_on};
 use rv_io::OpenGate;
-use rv_model::{Delivered, Delivery, HALTED, REACTING, Reactor, Record, has_bit, is_enabled_by};
+use rv_model::{Delivered, Delivery, HALTED, REACTING, Reactor, has_bit, is_enabled_by};
 use rv_report::Found;
 use rv_route::DeliveryList;
 use std::alloc::AllocError;
@@ -29,15 +29,7 @@ fn add_record(
 ) -> Result<(), AllocError>
     ensures { OnOk result (FindsMore (reported_of bindings.now) (record_on line outcome reacting delivery.now ∷ []) found.old found.new) }
 {
-    let record = Record {
-        order: delivery.order,
-        line,
-        instance: delivery.instance,
-        monitor: delivery.monitor,
-        reacting,
-        hit: delivery.hit,
-        outcome,
-    };
+    let record = record_on(delivery, line, outcome, reacting);
     found.add(bindings, &record)
 }
 

@@ -1,8 +1,8 @@
 -- What the status of records says of them.
-use Rattle.std.proofs.Common.{◌≡◌, ℕ, Bool, true, false, List, refl, sym, subst, arith}
+use Rattle.std.proofs.Common.{◌≡◌, ◌≢◌, ℕ, ◌||◌, Bool, true, false, List, ◌++◌, ◌⊎◌, inl, inr, refl, sym, ◌∙◌, subst, arith}
 use Rattle.std.specs.Prelude.{Any, ◌↔◌, if◌then◌else◌}
 use Rattle.std.specs.List.{list_any}
-use Rattle.std.proofs.lemmas.List.Folds.{Any-from_list_any, list_any-from_Any}
+use Rattle.std.proofs.lemmas.List.Folds.{Any-from_list_any, list_any-append, list_any-from_Any}
 use Rattle.rv_model.specs.declared.entry.Answer.TheVariants.{Passed, Started, Kept, Failed, Stopped, Cleared, Ended, Looked, Switched}
 use Rattle.rv_model.specs.declared.record.Delivered.{Delivered}
 use Rattle.rv_model.specs.declared.record.Delivered.TheVariants.{Done, Racing}
@@ -92,3 +92,36 @@ status-is rs n is = record {
   failure = subst (λ (m : ℕ). (m ≡ 1) ↔ Any HasFailed rs) (sym is) (status-failure rs);
   stopped = subst (λ (m : ℕ). (m ≡ 6) ↔ ((¬ Any HasFailed rs) × Any WasStopped rs)) (sym is) (status-stopped rs);
 }
+
+-- ---- the status of records and others
+
+-- of both, by the tests of each
+both : (rs us : List Record) → status_of (rs ++ us) ≡ code (list_any is_failure rs || list_any is_failure us) (list_any is_stopped rs || list_any is_stopped us)
+both rs us = λ i. code (list_any-append is_failure rs us i) (list_any-append is_stopped rs us i)
+
+-- a failure, or nothing more
+first : (f s f' s' : Bool) → (code f s ≡ 1) ⊎ (code f' s' ≡ 0) → code f s ≡ code (f || f') (s || s')
+first true s f' s' e = refl
+first false true true s' (inl e) = absurd (let not_one : 6 ≡ 1 = e in omega arith)
+first false false true s' (inl e) = absurd (let not_one : 0 ≡ 1 = e in omega arith)
+first false s true s' (inr e) = absurd (let not_one : 1 ≡ 0 = e in omega arith)
+first false true false s' e = refl
+first false false false true (inl e) = absurd (let not_one : 0 ≡ 1 = e in omega arith)
+first false false false true (inr e) = absurd (let not_one : 6 ≡ 0 = e in omega arith)
+first false false false false e = refl
+
+-- no failure, and something more
+second : (f s f' s' : Bool) → code f s ≢ 1 → code f' s' ≢ 0 → code f' s' ≡ code (f || f') (s || s')
+second true s f' s' not_one not_zero = absurd (not_one refl)
+second false s true s' not_one not_zero = refl
+second false true false true not_one not_zero = refl
+second false false false true not_one not_zero = refl
+second false s false false not_one not_zero = absurd (not_zero refl)
+
+-- it is that of the first
+pub status-first : (rs us : List Record) → (status_of rs ≡ 1) ⊎ (status_of us ≡ 0) → status_of rs ≡ status_of (rs ++ us)
+status-first rs us e = first (list_any is_failure rs) (list_any is_stopped rs) (list_any is_failure us) (list_any is_stopped us) e ∙ sym (both rs us)
+
+-- it is that of the second
+pub status-second : (rs us : List Record) → status_of rs ≢ 1 → status_of us ≢ 0 → status_of us ≡ status_of (rs ++ us)
+status-second rs us not_one not_zero = second (list_any is_failure rs) (list_any is_stopped rs) (list_any is_failure us) (list_any is_stopped us) not_one not_zero ∙ sym (both rs us)

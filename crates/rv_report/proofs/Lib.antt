@@ -1,10 +1,14 @@
 pub mod ChainLemmas
 pub mod CountLemmas
+pub mod DigestLemmas
 pub mod ExitLemmas
 pub mod FoundLemmas
 pub mod GrowingTexts
+pub mod JoinLemmas
+pub mod MarkLemmas
 pub mod PrintedLemmas
 pub mod StateLemmas
 pub mod SummaryLemmas
 pub mod TableauLemmas
 pub mod TallyLemmas
+pub mod WholeLemmas

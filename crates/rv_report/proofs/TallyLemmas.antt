@@ -20,13 +20,13 @@ use Rattle.rv_model.proofs.SortedLemmas.{count-sort, any-sort}
 -- ---- one record more
 
 -- a count
-count-snoc : (p : Record → Bool) (rs : List Record) (r : Record) (b : Bool) → p r ≡ b → count_by p (rs ++ r ∷ []) ≡ count_by p rs + (if b then 1 else 0)
+pub count-snoc : (p : Record → Bool) (rs : List Record) (r : Record) (b : Bool) → p r ≡ b → count_by p (rs ++ r ∷ []) ≡ count_by p rs + (if b then 1 else 0)
 count-snoc p rs r b is =
     let more : count_by p (rs ++ r ∷ []) ≡ count_by p rs + (0 + (if p r then 1 else 0)) = sum_by-append (λ x. if p x then 1 else 0) rs (r ∷ []) in
     more ∙ ap (λ (t : Bool). count_by p rs + (0 + (if t then 1 else 0))) is ∙ (let e : count_by p rs + (0 + (if b then 1 else 0)) ≡ count_by p rs + (if b then 1 else 0) = omega arith in e)
 
 -- whether some record passes
-any-snoc : (p : Record → Bool) (rs : List Record) (r : Record) (b : Bool) → p r ≡ b → list_any p (rs ++ r ∷ []) ≡ (list_any p rs || b)
+pub any-snoc : (p : Record → Bool) (rs : List Record) (r : Record) (b : Bool) → p r ≡ b → list_any p (rs ++ r ∷ []) ≡ (list_any p rs || b)
 any-snoc p rs r b is = list_any-append p rs (r ∷ []) ∙ ap (λ (t : Bool). list_any p rs || t) (or-false (p r) ∙ is)
   where
     or-false : (t : Bool) → (t || false) ≡ t
@@ -38,7 +38,7 @@ same : (n : ℕ) → (n == n) ≡ true
 same n = grind arith
 
 -- and no other
-apart : (m n : ℕ) → m ≢ n → (m == n) ≡ false
+pub apart : (m n : ℕ) → m ≢ n → (m == n) ≡ false
 apart m n ne = grind arith
 
 -- of the monitor
@@ -86,7 +86,7 @@ pub tally-ended : (instances : ℕ) (rs : List Record) (r : Record) (t : Tally) 
 tally-ended instances rs r t ends = tally-left r.monitor instances rs r t (rw (same r.monitor, ends) refl)
 
 -- the same number or another
-same_or_not : (m n : ℕ) → (m ≡ n) ⊎ (m ≢ n)
+pub same_or_not : (m n : ℕ) → (m ≡ n) ⊎ (m ≢ n)
 same_or_not m n = grind arith
 
 -- of one of the monitors

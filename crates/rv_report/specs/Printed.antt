@@ -17,6 +17,10 @@ set_if reacting _ = None
 abbrev pub failed_set : Record → Option ℕ
 failed_set r = set_if r.reacting r.outcome
 
+-- the record has a reaction where its monitor's reactor prints
+abbrev pub has_reaction : Record → Bool
+has_reaction r = is_some (failed_set r)
+
 -- the reactor prints
 abbrev pub is_loud : Reactor → Bool
 is_loud reactor = is_some (reaction_front reactor)

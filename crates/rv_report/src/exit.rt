@@ -18,6 +18,17 @@ pub(crate) fn status_with(status: u8, made: &Record) -> u8
     }
 }
 
+/// The status of records and others, from that of each.
+pub(crate) fn both_statuses(status: u8, other: u8) -> u8
+    ensures { (rs : List Record) (others : List Record) → status ≡ status_of rs → other ≡ status_of others → result ≡ status_of (rs ++ others) }
+{
+    if status == FAILURE || other == CLEAN {
+        status
+    } else {
+        other
+    }
+}
+
 /// The status of records.
 pub fn status(records: &[Record]) -> u8
     ensures { IsStatus records.now result }

@@ -2,6 +2,7 @@
 #![tactic(auto)]
 
 mod automaton_table;
+mod digest;
 mod exit;
 mod formula_table;
 mod found;
@@ -13,7 +14,8 @@ mod summary;
 mod tally;
 
 pub use automaton_table::automaton_text;
+pub use digest::Digest;
 pub use exit::status;
 pub use formula_table::nodes_text;
 pub use found::Found;
-pub use lines::{RunReport, report, report_found, report_lanes};
+pub use lines::{RunReport, report, report_found};

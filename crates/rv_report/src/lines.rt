@@ -1,7 +1,6 @@
 //! The whole report.
-ghost use Rattle.std.specs.Prelude.{◌≡◌, List, flat_map, IfOk};
+ghost use Rattle.std.specs.Prelude.{◌≡◌, List, IfOk};
 ghost use Rattle.rv_model.specs.declared.record.Record.{Record};
-ghost use Rattle.rv_model.specs.Records.{sort_records};
 ghost use Rattle.rv_model.specs.Reports.{report_text};
 ghost use Rattle.rv_report.specs.Exit.{IsStatus};
 ghost use Rattle.rv_report.specs.Reported.{reported_of};
@@ -11,7 +10,7 @@ use crate::found::Found;
 use crate::reactions::react_to;
 use crate::summary::summaries;
 use rv_bind::Bindings;
-use rv_model::{Record, RecordList};
+use rv_model::Record;
 use rv_slots::Tasks;
 use rv_text::Line;
 use std::alloc::{AllocError, Global};
@@ -60,22 +59,4 @@ pub fn report(
     found.add_all(bindings, records)?;
     let done = report_found(alloc, bindings, tasks, &found)?;
     Ok(done.text)
-}
-
-/// The report of all lanes' records, in the order of the trace.
-pub fn report_lanes<L: RecordList>(
-    alloc: Global,
-    bindings: &Bindings,
-    tasks: &Tasks,
-    lanes: &[L],
-) -> Result<RunReport, AllocError>
-    ensures text { IfOk result (λ report. report.text.items ≡ report_text (reported_of bindings.now) tasks.now (sort_records (flat_map L.records lanes.now))) }
-    ensures status { IfOk result (λ report. IsStatus (flat_map L.records lanes.now) report.status) }
-{
-    let mut found = Found::new(alloc, bindings, tasks)?;
-    for lane in lanes {
-        found.add_lane(bindings, lane)?;
-    }
-    found.sort()?;
-    report_found(alloc, bindings, tasks, &found)
 }

@@ -2,7 +2,7 @@
 ghost use Rattle.std.specs.Prelude.{◌≡◌, ◌++◌, [], OnOk, IfOk, slice_get, slice_index_or};
 ghost use Rattle.rv_model.specs.Reports.{event_text, state_text, fault_text, record_text};
 ghost use Rattle.rv_react.specs.Reactions.{shown_fault};
-ghost use Rattle.rv_report.specs.Printed.{failed_set, is_loud, is_printed};
+ghost use Rattle.rv_report.specs.Printed.{failed_set, has_reaction, is_loud, is_printed};
 ghost use Rattle.rv_report.specs.inner.Printed.{reaction_to};
 ghost use Rattle.rv_report.specs.Reported.{reported, reported_of};
 
@@ -79,6 +79,13 @@ fn failed_set(made: &Record) -> Option<u32>
         Delivered::Done(Answer::Failed(set)) if made.reacting => Some(set),
         _ => None,
     }
+}
+
+/// Whether the record has a reaction where its monitor's reactor prints.
+pub(crate) fn has_reaction(made: &Record) -> bool
+    ensures { result ≡ has_reaction made.now }
+{
+    failed_set(made).is_some()
 }
 
 /// Whether the reactor prints.

@@ -2,7 +2,7 @@
 ghost use Rattle.std.specs.Prelude.{◌≡◌, ◌+◌, ◌<◌, ◌==◌, ◌||◌, ℕ, List, [], ◌∷◌, ◌++◌, false, length, count_by, IfOk, OnOk, slice_index_or, if◌then◌else◌};
 ghost use Rattle.rv_model.specs.declared.record.Record.{Record};
 ghost use Rattle.rv_model.specs.Records.{is_failure, is_stopped, is_ended};
-ghost use Rattle.rv_report.specs.Tallies.{IsTally};
+ghost use Rattle.rv_report.specs.Tallies.{IsTally, IsWholeTally, tally_value};
 
 use rv_model::{Answer, Delivered, Record};
 use std::alloc::{AllocError, Global};
@@ -34,22 +34,51 @@ fn is_ended(made: &Record) -> bool
     matches!(made.outcome, Delivered::Done(Answer::Ended))
 }
 
-/// One more where it counts. More than fit would be more records than there is memory for.
+/// Both. More than fit would be more records than there is memory for.
+fn sum(count: u64, more: u64) -> Result<u64, AllocError>
+    ensures { IfOk result (λ n. n ≡ count + more) }
+{
+    count.checked_add(more).ok_or(AllocError)
+}
+
+/// One more where it counts.
 fn more(count: u64, counts: bool) -> Result<u64, AllocError>
     ensures { IfOk result (λ n. n ≡ count + (if counts then 1 else 0)) }
 {
-    count.checked_add(u64::from(counts)).ok_or(AllocError)
+    sum(count, u64::from(counts))
 }
 
 /// Marks the instance, where there is such a one.
-fn mark(seen: &mut Vec<bool>, instance: u32)
+fn mark(seen: &mut Vec<bool>, instance: usize)
     ensures many { length seen.new.items ≡ length seen.old.items }
     ensures marked { (k : ℕ) → k < length seen.old.items → slice_index_or seen.new.items k false ≡ (slice_index_or seen.old.items k false || (instance == k)) }
 {
-    let place = instance as usize;
-    if place < seen.len() {
-        seen[place] = true;
+    if instance < seen.len() {
+        seen[instance] = true;
     }
+}
+
+/// Marks the instances that the others mark, where there are such.
+fn mark_all(seen: &mut Vec<bool>, others: &[bool])
+    ensures many { length seen.new.items ≡ length seen.old.items }
+    ensures marked { (k : ℕ) → k < length seen.old.items → slice_index_or seen.new.items k false ≡ (slice_index_or seen.old.items k false || slice_index_or others.now k false) }
+{
+    for place in 0..others.len() {
+        if others[place] {
+            mark(seen, place);
+        }
+    }
+}
+
+/// There is room for a mark of the instance.
+fn reach(seen: &mut Vec<bool>, instance: usize) -> Result<(), AllocError>
+    ensures many { OnOk result (instance < length seen.new.items) }
+    ensures same { OnOk result ((k : ℕ) → slice_index_or seen.new.items k false ≡ slice_index_or seen.old.items k false) }
+{
+    while seen.len() <= instance {
+        seen.push(false)?;
+    }
+    Ok(())
 }
 
 impl Tally {
@@ -73,10 +102,29 @@ impl Tally {
         if is_ended(made) {
             return Ok(());
         }
-        mark(&mut self.seen, made.instance);
+        mark(&mut self.seen, made.instance as usize);
         self.deliveries = more(self.deliveries, true)?;
         self.failures = more(self.failures, is_failure(made))?;
         self.stopped = more(self.stopped, is_stopped(made))?;
+        Ok(())
+    }
+
+    /// Counts a record of the monitor, whatever its instance.
+    pub(crate) fn add_any(&mut self, made: &Record) -> Result<(), AllocError>
+        ensures { OnOk result ((rs : List Record) → IsWholeTally made.now.monitor rs (tally_value self.old) → IsWholeTally made.now.monitor (rs ++ made.now ∷ []) (tally_value self.new)) }
+    {
+        reach(&mut self.seen, made.instance as usize)?;
+        self.add(made)
+    }
+
+    /// Counts the records of another tally.
+    pub(crate) fn join(&mut self, other: &Tally) -> Result<(), AllocError>
+        ensures { OnOk result ((monitor instances : ℕ) (rs more : List Record) → IsTally monitor instances rs self.old → IsWholeTally monitor more (tally_value other.now) → IsTally monitor instances (rs ++ more) self.new) }
+    {
+        mark_all(&mut self.seen, other.seen.as_slice());
+        self.deliveries = sum(self.deliveries, other.deliveries)?;
+        self.failures = sum(self.failures, other.failures)?;
+        self.stopped = sum(self.stopped, other.stopped)?;
         Ok(())
     }
 

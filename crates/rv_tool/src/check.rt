@@ -16,9 +16,10 @@ use crate::input::{Prepared, read_input};
 use rv_bind::{BindFault, fetch};
 use rv_check::{Checker, JournalReader, Verdict};
 use rv_core::Setup;
-use rv_feed::{CompactLane, is_panic};
+use rv_feed::{RecordingLane, is_panic};
 use rv_io::Store;
 use rv_model::{CpuWork, Reactor};
+use rv_replay::Digested;
 use rv_text::{CLEAN, FAILURE, Line};
 use std::alloc::{AllocError, Global};
 
@@ -67,7 +68,10 @@ fn panic_bits(reactors: &[Reactor]) -> u32
 }
 
 /// What the lanes have to do.
-pub(crate) fn works(alloc: Global, lanes: Vec<CompactLane>) -> Result<Vec<CpuWork>, AllocError>
+pub(crate) fn works(
+    alloc: Global,
+    lanes: Vec<RecordingLane<Digested>>,
+) -> Result<Vec<CpuWork>, AllocError>
     ensures { IfOk result (λ works. works.items ≡ works_of lanes.items) }
 {
     let mut works = Vec::new(alloc);
@@ -82,7 +86,7 @@ fn reader_of(
     alloc: Global,
     setup: Setup,
     panics: u32,
-    lanes: Vec<CompactLane>,
+    lanes: Vec<RecordingLane<Digested>>,
 ) -> Result<JournalReader, AllocError>
     requires { FitLanes setup lanes.items }
     ensures begins { IfOk result (λ reader. reader ≡ record { journal = record { setup = setup; panics = panics; works = works_of lanes.items; text = [] }; stopped = false }) }

@@ -16,9 +16,10 @@ use rv_stream::read_routed;
 use rv_bind::{BindFault, Bindings, Bound, Monitor, read_bindings};
 use rv_control::opening_switches;
 use rv_core::Setup;
-use rv_feed::{CompactLane, assert_lanes};
+use rv_feed::{RecordingLane, assert_lanes};
 use rv_io::Store;
 use rv_model::{Change, CpuWork, Reactor, Scope};
+use rv_replay::Digested;
 use rv_route::Routed;
 use rv_slots::{Shape, Tasks};
 use rv_table::Table;
@@ -31,7 +32,7 @@ pub(crate) struct Prepared {
     pub(crate) tasks: Tasks,
     pub(crate) setup: Setup,
     pub(crate) reactors: Vec<Reactor>,
-    pub(crate) lanes: Vec<CompactLane>,
+    pub(crate) lanes: Vec<RecordingLane<Digested>>,
     pub(crate) changes: Vec<Change>,
 }
 
@@ -180,12 +181,12 @@ fn reactors(alloc: Global, monitors: &[Monitor]) -> Result<Vec<Reactor>, AllocEr
 }
 
 /// A lane for each work.
-fn lanes(alloc: Global, works: Vec<CpuWork>) -> Result<Vec<CompactLane>, AllocError>
+fn lanes(alloc: Global, works: Vec<CpuWork>) -> Result<Vec<RecordingLane<Digested>>, AllocError>
     ensures { IfOk result (λ lanes. (works_of lanes.items ≡ works.items) × All (λ lane. IsNewLane lane.work lane) lanes.items) }
 {
     let mut lanes = Vec::new(alloc);
     for work in works {
-        let lane = CompactLane::new(alloc, work)?;
+        let lane = RecordingLane::new(work, Digested::new(alloc));
         lanes.push(lane)?;
     }
     Ok(lanes)

@@ -8,10 +8,10 @@ ghost use Rattle.rv_tool.specs.inner.Listed.{listed_value, IsPreparedList};
 
 use crate::listed::PreparedList;
 use rv_bind::Bindings;
-use rv_feed::CompactLane;
+use rv_feed::RecordingLane;
 use rv_model::Closed;
-use rv_replay::{Replayed, replay_list};
-use rv_report::{RunReport, report_found, report_lanes};
+use rv_replay::{Digested, Replayed, replay_list, report_lanes};
+use rv_report::{RunReport, report_found};
 use rv_slots::Tasks;
 use std::alloc::{AllocError, Global};
 
@@ -28,7 +28,7 @@ pub(crate) fn report(
     alloc: Global,
     bindings: &Bindings,
     tasks: &Tasks,
-    lanes: &[CompactLane],
+    lanes: &[RecordingLane<Digested>],
     closed: Closed,
 ) -> Result<FinishedRun, AllocError>
     ensures { IfOk result (ReportsLanes bindings.now tasks.now (lane_records lanes.now) closed) }

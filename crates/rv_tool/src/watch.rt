@@ -14,6 +14,7 @@ use crate::input::{Prepared, read_input};
 use crate::replay::{FinishedRun, report};
 use rv_bind::{BindFault, Bindings, refused};
 use rv_io::{Gate, Store};
+use rv_replay::Digested;
 use rv_slots::Tasks;
 use rv_text::{NO_INSTANCE, Refusal, Refused};
 use rv_watch::{Watched, feed_watched, watch_lines, watched_slot};
@@ -79,7 +80,7 @@ fn report_watched(
     alloc: Global,
     bindings: &Bindings,
     tasks: &Tasks,
-    run: Watched,
+    run: Watched<Digested>,
 ) -> Result<FinishedRun, AllocError>
     ensures { IfOk result (ReportsWatched bindings.now tasks.now run) }
 {

@@ -19,11 +19,11 @@ pub record ReportsLanes (bindings : Bindings) (tasks : List Task) (rs : List Rec
   pub history_is : done.closed ≡ h
 
 -- the report of a watched run, and behind it the words of the slot
-abbrev pub watch_report_text : Bindings → List Task → Watched → List ℕ
+abbrev pub watch_report_text : {C : Type 0} → Bindings → List Task → Watched C → List ℕ
 watch_report_text bindings tasks run = report_text (reported_of bindings) tasks (sort_records (lane_records run.lanes.items)) ++ words_text (run.words.items ++ run.last ∷ [])
 
 -- the text is the report and the words of the run, the status is that of its records, and the history is its own
-pub record ReportsWatched (bindings : Bindings) (tasks : List Task) (run : Watched) (done : FinishedRun) : Type 0 where
+pub record ReportsWatched {C : Type 0} (bindings : Bindings) (tasks : List Task) (run : Watched C) (done : FinishedRun) : Type 0 where
   pub text_is : done.text.items ≡ watch_report_text bindings tasks run
   pub status_is : done.status ≡ status_of (lane_records run.lanes.items)
   pub history_is : done.closed ≡ run.closed

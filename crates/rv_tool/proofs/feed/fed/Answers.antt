@@ -1,14 +1,19 @@
+use denote.Param.Send.{sendable}
 use Rattle.std.proofs.Common.{List, refl, ◌∙◌, subst}
 use Rattle.std.specs.Prelude.{IfOk}
 use Rattle.std.proofs.lemmas.Result.{IfOk-weaker}
 use Rattle.rv_model.specs.Histories.{IsLegal}
 use Rattle.rv_feed.specs.Lane.{LaneValue, lane_records, works_of}
+use Rattle.rv_replay.proofs.SendLemmas.{digested-send}
 use Rattle.rv_tool.specs.declared.replay.FinishedRun.{FinishedRun}
 use Rattle.rv_tool.specs.Headline.{IsReported}
 use Rattle.rv_tool.specs.inner.LaneReports.{ReportsLanes}
 use Rattle.rv_tool.specs.inner.Prepared.{prepared_value}
 use Rattle.rv_tool.proofs.ReportedLemmas.{reported_is}
 use Rattle.rv_tool.proofs.feed.fed.Goals as goal
+
+pub feed-requires-send-C : goal.feed-requires-send-C
+feed-requires-send-C g c κs within = search (sendable, digested-send) depth 20
 
 pub returns : goal.returns
 returns g c =

@@ -2,7 +2,7 @@
 use Rattle.std.proofs.Common.{ℕ, ◌<◌, get_or}
 use Rattle.rv_model.specs.Works.{IsWork}
 use Rattle.rv_feed.specs.Lane.{LaneValue}
-use Rattle.rv_feed.proofs.compact.assert_lanes.Given as goal
+use Rattle.rv_feed.proofs.recording.assert_lanes.Given as goal
 
 abbrev pub invariant-loop-lane : goal.invariant-loop-lane
-invariant-loop-lane l = (place : ℕ) (d : LaneValue) → place < l.lane-index → IsWork (get_or l.lanes place d).work
+invariant-loop-lane g l = (place : ℕ) (d : LaneValue) → place < l.lane-index → IsWork (get_or l.lanes place d).work
