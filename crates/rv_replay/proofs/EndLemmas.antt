@@ -4,13 +4,12 @@ use Rattle.std.specs.Prelude.{All}
 use Rattle.std.proofs.lemmas.List.{take_all}
 use Rattle.std.proofs.lemmas.List.Elements.{All-nil}
 use Rattle.rv_model.specs.declared.record.Record.{Record}
+use Rattle.rv_model.specs.declared.record.Task.{Task}
 use Rattle.rv_model.specs.Records.{records_with}
-use Rattle.rv_model.specs.Reports.{Reported}
 use Rattle.rv_core.specs.Core.{CoreValue}
 use Rattle.rv_feed.specs.Lane.{LaneValue}
 use Rattle.rv_feed.specs.inner.SoFar.{IsPending}
 use Rattle.rv_feed.proofs.RunLemmas.{run-start, run-end}
-use Rattle.rv_report.specs.Tallies.{FoundValue}
 use Rattle.rv_route.specs.LineByLine.{no_lane}
 use Rattle.rv_route.specs.Listing.{ListedDelivery, works_listed}
 use Rattle.rv_replay.specs.inner.Own.{own}
@@ -18,7 +17,8 @@ use Rattle.rv_replay.specs.Lists.{FitsList, fresh_lanes}
 use Rattle.rv_replay.specs.inner.Walks.{Stands, WalkSoFar, WalksList}
 use Rattle.rv_replay.proofs.FollowLemmas.{lanes-own, fresh-none}
 use Rattle.rv_replay.proofs.GrownLemmas.{kept-sorted}
-use Rattle.rv_replay.proofs.ListedLemmas.{finds-nothing, orders-none}
+use Rattle.rv_replay.proofs.ListedLemmas.{orders-none}
+use Rattle.rv_replay.proofs.ObserveLemmas.{observes-none}
 use Rattle.rv_replay.proofs.OwnWorkLemmas.{IsOwn}
 
 -- ---- the ends
@@ -35,13 +35,13 @@ unfolding own
 own-none cpu list = refl
 
 -- before the first turn
-pub walk-start : (monitors : List Reported) (panics : ℕ → Bool) (old : CoreValue) (list : List ListedDelivery) (found : FoundValue) → FitsList old.setup list → WalkSoFar monitors panics old old list (replicate 64 false) 0 found found
-walk-start monitors panics old list found ok =
+pub walk-start : {O : Type 0} (observed : List Task → CoreValue → List Record → O → Type 0) (panics : ℕ → Bool) (old : CoreValue) (list : List ListedDelivery) (o : O) → FitsList old.setup list → WalkSoFar observed panics old old list (replicate 64 false) 0 o o
+walk-start observed panics old list o ok =
     let first : List LaneValue = fresh_lanes (works_listed list) in
     let none = fresh-none (works_listed list) in
     record {
       rs = [];
-      finds = finds-nothing monitors found;
+      observes = observes-none observed old o;
       orders = orders-none 0;
       lanes = first;
       places = replicate 64 0;
@@ -58,11 +58,11 @@ walk-start monitors panics old list found ok =
     }
 
 -- after the last turn
-pub walk-end : (monitors : List Reported) (panics : ℕ → Bool) (old cur : CoreValue) (list : List ListedDelivery) (ended : List Bool) (at : ℕ) (found found' : FoundValue) → length list ≤ at
-    → WalkSoFar monitors panics old cur list ended at found found' → WalksList monitors panics old cur list found found'
-walk-end monitors panics old cur list ended at found found' all walk = record {
+pub walk-end : {O : Type 0} (observed : List Task → CoreValue → List Record → O → Type 0) (panics : ℕ → Bool) (old cur : CoreValue) (list : List ListedDelivery) (ended : List Bool) (at : ℕ) (o o' : O) → length list ≤ at
+    → WalkSoFar observed panics old cur list ended at o o' → WalksList observed panics old cur list o o'
+walk-end observed panics old cur list ended at o o' all walk = record {
   rs = walk.rs;
-  finds = walk.finds;
+  observes = walk.observes;
   lanes = walk.lanes;
   ran = run-end panics old cur (fresh_lanes (works_listed list)) walk.lanes walk.places walk.line walk.run (λ k d lt pend. done (get_or walk.lanes k d) (lanes-own list walk.lanes walk.run.same_works k d lt) (walk.stand k d lt) pend);
   sorted = kept-sorted at walk.rs walk.lanes walk.orders walk.kept;

@@ -3,6 +3,7 @@ pub mod FollowLemmas
 pub mod GroupLemmas
 pub mod GrownLemmas
 pub mod ListedLemmas
+pub mod ObserveLemmas
 pub mod OwnLemmas
 pub mod OwnWorkLemmas
 pub mod PresentLemmas

@@ -1,11 +1,11 @@
 -- A walk over a list: from one turn to the next.
-use Rattle.std.proofs.Common.{◌≡◌, ◌≢◌, ℕ, ◌+◌, ◌-◌, ◌<◌, ◌≤◌, Bool, true, false, List, [], ◌++◌, length, get_or, set, take, refl, sym, ap, ◌∙◌, subst, arith, append_assoc, true≢false}
+use Rattle.std.proofs.Common.{◌≡◌, ◌≢◌, ℕ, ◌+◌, ◌-◌, ◌<◌, ◌≤◌, Bool, true, false, List, [], ◌++◌, length, get_or, set, take, refl, sym, ap, ◌∙◌, subst, arith, true≢false}
 use Rattle.std.specs.Prelude.{All, AllPairs, if◌then◌else◌}
 use Rattle.std.proofs.lemmas.List.{get_or_default}
 use Rattle.std.proofs.lemmas.List.Elements.{All-append, All-set, All-weaker}
 use Rattle.rv_model.specs.declared.record.Record.{Record}
+use Rattle.rv_model.specs.declared.record.Task.{Task}
 use Rattle.rv_model.specs.declared.work.Turn.{Turn}
-use Rattle.rv_model.specs.Reports.{Reported}
 use Rattle.rv_model.specs.Works.{Work}
 use Rattle.rv_model.proofs.SeatLemmas.{line-index}
 use Rattle.rv_core.specs.Core.{CoreValue}
@@ -14,7 +14,6 @@ use Rattle.rv_feed.specs.inner.SoFar.{IsPending, PlaysNext, next_line, next_turn
 use Rattle.rv_feed.specs.inner.Turns.{Did, PlaysTurn}
 use Rattle.rv_feed.proofs.LaneLemmas.{pairs-from, pairs-to}
 use Rattle.rv_feed.proofs.RunLemmas.{run-played}
-use Rattle.rv_report.specs.Tallies.{IsFound, FoundValue}
 use Rattle.rv_route.specs.Listing.{ListedDelivery, works_listed}
 use Rattle.rv_replay.specs.inner.Own.{own}
 use Rattle.rv_replay.specs.Lists.{FitsList, fresh_lanes}
@@ -24,6 +23,7 @@ use Rattle.rv_replay.proofs.FollowLemmas.{LaneThere, cpu-lane, lanes-own, listed
 use Rattle.rv_replay.proofs.GroupLemmas.{TurnThere, turn-there, next-least}
 use Rattle.rv_replay.proofs.GrownLemmas.{kept-more}
 use Rattle.rv_replay.proofs.ListedLemmas.{orders-wider}
+use Rattle.rv_replay.proofs.ObserveLemmas.{observes-then}
 use Rattle.rv_replay.proofs.OwnLemmas.{front, front-others}
 use Rattle.rv_replay.proofs.OwnWorkLemmas.{IsOwn, own_work, own-is_work}
 use Rattle.rv_replay.proofs.PresentLemmas.{same-cpu}
@@ -31,10 +31,10 @@ use Rattle.rv_replay.proofs.StandLemmas.{stands-on}
 
 -- ---- one turn
 
-module _ (monitors : List Reported) (panics : ℕ → Bool) (old cur : CoreValue) (list : List ListedDelivery) (ended : List Bool) (from to : ℕ) (found found' : FoundValue) (d : ListedDelivery)
+module _ {O : Type 0} (observed : List Task → CoreValue → List Record → O → Type 0) (panics : ℕ → Bool) (old cur : CoreValue) (list : List ListedDelivery) (ended : List Bool) (from to : ℕ) (o o' : O) (d : ListedDelivery)
     (ok : FitsList old.setup list) (many : length ended ≡ 64) (low : from < to) (high : to ≤ length list)
     (same : (k : ℕ) (e : ListedDelivery) → from ≤ k → k < to → (get_or list k e).line ≡ (get_or list from e).line) (last : (e : ListedDelivery) → to < length list → (get_or list to e).line ≢ (get_or list from e).line)
-    (walk : WalkSoFar monitors panics old cur list ended from found found') where
+    (walk : WalkSoFar observed panics old cur list ended from o o') where
   -- the lanes of the walk, and the CPU and the line of the turn
   abbrev lanes : List LaneValue
   lanes = walk.lanes
@@ -66,10 +66,10 @@ module _ (monitors : List Reported) (panics : ℕ → Bool) (old cur : CoreValue
   wider l all = All-weaker (λ (r : Record). r.order < from) (λ (r : Record). r.order < to) (λ r h. omega arith) l.records all
 
   -- the CPU's script has ended
-  pub walk-skip : get_or ended cpu false ≡ true → WalkSoFar monitors panics old cur list ended to found found'
+  pub walk-skip : get_or ended cpu false ≡ true → WalkSoFar observed panics old cur list ended to o o'
   walk-skip on = record {
     rs = walk.rs;
-    finds = walk.finds;
+    observes = walk.observes;
     orders = orders-wider 0 from to walk.rs (omega arith) walk.orders;
     lanes = lanes;
     places = walk.places;
@@ -156,7 +156,7 @@ module _ (monitors : List Reported) (panics : ℕ → Bool) (old cur : CoreValue
             omega arith
 
     -- the CPU played its turn
-    module _ (new : CoreValue) (found'' : FoundValue) (ends : Bool) (played : PlaysListed monitors panics cpu cur new list from to found' found'' ends) where
+    module _ (new : CoreValue) (o'' : O) (ends : Bool) (played : PlaysListed observed panics cpu cur new list from to o' o'' ends) where
       abbrev l' : LaneValue
       l' = with_records l played.rs
 
@@ -181,10 +181,10 @@ module _ (monitors : List Reported) (panics : ℕ → Bool) (old cur : CoreValue
           (next.next ∙ ap (λ (n : ℕ). n + 1) (sym place_is)) other-front walk.stand
 
       -- the walk behind it
-      pub walk-played : WalkSoFar monitors panics old new list (set ended cpu ends) to found found''
+      pub walk-played : WalkSoFar observed panics old new list (set ended cpu ends) to o o''
       walk-played = record {
         rs = walk.rs ++ played.rs;
-        finds = λ tasks us is. subst (λ (z : List Record). IsFound monitors tasks z found'') (append_assoc us walk.rs played.rs) (played.finds tasks (us ++ walk.rs) (walk.finds tasks us is));
+        observes = observes-then observed walk.rs played.rs old cur new o o' o'' walk.observes played.observes;
         orders = orders-join 0 from to walk.rs played.rs (omega arith) (omega arith) walk.orders played.orders;
         lanes = set lanes k l';
         places = set walk.places l.work.cpu place';

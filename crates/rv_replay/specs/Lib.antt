@@ -1,3 +1,4 @@
 pub mod Lists
+pub mod Observing
 pub mod Walks
 pub mod inner

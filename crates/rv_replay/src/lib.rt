@@ -3,8 +3,10 @@
 #![tactic(auto)]
 
 mod digested;
+mod observer;
 mod turn;
 mod walk;
 
 pub use digested::{Digested, report_lanes};
-pub use walk::{Replayed, replay_list};
+pub use observer::Observer;
+pub use walk::{Replayed, observe_list, replay_list};

@@ -5,8 +5,10 @@ ghost use Rattle.rv_report.specs.Reported.{reported_of};
 ghost use Rattle.rv_route.specs.Listing.{ListedDelivery};
 ghost use Rattle.rv_replay.specs.Lists.{FitsList};
 ghost use Rattle.rv_replay.specs.inner.Walks.{WalksList};
+ghost use Rattle.rv_replay.specs.Observing.{RunsObserved};
 ghost use Rattle.rv_replay.specs.Walks.{RunsList};
 
+use crate::observer::Observer;
 use crate::turn::play_turn;
 use rv_bind::Bindings;
 use rv_core::{Core, Setup};
@@ -41,15 +43,15 @@ fn turn_end(list: &DeliveryList, from: usize) -> usize
 }
 
 /// Plays all turns.
-fn walk(
+fn walk<O: Observer>(
     core: &mut Core,
-    bindings: &Bindings,
+    context: &O::Context,
     reactors: &[Reactor],
     list: &DeliveryList,
-    found: &mut Found,
+    observer: &mut O,
 ) -> Result<(), AllocError>
     requires { FitsList core.old.setup list.now }
-    ensures { OnOk result (WalksList (reported_of bindings.now) (panics_of reactors.now) core.old core.new list.now found.old found.new) }
+    ensures { OnOk result (WalksList (O.observed context.now) (panics_of reactors.now) core.old core.new list.now observer.old observer.new) }
 {
     let mut ended: [bool; 64] = [false; 64];
     let mut from: usize = 0;
@@ -57,15 +59,33 @@ fn walk(
         let to = turn_end(list, from);
         let cpu = list.cpu(from) as usize;
         if !ended[cpu] {
-            ended[cpu] = play_turn(core, bindings, reactors, list, from, to, found)?;
+            ended[cpu] = play_turn(core, context, reactors, list, from, to, observer)?;
         }
         from = to;
     }
     Ok(())
 }
 
-/// Runs the deliveries of the list, and counts each record when it is made. The one error is want of memory, which may
-/// come in the middle of the run.
+/// Runs the deliveries of the list, and tells the observer of each when it is made. The one error is want of memory, which
+/// may come in the middle of the run.
+pub fn observe_list<O: Observer>(
+    alloc: Global,
+    setup: Setup,
+    context: &O::Context,
+    reactors: &[Reactor],
+    list: &DeliveryList,
+    observer: &mut O,
+) -> Result<Closed, AllocError>
+    requires { FitsList setup list.now }
+    ensures { IfOk result (RunsObserved (O.observed context.now) setup (panics_of reactors.now) list.now observer.old observer.new) }
+{
+    let mut core = Core::new(alloc, setup)?;
+    walk(&mut core, context, reactors, list, observer)?;
+    core.assert_invariant();
+    Ok(core.close())
+}
+
+/// The same, each record being counted for the report.
 pub fn replay_list(
     alloc: Global,
     setup: Setup,
@@ -77,12 +97,7 @@ pub fn replay_list(
     requires { FitsList setup list.now }
     ensures { IfOk result (RunsList (reported_of bindings.now) tasks.now setup (panics_of reactors.now) list.now) }
 {
-    let mut core = Core::new(alloc, setup)?;
     let mut found = Found::new(alloc, bindings, tasks)?;
-    walk(&mut core, bindings, reactors, list, &mut found)?;
-    core.assert_invariant();
-    Ok(Replayed {
-        closed: core.close(),
-        found,
-    })
+    let closed = observe_list(alloc, setup, bindings, reactors, list, &mut found)?;
+    Ok(Replayed { closed, found })
 }

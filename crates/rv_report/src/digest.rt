@@ -41,6 +41,7 @@ fn reach(alloc: Global, tallies: &mut Vec<Tally>, monitor: usize) -> Result<(), 
 }
 
 /// Counts a record.
+#[inline(always)]
 fn count(alloc: Global, tallies: &mut Vec<Tally>, made: &Record) -> Result<(), AllocError>
     ensures { OnOk result ((rs : List Record) → AreWhole rs tallies.old.items → AreWhole (rs ++ made.now ∷ []) tallies.new.items) }
 {
@@ -63,6 +64,7 @@ impl Digest {
     }
 
     /// One record more.
+    #[inline(always)]
     pub fn add(&mut self, made: &Record) -> Result<(), AllocError>
         ensures { OnOk result ((rs : List Record) → IsDigest rs self.old → IsDigest (rs ++ made.now ∷ []) self.new) }
     {

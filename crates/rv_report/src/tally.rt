@@ -96,6 +96,7 @@ impl Tally {
     }
 
     /// Counts a record of the monitor. An end is not counted.
+    #[inline(always)]
     pub(crate) fn add(&mut self, made: &Record) -> Result<(), AllocError>
         ensures { OnOk result ((instances : ℕ) (rs : List Record) → IsTally made.now.monitor instances rs self.old → IsTally made.now.monitor instances (rs ++ made.now ∷ []) self.new) }
     {
@@ -110,6 +111,7 @@ impl Tally {
     }
 
     /// Counts a record of the monitor, whatever its instance.
+    #[inline(always)]
     pub(crate) fn add_any(&mut self, made: &Record) -> Result<(), AllocError>
         ensures { OnOk result ((rs : List Record) → IsWholeTally made.now.monitor rs (tally_value self.old) → IsWholeTally made.now.monitor (rs ++ made.now ∷ []) (tally_value self.new)) }
     {

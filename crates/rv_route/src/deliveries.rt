@@ -45,6 +45,7 @@ impl Model for Deliveries {
 
 impl Deliveries {
     /// Appends a delivery to the list.
+    #[inline(always)]
     fn list(&mut self, line: &TraceLine, place: usize, instance: u32) -> Result<(), Refused>
         requires cpu { line.now.cpu < 64 }
         requires listed { self.old.listed ≡ true }
@@ -65,6 +66,7 @@ impl Deliveries {
     }
 
     /// Appends a delivery to its CPU's, or to the list. The rule stands at this place.
+    #[inline(always)]
     fn deliver(
         &mut self,
         line: &TraceLine,
@@ -99,6 +101,7 @@ impl Deliveries {
     }
 
     /// Does what a rule that asks so does, which stands at this place.
+    #[inline(always)]
     pub(crate) fn answer(
         &mut self,
         line: &TraceLine,

@@ -1,40 +1,8 @@
--- The run of a fresh machine.
-use Rattle.std.proofs.Common.{◌≡◌, List, [], sym, ap, ◌∙◌, subst}
-use Rattle.rv_model.specs.declared.entry.Entry.{Entry}
-use Rattle.rv_model.specs.Histories.{Replays}
-use Rattle.rv_model.specs.Setups.{Setup}
-use Rattle.rv_core.specs.Core.{CoreValue}
-use Rattle.rv_core.specs.Judged.{JudgesBySpecs}
-use Rattle.rv_core.specs.Setup.{judges_of}
-use Rattle.rv_feed.specs.Lane.{LaneValue, lane_records, panics_of}
-use Rattle.rv_feed.specs.Order.{Ran}
-use Rattle.rv_feed.proofs.OneLemmas.{one-of-run}
-use Rattle.rv_route.specs.Listing.{works_listed}
-use Rattle.rv_replay.specs.Lists.{fresh_lanes}
-use Rattle.rv_replay.proofs.RunLemmas.{sorted-twice, run-sorted}
+-- What was observed is what was found.
+use Rattle.std.proofs.Common.{[]}
 use Rattle.rv_replay.proofs.walk.replay_list.Goals as goal
 
 pub returns : goal.returns
 returns c =
-    let s : Setup = c.args.setup in
-    let first : CoreValue = c.in_ok-core.core in
-    let last : CoreValue = c.walk.new.core in
-    let h : List Entry = c.close.result in
-    let walks = c.in_ok-walk.ensures in
-    let opens : first ≡ record { setup = s; history = [] } = c.in_ok-core.ensures in
-    let setup_is : last.setup ≡ s = ap (λ (v : CoreValue). v.setup) walks.ran.grows ∙ ap (λ (v : CoreValue). v.setup) opens in
-    let history_is : last.history ≡ h = sym c.close.ensures in
-    let end : CoreValue = record { setup = s; history = h } in
-    let last_is : last ≡ end = λ i. record { setup = setup_is i; history = history_is i } in
-    let panics = panics_of c.args.reactors.now in
-    let works = works_listed c.args.list.now in
-    let lanes : List LaneValue = fresh_lanes works in
-    let ran = subst (λ (v : CoreValue). Ran panics v end lanes walks.lanes) opens (subst (λ (v : CoreValue). Ran panics first v lanes walks.lanes) last_is walks.ran) in
-    record {
-      rs = walks.rs;
-      ascend = sorted-twice walks.rs (lane_records walks.lanes) walks.sorted;
-      is_run = λ specs mean. run-sorted s panics works walks.lanes specs walks.rs h walks.sorted
-          (one-of-run s panics h lanes walks.lanes specs (subst JudgesBySpecs setup_is c.assert_invariant.ensures.judges specs mean)
-          (subst (λ (v : CoreValue). Replays v.setup (judges_of v.setup) v.history) last_is c.assert_invariant.ensures.replays) ran);
-      is_found = walks.finds c.args.tasks.now [] c.in_ok-found.ensures;
-    }
+    let run = c.in_ok-closed.ensures in
+    record { rs = run.rs; ascend = run.ascend; is_run = run.is_run; is_found = run.observes c.args.tasks.now [] c.in_ok-found.ensures }
