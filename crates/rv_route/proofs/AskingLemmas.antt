@@ -8,8 +8,8 @@ use Rattle.rv_trace.specs.declared.line.Span.{Span}
 use Rattle.rv_trace.specs.declared.line.TraceLine.{TraceLine}
 use Rattle.rv_bind.specs.declared.bindings.Test.{Test}
 use Rattle.rv_bind.specs.declared.bindings.Test.TheVariants.{Is, IsNot}
-use Rattle.rv_route.specs.Asking.{text_at, holds, pid_of}
-use Rattle.rv_route.specs.inner.Asking.{value_found, pid_found}
+use Rattle.rv_route.specs.Asking.{text_at, holds, pid_of, value_found}
+use Rattle.rv_route.specs.inner.Asking.{pid_found}
 use Rattle.rv_route.specs.FieldTests.{test_holds, tests_hold}
 use Rattle.rv_route.specs.Events.{tested_field, tested_fields}
 use Rattle.rv_trace.specs.FoundFields.{found_at}

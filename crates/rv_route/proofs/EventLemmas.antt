@@ -2,7 +2,7 @@
 use Rattle.std.proofs.Common.{◌≡◌, ℕ, zero, suc, ◌+◌, ◌<◌, Bool, true, cond, List, [], ◌∷◌, ◌++◌, length, get_or, take, map, Option, Some, None, refl, sym, ap, ap₂, ◌∙◌, subst, arith}
 use Rattle.std.specs.Prelude.{filter, option_map, bytes_eq, slice_get}
 use Rattle.std.specs.List.{AllZip}
-use Rattle.std.proofs.lemmas.List.{map_push, take_more}
+use Rattle.std.proofs.lemmas.List.{append_assoc, append-nil, length-take, map_push, take_more}
 use Rattle.std.proofs.lemmas.List.Elements.{filter_more}
 use Rattle.std.proofs.lemmas.Option.{slice_get-map, get_or_from_slice_get}
 use Rattle.std.proofs.lemmas.Slice.Eq.{bytes_eq-Decides}
@@ -11,8 +11,7 @@ use Rattle.rv_trace.specs.declared.line.Span.{Span}
 use Rattle.rv_bind.specs.declared.bindings.Test.{Test}
 use Rattle.rv_bind.specs.RuleValues.{OnValue}
 use Rattle.rv_route.specs.declared.event.Asked.{Asked}
-use Rattle.rv_route.specs.Events.{HasFields, IsAsked, tested_field, tested_fields, is_on_event}
-use Rattle.rv_route.specs.inner.Events.{HasFound}
+use Rattle.rv_route.specs.Events.{HasFields, IsAsked, tested_field, tested_fields, is_on_event, places_on, HasFound}
 use Rattle.rv_trace.specs.FoundFields.{Extends, found_at, AreFound}
 
 -- equal bytes are equal
@@ -146,3 +145,24 @@ pub on-more : (all : List OnValue) (event name : List ℕ) (i : ℕ) (rule : OnV
 on-more all event name i rule on inside is named on_is =
     let here : is_on_event event rule ≡ on = sym (on_is ∙ ap (bytes_eq event) named) in
     filter_more (is_on_event event) all i rule inside ∙ ap (λ (r : OnValue). filter (is_on_event event) (take i all) ++ cond (is_on_event event r) (r ∷ []) []) (sym is) ∙ ap (λ (b : Bool). filter (is_on_event event) (take i all) ++ cond b (rule ∷ []) []) here
+
+-- one more rule stands at the place behind the others
+placed-push : (event : List ℕ) (place : ℕ) (rules : List OnValue) (rule : OnValue) → places_on event place (rules ++ rule ∷ []) ≡ places_on event place rules ++ cond (is_on_event event rule) ((place + length rules) ∷ []) []
+placed-push event place [] rule =
+    let same : place ≡ place + 0 = omega arith in
+    append-nil (cond (is_on_event event rule) (place ∷ []) []) ∙ ap (λ (p : ℕ). cond (is_on_event event rule) (p ∷ []) []) same
+placed-push event place (first ∷ rules) rule =
+    let here : List ℕ = cond (is_on_event event first) (place ∷ []) [] in
+    let same : place + 1 + length rules ≡ place + length (first ∷ rules) = omega arith in
+    ap (λ (ps : List ℕ). here ++ ps) (placed-push event (place + 1) rules rule ∙ ap (λ (p : ℕ). places_on event (place + 1) rules ++ cond (is_on_event event rule) (p ∷ []) []) same)
+    ∙ sym (append_assoc here (places_on event (place + 1) rules) (cond (is_on_event event rule) ((place + length (first ∷ rules)) ∷ []) []))
+
+-- the place of one more rule is among those on the event, or is not
+pub placed-more : (all : List OnValue) (event name : List ℕ) (i : ℕ) (rule : OnValue) (on : Bool) → i < length all → rule ≡ get_or all i rule → name ≡ rule.event → on ≡ bytes_eq event name
+    → places_on event 0 (take (i + 1) all) ≡ places_on event 0 (take i all) ++ cond on (i ∷ []) []
+placed-more all event name i rule on inside is named on_is =
+    let here : is_on_event event rule ≡ on = sym (on_is ∙ ap (bytes_eq event) named) in
+    let last : 0 + length (take i all) ≡ i = omega (arith, length-take i all) in
+    ap (places_on event 0) (take_more all i rule inside ∙ ap (λ (r : OnValue). take i all ++ r ∷ []) (sym is))
+    ∙ placed-push event 0 (take i all) rule
+    ∙ ap₂ (λ (b : Bool) (p : ℕ). places_on event 0 (take i all) ++ cond b (p ∷ []) []) here last

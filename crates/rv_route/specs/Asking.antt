@@ -6,6 +6,7 @@ use Rattle.rv_text.specs.Decimal.{decimal_of}
 use Rattle.rv_model.specs.declared.work.Scope.{Scope}
 use Rattle.rv_model.specs.declared.work.Scope.TheVariants as scopes
 use Rattle.rv_trace.specs.Fields.{field_of}
+use Rattle.rv_trace.specs.FoundFields.{found_at}
 use Rattle.rv_trace.specs.declared.line.Span.{Span}
 use Rattle.rv_trace.specs.declared.line.TraceLine.{TraceLine}
 use Rattle.rv_bind.specs.declared.bindings.Monitor.{Monitor}
@@ -22,6 +23,10 @@ text_at text span = between text span.from span.to
 -- the value of a field
 abbrev pub field_value : List ℕ → List ℕ → Option (List ℕ)
 field_value fields name = option_map (text_at fields) (field_of fields name)
+
+-- what the field has that was looked up at a place
+abbrev pub value_found : List ℕ → List (Option Span) → ℕ → Option (List ℕ)
+value_found fields found place = option_map (text_at fields) (found_at found place)
 
 -- there is a value, and it is the wanted one
 abbrev pub has_value : List ℕ → Option (List ℕ) → Bool

@@ -1,6 +1,9 @@
--- Rules by the events that they are on, and the fields that they name.
-use Rattle.std.specs.Prelude.{◌≡◌, ℕ, Bool, List, All, Any, map, filter, Some, IfSome, option_map, bytes_eq, slice_get}
+-- Rules by the events that they are on, the fields that they name, and what is found of these on a line.
+use Rattle.std.specs.Prelude.{◌≡◌, ℕ, ◌+◌, Bool, List, [], ◌∷◌, ◌++◌, All, Any, map, filter, Option, Some, IfSome, option_map, bytes_eq, slice_get, if◌then◌else◌}
 use Rattle.std.specs.List.{AllZip}
+use Rattle.rv_trace.specs.Fields.{field_of}
+use Rattle.rv_trace.specs.FoundFields.{found_at}
+use Rattle.rv_trace.specs.declared.line.Span.{Span}
 use Rattle.rv_bind.specs.declared.bindings.Test.{Test}
 use Rattle.rv_bind.specs.declared.bindings.Test.TheVariants.{Is, IsNot}
 use Rattle.rv_bind.specs.RuleValues.{OnValue}
@@ -32,9 +35,19 @@ pub record IsAsked (rules : List OnValue) (names : List (List ℕ)) (asked : Ask
 abbrev pub is_on_event : List ℕ → OnValue → Bool
 is_on_event event rule = bytes_eq event rule.event
 
--- the event asks for the rules that are on this name, in their order
-abbrev pub IsEventOf : List OnValue → List ℕ → Event → Type 0
-IsEventOf rules name event = AllZip (IsAsked rules event.fields) event.rules.items (filter (is_on_event name) rules)
+-- the places of the rules that are on the event, of rules that stand from a place on
+abbrev pub places_on : List ℕ → ℕ → List OnValue → List ℕ
+places_on event place [] = []
+places_on event place (rule ∷ rules) = (if is_on_event event rule then place ∷ [] else []) ++ places_on event (place + 1) rules
+
+-- the place of a rule that is asked
+abbrev pub place_of : Asked → ℕ
+place_of asked = asked.rule
+
+-- the event asks for the rules that are on this name, each once and in their order
+pub record IsEventOf (rules : List OnValue) (name : List ℕ) (event : Event) : Type 0 where
+  pub asked : AllZip (IsAsked rules event.fields) event.rules.items (filter (is_on_event name) rules)
+  pub places : map place_of event.rules.items ≡ places_on name 0 rules
 
 -- the name has an event
 unfoldable pub HasEvent : List Event → List ℕ → Type 0
@@ -44,3 +57,9 @@ HasEvent index name = Any (λ event. event.name ≡ name) index
 pub record IsIndexOf (rules : List OnValue) (index : List Event) : Type 0 where
   pub events : All (λ event. IsEventOf rules event.name event) index
   pub has : All (λ rule. HasEvent index rule.event) rules
+
+-- the rule's fields were found at these places, and its tests are the same field by field
+pub record HasFound (fields : List ℕ) (found : List (Option Span)) (asked : Asked) (rule : OnValue) : Type 0 where
+  pub tests : map (found_at found) asked.tests.items ≡ map (field_of fields) (tested_fields rule.tests)
+  pub by_field : IfSome asked.by_field (λ list. MeanTests list.items asked.tests.items rule.tests)
+  pub by : option_map (found_at found) asked.by ≡ option_map (field_of fields) rule.by

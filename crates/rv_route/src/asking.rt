@@ -3,12 +3,11 @@ ghost use Rattle.std.specs.Prelude.{◌≡◌, ◌≤◌, length, map, All, OnOk
 ghost use Rattle.std.specs.List.{list_all};
 ghost use Rattle.rv_text.specs.Decimal.{decimal_of};
 ghost use Rattle.rv_trace.specs.Fields.{field_of};
-ghost use Rattle.rv_route.specs.Asking.{text_at, has_value, differs, holds, pid_from, pid_at};
-ghost use Rattle.rv_route.specs.inner.Asking.{value_found, pid_found, ask_on};
+ghost use Rattle.rv_route.specs.Asking.{text_at, has_value, differs, holds, pid_from, pid_at, value_found};
+ghost use Rattle.rv_route.specs.inner.Asking.{pid_found, ask_on};
 ghost use Rattle.rv_route.specs.FieldTests.{test_holds, all_pass};
 ghost use Rattle.rv_trace.specs.FoundFields.{found_at, IsInside};
-ghost use Rattle.rv_route.specs.Events.{tested_fields};
-ghost use Rattle.rv_route.specs.inner.Events.{HasFound};
+ghost use Rattle.rv_route.specs.Events.{tested_fields, HasFound};
 
 use crate::event::Asked;
 use crate::field_tests::FieldTest;
@@ -51,7 +50,7 @@ pub(crate) fn look_up(
 
 /// What the field has that was looked up at this place.
 #[inline(always)]
-fn value_at<'a>(fields: &'a [u8], found: &[Option<Span>], place: usize) -> Option<&'a [u8]>
+pub fn value_at<'a>(fields: &'a [u8], found: &[Option<Span>], place: usize) -> Option<&'a [u8]>
     requires { All (IsInside fields.now) found.now }
     ensures { option_copied result ≡ option_map (text_at fields.now) (found_at found.now place) }
 {
@@ -102,7 +101,7 @@ fn differs(found: Option<&[u8]>, wanted: &[u8]) -> bool
 
 /// Whether a test holds of what its field has.
 #[inline(always)]
-fn test_holds(test: &Test, found: Option<&[u8]>) -> bool
+pub fn test_holds(test: &Test, found: Option<&[u8]>) -> bool
     ensures { result ≡ test_holds test.now (option_copied found.entry) }
 {
     match test {
@@ -142,7 +141,7 @@ fn all_pass(fields: &[u8], tests: &[FieldTest], found: &[Option<Span>]) -> bool
 
 /// Whether all tests of the rule hold.
 #[inline(always)]
-fn is_met(fields: &[u8], rule: &On, asked: &Asked, found: &[Option<Span>]) -> bool
+pub fn is_met(fields: &[u8], rule: &On, asked: &Asked, found: &[Option<Span>]) -> bool
     requires found { HasFound fields.now found.now asked.now rule.now }
     requires inside { All (IsInside fields.now) found.now }
     ensures { result ≡ list_all (holds fields.now) rule.now.tests }

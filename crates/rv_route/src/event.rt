@@ -3,7 +3,7 @@ ghost use Rattle.std.specs.Prelude.{◌≡◌, length, map, filter, option_map, 
 ghost use Rattle.std.specs.List.{AllZip};
 ghost use Rattle.rv_trace.specs.FoundFields.{Extends};
 ghost use Rattle.rv_route.specs.FieldTests.{MeanTests};
-ghost use Rattle.rv_route.specs.Events.{tested_field, tested_fields, HasFields, IsAsked, IsEventOf, is_on_event};
+ghost use Rattle.rv_route.specs.Events.{tested_field, tested_fields, HasFields, IsAsked, IsEventOf, is_on_event, place_of, places_on};
 
 use crate::asking::has_value;
 use crate::field_tests::{FieldTest, by_field};
@@ -17,11 +17,11 @@ const MANY_TESTS: usize = 16;
 
 /// A rule, by the places of what it names.
 #[derive(Drop)]
-pub(crate) struct Asked {
+pub struct Asked {
     /// The rule's place among all rules.
-    pub(crate) rule: usize,
+    pub rule: usize,
     /// For each test the place of its field among the event's.
-    pub(crate) tests: Vec<usize>,
+    pub tests: Vec<usize>,
     /// The same tests field by field, where there are many.
     pub(crate) by_field: Option<Vec<FieldTest>>,
     /// The place of the field that has the pid.
@@ -30,12 +30,12 @@ pub(crate) struct Asked {
 
 /// An event that rules are on.
 #[derive(Drop)]
-pub(crate) struct Event {
-    pub(crate) name: Name,
+pub struct Event {
+    pub name: Name,
     /// The fields that its rules name, each once.
-    pub(crate) fields: FieldNames,
+    pub fields: FieldNames,
     /// Its rules, in their order.
-    pub(crate) rules: Vec<Asked>,
+    pub rules: Vec<Asked>,
 }
 
 /// The event of this name.
@@ -59,7 +59,8 @@ fn asked_on(
     event: &[u8],
     names: &mut FieldNames,
 ) -> Result<Vec<Asked>, AllocError>
-    ensures { IfOk result (λ asked. AllZip (IsAsked rules.now names.new) asked.items (filter (is_on_event event.now) rules.now)) }
+    ensures asked { IfOk result (λ asked. AllZip (IsAsked rules.now names.new) asked.items (filter (is_on_event event.now) rules.now)) }
+    ensures places { IfOk result (λ asked. map place_of asked.items ≡ places_on event.now 0 rules.now) }
 {
     let mut list = Vec::new(alloc);
     for place in 0..rules.len() {
@@ -140,7 +141,7 @@ fn by_place(
 }
 
 /// The field that a test names.
-fn tested_field(test: &Test) -> &Name
+pub fn tested_field(test: &Test) -> &Name
     ensures { result.now ≡ tested_field test.now }
 {
     match test {

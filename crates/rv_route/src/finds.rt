@@ -12,7 +12,7 @@ const MANY_FIELDS: usize = 16;
 
 /// For each name's place what was found on a line.
 #[derive(Drop)]
-pub(crate) struct Finds {
+pub struct Finds {
     few: Vec<Option<Span>>,
     many: FoundFields,
     /// Where the last line's are.
@@ -30,7 +30,7 @@ impl Model for Finds {
 
 impl Finds {
     /// Nothing was found.
-    pub(crate) fn new(alloc: Global) -> Finds
+    pub fn new(alloc: Global) -> Finds
         ensures { result ≡ [] }
     {
         Finds {
@@ -42,7 +42,7 @@ impl Finds {
 
     /// Looks the names up on a line.
     #[inline(always)]
-    pub(crate) fn look_up(&mut self, fields: &[u8], names: &FieldNames) -> Result<(), AllocError>
+    pub fn look_up(&mut self, fields: &[u8], names: &FieldNames) -> Result<(), AllocError>
         requires { length fields.now ≤ 4294967295 }
         ensures found { OnOk result (AreFound fields.now names.now self.new) }
         ensures inside { OnOk result (All (IsInside fields.now) self.new) }
@@ -58,7 +58,7 @@ impl Finds {
 
     /// What was found.
     #[inline(always)]
-    pub(crate) fn spans(&self) -> &[Option<Span>]
+    pub fn spans(&self) -> &[Option<Span>]
         ensures { result.now ≡ self.now }
     {
         if self.is_many {

@@ -16,7 +16,7 @@ pub(crate) const KEYS: usize = 512;
 
 /// Events by their names.
 #[derive(Drop)]
-pub(crate) struct Index {
+pub struct Index {
     events: Vec<Event>,
     /// The place of the first event of each key.
     firsts: Vec<Option<usize>>,
@@ -53,7 +53,7 @@ fn key_of(name: &[u8]) -> usize
 
 /// The event of a name, if a rule is on it.
 #[inline(always)]
-pub(crate) fn event_at<'a>(index: &'a Index, name: &[u8]) -> Option<&'a Event>
+pub fn event_at<'a>(index: &'a Index, name: &[u8]) -> Option<&'a Event>
     ensures among { IfSome result (λ event. IsAmong index.now event.now) }
     ensures named { IfSome result (λ event. event.now.name ≡ name.now) }
     ensures none { IfNone result (¬ HasEvent index.now name.now) }
@@ -80,7 +80,7 @@ fn named_at<'a>(events: &'a [Event], place: Option<usize>, name: &[u8]) -> Optio
 }
 
 /// The events of the rules.
-pub(crate) fn index_of(alloc: Global, rules: &[On]) -> Result<Index, AllocError>
+pub fn index_of(alloc: Global, rules: &[On]) -> Result<Index, AllocError>
     ensures { IfOk result (IsIndexOf rules.now) }
 {
     let mut index = no_events(alloc)?;

@@ -17,9 +17,12 @@ mod routed;
 mod router;
 mod tracing;
 
-pub use asking::Ask;
+pub use asking::{Ask, is_met, test_holds, value_at};
 pub use collector::Collector;
 pub use deliveries::MAX_DELIVERIES;
+pub use event::{Asked, Event, tested_field};
+pub use finds::Finds;
+pub use index::{Index, event_at, index_of};
 pub use laws::{lines_are_routed_alike, lines_make_the_whole, works_are_from_rules};
 pub use limits::limits_are_numerals;
 pub use listing::{DeliveryList, Listed, RoutedList, Target};

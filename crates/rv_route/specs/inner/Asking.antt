@@ -14,10 +14,6 @@ use Rattle.rv_route.specs.Asking.{text_at, holds, pid_at, asked_of}
 abbrev pub ask_on : List ℕ → TraceLine → List Monitor → OnValue → Ask
 ask_on fields line monitors rule = if list_all (holds fields) rule.tests then asked_of fields line rule.by (slice_get monitors rule.monitor) else asks.Quiet
 
--- what the field has that was looked up at a place
-abbrev pub value_found : List ℕ → List (Option Span) → ℕ → Option (List ℕ)
-value_found fields found place = option_map (text_at fields) (found_at found place)
-
 -- the pid of a field that was looked up, or else the line's
 abbrev pub pid_found : List ℕ → TraceLine → Option (Option Span) → Ask
 pid_found fields line None = asks.Pid line.pid

@@ -1,6 +1,6 @@
 use Rattle.std.proofs.Common.{◌≡◌, take, true}
 use Rattle.rv_route.specs.FieldTests.{all_pass}
-use Rattle.rv_route.specs.inner.Asking.{value_found}
+use Rattle.rv_route.specs.Asking.{value_found}
 use Rattle.rv_route.proofs.asking.all_pass.Given as goal
 
 abbrev pub invariant-loop-test : goal.invariant-loop-test

@@ -1,7 +1,7 @@
 use Rattle.std.proofs.Common.{ap, ◌∙◌, subst}
 use Rattle.std.specs.Prelude.{IfSome}
 use Rattle.rv_route.specs.FieldTests.{all_pass, MeanTests}
-use Rattle.rv_route.specs.inner.Asking.{value_found}
+use Rattle.rv_route.specs.Asking.{value_found}
 use Rattle.rv_route.proofs.AskingLemmas.{tests-hold}
 use Rattle.rv_route.proofs.asking.is_met.Goals as goal
 

@@ -10,8 +10,7 @@ use Rattle.rv_trace.specs.FoundFields.{AreFound}
 use Rattle.rv_route.specs.declared.event.Asked.{Asked}
 use Rattle.rv_route.specs.Asking.{text_at}
 use Rattle.rv_route.specs.inner.Asking.{ask_on}
-use Rattle.rv_route.specs.Events.{is_on_event, IsAsked}
-use Rattle.rv_route.specs.inner.Events.{HasFound}
+use Rattle.rv_route.specs.Events.{is_on_event, IsAsked, HasFound}
 use Rattle.rv_route.specs.LineByLine.{Routes, line_routes}
 use Rattle.rv_text.specs.Readings.{and_then}
 use Rattle.rv_route.proofs.EventLemmas.{asked_at, asked-many, has_found, itself}
@@ -26,7 +25,7 @@ index-rule-requires c =
     let event = c.args.event.now in
     let name = text_at c.args.text.now c.args.line.now.name in
     let those = filter (is_on_event name) all in
-    let are = subst (λ (list : List Asked). AllZip (IsAsked all event.fields) list those) (sym c.deref-asked-items.ensures.value) c.requires.event in
+    let are = subst (λ (list : List Asked). AllZip (IsAsked all event.fields) list those) (sym c.deref-asked-items.ensures.value) c.requires.event.asked in
     let at = asked_at all event.fields c.deref-asked-items.result.now those c.loop-asked.asked-index c.asked-item.result are (omega arith) c.asked-item.is in
     let inside : c.asked-item.result.rule < length all = slice_get_within all c.asked-item.result.rule at.rule at.asks.there in
     let many : vec_len c.args.bindings.now.rules ≡ length all = search rules in
@@ -38,7 +37,7 @@ ask_for-ask-requires-clause-found c =
     let event = c.args.event.now in
     let name = text_at c.args.text.now c.args.line.now.name in
     let those = filter (is_on_event name) all in
-    let are = subst (λ (list : List Asked). AllZip (IsAsked all event.fields) list those) (sym c.deref-asked-items.ensures.value) c.requires.event in
+    let are = subst (λ (list : List Asked). AllZip (IsAsked all event.fields) list those) (sym c.deref-asked-items.ensures.value) c.requires.event.asked in
     let at = asked_at all event.fields c.deref-asked-items.result.now those c.loop-asked.asked-index c.asked-item.result are (omega arith) c.asked-item.is in
     let rule : c.index-rule.result.now ≡ at.rule = c.index-rule.ensures ∙ get_or_from_slice_get all c.asked-item.result.rule at.rule _ at.asks.there in
     let fields = text_at c.args.text.now c.args.line.now.fields in
@@ -51,7 +50,7 @@ answer-requires-clause-target c =
     let event = c.args.event.now in
     let name = text_at c.args.text.now c.args.line.now.name in
     let those = filter (is_on_event name) all in
-    let are = subst (λ (list : List Asked). AllZip (IsAsked all event.fields) list those) (sym c.deref-asked-items.ensures.value) c.requires.event in
+    let are = subst (λ (list : List Asked). AllZip (IsAsked all event.fields) list those) (sym c.deref-asked-items.ensures.value) c.requires.event.asked in
     let at = asked_at all event.fields c.deref-asked-items.result.now those c.loop-asked.asked-index c.asked-item.result are (omega arith) c.asked-item.is in
     let inside : c.asked-item.result.rule < length all = slice_get_within all c.asked-item.result.rule at.rule at.asks.there in
     is-target all c.loop-asked.deliveries.targets c.asked-item.result.rule c.index-rule.result.now (c.loop-asked.invariant.1.targets ∙ c.requires.targets) inside c.index-rule.ensures
@@ -62,7 +61,7 @@ loop-asked-preserved c =
     let event = c.args.event.now in
     let name = text_at c.args.text.now c.args.line.now.name in
     let those = filter (is_on_event name) all in
-    let are = subst (λ (list : List Asked). AllZip (IsAsked all event.fields) list those) (sym c.deref-asked-items.ensures.value) c.requires.event in
+    let are = subst (λ (list : List Asked). AllZip (IsAsked all event.fields) list those) (sym c.deref-asked-items.ensures.value) c.requires.event.asked in
     let at = asked_at all event.fields c.deref-asked-items.result.now those c.loop-asked.asked-index c.asked-item.result are (omega arith) c.asked-item.is in
     let rule : c.index-rule.result.now ≡ at.rule = c.index-rule.ensures ∙ get_or_from_slice_get all c.asked-item.result.rule at.rule _ at.asks.there in
     let text = c.args.text.now in
@@ -80,7 +79,7 @@ returns-in_err-answer-clause-gives c =
     let event = c.args.event.now in
     let name = text_at c.args.text.now c.args.line.now.name in
     let those = filter (is_on_event name) all in
-    let are = subst (λ (list : List Asked). AllZip (IsAsked all event.fields) list those) (sym c.deref-asked-items.ensures.value) c.requires.event in
+    let are = subst (λ (list : List Asked). AllZip (IsAsked all event.fields) list those) (sym c.deref-asked-items.ensures.value) c.requires.event.asked in
     let at = asked_at all event.fields c.deref-asked-items.result.now those c.loop-asked.asked-index c.asked-item.result are (omega arith) c.asked-item.is in
     let rule : c.index-rule.result.now ≡ at.rule = c.index-rule.ensures ∙ get_or_from_slice_get all c.asked-item.result.rule at.rule _ at.asks.there in
     let text = c.args.text.now in
@@ -103,5 +102,5 @@ returns-clause-gives c =
     let event = c.args.event.now in
     let name = text_at c.args.text.now c.args.line.now.name in
     let those = filter (is_on_event name) all in
-    let many : length c.deref-asked-items.result.now ≡ length those = ap length c.deref-asked-items.ensures.value ∙ asked-many all event.fields event.rules.items those c.requires.event in
+    let many : length c.deref-asked-items.result.now ≡ length those = ap length c.deref-asked-items.ensures.value ∙ asked-many all event.fields event.rules.items those c.requires.event.asked in
     c.loop-asked.invariant.0 ∙ rules-end c.args.text.now c.args.line.now c.args.bindings.now.monitors.items those c.loop-asked.asked-index c.loop-asked.deliveries.routes (omega arith)
