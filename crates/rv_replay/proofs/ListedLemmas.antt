@@ -24,7 +24,7 @@ use Rattle.rv_feed.proofs.PlaceLemmas.{AtPlace, record-for}
 use Rattle.rv_feed.proofs.TurnLemmas.{turn-start, turn-off, turn-all, turn-hidden, turn-shown, turn-last}
 use Rattle.rv_route.specs.Listing.{ListedDelivery}
 use Rattle.rv_replay.proofs.ObserveLemmas.{makes-record, observes-halt, observes-look, observes-then}
-use Rattle.rv_replay.specs.Observing.{ObservesMore, ObservesRecord, Passes}
+use Rattle.rv_replay.specs.Observing.{ObservesMore, ObservesRecord, IgnoresSwitches}
 use Rattle.rv_replay.specs.inner.Turns.{IsTurnOf, OrdersFrom, with_records, PartListed, PlaysListed}
 
 -- ---- records
@@ -62,7 +62,7 @@ listed-of {observed = observed} {panics} {old = old} {new} {list} {from} {to} {o
 
 module _ {O : Type 0} {observed : List Task → CoreValue → List Record → O → Type 0} {panics : ℕ → Bool} {cpu : ℕ} {old cur : CoreValue} {word : ℕ} {list : List ListedDelivery} {from to : ℕ} {o : O} where
   -- right after the look
-  pub listed-start : Passes observed → LooksAt (Did (2 + cpu)) old cur word → PartListed observed panics cpu old cur word list from to from o o
+  pub listed-start : IgnoresSwitches observed → LooksAt (Did (2 + cpu)) old cur word → PartListed observed panics cpu old cur word list from to from o o
   listed-start passes look = record {
     rs = [];
     observes = observes-look observed passes cpu old cur word o look;
@@ -75,7 +75,7 @@ module _ {O : Type 0} {observed : List Task → CoreValue → List Record → O 
   }
 
   -- the look shows a halt
-  pub listed-off : Passes observed → from < to → LooksAt (Did (2 + cpu)) old cur word → has_bit word 34 ≡ true → PlaysListed observed panics cpu old cur list from to o o true
+  pub listed-off : IgnoresSwitches observed → from < to → LooksAt (Did (2 + cpu)) old cur word → has_bit word 34 ≡ true → PlaysListed observed panics cpu old cur list from to o o true
   listed-off passes some look off = record {
     rs = [];
     observes = observes-look observed passes cpu old cur word o look;
@@ -161,7 +161,7 @@ module _ {O : Type 0} {observed : List Task → CoreValue → List Record → O 
       }
 
       -- the script ends
-      pub listed-last : {new : CoreValue} → Passes observed → has_bit word 34 ≡ false → (failed_outcome outcome && (panics d.monitor && has_bit word 33)) ≡ true → Halts (Did (2 + cpu)) mid new → PlaysListed observed panics cpu old new list from to o o'' true
+      pub listed-last : {new : CoreValue} → IgnoresSwitches observed → has_bit word 34 ≡ false → (failed_outcome outcome && (panics d.monitor && has_bit word 33)) ≡ true → Halts (Did (2 + cpu)) mid new → PlaysListed observed panics cpu old new list from to o o'' true
       listed-last {new} passes on off halts = record {
         rs = part.rs ++ r ∷ [];
         observes = observes-halt observed passes cpu (part.rs ++ r ∷ []) old mid new o o'' (observes-then observed part.rs (r ∷ []) old cur mid o o' o'' part.observes here-observed) halts;

@@ -29,7 +29,7 @@ use Rattle.rv_core.specs.Setup.{judges_of, word_index}
 use Rattle.rv_feed.specs.Players.{Halts, LooksAt, Serves}
 use Rattle.rv_feed.specs.inner.Turns.{Did}
 use Rattle.rv_route.specs.Listing.{ListedDelivery}
-use Rattle.rv_replay.specs.Observing.{MakesRecord, ObservesMore, Passes}
+use Rattle.rv_replay.specs.Observing.{MakesRecord, ObservesMore, IgnoresSwitches}
 
 -- ---- a delivery of a list
 
@@ -100,15 +100,15 @@ module _ {O : Type 0} (observed : List Task → CoreValue → List Record → O 
   observes-then rs us a b c o o' o'' one two tasks zs is = subst (λ (z : List Record). observed tasks c z o'') (append_assoc zs rs us) (two tasks (zs ++ rs) (one tasks zs is))
 
   -- of an entry on the switches
-  pub observes-passed : Passes observed → (seat : ℕ) (old new : CoreValue) (e : Entry) (a : Answer) (o : O) → word_index e.act ≡ 0 → Did seat old new ((e, a) ∷ []) → ObservesMore observed [] old new o o
+  pub observes-passed : IgnoresSwitches observed → (seat : ℕ) (old new : CoreValue) (e : Entry) (a : Answer) (o : O) → word_index e.act ≡ 0 → Did seat old new ((e, a) ∷ []) → ObservesMore observed [] old new o o
   observes-passed passes seat old new e a o other did tasks rs is =
       subst (λ (core : CoreValue). observed tasks core (rs ++ []) o) (sym did.grows) (subst (λ (us : List Record). observed tasks (record old { history = old.history ++ e ∷ [] }) us o) (sym (append-nil rs)) (passes tasks old e rs o other is))
 
   -- of a look
-  pub observes-look : Passes observed → (cpu : ℕ) (old cur : CoreValue) (word : ℕ) (o : O) → LooksAt (Did (2 + cpu)) old cur word → ObservesMore observed [] old cur o o
+  pub observes-look : IgnoresSwitches observed → (cpu : ℕ) (old cur : CoreValue) (word : ℕ) (o : O) → LooksAt (Did (2 + cpu)) old cur word → ObservesMore observed [] old cur o o
   observes-look passes cpu old cur word o look = observes-passed passes (2 + cpu) old cur look.entry (Looked word) o (ap word_index look.act_is) look.did
 
   -- of a delivery, and then of a halt
-  pub observes-halt : Passes observed → (cpu : ℕ) (rs : List Record) (old mid new : CoreValue) (o o' : O) → ObservesMore observed rs old mid o o' → Halts (Did (2 + cpu)) mid new → ObservesMore observed rs old new o o'
+  pub observes-halt : IgnoresSwitches observed → (cpu : ℕ) (rs : List Record) (old mid new : CoreValue) (o o' : O) → ObservesMore observed rs old mid o o' → Halts (Did (2 + cpu)) mid new → ObservesMore observed rs old new o o'
   observes-halt passes cpu rs old mid new o o' one halts =
       subst (λ (us : List Record). ObservesMore observed us old new o o') (append-nil rs) (observes-then rs [] old mid new o o' o' one (observes-passed passes (2 + cpu) mid new halts.entry halts.answer o' (ap word_index halts.act_is) halts.did))

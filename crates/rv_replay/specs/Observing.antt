@@ -39,8 +39,8 @@ module _ {O : Type 0} (observed : List Task → CoreValue → List Record → O 
   ObservesRecord new slot before r o o' = (old : CoreValue) → MakesRecord old new slot before r → ObservesMore (r ∷ []) old new o o'
 
   -- an entry on the switches is not observed
-  abbrev pub Passes : Type 0
-  Passes = (tasks : List Task) (core : CoreValue) (e : Entry) (rs : List Record) (o : O) → word_index e.act ≡ 0 → observed tasks core rs o → observed tasks (record core { history = core.history ++ e ∷ [] }) rs o
+  abbrev pub IgnoresSwitches : Type 0
+  IgnoresSwitches = (tasks : List Task) (core : CoreValue) (e : Entry) (rs : List Record) (o : O) → word_index e.act ≡ 0 → observed tasks core rs o → observed tasks (record core { history = core.history ++ e ∷ [] }) rs o
 
   -- by judges of the specifications this is the one history of the works of the list, and it was observed with its records
   pub record RunsObserved (setup : Setup) (panics : ℕ → Bool) (list : List ListedDelivery) (o o' : O) (history : List Entry) : Type 0 where

@@ -3,7 +3,7 @@ ghost use Rattle.std.specs.Prelude.{◌<◌, List, OnOk, sum};
 ghost use Rattle.rv_model.specs.declared.record.Record.{Record};
 ghost use Rattle.rv_model.specs.declared.record.Task.{Task};
 ghost use Rattle.rv_core.specs.Core.{CoreValue};
-ghost use Rattle.rv_replay.specs.Observing.{ObservesRecord, Passes};
+ghost use Rattle.rv_replay.specs.Observing.{ObservesRecord, IgnoresSwitches};
 
 use rv_bind::Bindings;
 use rv_core::{Core, RowPhase};
@@ -32,7 +32,7 @@ pub trait Observer {
         ensures { OnOk result (ObservesRecord (observed context.now) core.now slot before made.now self.old self.new) };
 
     /// What is done to the switches does not count.
-    ghost passes: { (context : Self.Context) → Passes (observed context) };
+    ghost passes: { (context : Self.Context) → IgnoresSwitches (observed context) };
 }
 
 /// What a report tells of a run is made of its records alone.

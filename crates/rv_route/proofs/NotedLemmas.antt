@@ -14,7 +14,7 @@ use Rattle.rv_trace.specs.FieldNames.{place_in}
 use Rattle.rv_route.specs.declared.event.Event.{Event}
 use Rattle.rv_route.specs.declared.index.TheConstants.{KEYS}
 use Rattle.rv_route.specs.Events.{HasEvent}
-use Rattle.rv_route.specs.inner.Events.{key_of, LeadTo, LeadToAll}
+use Rattle.rv_route.specs.EventKeys.{key_of, LeadTo, LeadToAll}
 use Rattle.rv_route.proofs.EventLemmas.{same_bytes, itself}
 
 -- no bytes have the key 0

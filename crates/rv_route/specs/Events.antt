@@ -41,13 +41,13 @@ places_on event place [] = []
 places_on event place (rule ∷ rules) = (if is_on_event event rule then place ∷ [] else []) ++ places_on event (place + 1) rules
 
 -- the place of a rule that is asked
-abbrev pub place_of : Asked → ℕ
-place_of asked = asked.rule
+abbrev pub asked_place : Asked → ℕ
+asked_place asked = asked.rule
 
 -- the event asks for the rules that are on this name, each once and in their order
 pub record IsEventOf (rules : List OnValue) (name : List ℕ) (event : Event) : Type 0 where
   pub asked : AllZip (IsAsked rules event.fields) event.rules.items (filter (is_on_event name) rules)
-  pub places : map place_of event.rules.items ≡ places_on name 0 rules
+  pub places : map asked_place event.rules.items ≡ places_on name 0 rules
 
 -- the name has an event
 unfoldable pub HasEvent : List Event → List ℕ → Type 0

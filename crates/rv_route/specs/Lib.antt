@@ -1,4 +1,5 @@
 pub mod Asking
+pub mod EventKeys
 pub mod Events
 pub mod FieldTests
 pub mod Fitting

@@ -1,4 +1,3 @@
 pub mod Asking
-pub mod Events
 pub mod Gathering
 pub mod Narrowing

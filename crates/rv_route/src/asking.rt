@@ -52,7 +52,7 @@ pub(crate) fn look_up(
 #[inline(always)]
 pub fn value_at<'a>(fields: &'a [u8], found: &[Option<Span>], place: usize) -> Option<&'a [u8]>
     requires { All (IsInside fields.now) found.now }
-    ensures { option_copied result ≡ option_map (text_at fields.now) (found_at found.now place) }
+    ensures { option_copied result ≡ value_found fields.now found.now place }
 {
     if place >= found.len() {
         return None;

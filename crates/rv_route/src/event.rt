@@ -3,7 +3,7 @@ ghost use Rattle.std.specs.Prelude.{◌≡◌, length, map, filter, option_map, 
 ghost use Rattle.std.specs.List.{AllZip};
 ghost use Rattle.rv_trace.specs.FoundFields.{Extends};
 ghost use Rattle.rv_route.specs.FieldTests.{MeanTests};
-ghost use Rattle.rv_route.specs.Events.{tested_field, tested_fields, HasFields, IsAsked, IsEventOf, is_on_event, place_of, places_on};
+ghost use Rattle.rv_route.specs.Events.{tested_field, tested_fields, HasFields, IsAsked, IsEventOf, is_on_event, asked_place, places_on};
 
 use crate::asking::has_value;
 use crate::field_tests::{FieldTest, by_field};
@@ -60,7 +60,7 @@ fn asked_on(
     names: &mut FieldNames,
 ) -> Result<Vec<Asked>, AllocError>
     ensures asked { IfOk result (λ asked. AllZip (IsAsked rules.now names.new) asked.items (filter (is_on_event event.now) rules.now)) }
-    ensures places { IfOk result (λ asked. map place_of asked.items ≡ places_on event.now 0 rules.now) }
+    ensures places { IfOk result (λ asked. map asked_place asked.items ≡ places_on event.now 0 rules.now) }
 {
     let mut list = Vec::new(alloc);
     for place in 0..rules.len() {

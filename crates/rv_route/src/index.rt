@@ -2,7 +2,7 @@
 ghost use Rattle.std.specs.Prelude.{◌≡◌, ◌≢◌, ◌<◌, [], ◌∷◌, ◌++◌, List, ℕ, All, IfOk, IfSome, IfNone, OnOk, slice_get};
 ghost use Rattle.std.specs.List.{IsAmong};
 ghost use Rattle.rv_route.specs.Events.{IsEventOf, HasEvent, IsIndexOf};
-ghost use Rattle.rv_route.specs.inner.Events.{key_of};
+ghost use Rattle.rv_route.specs.EventKeys.{key_of};
 
 use crate::asking::has_value;
 use crate::event::{Event, event_of};
@@ -27,7 +27,7 @@ pub struct Index {
 impl Model for Index {
     ghost use Rattle.std.specs.Prelude.{List};
     ghost use Rattle.rv_route.specs.declared.event.Event.{Event};
-    ghost use Rattle.rv_route.specs.inner.Events.{LeadToAll};
+    ghost use Rattle.rv_route.specs.EventKeys.{LeadToAll};
 
     ghost Value = { List Event };
 

@@ -3,7 +3,7 @@ use Rattle.std.specs.Prelude.{filter, slice_get}
 use Rattle.std.proofs.lemmas.List.{map_push}
 use Rattle.std.proofs.lemmas.Option.{slice_get-get_or}
 use Rattle.rv_bind.specs.RuleValues.{OnValue}
-use Rattle.rv_route.specs.Events.{IsAsked, is_on_event, place_of, places_on}
+use Rattle.rv_route.specs.Events.{IsAsked, is_on_event, asked_place, places_on}
 use Rattle.rv_route.proofs.EventLemmas.{asked-more, on-more, placed-more}
 use Rattle.rv_route.proofs.event.asked_on.Goals.{then-has_value+in_ok-asked_of+in_ok-push, else-has_value}
 use Rattle.rv_route.proofs.event.asked_on.Goals as goal
@@ -27,7 +27,7 @@ loop-place-preserved c =
           let is : IsAsked all new asked rule = record { there = there; fields = w.in_ok-asked_of.ensures.fields } in
           let longer = asked-more all old new c.loop-place.list.items (filter (is_on_event event) (take i all)) asked rule w.in_ok-asked_of.ensures.grown c.loop-place.invariant.asked is in
           let placed = placed-more all event c.bytes.result.now i rule true inside c.index-rules-place.is named (sym yes ∙ c.has_value.ensures) in
-          let further = map_push place_of c.loop-place.list.items asked ∙ ap₂ (λ (ps : List ℕ) (p : ℕ). ps ++ p ∷ []) c.loop-place.invariant.places w.in_ok-asked_of.ensures.rule ∙ sym placed in
+          let further = map_push asked_place c.loop-place.list.items asked ∙ ap₂ (λ (ps : List ℕ) (p : ℕ). ps ++ p ∷ []) c.loop-place.invariant.places w.in_ok-asked_of.ensures.rule ∙ sym placed in
           record { asked = rw (w.names-is, w.list-is, w.in_ok-push.ensures.items, more) longer; places = rw (w.list-is, w.in_ok-push.ensures.items) further }
       | else-has_value w ↦
           let no_match : c.has_value.result ≡ false = w.if-has_value.false in

@@ -5,7 +5,7 @@ use Rattle.rv_trace.proofs.OrderedLemmas.{map-put}
 use Rattle.rv_route.specs.declared.event.Event.{Event}
 use Rattle.rv_route.specs.declared.index.TheConstants.{KEYS}
 use Rattle.rv_route.specs.Events.{HasEvent}
-use Rattle.rv_route.specs.inner.Events.{key_of, LeadToAll}
+use Rattle.rv_route.specs.EventKeys.{key_of, LeadToAll}
 use Rattle.rv_route.proofs.NotedLemmas.{first-at, none-of, first-more, other-kept, other-more}
 use Rattle.rv_route.proofs.index.add.Goals as goal
 

@@ -1,5 +1,5 @@
 use Rattle.std.proofs.Common.{◌≡◌, length, refl, rules}
-use Rattle.rv_route.specs.inner.Events.{key_of}
+use Rattle.rv_route.specs.EventKeys.{key_of}
 use Rattle.rv_route.proofs.NotedLemmas.{key-none}
 use Rattle.rv_route.proofs.index.key_of.Goals as goal
 
