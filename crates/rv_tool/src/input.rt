@@ -12,7 +12,6 @@ ghost use Rattle.rv_tool.specs.Inputs.{opened, run_input, run_of};
 ghost use Rattle.rv_tool.specs.inner.Prepared.{prepared_value, IsPrepared};
 ghost use Rattle.rv_tool.specs.Possible.{MayInput};
 
-use rv_stream::read_routed;
 use rv_bind::{BindFault, Bindings, Bound, Monitor, read_bindings};
 use rv_control::opening_switches;
 use rv_core::Setup;
@@ -22,6 +21,7 @@ use rv_model::{Change, CpuWork, Reactor, Scope};
 use rv_replay::Digested;
 use rv_route::Routed;
 use rv_slots::{Shape, Tasks};
+use rv_stream::read_routed;
 use rv_table::Table;
 use std::alloc::{AllocError, Global};
 

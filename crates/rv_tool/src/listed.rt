@@ -11,13 +11,13 @@ ghost use Rattle.rv_tool.specs.inner.Listed.{IsPreparedList, listed_value};
 ghost use Rattle.rv_tool.specs.Possible.{MayInput};
 
 use crate::input::{RunParts, make_parts};
-use rv_stream::read_list;
 use rv_bind::{BindFault, Bindings, Bound, read_bindings};
 use rv_core::Setup;
 use rv_io::Store;
 use rv_model::Reactor;
 use rv_route::{DeliveryList, RoutedList};
 use rv_slots::Tasks;
+use rv_stream::read_list;
 use std::alloc::{AllocError, Global};
 
 /// What a run on one thread begins with.

@@ -15,8 +15,7 @@ pub deliver-requires-clause-fits : goal.deliver-requires-clause-fits
 deliver-requires-clause-fits g c =
     let s = c.args.self.now.setup in
     let d = c.args.delivery.now in
-    let slot = c.slot-slot.ensures.slot ∙ ap (λ (shape : List ℕ). slot_of shape d.monitor d.instance) c.shape.ensures in
-    (
+    let slot = c.slot-slot.ensures.slot ∙ ap (λ (shape : List ℕ). slot_of shape d.monitor d.instance) c.shape.ensures in (
       subst (λ (shape : List ℕ). c.slot-slot.result < sum shape) c.shape.ensures c.slot-slot.ensures.range,
       fits-delivered s c.slot-slot.result d.hit (sym c.is_end.ensures ∙ c.if-is_end.false) (subst (λ (n : ℕ). FitsHit (table_at s n) d.hit) (sym slot) c.requires.fits.hit),
     )
