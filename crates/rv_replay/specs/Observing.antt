@@ -1,5 +1,5 @@
 -- What an observer is told of a run, and what it makes of it.
-use Rattle.std.specs.Prelude.{◌≡◌, ℕ, Bool, false, List, [], ◌∷◌, ◌++◌, reverse}
+use Rattle.std.specs.Prelude.{◌≡◌, ℕ, Bool, List, [], ◌∷◌, ◌++◌, reverse}
 use Rattle.rv_model.specs.declared.entry.Entry.{Entry}
 use Rattle.rv_model.specs.declared.record.Delivered.TheVariants.{Done}
 use Rattle.rv_model.specs.declared.record.Record.{Record}
