@@ -1,0 +1,9 @@
+pub mod ActLemmas
+pub mod CountLemmas
+pub mod DeliverLemmas
+pub mod EndLemmas
+pub mod GrowLemmas
+pub mod HasLemmas
+pub mod ReachedLemmas
+pub mod RecordLemmas
+pub mod TurnLemmas

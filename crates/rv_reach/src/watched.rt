@@ -1,0 +1,41 @@
+//! What a report tells of a run, and what its deliveries have reached, of one walk.
+
+use crate::reached::Reached;
+use rv_bind::Bindings;
+use rv_core::{Core, RowPhase};
+use rv_model::Record;
+use rv_replay::Observer;
+use rv_report::Found;
+use std::alloc::AllocError;
+
+/// Both are told of each delivery.
+#[derive(Drop)]
+pub struct Watched {
+    pub found: Found,
+    pub reached: Reached,
+}
+
+impl Observer for Watched {
+    ghost use Rattle.rv_report.specs.Reported.{reported_of};
+    ghost use Rattle.rv_report.specs.Tallies.{IsFound};
+    ghost use Rattle.rv_reach.specs.Watching.{AreReached};
+    ghost use Rattle.rv_reach.specs.inner.Passing.{reached-passes};
+
+    type Context = Bindings;
+
+    ghost observed = { λ bindings tasks core rs watched. IsFound (reported_of bindings) tasks rs watched.found × AreReached bindings core watched.reached };
+
+    fn observe(
+        &mut self,
+        bindings: &Bindings,
+        core: &Core,
+        slot: u32,
+        before: RowPhase,
+        made: &Record,
+    ) -> Result<(), AllocError> {
+        self.found.observe(bindings, core, slot, before, made)?;
+        self.reached.observe(bindings, core, slot, before, made)
+    }
+
+    ghost passes = { λ bindings tasks core e rs watched on is. (is.0, reached-passes bindings core e watched.reached on is.1) };
+}
