@@ -16,7 +16,7 @@ use Rattle.rv_core.specs.Core.{CoreValue}
 use Rattle.rv_core.specs.RowPhases.{phase_at}
 use Rattle.rv_core.specs.Setup.{judges_of, word_index}
 use Rattle.rv_reach.specs.Reached.{delivers, ends, of_delivery}
-use Rattle.rv_reach.specs.inner.Passing.{with_entry}
+use Rattle.rv_reach.specs.Passing.{with_entry}
 
 -- ---- numbers and tests
 

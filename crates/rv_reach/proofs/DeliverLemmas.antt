@@ -23,11 +23,12 @@ use Rattle.rv_reach.specs.declared.judged.Judged.{Judged}
 use Rattle.rv_reach.specs.declared.monitor.InstanceReach.{InstanceReach}
 use Rattle.rv_reach.specs.declared.monitor.MonitorReach.{MonitorReach}
 use Rattle.rv_reach.specs.Counts.{edges_of}
-use Rattle.rv_reach.specs.Reached.{answers_on, delivers, is_event, is_kept, is_passed, is_running, is_started, letter_of, phase_after, rows_from, rows_in, takes}
-use Rattle.rv_reach.specs.Watching.{IsInstance, rows_behind, runs_behind}
+use Rattle.rv_reach.specs.Reached.{answers_on, delivers, is_event, is_kept, is_passed, is_running, is_started, letter_of, phase_past, rows_from, rows_run, takes}
+use Rattle.rv_reach.specs.Watching.{IsInstance}
+use Rattle.rv_reach.specs.inner.RowSets.{rows_behind, runs_behind}
 use Rattle.rv_reach.specs.inner.Counters.{JudgesLetter, marked}
-use Rattle.rv_reach.specs.inner.Counting.{any_at-none, any_at-snoc}
-use Rattle.rv_reach.specs.inner.Passing.{instance-stays, phase-stays, with_entry}
+use Rattle.rv_reach.specs.CountingLaws.{any_at-none, any_at-snoc}
+use Rattle.rv_reach.specs.Passing.{instance-stays, phase-stays, with_entry}
 use Rattle.rv_reach.proofs.ActLemmas.{answer-here, answer_here, apart, apart-number, delivers-here, letter_here, no-end, on-here, on-none, on-other, or-true, phase-behind, phase_behind, told-same, turn-behind}
 use Rattle.rv_reach.proofs.GrowLemmas.{Grows, none-more, one-more}
 use Rattle.rv_reach.proofs.TurnLemmas.{behind-by, no-rows, not-passed, passed-before, passed-behind, passed-runs, runs-by}
@@ -66,7 +67,7 @@ module _ (core : CoreValue) (e : Entry) (monitor slot : ℕ) (hit : Hit) (is_act
   -- ---- it is passed over
   module _ (passed : a ≡ Passed) where
     -- no rows run behind it
-    no-behind : rows_in j (phase_behind core e slot) ≡ 0
+    no-behind : rows_run j (phase_behind core e slot) ≡ 0
     no-behind =
         no-rows j (phase_behind core e slot)
         (ap is_running (turn-behind core e slot hit is_act) ∙ passed-behind j (phase_at core slot) hit.mode x (sym (answer-here core e slot hit is_act) ∙ passed))
@@ -101,12 +102,12 @@ module _ (core : CoreValue) (e : Entry) (monitor slot : ℕ) (hit : Hit) (is_act
       instances_many = refl;
       instances = λ k i lt is. passed-instance (slot_of s.shape monitor k) (get_or r.instances.items k i) is;
       rows_many = refl;
-      rows = λ k lt. none-more (get_or r.rows.items k 0) _ (asks (λ at h. has_bit (rows_in (judge_of s js at) (phase_after s js (e ∷ past) at)) (k + 1)) ∙ ap (λ (n : ℕ). has_bit n (k + 1)) no-behind ∙ has_none (k + 1));
+      rows = λ k lt. none-more (get_or r.rows.items k 0) _ (asks (λ at h. has_bit (rows_run (judge_of s js at) (phase_past s js (e ∷ past) at)) (k + 1)) ∙ ap (λ (n : ℕ). has_bit n (k + 1)) no-behind ∙ has_none (k + 1));
       edges_many = λ many. refl;
       edges = λ k none many lt. none-more (get_or r.edges.items k 0) _
-          (asks (λ at h. takes (get_or (edges_of of) k none) h.mode a (letter_of s past e at h) (rows_from (judge_of s js at) (phase_after s js past at)) (rows_in (judge_of s js at) (phase_after s js (e ∷ past) at)))
-          ∙ ap (λ (b : Answer). takes (get_or (edges_of of) k none) hit.mode b x (rows_from j (phase_at core slot)) (rows_in j (phase_behind core e slot))) passed
-          ∙ no-take (get_or (edges_of of) k none) hit.mode x (rows_from j (phase_at core slot)) (rows_in j (phase_behind core e slot)));
+          (asks (λ at h. takes (get_or (edges_of of) k none) h.mode a (letter_of s past e at h) (rows_from (judge_of s js at) (phase_past s js past at)) (rows_run (judge_of s js at) (phase_past s js (e ∷ past) at)))
+          ∙ ap (λ (b : Answer). takes (get_or (edges_of of) k none) hit.mode b x (rows_from j (phase_at core slot)) (rows_run j (phase_behind core e slot))) passed
+          ∙ no-take (get_or (edges_of of) k none) hit.mode x (rows_from j (phase_at core slot)) (rows_run j (phase_behind core e slot)));
       atoms_many = refl;
       atoms = λ k lt. none-more (get_or r.atoms.items k 0) _
           (asks (λ at h. not (is_passed a) && has_bit (atoms_in (letter_of s past e at h)) k) ∙ ap (λ (b : Answer). not (is_passed b) && has_bit (atoms_in x) k) passed);
@@ -116,7 +117,7 @@ module _ (core : CoreValue) (e : Entry) (monitor slot : ℕ) (hit : Hit) (is_act
   module _ (judged : Judged) (answer_is : judged.answer ≡ a) (some : a ≢ Passed) (mode_is : judged.mode ≡ hit.mode) (letter_is : judged.letter ≡ x) (from_is : judged.from ≡ rows_from j (phase_at core slot))
       (after_is : judged.after ≡ row_phase j (phase_behind core e slot)) (slot_is : slot ≡ slot_of s.shape monitor judged.instance) where
     -- the rows behind it
-    behind : rows_behind judged.after ≡ rows_in j (phase_behind core e slot)
+    behind : rows_behind judged.after ≡ rows_run j (phase_behind core e slot)
     behind = ap rows_behind after_is ∙ behind-by j (phase_behind core e slot)
 
     -- the instance is marked
@@ -151,12 +152,12 @@ module _ (core : CoreValue) (e : Entry) (monitor slot : ℕ) (hit : Hit) (is_act
           instances = λ k i lt was. subst (IsInstance (with_entry core e) (slot_of s.shape monitor k)) (sym (is.instances.each k i lt)) (each-instance k (get_or r.instances.items k i) (judged.instance == k) refl was);
           rows_many = is.rows.many;
           rows = λ k lt. is.rows.each k lt
-              ∙ ap (λ (b : Bool). get_or r.rows.items k 0 + one_if b) (ap (λ (n : ℕ). has_bit n (k + 1)) behind ∙ sym (asks (λ at h. has_bit (rows_in (judge_of s js at) (phase_after s js (e ∷ past) at)) (k + 1))));
+              ∙ ap (λ (b : Bool). get_or r.rows.items k 0 + one_if b) (ap (λ (n : ℕ). has_bit n (k + 1)) behind ∙ sym (asks (λ at h. has_bit (rows_run (judge_of s js at) (phase_past s js (e ∷ past) at)) (k + 1))));
           edges_many = λ many. (is.edges no_edge many).many;
           edges = λ k none many lt. (is.edges none many).each k lt
               ∙ ap (λ (b : Bool). get_or r.edges.items k 0 + one_if b)
               ((λ i. takes (get_or (edges_of of) k none) (mode_is i) (answer_is i) (letter_is i) (from_is i) (behind i))
-              ∙ sym (asks (λ at h. takes (get_or (edges_of of) k none) h.mode a (letter_of s past e at h) (rows_from (judge_of s js at) (phase_after s js past at)) (rows_in (judge_of s js at) (phase_after s js (e ∷ past) at)))));
+              ∙ sym (asks (λ at h. takes (get_or (edges_of of) k none) h.mode a (letter_of s past e at h) (rows_from (judge_of s js at) (phase_past s js past at)) (rows_run (judge_of s js at) (phase_past s js (e ∷ past) at)))));
           atoms_many = is.atoms.many;
           atoms = λ k lt. is.atoms.each k lt
               ∙ ap (λ (b : Bool). get_or r.atoms.items k 0 + one_if b)

@@ -14,8 +14,8 @@ use Rattle.rv_reach.specs.declared.monitor.MonitorReach.{MonitorReach}
 use Rattle.rv_reach.specs.Reached.{answers_on, is_passed, is_running}
 use Rattle.rv_reach.specs.Watching.{IsInstance}
 use Rattle.rv_reach.specs.inner.Counters.{EndsInstance, waits}
-use Rattle.rv_reach.specs.inner.Counting.{any_at-none}
-use Rattle.rv_reach.specs.inner.Passing.{instance-stays, with_entry}
+use Rattle.rv_reach.specs.CountingLaws.{any_at-none}
+use Rattle.rv_reach.specs.Passing.{instance-stays, with_entry}
 use Rattle.rv_reach.proofs.ActLemmas.{apart-number, end-apart, end-behind, end-here, end-none, phase-behind, told-same}
 use Rattle.rv_reach.proofs.GrowLemmas.{Grows, none-more, one-more}
 

@@ -14,8 +14,8 @@ use Rattle.rv_reach.specs.Counting.{count_at}
 use Rattle.rv_reach.specs.Counts.{edges_of}
 use Rattle.rv_reach.specs.Reached.{answers_so, ends, has_true, is_kept, is_passed, is_started, reaches_row, takes_edge}
 use Rattle.rv_reach.specs.Watching.{IsInstance, IsReach}
-use Rattle.rv_reach.specs.inner.Counting.{count_at-snoc, count_by-snoc}
-use Rattle.rv_reach.specs.inner.Passing.{with_entry}
+use Rattle.rv_reach.specs.CountingLaws.{count_at-snoc, count_by-snoc}
+use Rattle.rv_reach.specs.Passing.{with_entry}
 
 -- of an entry that does not count, no more
 pub none-more : (n : ℕ) (b : Bool) → b ≡ false → n ≡ n + one_if b

@@ -21,7 +21,7 @@ use Rattle.rv_reach.specs.declared.reached.Reached.{Reached}
 use Rattle.rv_reach.specs.Reached.{delivers, ends, of_delivery}
 use Rattle.rv_reach.specs.Watching.{AreReached, IsReach}
 use Rattle.rv_reach.specs.inner.Counters.{ReachesRecord}
-use Rattle.rv_reach.specs.inner.Passing.{monitor-stays, with_entry}
+use Rattle.rv_reach.specs.Passing.{monitor-stays, with_entry}
 use Rattle.rv_reach.proofs.ActLemmas.{apart, apart-number, end-apart, end-none, no-end, on-other, other-number, told-same}
 
 -- ---- another monitor

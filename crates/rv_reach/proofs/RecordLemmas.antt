@@ -22,9 +22,10 @@ use Rattle.rv_reach.specs.declared.judged.Judged.{Judged}
 use Rattle.rv_reach.specs.declared.monitor.MonitorReach.{MonitorReach}
 use Rattle.rv_reach.specs.Counts.{edges_of}
 use Rattle.rv_reach.specs.Reached.{rows_from}
-use Rattle.rv_reach.specs.Watching.{IsReach, rows_before}
+use Rattle.rv_reach.specs.Watching.{IsReach}
+use Rattle.rv_reach.specs.inner.RowSets.{rows_before}
 use Rattle.rv_reach.specs.inner.Counters.{EndsInstance, IsJudged, JudgesLetter, PassesDelivery, ReachesRecord}
-use Rattle.rv_reach.specs.inner.Passing.{with_entry}
+use Rattle.rv_reach.specs.Passing.{with_entry}
 use Rattle.rv_reach.proofs.ActLemmas.{answer-here, answer_here, letter_here, phase-behind, phase_behind, turn-behind}
 use Rattle.rv_reach.proofs.DeliverLemmas.{grows-judged, grows-passed}
 use Rattle.rv_reach.proofs.EndLemmas.{grows-ended}

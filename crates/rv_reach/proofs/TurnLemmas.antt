@@ -9,8 +9,8 @@ use Rattle.rv_model.specs.declared.hit.Mode.TheVariants as mode
 use Rattle.rv_model.specs.Judging.{Judge}
 use Rattle.rv_model.specs.Phases.{Phase, waiting, running, stopped, rows_of, turn}
 use Rattle.rv_core.specs.RowPhases.{row_phase}
-use Rattle.rv_reach.specs.Reached.{is_passed, is_run, is_running, rows_from, rows_in}
-use Rattle.rv_reach.specs.Watching.{rows_before, rows_behind, runs_behind}
+use Rattle.rv_reach.specs.Reached.{is_passed, is_run, is_running, rows_from, rows_run}
+use Rattle.rv_reach.specs.inner.RowSets.{rows_before, rows_behind, runs_behind}
 
 -- ---- by its rows
 
@@ -21,7 +21,7 @@ runs-by j (running letters) = refl
 runs-by j stopped = refl
 
 -- in the same rows
-pub behind-by : (j : Judge) (p : Phase) → rows_behind (row_phase j p) ≡ rows_in j p
+pub behind-by : (j : Judge) (p : Phase) → rows_behind (row_phase j p) ≡ rows_run j p
 behind-by j waiting = refl
 behind-by j (running letters) = refl
 behind-by j stopped = refl
@@ -104,7 +104,7 @@ module _ (j : Judge) where
   passed-behind stopped m x is = refl
 
   -- what does not run has no rows
-  pub no-rows : (p : Phase) → is_running p ≡ false → rows_in j p ≡ 0
+  pub no-rows : (p : Phase) → is_running p ≡ false → rows_run j p ≡ 0
   no-rows waiting is = refl
   no-rows (running letters) is = absurd (true≢false is)
   no-rows stopped is = refl

@@ -3,19 +3,19 @@ use Rattle.std.specs.Prelude.{ℕ, ◌+◌, Bool, ◌||◌, false, List, [], ◌
 use Rattle.rv_model.specs.declared.entry.Entry.{Entry}
 
 -- at how many of the entries behind a past
-abbrev pub count_from : (List Entry → Entry → Bool) → List Entry → List Entry → ℕ
-count_from holds past [] = 0
-count_from holds past (e ∷ h) = (if holds past e then 1 else 0) + count_from holds (e ∷ past) h
+abbrev pub count_behind : (List Entry → Entry → Bool) → List Entry → List Entry → ℕ
+count_behind holds past [] = 0
+count_behind holds past (e ∷ h) = (if holds past e then 1 else 0) + count_behind holds (e ∷ past) h
 
 -- at how many entries of the history
 abbrev pub count_at : (List Entry → Entry → Bool) → List Entry → ℕ
-count_at holds h = count_from holds [] h
+count_at holds h = count_behind holds [] h
 
 -- at one of the entries behind a past, or at more
-abbrev pub any_from : (List Entry → Entry → Bool) → List Entry → List Entry → Bool
-any_from holds past [] = false
-any_from holds past (e ∷ h) = holds past e || any_from holds (e ∷ past) h
+abbrev pub any_behind : (List Entry → Entry → Bool) → List Entry → List Entry → Bool
+any_behind holds past [] = false
+any_behind holds past (e ∷ h) = holds past e || any_behind holds (e ∷ past) h
 
 -- at one entry of the history, or at more
 abbrev pub any_at : (List Entry → Entry → Bool) → List Entry → Bool
-any_at holds h = any_from holds [] h
+any_at holds h = any_behind holds [] h

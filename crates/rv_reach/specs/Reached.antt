@@ -31,14 +31,14 @@ abbrev pub delivers : Setup → ℕ → (ℕ → Hit → Bool) → Entry → Boo
 delivers s monitor asked e = of_delivery (λ slot hit. monitor_of s.shape slot == monitor && asked slot hit) e.act
 
 -- the phase of a slot after a past
-abbrev pub phase_after : Setup → List Judge → List Entry → ℕ → Phase
-phase_after s js past slot = phase_of (judge_of s js slot) (start_of s slot) past slot
+abbrev pub phase_past : Setup → List Judge → List Entry → ℕ → Phase
+phase_past s js past slot = phase_of (judge_of s js slot) (start_of s slot) past slot
 
 -- the rows in which an instance runs, and none where it does not
-abbrev pub rows_in : Judge → Phase → ℕ
-rows_in j waiting = 0
-rows_in j (running letters) = rows_of j letters
-rows_in j stopped = 0
+abbrev pub rows_run : Judge → Phase → ℕ
+rows_run j waiting = 0
+rows_run j (running letters) = rows_of j letters
+rows_run j stopped = 0
 
 -- the rows from which a letter is judged: of an instance that waits, those of no letters
 abbrev pub rows_from : Judge → Phase → ℕ
@@ -98,13 +98,13 @@ is_running stopped = false
 
 -- how many of the monitor's first n instances run after the whole history
 abbrev pub instances_running : Setup → List Judge → List Entry → ℕ → ℕ → ℕ
-instances_running s js h monitor n = count_by (λ instance. is_running (phase_after s js (reverse h) (slot_of s.shape monitor instance))) (list_of (λ instance. instance) n)
+instances_running s js h monitor n = count_by (λ instance. is_running (phase_past s js (reverse h) (slot_of s.shape monitor instance))) (list_of (λ instance. instance) n)
 
 -- ---- rows and edges
 
 -- the entry is a delivery of the monitor behind which its instance runs in the row, among others
 abbrev pub reaches_row : Setup → List Judge → ℕ → ℕ → List Entry → Entry → Bool
-reaches_row s js monitor row past e = delivers s monitor (λ slot hit. has_bit (rows_in (judge_of s js slot) (phase_after s js (e ∷ past) slot)) row) e
+reaches_row s js monitor row past e = delivers s monitor (λ slot hit. has_bit (rows_run (judge_of s js slot) (phase_past s js (e ∷ past) slot)) row) e
 
 -- how many of the monitor's deliveries reach the row
 abbrev pub row_reached : Setup → List Judge → List Entry → ℕ → ℕ → ℕ
@@ -126,7 +126,7 @@ takes edge mode answer letter from to = is_run mode answer && is_event edge.even
 -- the entry is a delivery of the monitor that takes the edge
 abbrev pub takes_edge : Setup → List Judge → ℕ → Edge → List Entry → Entry → Bool
 takes_edge s js monitor edge past e =
-    delivers s monitor (λ slot hit. takes edge hit.mode (answer_at s js past e e.act) (letter_of s past e slot hit) (rows_from (judge_of s js slot) (phase_after s js past slot)) (rows_in (judge_of s js slot) (phase_after s js (e ∷ past) slot))) e
+    delivers s monitor (λ slot hit. takes edge hit.mode (answer_at s js past e e.act) (letter_of s past e slot hit) (rows_from (judge_of s js slot) (phase_past s js past slot)) (rows_run (judge_of s js slot) (phase_past s js (e ∷ past) slot))) e
 
 -- how many of the monitor's deliveries take the edge
 abbrev pub edge_taken : Setup → List Judge → List Entry → ℕ → Edge → ℕ

@@ -1,5 +1,5 @@
 -- What is counted of a run delivery by delivery: after each entry it is that of the history so far.
-use Rattle.std.specs.Prelude.{◌≡◌, ℕ, ◌+◌, ◌<◌, Bool, true, false, not, [], length, slice_index, slice_index_or}
+use Rattle.std.specs.Prelude.{◌≡◌, ℕ, ◌+◌, ◌<◌, not, [], length, slice_index, slice_index_or}
 use Rattle.rv_model.specs.declared.automaton.Edge.{Edge}
 use Rattle.rv_model.specs.declared.formula.Spec.{Spec}
 use Rattle.rv_model.specs.Setups.{slot_of}
@@ -7,8 +7,6 @@ use Rattle.rv_model.specs.Scripts.{fails}
 use Rattle.rv_model.specs.Table.{of_labels}
 use Rattle.rv_bind.specs.declared.bindings.Bindings.{Bindings}
 use Rattle.rv_bind.specs.declared.bindings.Monitor.{Monitor}
-use Rattle.rv_core.specs.declared.phase.RowPhase.{RowPhase}
-use Rattle.rv_core.specs.declared.phase.RowPhase.TheVariants as by_rows
 use Rattle.rv_core.specs.Core.{CoreValue}
 use Rattle.rv_core.specs.RowPhases.{phase_at}
 use Rattle.rv_core.specs.Setup.{judges_of}
@@ -19,27 +17,6 @@ use Rattle.rv_reach.specs.declared.reached.Reached.{Reached}
 use Rattle.rv_reach.specs.Counting.{any_at}
 use Rattle.rv_reach.specs.Counts.{atom_count, edges_of}
 use Rattle.rv_reach.specs.Reached.{answered, answers_on, atom_true, edge_taken, ended, is_kept, is_passed, is_running, is_started, letters_judged, row_reached}
-
--- ---- a phase by its rows
-
--- the rows in which an instance runs, and none where it does not
-abbrev pub rows_behind : RowPhase → ℕ
-rows_behind by_rows.Waiting = 0
-rows_behind (by_rows.Running rows) = rows
-rows_behind by_rows.Stopped = 0
-
-abbrev pub runs_behind : RowPhase → Bool
-runs_behind by_rows.Waiting = false
-runs_behind (by_rows.Running rows) = true
-runs_behind by_rows.Stopped = false
-
--- the rows from which a letter is judged, where those of no letters are these
-abbrev pub rows_before : ℕ → RowPhase → ℕ
-rows_before start by_rows.Waiting = start
-rows_before start (by_rows.Running rows) = rows
-rows_before start by_rows.Stopped = 0
-
--- ---- after a history
 
 -- an instance, by its slot
 pub record IsInstance (core : CoreValue) (slot : ℕ) (i : InstanceReach) : Type 0 where

@@ -3,7 +3,7 @@ ghost use Rattle.std.specs.Prelude.{◌≡◌, ◌+◌, ◌≤◌, length, IfOk,
 ghost use Rattle.rv_model.specs.declared.automaton.Edge.{Edge};
 ghost use Rattle.rv_model.specs.Numbers.{has_bit, one_if};
 ghost use Rattle.rv_reach.specs.Reached.{takes};
-ghost use Rattle.rv_reach.specs.Watching.{rows_behind};
+ghost use Rattle.rv_reach.specs.inner.RowSets.{rows_behind};
 ghost use Rattle.rv_reach.specs.inner.Counters.{CountsMore};
 
 use crate::judged::{Judged, takes};

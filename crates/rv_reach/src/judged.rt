@@ -5,7 +5,7 @@ ghost use Rattle.rv_model.specs.Phases.{rows_of};
 ghost use Rattle.rv_model.specs.Setups.{judge_of};
 ghost use Rattle.rv_core.specs.Setup.{judges_of};
 ghost use Rattle.rv_reach.specs.Reached.{is_event, is_run, takes};
-ghost use Rattle.rv_reach.specs.Watching.{rows_before, rows_behind, runs_behind};
+ghost use Rattle.rv_reach.specs.inner.RowSets.{rows_before, rows_behind, runs_behind};
 ghost use Rattle.rv_reach.specs.inner.Counters.{IsJudged};
 
 use rv_core::{Core, RowPhase};

@@ -35,7 +35,7 @@ impl Reached {
 
 impl Observer for Reached {
     ghost use Rattle.rv_reach.specs.Watching.{AreReached};
-    ghost use Rattle.rv_reach.specs.inner.Passing.{reached-passes};
+    ghost use Rattle.rv_reach.specs.Passing.{reached-passes};
 
     type Context = Bindings;
 

@@ -19,7 +19,7 @@ impl Observer for Watched {
     ghost use Rattle.rv_report.specs.Reported.{reported_of};
     ghost use Rattle.rv_report.specs.Tallies.{IsFound};
     ghost use Rattle.rv_reach.specs.Watching.{AreReached};
-    ghost use Rattle.rv_reach.specs.inner.Passing.{reached-passes};
+    ghost use Rattle.rv_reach.specs.Passing.{reached-passes};
 
     type Context = Bindings;
 

@@ -19,7 +19,8 @@ use Rattle.rv_reach.specs.declared.monitor.InstanceReach.{InstanceReach}
 use Rattle.rv_reach.specs.declared.monitor.MonitorReach.{MonitorReach}
 use Rattle.rv_reach.specs.Counts.{atom_count, edges_of}
 use Rattle.rv_reach.specs.Reached.{is_kept, is_started, takes}
-use Rattle.rv_reach.specs.Watching.{IsReach, rows_before, rows_behind, runs_behind}
+use Rattle.rv_reach.specs.Watching.{IsReach}
+use Rattle.rv_reach.specs.inner.RowSets.{rows_before, rows_behind, runs_behind}
 
 -- each count goes up by one where this is so of its place
 pub record CountsMore (counts : ℕ → Bool) (old new : List ℕ) : Type 0 where

@@ -5,7 +5,7 @@ use Rattle.rv_model.specs.declared.automaton.Edge.{Edge}
 use Rattle.rv_model.specs.Numbers.{one_if}
 use Rattle.rv_reach.specs.declared.judged.Judged.{Judged}
 use Rattle.rv_reach.specs.Reached.{takes}
-use Rattle.rv_reach.specs.Watching.{rows_behind}
+use Rattle.rv_reach.specs.inner.RowSets.{rows_behind}
 use Rattle.rv_reach.proofs.CountLemmas.{counted-all, counted-one}
 use Rattle.rv_reach.proofs.counters.count_edges.Goals as goal
 

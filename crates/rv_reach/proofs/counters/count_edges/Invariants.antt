@@ -2,7 +2,7 @@
 use Rattle.std.proofs.Common.{get_or}
 use Rattle.rv_model.specs.declared.automaton.Edge.{Edge}
 use Rattle.rv_reach.specs.Reached.{takes}
-use Rattle.rv_reach.specs.Watching.{rows_behind}
+use Rattle.rv_reach.specs.inner.RowSets.{rows_behind}
 use Rattle.rv_reach.specs.inner.Counters.{CountedTo}
 use Rattle.rv_reach.proofs.counters.count_edges.Given as goal
 

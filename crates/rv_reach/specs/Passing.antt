@@ -23,7 +23,7 @@ use Rattle.rv_reach.specs.declared.reached.Reached.{Reached}
 use Rattle.rv_reach.specs.Counts.{edges_of}
 use Rattle.rv_reach.specs.Reached.{answers_on, answers_so, delivers, ends, has_true, is_kept, is_passed, is_running, is_started, of_delivery, reaches_row, takes_edge}
 use Rattle.rv_reach.specs.Watching.{AreReached, IsInstance, IsReach}
-use Rattle.rv_reach.specs.inner.Counting.{any_at-none, count_at-none, count_by-none}
+use Rattle.rv_reach.specs.CountingLaws.{any_at-none, count_at-none, count_by-none}
 
 -- the machine with one entry more
 abbrev pub with_entry : CoreValue → Entry → CoreValue

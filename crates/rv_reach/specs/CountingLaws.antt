@@ -5,24 +5,24 @@ use Rattle.std.proofs.lemmas.List.{reverse-append}
 use Rattle.std.proofs.lemmas.List.Sums.{sum_by-append}
 use Rattle.rv_model.specs.declared.entry.Entry.{Entry}
 use Rattle.rv_model.specs.Numbers.{one_if}
-use Rattle.rv_reach.specs.Counting.{any_at, any_from, count_at, count_from}
+use Rattle.rv_reach.specs.Counting.{any_at, any_behind, count_at, count_behind}
 
 -- what stands before the next entry, the newest first
 back : (past : List Entry) (x : Entry) (h : List Entry) → reverse h ++ x ∷ past ≡ reverse (x ∷ h) ++ past
 back past x h = sym (ap (λ (z : List Entry). z ++ past) (reverse-append (x ∷ []) h) ∙ append_assoc (reverse h) (x ∷ []) past)
 
 -- at how many of the entries behind a past
-count_from-snoc : (holds : List Entry → Entry → Bool) (past h : List Entry) (e : Entry) → count_from holds past (h ++ e ∷ []) ≡ count_from holds past h + one_if (holds (reverse h ++ past) e)
-count_from-snoc holds past [] e = add-zero (one_if (holds past e)) ∙ sym (zero-add (one_if (holds past e)))
-count_from-snoc holds past (x ∷ h) e =
-    let rest : count_from holds (x ∷ past) (h ++ e ∷ []) ≡ count_from holds (x ∷ past) h + one_if (holds (reverse (x ∷ h) ++ past) e) =
-    count_from-snoc holds (x ∷ past) h e ∙ ap (λ (z : List Entry). count_from holds (x ∷ past) h + one_if (holds z e)) (back past x h) in
-    ap (λ (n : ℕ). one_if (holds past x) + n) rest ∙ sym (add_assoc (one_if (holds past x)) (count_from holds (x ∷ past) h) (one_if (holds (reverse (x ∷ h) ++ past) e)))
+count_behind-snoc : (holds : List Entry → Entry → Bool) (past h : List Entry) (e : Entry) → count_behind holds past (h ++ e ∷ []) ≡ count_behind holds past h + one_if (holds (reverse h ++ past) e)
+count_behind-snoc holds past [] e = add-zero (one_if (holds past e)) ∙ sym (zero-add (one_if (holds past e)))
+count_behind-snoc holds past (x ∷ h) e =
+    let rest : count_behind holds (x ∷ past) (h ++ e ∷ []) ≡ count_behind holds (x ∷ past) h + one_if (holds (reverse (x ∷ h) ++ past) e) =
+    count_behind-snoc holds (x ∷ past) h e ∙ ap (λ (z : List Entry). count_behind holds (x ∷ past) h + one_if (holds z e)) (back past x h) in
+    ap (λ (n : ℕ). one_if (holds past x) + n) rest ∙ sym (add_assoc (one_if (holds past x)) (count_behind holds (x ∷ past) h) (one_if (holds (reverse (x ∷ h) ++ past) e)))
 
 -- at how many entries
 pub count_at-snoc : (holds : List Entry → Entry → Bool) (h : List Entry) (e : Entry) (b : Bool) → holds (reverse h) e ≡ b → count_at holds (h ++ e ∷ []) ≡ count_at holds h + one_if b
 count_at-snoc holds h e b is =
-    count_from-snoc holds [] h e ∙ ap (λ (z : List Entry). count_at holds h + one_if (holds z e)) (append-nil (reverse h)) ∙ ap (λ (t : Bool). count_at holds h + one_if t) is
+    count_behind-snoc holds [] h e ∙ ap (λ (z : List Entry). count_at holds h + one_if (holds z e)) (append-nil (reverse h)) ∙ ap (λ (t : Bool). count_at holds h + one_if t) is
 
 -- and at no more
 pub count_at-none : (holds : List Entry → Entry → Bool) (h : List Entry) (e : Entry) → holds (reverse h) e ≡ false → count_at holds (h ++ e ∷ []) ≡ count_at holds h
@@ -38,15 +38,15 @@ or-false true = refl
 or-false false = refl
 
 -- at one of the entries behind a past
-any_from-snoc : (holds : List Entry → Entry → Bool) (past h : List Entry) (e : Entry) → any_from holds past (h ++ e ∷ []) ≡ (any_from holds past h || holds (reverse h ++ past) e)
-any_from-snoc holds past [] e = or-false (holds past e)
-any_from-snoc holds past (x ∷ h) e =
-    ap (λ (b : Bool). holds past x || b) (any_from-snoc holds (x ∷ past) h e ∙ ap (λ (z : List Entry). any_from holds (x ∷ past) h || holds z e) (back past x h))
-    ∙ or-assoc (holds past x) (any_from holds (x ∷ past) h) (holds (reverse (x ∷ h) ++ past) e)
+any_behind-snoc : (holds : List Entry → Entry → Bool) (past h : List Entry) (e : Entry) → any_behind holds past (h ++ e ∷ []) ≡ (any_behind holds past h || holds (reverse h ++ past) e)
+any_behind-snoc holds past [] e = or-false (holds past e)
+any_behind-snoc holds past (x ∷ h) e =
+    ap (λ (b : Bool). holds past x || b) (any_behind-snoc holds (x ∷ past) h e ∙ ap (λ (z : List Entry). any_behind holds (x ∷ past) h || holds z e) (back past x h))
+    ∙ or-assoc (holds past x) (any_behind holds (x ∷ past) h) (holds (reverse (x ∷ h) ++ past) e)
 
 -- at one entry
 pub any_at-snoc : (holds : List Entry → Entry → Bool) (h : List Entry) (e : Entry) (b : Bool) → holds (reverse h) e ≡ b → any_at holds (h ++ e ∷ []) ≡ (any_at holds h || b)
-any_at-snoc holds h e b is = any_from-snoc holds [] h e ∙ ap (λ (z : List Entry). any_at holds h || holds z e) (append-nil (reverse h)) ∙ ap (λ (t : Bool). any_at holds h || t) is
+any_at-snoc holds h e b is = any_behind-snoc holds [] h e ∙ ap (λ (z : List Entry). any_at holds h || holds z e) (append-nil (reverse h)) ∙ ap (λ (t : Bool). any_at holds h || t) is
 
 pub any_at-none : (holds : List Entry → Entry → Bool) (h : List Entry) (e : Entry) → holds (reverse h) e ≡ false → any_at holds (h ++ e ∷ []) ≡ any_at holds h
 any_at-none holds h e is = any_at-snoc holds h e false is ∙ or-false (any_at holds h)
