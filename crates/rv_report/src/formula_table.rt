@@ -90,7 +90,7 @@ fn put_further(out: &mut Line, atoms: &Names, formula: &Formula) -> Result<(), A
 
 /// The labels of a row.
 #[tactic(auto, using(crate::proofs::GrowingTexts::first_label, crate::proofs::GrowingTexts::more_labels))]
-fn put_labels(out: &mut Line, atoms: &Names, table: &Table, row: u32) -> Result<(), AllocError>
+pub fn put_labels(out: &mut Line, atoms: &Names, table: &Table, row: u32) -> Result<(), AllocError>
     requires { HasNode table.now row }
     ensures { OnOk result (out.new ≡ out.old ++ labels_text atoms.now (node_in table.now row).labels) }
 {

@@ -10,7 +10,7 @@ use rv_text::Line;
 use std::alloc::AllocError;
 
 /// Appends a monitor's shown name.
-pub(crate) fn display_name(
+pub fn display_name(
     out: &mut Line,
     containers: &Names,
     container: Option<u8>,

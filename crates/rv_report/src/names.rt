@@ -6,7 +6,7 @@ use rv_text::Line;
 use std::alloc::AllocError;
 
 /// Appends the name at this place, where there is one.
-pub(crate) fn put_name(out: &mut Line, names: &Names, place: usize) -> Result<(), AllocError>
+pub fn put_name(out: &mut Line, names: &Names, place: usize) -> Result<(), AllocError>
     ensures { OnOk result (out.new ≡ out.old ++ slice_index_or names.now place []) }
 {
     if place < names.len() {
