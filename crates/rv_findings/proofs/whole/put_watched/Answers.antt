@@ -1,5 +1,5 @@
 -- One share after another.
-use Rattle.std.proofs.Common.{List, ℕ, ◌++◌, map, ap, ◌∙◌}
+use Rattle.std.proofs.Common.{List, ◌++◌, map, ap, ◌∙◌}
 use Rattle.std.specs.Prelude.{codes}
 use Rattle.std.proofs.lemmas.Result.{on_ok_weaker}
 use Rattle.rv_report.proofs.ChainLemmas.{after}
