@@ -1,0 +1,10 @@
+pub mod AddedLemmas
+pub mod CountLemmas
+pub mod EntryLemmas
+pub mod FirstLemmas
+pub mod LateLemmas
+pub mod NearLemmas
+pub mod SpelledLemmas
+pub mod TextLemmas
+pub mod TimeLemmas
+pub mod WordLemmas

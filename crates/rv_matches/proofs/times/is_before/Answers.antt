@@ -1,0 +1,29 @@
+use Rattle.std.proofs.Common.{◌≢◌, ◌+◌, ◌-◌, ◌*◌, ◌<◌, ◌≤◌, ltb, length, sym, ap₂, ◌∙◌, arith}
+use Rattle.rv_matches.specs.declared.words.TheConstants.{LONGEST}
+use Rattle.rv_matches.specs.inner.Times.{digit_at, point_in}
+use Rattle.rv_matches.proofs.SpelledLemmas.{before_by, before_none, time_short}
+use Rattle.rv_matches.proofs.TimeLemmas.{zeros_before}
+use Rattle.rv_matches.proofs.times.is_before.Goals as goal
+
+pub loop-place-init : goal.loop-place-init
+loop-place-init c = λ k before.
+    zeros_before c.args.one.now k (omega (arith, before, c.max-first.ensures, c.point_in-point.ensures.value))
+    ∙ sym (zeros_before c.args.other.now k (omega (arith, before, c.max-first.ensures, c.point_in-its.ensures.value)))
+
+pub returns-then-digit-against : goal.returns-then-digit-against
+returns-then-digit-against c =
+    let one = c.args.one.now in
+    let other = c.args.other.now in
+    let place = c.loop-place.place in
+    let inside : place < 2 * LONGEST = omega (arith, c.max-last.ensures, time_short one c.requires.one, time_short other c.requires.other) in
+    let differ : digit_at one place ≢ digit_at other place = λ e. c.if-digit-against.true (c.digit_at-digit.ensures ∙ e ∙ sym c.digit_at-against.ensures) in
+    ap₂ ltb c.digit_at-digit.ensures c.digit_at-against.ensures ∙ before_by one other c.requires.one c.requires.other place inside c.loop-place.invariant differ
+
+pub returns : goal.returns
+returns c =
+    let one = c.args.one.now in
+    let other = c.args.other.now in
+    let place = c.loop-place.place in
+    let high : LONGEST + (length one - point_in one) ≤ place = omega (arith, c.max-last.ensures, c.point_in-point.ensures.value) in
+    let high' : LONGEST + (length other - point_in other) ≤ place = omega (arith, c.max-last.ensures, c.point_in-its.ensures.value) in
+    before_none one other c.requires.one c.requires.other place high high' c.loop-place.invariant

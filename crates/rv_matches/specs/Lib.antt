@@ -1,0 +1,4 @@
+pub mod Nearest
+pub mod TextFacts
+pub mod Words
+pub mod inner

@@ -1,0 +1,4 @@
+pub mod LateTimes
+pub mod NamesNear
+pub mod TextSteps
+pub mod Times

@@ -1,0 +1,146 @@
+//! Timestamps that go back: the latest one so far, and the lines whose time is before it.
+ghost use Rattle.std.specs.Prelude.{◌≡◌, ◌+◌, [], true, Some, None, IfOk, OnOk};
+ghost use Rattle.std.specs.Option.{option_or};
+ghost use Rattle.rv_matches.specs.inner.LateTimes.{HasTime, TellsTime, is_late, is_latest, times_of};
+ghost use Rattle.rv_matches.specs.inner.Times.{is_time};
+
+use crate::times::is_before;
+use crate::words::one_more;
+use rv_model::Name;
+use std::alloc::{AllocError, Global};
+use std::marker::Model;
+
+/// A timestamp without its colon, and its line.
+#[derive(Drop)]
+pub struct Stamped {
+    pub line: u32,
+    pub stamp: Name,
+}
+
+/// A line whose time is before that of a line above it.
+#[derive(Drop)]
+pub struct Late {
+    pub late: Stamped,
+    /// The first line above it of the latest time.
+    pub latest: Option<Stamped>,
+}
+
+/// The latest timestamp, the first that is late, and how many are.
+#[derive(Drop)]
+pub(crate) struct Times {
+    latest: Option<Stamped>,
+    first_late: Option<Late>,
+    late: u64,
+}
+
+impl Model for Times {
+    ghost use Rattle.rv_matches.specs.inner.LateTimes.{HasTime, TimesValue};
+
+    ghost Value = { TimesValue };
+
+    ghost view = { λ t. record { latest = t.latest; late = record { first = t.first_late; count = t.late } } };
+
+    ghost invariant = { λ t. HasTime t.latest };
+}
+
+/// The timestamp of a line.
+fn stamp_at(alloc: Global, line: u32, stamp: &[u8]) -> Result<Stamped, AllocError>
+    ensures { IfOk result (λ s. s ≡ record { line = line; stamp = stamp.now }) }
+{
+    Ok(Stamped {
+        line,
+        stamp: Name::new(alloc, stamp)?,
+    })
+}
+
+/// The same once more.
+fn copy_of(alloc: Global, latest: &Option<Stamped>) -> Result<Option<Stamped>, AllocError>
+    ensures { IfOk result (λ copy. copy ≡ latest.now) }
+{
+    match latest {
+        Some(latest) => Ok(Some(stamp_at(alloc, latest.line, latest.stamp.bytes())?)),
+        None => Ok(None),
+    }
+}
+
+/// Whether the timestamp of the line becomes the latest.
+fn is_latest(latest: &Option<Stamped>, line: u32, stamp: &[u8]) -> bool
+    requires latest { HasTime latest.now }
+    requires time { is_time stamp.now ≡ true }
+    ensures { result ≡ is_latest latest.now (record { line = line; stamp = stamp.now }) }
+{
+    match latest {
+        Some(latest) => is_before(latest.stamp.bytes(), stamp),
+        None => true,
+    }
+}
+
+/// Whether the timestamp of the line is before the latest.
+fn is_late(latest: &Option<Stamped>, line: u32, stamp: &[u8]) -> bool
+    requires latest { HasTime latest.now }
+    requires time { is_time stamp.now ≡ true }
+    ensures { result ≡ is_late latest.now (record { line = line; stamp = stamp.now }) }
+{
+    match latest {
+        Some(latest) => is_before(stamp, latest.stamp.bytes()),
+        None => false,
+    }
+}
+
+impl Times {
+    /// No timestamp was seen.
+    pub(crate) fn new() -> Times
+        ensures { result ≡ times_of [] }
+    {
+        Times {
+            latest: None,
+            first_late: None,
+            late: 0,
+        }
+    }
+
+    /// One more line that is late.
+    fn add_late(&mut self, alloc: Global, line: u32, stamp: &[u8]) -> Result<(), AllocError>
+        ensures latest { OnOk result (self.new.latest ≡ self.old.latest) }
+        ensures first { OnOk result (self.new.late.first ≡ option_or self.old.late.first (Some (record { late = record { line = line; stamp = stamp.now }; latest = self.old.latest }))) }
+        ensures count { OnOk result (self.new.late.count ≡ self.old.late.count + 1) }
+    {
+        self.late = one_more(self.late)?;
+        if self.first_late.is_none() {
+            let late = stamp_at(alloc, line, stamp)?;
+            let latest = copy_of(alloc, &self.latest)?;
+            self.first_late = Some(Late { late, latest });
+        }
+        Ok(())
+    }
+
+    /// One more timestamp.
+    pub(crate) fn add(&mut self, alloc: Global, line: u32, stamp: &[u8]) -> Result<(), AllocError>
+        requires { is_time stamp.now ≡ true }
+        ensures { OnOk result (TellsTime (record { line = line; stamp = stamp.now }) self.old self.new) }
+    {
+        if is_latest(&self.latest, line, stamp) {
+            self.latest = Some(stamp_at(alloc, line, stamp)?);
+            return Ok(());
+        }
+        if is_late(&self.latest, line, stamp) {
+            self.add_late(alloc, line, stamp)?;
+            return Ok(());
+        }
+        Ok(())
+    }
+
+    /// The first line that is before the latest above it.
+    pub(crate) fn first_late(&self) -> &Option<Late>
+        ensures { result.now ≡ self.now.late.first }
+    {
+        &self.first_late
+    }
+
+    /// How many lines are before the latest above them.
+    pub(crate) fn late(&self) -> u64
+        ensures { result ≡ self.now.late.count }
+    {
+        self.late
+    }
+}
