@@ -14,8 +14,6 @@ mod pieces;
 mod rule_facts;
 mod rule_findings;
 mod spec_findings;
-#[cfg(test)]
-mod tests;
 mod trace_findings;
 mod whole;
 
