@@ -16,6 +16,7 @@ use Rattle.rv_route.specs.Routing.{RoutedValue}
 use Rattle.rv_tool.specs.Changes.{changes_text}
 use Rattle.rv_tool.specs.HeaderFiles.{header_of_text}
 use Rattle.rv_stream.specs.inner.Faults.{IsOutcome}
+use Rattle.rv_stream.proofs.PossibleLemmas.{file_unread, tells_may}
 use Rattle.rv_stream.specs.RoutedTraces.{routed_text}
 use Rattle.rv_tool.specs.Inputs.{InputValue}
 use Rattle.rv_tool.specs.Possible.{Keeping, AreWorksOf, MayBind, MayRoute, MayInput, MayRunBeside, MayCheck, MayTable, MayHeader, MayControl}
