@@ -1,4 +1,5 @@
 pub mod AddLemmas
+pub mod AnyLineLemmas
 pub mod AscendLemmas
 pub mod BitLemmas
 pub mod FieldLemmas

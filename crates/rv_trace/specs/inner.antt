@@ -4,3 +4,4 @@ pub mod Naming
 pub mod Noting
 pub mod Runs
 pub mod Seeking
+pub mod SeekingLines

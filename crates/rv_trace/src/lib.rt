@@ -12,6 +12,8 @@ mod lines;
 mod parts;
 mod runs;
 mod seek;
+mod seek_line;
+mod taken;
 mod trace;
 
 pub use field_names::FieldNames;
@@ -24,4 +26,5 @@ pub use laws::{
 pub use limits::limits_are_numerals;
 pub use line::{LAST_CPU, LAST_PID, Span, TraceLine, read_line};
 pub use lines::Lines;
+pub use taken::TakenLine;
 pub use trace::{MAX_BYTES, MAX_LINES, read_trace};

@@ -1,10 +1,13 @@
 //! The lines of a stream that is fed in pieces and never held whole.
 ghost use Rattle.std.specs.Prelude.{◌≡◌, ◌≤◌, ◌++◌, ◌&&◌, [], true, false, not, drop, take, length, vec_capacity, IsTrue, IfOk, IfSome, IfNone, OnOk, OnErr};
+ghost use Rattle.rv_trace.specs.AnyLines.{IsReadOn, TakesNextAny};
 ghost use Rattle.rv_trace.specs.Lines.{LiesIn};
 ghost use Rattle.rv_trace.specs.Streams.{TakesNextLine};
 
 use crate::line::TraceLine;
 use crate::seek::{At, seek};
+use crate::seek_line::seek_line;
+use crate::taken::TakenLine;
 use crate::trace::MAX_BYTES;
 use rv_model::GhostList;
 use rv_text::Refusal;
@@ -136,8 +139,27 @@ impl Lines {
         sought.read
     }
 
-    /// The line that the last call of `take` gave, without its line end, in which its spans are places; empty where that
-    /// gave none, and after `feed`. No memory is taken.
+    /// The next line, skipped or not, or None where no line is left of what can be read. What was read on it is counted
+    /// from its own first byte. After a refusal each call refuses the same. A call that gives no line leaves the empty
+    /// text, and passes none. No memory is taken.
+    #[inline(always)]
+    pub fn take_any(&mut self) -> Result<Option<TakenLine>, Refusal>
+        ensures takes { TakesNextAny self.old self.new result }
+        ensures read { IfOk result (λ found. IfSome found (IsReadOn self.new.text)) }
+        ensures none { IfOk result (λ found. IfNone found (self.new.text ≡ [])) }
+        ensures refused { OnErr result (self.new.text ≡ []) }
+        ensures small { length self.new.text ≤ MAX_BYTES }
+    {
+        let told = seek_line(self.held.as_slice(), self.passed, self.at, self.ended);
+        self.at = told.at;
+        self.first = told.from;
+        self.last = told.to;
+        self.idle = matches!(told.read, Ok(None));
+        told.read
+    }
+
+    /// The line that the last call of `take` or `take_any` gave, without its line end, in which its spans are places; empty
+    /// where that gave none, and after `feed`. No memory is taken.
     pub fn text(&self) -> &[u8]
         ensures { result.now ≡ self.now.text }
     {

@@ -31,7 +31,7 @@ pub struct Sought {
 }
 
 /// Where the line ends that begins here: at its line end, or at the end where nothing can follow.
-fn line_to(held: &[u8], at: At, whole: bool) -> Option<usize>
+pub(crate) fn line_to(held: &[u8], at: At, whole: bool) -> Option<usize>
     requires { LooksAt held.now at.from at.searched }
     ensures some { IfSome result (EndsAt held.now at.from whole) }
     ensures none { IfNone result (HasNoLineEnd held.now at.from whole) }
@@ -47,14 +47,14 @@ fn line_to(held: &[u8], at: At, whole: bool) -> Option<usize>
 }
 
 /// Whether nothing that follows can change what is read.
-fn is_whole(ended: bool, length: usize) -> bool
+pub(crate) fn is_whole(ended: bool, length: usize) -> bool
     ensures { result ≡ (ended || nat_lt MAX_BYTES length) }
 {
     ended || length > MAX_BYTES
 }
 
 /// Reads a line, whose spans are counted from its own first byte, and which ends here in the stream.
-fn read_at(
+pub(crate) fn read_at(
     held: &[u8],
     from: usize,
     to: usize,
