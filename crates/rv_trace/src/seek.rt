@@ -54,6 +54,7 @@ pub(crate) fn is_whole(ended: bool, length: usize) -> bool
 }
 
 /// Reads a line, whose spans are counted from its own first byte, and which ends here in the stream.
+#[inline(always)]
 pub(crate) fn read_at(
     held: &[u8],
     from: usize,

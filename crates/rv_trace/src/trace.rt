@@ -16,6 +16,7 @@ pub const MAX_LINES: u32 = 1_000_000;
 pub const MAX_BYTES: usize = 134_217_728;
 
 #[tactic(auto, unfolding(crate::specs::Traces::reading_of))]
+#[inline(always)]
 pub(crate) fn reading_of(line: TextLine) -> Result<Option<TraceLine>, Refusal>
     requires { line.from + length line.bytes.now ≤ line.end }
     ensures { result ≡ reading_of (line_text line.entry) }

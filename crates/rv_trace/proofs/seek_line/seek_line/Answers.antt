@@ -3,7 +3,6 @@ use Rattle.rv_text.specs.Places.{between}
 use Rattle.rv_text.specs.TextLines.{LineText, next_number}
 use Rattle.rv_text.specs.declared.refusals.Refusal.{Refusal}
 use Rattle.rv_trace.specs.declared.line.TraceLine.{TraceLine}
-use Rattle.rv_trace.specs.inner.Seeking.{EndsAt, HasNoLineEnd}
 use Rattle.rv_trace.specs.Streams.{AnswersLine, part_read}
 use Rattle.rv_trace.specs.Traces.{reading_of}
 use Rattle.rv_trace.proofs.AddLemmas.{adds-none, reading-fits}
@@ -15,7 +14,7 @@ use Rattle.rv_trace.proofs.seek_line.seek_line.Goals as goal
 pub returns-in_default : goal.returns-in_default
 returns-in_default c =
     let looks = c.requires.looks in
-    let left = subst (λ w. HasNoLineEnd c.args.held.now c.args.start.from w) c.is_whole-whole.ensures c.in_default.ensures.none in
+    let left = c.in_default.ensures.none in
     rw c.stay.ensures (record {
       looks = record { order = omega (arith, looks.order, looks.within); within = omega arith; none = left.none };
       fits = c.requires.fits;
@@ -53,7 +52,7 @@ returns-in-Err c =
           let before = take (c.args.passed + c.args.start.from) fed in
           let told =
           tells fed c.args.held.now c.args.passed c.args.start.from c.args.start.number c.args.ended piece (omega (arith, looks.order, looks.within)) c.in-Some.to
-          (subst (λ w. EndsAt c.args.held.now c.args.start.from w c.in-Some.to) c.is_whole-whole.ensures c.in-Some.ensures.some) before stands (adds-none before)
+          c.in-Some.ensures.some before stands (adds-none before)
           c.past_line_end-end.result (next_number c.args.start.number) c.past_line_end-end.ensures refl c.read_at-read.result c.read_at-read.ensures in
           record {
             answers = (
@@ -72,7 +71,7 @@ returns c =
     let is : ◌≡◌ {A = Result (Option TraceLine) Refusal} (reading_of line) (Ok c.in-Ok.found) = sym c.read_at-read.ensures ∙ c.in-Ok.is in
     let fits = reading-fits line c.in-Ok.found is in
     let within = c.in-Some.ensures.some.within in
-    let ends = subst (λ w. EndsAt c.args.held.now c.args.start.from w c.in-Some.to) c.is_whole-whole.ensures c.in-Some.ensures.some in
+    let ends = c.in-Some.ensures.some in
     record {
       looks = looks-first c.args.held.now c.past_line_end-end.result (omega (arith, c.past_line_end-end.ensures));
       fits = fits;
