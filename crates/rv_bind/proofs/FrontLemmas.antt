@@ -16,7 +16,7 @@ use Rattle.rv_model.specs.declared.kind.SpecKind.TheVariants as kinds
 use Rattle.rv_bind.specs.declared.limits.TheConstants.{TEXT_LIMIT}
 use Rattle.rv_bind.specs.Values.{BoundValue}
 use Rattle.rv_bind.specs.Compiling.{compiled_of}
-use Rattle.rv_bind.specs.Bound.{nothing_bound, compiled_in, line_bound, lines_bound, bound_of}
+use Rattle.rv_bind.specs.Bound.{nothing_bound, compiled_in, line_bound, lines_bound}
 use Rattle.rv_bind.specs.Outcomes.{Outcome, accepted, refused, missing, reading, of_file, of_text, of_name, text_front, front_named}
 
 -- what is read of a text is read of its front
@@ -87,7 +87,7 @@ reading-same (missing file) next other same = refl
 
 module _ (files : Files) (here : List ℕ) where
   -- a line that ends past the limit is refused by its number alone
-  line-past : (bound : BoundValue) (line : LineText) → TEXT_LIMIT < line.end → line_bound files here bound line ≡ refused here (record { number = BIND_SYNTAX; line = line.number })
+  pub line-past : (bound : BoundValue) (line : LineText) → TEXT_LIMIT < line.end → line_bound files here bound line ≡ refused here (record { number = BIND_SYNTAX; line = line.number })
   line-past bound line past = rw (lt-ltb TEXT_LIMIT line.end past) refl
 
   -- lines that are alike within the limit make the same of the bindings
@@ -107,7 +107,3 @@ module _ (files : Files) (here : List ℕ) where
   pub lines-looks : LooksAtFront (λ text. lines_bound files here nothing_bound (lines_of text))
   unfolding text_front
   lines-looks text = lines-alike (lines_of text) (lines_of (take (TEXT_LIMIT + 1) text)) nothing_bound (lines_of-alike text TEXT_LIMIT)
-
-  -- the bindings of a file are what the lines of a text with its front make
-  pub bindings_front : (text : List ℕ) → front_named files here ≡ accepted (text_front text) → bound_of files here ≡ lines_bound files here nothing_bound (lines_of text)
-  bindings_front text is = of_front (λ t. lines_bound files here nothing_bound (lines_of t)) lines-looks files here text is

@@ -1,4 +1,5 @@
 pub mod BoundLemmas
+pub mod BoundTextLemmas
 pub mod ChangeLemmas
 pub mod ChangedLemmas
 pub mod FormLemmas

@@ -5,7 +5,7 @@ use Rattle.rv_text.specs.declared.refusals.Refusal.{Refusal}
 use Rattle.rv_text.specs.declared.refusals.Refused.{Refused}
 use Rattle.rv_text.specs.declared.refusals.Refused.TheVariants as refuseds
 use Rattle.rv_text.specs.Readings.{Refuses}
-use Rattle.rv_text.specs.TextLines.{LineText, lines_of}
+use Rattle.rv_text.specs.TextLines.{LineText}
 use Rattle.rv_model.specs.declared.work.Scope.{Scope}
 use Rattle.rv_model.specs.declared.kind.SpecKind.{SpecKind}
 use Rattle.rv_bind.specs.declared.compile.Compiled.{Compiled}
@@ -18,7 +18,7 @@ use Rattle.rv_bind.specs.Values.{BoundValue}
 use Rattle.rv_bind.specs.Compiling.{compiled_of}
 use Rattle.rv_bind.specs.Bound.{compiled_by, nothing_bound, place_for, with_monitor, monitor_bound}
 use Rattle.rv_bind.specs.Outcomes.{Outcome, accepted, refused, missing, reading, of_file, of_line, IsFaultOf, IsFaultIn}
-use Rattle.rv_bind.specs.Possible.{MayFind, MayRead, MayLine, MayLines, MayBound, IsUnread, MayFault, MayCome}
+use Rattle.rv_bind.specs.Possible.{MayFind, MayRead, MayLine, MayLines, IsUnread, MayFault, MayCome}
 
 -- ---- one text
 
@@ -101,33 +101,28 @@ module _ (here : List ℕ) (line : ℕ) (bound : BoundValue) (name : List ℕ) (
   pub monitor_fails : (fault : BindFault) → MayFault fault (MayFind (λ text. compiled_by text kind file)) → MayFault fault (MayFind (λ text. monitor_bound (compiled_by text) here line bound name scope kind file holder))
   monitor_fails fault may = rw free (step_may fault (λ text. compiled_by text kind file) (λ compiled. accepted (with_monitor bound name place scope file compiled)) may)
 
--- ---- the whole file
+-- ---- all lines of a text
 
 -- what may come of these lines may come of all
-abbrev pub MayRest : List ℕ → BoundValue → List LineText → Type 0
-MayRest here bound rest = (o : Outcome BoundValue) → MayLines here bound rest o → MayBound here o
+abbrev pub MayRest : List ℕ → List LineText → BoundValue → List LineText → Type 0
+MayRest here all bound rest = (o : Outcome BoundValue) → MayLines here bound rest o → MayLines here nothing_bound all o
 
-module _ (here : List ℕ) where
-  -- unread bindings
-  pub bindings_unread : (fault : BindFault) → IsUnread here fault → MayFault fault (MayBound here)
-  bindings_unread fault (inl is) = rw is (missing here, (None, refl), refl)
-  bindings_unread fault (inr is) = rw is tt
-
-  -- all lines of the text are left
-  pub lines_may : (text : List ℕ) → MayRest here nothing_bound (lines_of text)
-  lines_may text o may = (accepted text, (Some text, refl), may)
+module _ (here : List ℕ) (all : List LineText) where
+  -- all lines are left
+  pub lines_may : MayRest here all nothing_bound all
+  lines_may o may = may
 
   -- no line is left
-  pub all_may : (bound : BoundValue) (rest : List LineText) → rest ≡ [] → MayRest here bound rest → MayBound here (accepted bound)
+  pub all_may : (bound : BoundValue) (rest : List LineText) → rest ≡ [] → MayRest here all bound rest → MayLines here nothing_bound all (accepted bound)
   all_may bound rest none may = may (accepted bound) (rw none refl)
 
-  module _ (bound : BoundValue) (line : LineText) (rest : List LineText) (may : MayRest here bound (line ∷ rest)) where
+  module _ (bound : BoundValue) (line : LineText) (rest : List LineText) (may : MayRest here all bound (line ∷ rest)) where
     -- a line was read
-    pub next_may : (new : BoundValue) → MayLine here bound line (accepted new) → MayRest here new rest
+    pub next_may : (new : BoundValue) → MayLine here bound line (accepted new) → MayRest here all new rest
     next_may new one o more = may o (accepted new, one, more)
 
     -- a line has a fault
-    pub rest_fails : (fault : BindFault) → MayFault fault (MayLine here bound line) → MayFault fault (MayBound here)
+    pub rest_fails : (fault : BindFault) → MayFault fault (MayLine here bound line) → MayFault fault (MayLines here nothing_bound all)
     rest_fails faults.Memory one = tt
     rest_fails (faults.Refused file refusal) one = may (refused file refusal) (refused file refusal, one, refl)
     rest_fails (faults.Unread file) one = may (missing file) (missing file, one, refl)

@@ -1,5 +1,5 @@
 -- Without a file the reading goes the same way up to that file, so an unread file that a part names is reached in the whole.
-use Rattle.std.proofs.Common.{◌≡◌, ℕ, Bool, true, false, List, [], ◌∷◌, refl, sym, ap, ◌∙◌, ◌⊎◌, inl, inr}
+use Rattle.std.proofs.Common.{◌≡◌, ℕ, Bool, true, false, List, [], ◌∷◌, refl, ap, ◌∙◌, ◌⊎◌, inl, inr}
 use Rattle.std.specs.Prelude.{Option, Some, None, Result, Ok, Err, bytes_eq, option_map, IsErrAnd, if◌then◌else◌}
 use Rattle.std.proofs.lemmas.Slice.Eq.{bytes_eq-Decides}
 use Rattle.rv_text.specs.declared.refusals.Refusal.{Refusal}
@@ -19,7 +19,7 @@ use Rattle.rv_bind.specs.Compiling.{compiled_of}
 use Rattle.rv_bind.specs.Bound.{nothing_bound, place_for, with_monitor, compiled_in, monitor_bound, form_bound, form_in, line_bound, lines_bound, bound_of}
 use Rattle.rv_bind.specs.inner.LineReads.{InLine}
 use Rattle.rv_bind.specs.Outcomes.{Outcome, accepted, refused, missing, reading, of_file, of_line, of_text, of_name, text_front, front_named, files_without, IsReached, BlamesReached, IsFaultOf, IsFaultIn}
-use Rattle.rv_bind.proofs.FrontLemmas.{front_named-reading, spec-looks, lines-looks}
+use Rattle.rv_bind.proofs.FrontLemmas.{front_named-reading, spec-looks}
 
 -- ---- an outcome without a file is that it is missing, or what it is with the file
 
@@ -61,7 +61,7 @@ of_name-local {X} name read each files file = go (bytes_eq name file) refl
     go false is = same (files name)
 
 -- a front is read wherever its file is
-front-local : (name : List ℕ) → IsLocal (λ files. front_named files name)
+pub front-local : (name : List ℕ) → IsLocal (λ files. front_named files name)
 front-local name = of_name-local name (λ files text. accepted (text_front text)) (λ text files file. inr refl)
 
 spec-local : (kind : SpecKind) (name : List ℕ) → IsLocal (λ files. compiled_in files kind name)
@@ -160,33 +160,20 @@ module _ (told : Option Files) where
       → BlamesReached told result (λ files. reading (of_line file line read) (next files))
   goes_on_named file line result read x next is named = rw is named
 
-  -- unread bindings
-  pub bindings_named : (X Z : Type 0) (here : List ℕ) (fault : BindFault) → BlamesReached {X = X} told (Err fault) (λ files. front_named files here) → BlamesReached {X = Z} told (Err fault) (λ files. bound_of files here)
-  bindings_named X Z here fault =
-      step_named X Z told fault (λ files. front_named files here) (λ files text. lines_bound files here nothing_bound (lines_of text)) (λ files. bound_of files here) (λ files. front_named-reading (λ text. lines_bound files here nothing_bound (lines_of text)) (lines-looks files here) files here)
-
   -- ---- line by line
 
-  -- without any file the whole comes to that file, or goes on at these lines
-  abbrev pub Leads : List ℕ → BoundValue → List LineText → Type 0
-  Leads here bound lines = (files : Files) → (file : List ℕ) → told ≡ Some files → IsReached (λ files. bound_of files here) files file ⊎ (bound_of (files_without file files) here ≡ lines_bound (files_without file files) here bound lines)
+  -- without any file all lines come to that file, or go on at these lines
+  abbrev pub Leads : List ℕ → List LineText → BoundValue → List LineText → Type 0
+  Leads here all bound lines = (files : Files) → (file : List ℕ) → told ≡ Some files
+      → IsReached (λ files. lines_bound files here nothing_bound all) files file ⊎ (lines_bound (files_without file files) here nothing_bound all ≡ lines_bound (files_without file files) here bound lines)
 
-  -- the bindings that were read lead to all their lines
-  pub lines_begin : (here text : List ℕ) → ((files : Files) → told ≡ Some files → front_named files here ≡ accepted (text_front text)) → Leads here nothing_bound (lines_of text)
-  lines_begin here text read files file known = elim (front-local here files file) [
-    | inl reached ↦ inl (whole ∙ ap (λ o. reading o next) reached)
-    | inr same ↦ inr (whole ∙ ap (λ o. reading o next) (same ∙ read files known) ∙ sym (lines-looks (files_without file files) here text))
-  ]
-    where
-      next : List ℕ → Outcome BoundValue
-      next text = lines_bound (files_without file files) here nothing_bound (lines_of text)
+  -- all lines lead to themselves
+  pub lines_begin : (here : List ℕ) (all : List LineText) → Leads here all nothing_bound all
+  lines_begin here all files file known = inr refl
 
-      whole : bound_of (files_without file files) here ≡ reading (front_named (files_without file files) here) next
-      whole = front_named-reading next (lines-looks (files_without file files) here) (files_without file files) here
-
-  module _ (here : List ℕ) (bound : BoundValue) (line : LineText) (rest : List LineText) (leads : Leads here bound (line ∷ rest)) where
+  module _ (here : List ℕ) (all : List LineText) (bound : BoundValue) (line : LineText) (rest : List LineText) (leads : Leads here all bound (line ∷ rest)) where
     -- where a line was read, they lead to the lines behind it
-    pub lines_lead : (new : BoundValue) → ((files : Files) → told ≡ Some files → line_bound files here bound line ≡ accepted new) → Leads here new rest
+    pub lines_lead : (new : BoundValue) → ((files : Files) → told ≡ Some files → line_bound files here bound line ≡ accepted new) → Leads here all new rest
     lines_lead new read files file known = elim (leads files file known) [
       | inl reached ↦ inl reached
       | inr goes ↦ elim (line-local here bound line files file) [
@@ -198,8 +185,8 @@ module _ (told : Option Files) where
         next : BoundValue → Outcome BoundValue
         next b = lines_bound (files_without file files) here b rest
 
-    -- what the line names, the whole names
-    pub rest_named : (X Z : Type 0) (fault : BindFault) → BlamesReached {X = X} told (Err fault) (λ files. line_bound files here bound line) → BlamesReached {X = Z} told (Err fault) (λ files. bound_of files here)
+    -- what the line names, all lines name
+    pub rest_named : (X Z : Type 0) (fault : BindFault) → BlamesReached {X = X} told (Err fault) (λ files. line_bound files here bound line) → BlamesReached {X = Z} told (Err fault) (λ files. lines_bound files here nothing_bound all)
     rest_named X Z faults.Memory named = tt
     rest_named X Z (faults.Refused file refusal) named = tt
     rest_named X Z (faults.Unread file) named = λ files known. elim (leads files file known) [

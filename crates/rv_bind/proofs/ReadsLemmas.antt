@@ -1,9 +1,10 @@
 -- What the readers of parts answer, joined to what the reader of the whole answers.
-use Rattle.std.proofs.Common.{◌≡◌, ℕ, ◌≤◌, refl, subst, arith}
+use Rattle.std.proofs.Common.{◌≡◌, ℕ, ◌≤◌, refl, sym, ap, ◌∙◌, subst, inl, inr, arith}
 use Rattle.std.specs.Prelude.{Option, Some, Result, Ok, Err}
 use Rattle.rv_io.specs.Files.{Files}
 use Rattle.rv_bind.specs.declared.fault.BindFault.{BindFault}
-use Rattle.rv_bind.specs.Outcomes.{Outcome, accepted, reading, BlamesReached, ReadsOutcome}
+use Rattle.rv_bind.specs.declared.fault.BindFault.TheVariants as faults
+use Rattle.rv_bind.specs.Outcomes.{Outcome, accepted, reading, BlamesReached, Refines, ReadsOutcome, files_without}
 use Rattle.rv_bind.proofs.OutcomeLemmas.{step_fault, Refines-later, Refines-behind}
 use Rattle.rv_bind.proofs.ReachedLemmas.{IsLocal, step_named, behind_named}
 
@@ -40,3 +41,75 @@ behind_reads {X} {Y} {W} view told left before now result step y next is read re
     go : (r : Result X BindFault) → BlamesReached told r (λ files. next files y) → BlamesReached told r (λ files. reading (step files) (next files))
     go (Ok x) named = tt
     go (Err fault) named = behind_named X X told fault step y next is read named
+
+-- the same outcomes are read alike
+pub same_reads : {X Y : Type 0} (view : X → Y) (told left : Option Files) (before now : ℕ) (result : Result X BindFault) (outcome other : Files → Outcome Y) → ((files : Files) → outcome files ≡ other files)
+    → ReadsOutcome view told left before now result outcome → ReadsOutcome view told left before now result other
+same_reads {X} view told left before now result outcome other same reads = record {
+  kept = reads.kept;
+  later = reads.later;
+  value = read result reads.value;
+  named = named result reads.named;
+}
+  where
+    read : (r : Result X BindFault) → Refines view told before now r outcome → Refines view told before now r other
+    read (Ok x) is = λ files known. sym (same files) ∙ is files known
+    read (Err faults.Memory) is = tt
+    read (Err (faults.Refused file refusal)) is = (is.0, λ files known. sym (same files) ∙ is.1 files known)
+    read (Err (faults.Unread file)) (inl lacks) = inl (lacks.0, lacks.1, sym (same lacks.0) ∙ lacks.2)
+    read (Err (faults.Unread file)) (inr rose) = inr rose
+
+    named : (r : Result X BindFault) → BlamesReached told r outcome → BlamesReached told r other
+    named (Ok x) is = tt
+    named (Err faults.Memory) is = tt
+    named (Err (faults.Refused file refusal)) is = tt
+    named (Err (faults.Unread file)) is = λ files known. sym (same (files_without file files)) ∙ is files known
+
+-- what is made of the value that was read
+pub mapped_reads : {X Y W : Type 0} (view : X → Y) (made : Y → W) (told left : Option Files) (before now : ℕ) (result : Result X BindFault) (outcome : Files → Outcome Y)
+    → ReadsOutcome view told left before now result outcome → ReadsOutcome (λ x. made (view x)) told left before now result (λ files. reading (outcome files) (λ y. accepted (made y)))
+mapped_reads {X} {Y} {W} view made told left before now result outcome reads = record {
+  kept = reads.kept;
+  later = reads.later;
+  value = value result reads.value;
+  named = named result reads.named;
+}
+  where
+    whole : Files → Outcome W
+    whole files = reading (outcome files) (λ y. accepted (made y))
+
+    then : Outcome Y → Outcome W
+    then o = reading o (λ y. accepted (made y))
+
+    value : (r : Result X BindFault) → Refines view told before now r outcome → Refines (λ x. made (view x)) told before now r whole
+    value (Ok x) is = λ files known. ap then (is files known)
+    value (Err faults.Memory) is = tt
+    value (Err (faults.Refused file refusal)) is = (is.0, λ files known. ap then (is.1 files known))
+    value (Err (faults.Unread file)) (inl lacks) = inl (lacks.0, lacks.1, ap then lacks.2)
+    value (Err (faults.Unread file)) (inr rose) = inr rose
+
+    named : (r : Result X BindFault) → BlamesReached told r outcome → BlamesReached told r whole
+    named (Ok x) is = tt
+    named (Err faults.Memory) is = tt
+    named (Err (faults.Refused file refusal)) is = tt
+    named (Err (faults.Unread file)) is = λ files known. ap then (is files known)
+
+-- a fault is the same whatever would have been read
+pub fault_reads : {X Z Y : Type 0} (view : X → Y) (other : Z → Y) (told left : Option Files) (before now : ℕ) (fault : BindFault) (outcome : Files → Outcome Y)
+    → ReadsOutcome view told left before now (Err fault) outcome → ReadsOutcome other told left before now (Err fault) outcome
+fault_reads {X} {Z} view other told left before now fault outcome reads = record {
+  kept = reads.kept;
+  later = reads.later;
+  value = value fault reads.value;
+  named = named fault reads.named;
+}
+  where
+    value : (f : BindFault) → Refines view told before now (Err f) outcome → Refines other told before now (Err f) outcome
+    value faults.Memory is = tt
+    value (faults.Refused file refusal) is = is
+    value (faults.Unread file) is = is
+
+    named : (f : BindFault) → BlamesReached {X = X} told (Err f) outcome → BlamesReached {X = Z} told (Err f) outcome
+    named faults.Memory is = tt
+    named (faults.Refused file refusal) is = tt
+    named (faults.Unread file) is = is

@@ -1,4 +1,5 @@
 pub mod Bound
+pub mod BoundTexts
 pub mod BoundViews
 pub mod Changes
 pub mod Compiling

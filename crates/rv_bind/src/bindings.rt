@@ -78,3 +78,11 @@ pub struct Bound {
     /// At each index the table of the monitor at that index.
     pub tables: Vec<Table>,
 }
+
+/// Accepted bindings, and the text that they were read of.
+#[derive(Drop)]
+pub struct BoundText {
+    /// All bytes of the file.
+    pub text: Vec<u8>,
+    pub bound: Bound,
+}

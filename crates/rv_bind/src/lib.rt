@@ -13,9 +13,9 @@ mod limits;
 mod reader;
 mod words;
 
-pub use bindings::{Bindings, Bound, Item, Monitor, On, Test};
+pub use bindings::{Bindings, Bound, BoundText, Item, Monitor, On, Test};
 pub use fault::BindFault;
 pub use files::{fetch, read_file, refused};
 pub use laws::known_files_may_come;
 pub use limits::{MAX_CONTAINERS, MAX_MONITORS, MAX_RULES, TEXT_LIMIT, limits_are_numerals};
-pub use reader::read_bindings;
+pub use reader::{read_bindings, read_bindings_with_text};

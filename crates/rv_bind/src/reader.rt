@@ -1,15 +1,16 @@
 //! From a bindings file, and the files that it names, to bindings with tables.
 ghost use Rattle.std.specs.Prelude.{IfOk, OnOk};
-ghost use Rattle.rv_text.specs.TextLines.{line_text};
+ghost use Rattle.rv_text.specs.TextLines.{line_text, lines_of};
 ghost use Rattle.rv_bind.specs.inner.LineReads.{ReadsValue};
 ghost use Rattle.rv_bind.specs.Outcomes.{ReadsOutcome};
-ghost use Rattle.rv_bind.specs.Bound.{bound_of, compiled_in, compiled_by, line_bound, form_in, form_by, form_bound};
-ghost use Rattle.rv_bind.specs.Possible.{MayBound, MayCome, MayFind, MayLine};
+ghost use Rattle.rv_bind.specs.Bound.{bound_of, compiled_in, compiled_by, line_bound, lines_bound, nothing_bound, form_in, form_by, form_bound};
+ghost use Rattle.rv_bind.specs.BoundTexts.{MayBoundText, bound_text_of, bound_text_value};
+ghost use Rattle.rv_bind.specs.Possible.{MayBound, MayCome, MayFind, MayLine, MayLines};
 ghost use Rattle.rv_bind.specs.BoundViews.{bound_value};
 ghost use Rattle.rv_bind.specs.inner.FormViews.{form_value, monitor_said};
 ghost use Rattle.rv_bind.specs.WellFormed.{IsWellFormed};
 
-use crate::bindings::Bound;
+use crate::bindings::{Bound, BoundText};
 use crate::fault::{BindFault, LineFault};
 use crate::files::{in_line, read_file, read_spec};
 use crate::forms::{Form, MonitorForm, read_form};
@@ -21,17 +22,47 @@ use std::alloc::{AllocError, Global};
 
 /// Reads the bindings of a file, line by line, and each specification when its line is reached. The first refusal or
 /// unread file decides, and the fault names its file. The refusal of a specification has no line (0).
-#[tactic(auto, using(crate::proofs::FrontLemmas::bindings_front, crate::proofs::ReachedLemmas::bindings_named, crate::proofs::ReachedLemmas::lines_begin, crate::proofs::ReachedLemmas::rest_named, crate::proofs::PossibleLemmas::lines_may))]
 pub fn read_bindings<S: Store>(alloc: Global, store: &mut S, name: &str) -> Result<Bound, BindFault>
     ensures formed { IfOk result (λ bound. IsWellFormed (bound_value bound)) }
     ensures reads { ReadsOutcome bound_value (S.files store.old) (S.files store.new) (S.faults store.old) (S.faults store.new) result (λ files. bound_of files name.now) }
     ensures some { MayCome bound_value result (MayBound name.now) }
 {
+    let read = read_bindings_with_text(alloc, store, name)?;
+    Ok(read.bound)
+}
+
+/// The same with the text of the file, from the one reading that the bindings are of.
+pub fn read_bindings_with_text<S: Store>(
+    alloc: Global,
+    store: &mut S,
+    name: &str,
+) -> Result<BoundText, BindFault>
+    ensures formed { IfOk result (λ read. IsWellFormed (bound_value read.bound)) }
+    ensures reads { ReadsOutcome bound_text_value (S.files store.old) (S.files store.new) (S.faults store.old) (S.faults store.new) result (λ files. bound_text_of files name.now) }
+    ensures bound { ReadsOutcome (λ read. bound_value read.bound) (S.files store.old) (S.files store.new) (S.faults store.old) (S.faults store.new) result (λ files. bound_of files name.now) }
+    ensures some { MayCome bound_text_value result (MayBoundText name.now) }
+{
     let text = read_file(alloc, store, name)?;
+    let bound = bind_lines(alloc, store, name, text.as_slice())?;
+    Ok(BoundText { text, bound })
+}
+
+/// The bindings that the lines of a text make, or the first fault, with the file `here` where it is a line's.
+#[tactic(auto, using(crate::proofs::ReachedLemmas::lines_begin, crate::proofs::ReachedLemmas::rest_named, crate::proofs::PossibleLemmas::lines_may))]
+fn bind_lines<S: Store>(
+    alloc: Global,
+    store: &mut S,
+    here: &str,
+    text: &[u8],
+) -> Result<Bound, BindFault>
+    ensures formed { IfOk result (λ bound. IsWellFormed (bound_value bound)) }
+    ensures reads { ReadsOutcome bound_value (S.files store.old) (S.files store.new) (S.faults store.old) (S.faults store.new) result (λ files. lines_bound files here.now nothing_bound (lines_of text.now)) }
+    ensures some { MayCome bound_value result (MayLines here.now nothing_bound (lines_of text.now)) }
+{
     let mut bound = Bound::new(alloc);
-    let mut lines = Cursor::new(text.as_slice());
+    let mut lines = Cursor::new(text);
     while let Some(line) = lines.next_line() {
-        bind_line(alloc, store, name, &line, &mut bound)?;
+        bind_line(alloc, store, here, &line, &mut bound)?;
     }
     Ok(bound)
 }

@@ -1,50 +1,21 @@
-use Rattle.std.proofs.Common.{◌≡◌, ◌∷◌, List, ap, ◌∙◌, subst, arith, rules}
-use Rattle.std.specs.Prelude.{Some}
 use Rattle.std.proofs.lemmas.Result.{err_from_is_err_and}
-use Rattle.rv_text.specs.TextLines.{LineText, line_text}
-use Rattle.rv_io.specs.Files.{Files}
-use Rattle.rv_bind.specs.Outcomes.{Outcome, accepted, reading}
-use Rattle.rv_bind.specs.Values.{BoundValue}
-use Rattle.rv_bind.specs.Bound.{line_bound, lines_bound}
+use Rattle.rv_bind.specs.BoundTexts.{bound_text_value}
 use Rattle.rv_bind.specs.BoundViews.{bound_value}
-use Rattle.rv_bind.proofs.PossibleLemmas.{MayRest, bindings_unread, next_may, all_may, rest_fails}
-use Rattle.rv_bind.proofs.ReachedLemmas.{Leads, lines_lead}
+use Rattle.rv_bind.specs.Bound.{bound_of}
+use Rattle.rv_bind.specs.Outcomes.{accepted}
+use Rattle.rv_bind.proofs.BoundTextLemmas.{bound_fails, bound_may}
+use Rattle.rv_bind.proofs.ReadsLemmas.{fault_reads}
 use Rattle.rv_bind.proofs.reader.read_bindings.Goals as goal
 
-pub loop-line-preserved : goal.loop-line-preserved
-loop-line-preserved g c =
-    let told = g.S.Store.files c.read_file.new.store in
-    let here = c.args.name.now in
-    let before = bound_value c.loop-line.bound in
-    let line = line_text c.in-Some.line in
-    let later = c.next_line.new.self in
-    let split : c.loop-line.lines ≡ line ∷ later = c.in-Some.ensures.some in
-    let read : (files : Files) → told ≡ Some files → line_bound files here before line ≡ accepted (bound_value c.bind_line.new.bound) = λ files known. c.in_ok-bind_line.ensures.reads.value files (c.loop-line.invariant.0 ∙ known) in (
-      c.bind_line.ensures.reads.kept ∙ c.loop-line.invariant.0,
-      omega (arith, c.loop-line.invariant.1, c.bind_line.ensures.reads.later),
-      c.in_ok-bind_line.ensures.formed,
-      λ files known.
-          c.loop-line.invariant.3 files known
-          ∙ ap (lines_bound files here before) split
-          ∙ ap (λ (o : Outcome BoundValue). reading o (λ next. lines_bound files here next later)) (read files known),
-      next_may here before line later (subst (λ (lines : List LineText). MayRest here before lines) split c.loop-line.invariant.4) (bound_value c.bind_line.new.bound) c.in_ok-bind_line.ensures.some,
-      lines_lead told here before line later (subst (λ (lines : List LineText). Leads told here before lines) split c.loop-line.invariant.5) (bound_value c.bind_line.new.bound) read,
-    )
-
-pub returns-in_err-text-clause-some : goal.returns-in_err-text-clause-some
-returns-in_err-text-clause-some g c =
+pub returns-in_err-read-clause-reads : goal.returns-in_err-read-clause-reads
+returns-in_err-read-clause-reads g c =
     let given = err_from_is_err_and c.from_residual.result c.from_residual.ensures.1 in
-    rw (given.1, given.2) (bindings_unread c.args.name.now c.in_err-text.field-0.0 c.in_err-text.ensures.unread)
+    rw (given.1, given.2) (fault_reads (λ read. bound_value read.bound) bound_value _ _ _ _ c.in_err-read.field-0.0 (λ files. bound_of files c.args.name.now) c.in_err-read.ensures.bound)
 
-pub returns-in_err-bind_line-clause-some : goal.returns-in_err-bind_line-clause-some
-returns-in_err-bind_line-clause-some g c =
-    let given = err_from_is_err_and c.from_residual-in_err-bind_line.result c.from_residual-in_err-bind_line.ensures.1 in
-    let here = c.args.name.now in
-    let before = bound_value c.loop-line.bound in
-    let line = line_text c.in-Some.line in
-    let later = c.next_line.new.self in
-    let may = subst (λ (lines : List LineText). MayRest here before lines) c.in-Some.ensures.some c.loop-line.invariant.4 in
-    rw (given.1, given.2) (rest_fails here before line later may c.in_err-bind_line.field-0.0 c.in_err-bind_line.ensures.some)
+pub returns-in_err-read-clause-some : goal.returns-in_err-read-clause-some
+returns-in_err-read-clause-some g c =
+    let given = err_from_is_err_and c.from_residual.result c.from_residual.ensures.1 in
+    rw (given.1, given.2) (bound_fails c.args.name.now c.in_err-read.field-0.0 c.in_err-read.ensures.some)
 
 pub returns-clause-some : goal.returns-clause-some
-returns-clause-some g c = all_may c.args.name.now (bound_value c.loop-line.bound) c.loop-line.lines (search rules) c.loop-line.invariant.4
+returns-clause-some g c = bound_may c.args.name.now (accepted (bound_text_value c.in_ok-read.read)) c.in_ok-read.ensures.some
