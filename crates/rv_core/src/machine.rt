@@ -161,4 +161,13 @@ impl Core {
     {
         Closed::of(&self)
     }
+
+    /// What it began with, and the history.
+    pub fn into_parts(self) -> (Setup, Closed)
+        ensures setup { result.0 ≡ self.setup }
+        ensures history { result.1 ≡ self.history }
+    {
+        let Core { setup, history, .. } = self;
+        (setup, history)
+    }
 }
