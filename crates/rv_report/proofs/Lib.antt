@@ -4,6 +4,7 @@ pub mod DigestLemmas
 pub mod ExitLemmas
 pub mod FoundLemmas
 pub mod GrowingTexts
+pub mod HaltLemmas
 pub mod JoinLemmas
 pub mod MarkLemmas
 pub mod PrintedLemmas

@@ -1,7 +1,7 @@
 -- The marks of other tallies, one place after the other.
 use Rattle.std.proofs.Common.{◌≡◌, ◌≢◌, ℕ, ◌+◌, ◌<◌, ◌≤◌, ◌||◌, ◌==◌, Bool, true, false, List, ◌⊎◌, inl, inr, length, get_or, arith, refl, sym, ap, ◌∙◌, subst}
 use Rattle.std.proofs.lemmas.List.{get_or_past}
-use Rattle.rv_report.proofs.TallyLemmas.{apart, same_or_not}
+use Rattle.rv_report.proofs.TallyLemmas.{apart}
 
 -- the places before this one have the marks of both, and the others are as they were
 pub record MarkedSoFar (others old cur : List Bool) (place : ℕ) : Type 0 where

@@ -11,9 +11,11 @@ use Rattle.rv_model.specs.declared.record.Task.{Task}
 use Rattle.rv_model.specs.Numbers.{list_of}
 use Rattle.rv_model.specs.Records.{is_failure, is_stopped, is_ended, sort_records}
 use Rattle.rv_model.specs.Reports.{Reported, instances_in, is_of_monitor, is_at, count_text, summary_text}
+use Rattle.rv_report.specs.declared.summary.Summary.{Summary}
 use Rattle.rv_report.specs.declared.tally.Tally.{Tally}
+use Rattle.rv_report.specs.Summary.{IsSummary}
 use Rattle.rv_report.specs.Tallies.{IsTally, AreTallies}
-use Rattle.rv_report.specs.inner.Tallies.{tally_text}
+use Rattle.rv_report.specs.inner.Tallies.{count_line}
 use Rattle.rv_report.proofs.CountLemmas.{count-none, count-yes, count-no}
 use Rattle.rv_model.proofs.SortedLemmas.{count-sort, any-sort}
 
@@ -164,12 +166,19 @@ count-marks p bs are (suc n) le =
     go true is so_far = last true ∙ (let e : count_by (λ b. b) (take n bs) + (0 + 1) ≡ count_by (λ b. b) (take n bs) + 1 = omega arith in e) ∙ count-yes p n (count_by (λ b. b) (take n bs)) is so_far
     go false is so_far = last false ∙ (let e : count_by (λ b. b) (take n bs) + (0 + 0) ≡ count_by (λ b. b) (take n bs) = omega arith in e) ∙ count-no p n (count_by (λ b. b) (take n bs)) is so_far
 
--- the line of a tally is the monitor's
-pub line-is : (tasks : List Task) (rs : List Record) (monitor : ℕ) (m : Reported) (t : Tally) → IsTally monitor (instances_in tasks m.scope) rs t
-    → tally_text m.display_name t ≡ summary_text tasks rs monitor m
-line-is tasks rs monitor m t is =
+-- the numbers of a tally are the monitor's
+pub summary-is : (tasks : List Task) (rs : List Record) (monitor : ℕ) (m : Reported) (t : Tally) (s : Summary) → s.instances ≡ count_by (λ b. b) t.seen.items → s.deliveries ≡ t.deliveries → s.failures ≡ t.failures → s.stopped ≡ t.stopped
+    → IsTally monitor (instances_in tasks m.scope) rs t → IsSummary tasks rs monitor m s
+summary-is tasks rs monitor m t s instances deliveries failures stopped is =
     let n = instances_in tasks m.scope in
-    let all : count_by (λ b. b) t.seen.items ≡ count_by (λ k. list_any (is_at monitor k) rs) (list_of (λ k. k) n) =
-    ap (count_by (λ b. b)) (sym (take_all n t.seen.items (let l = is.many in omega arith)))
-    ∙ count-marks (λ k. list_any (is_at monitor k) rs) t.seen.items (λ k lt. is.seen k (let l = is.many in omega arith)) n (let l = is.many in omega arith) in
-    λ i. count_text m.display_name (all i) (is.deliveries i) (is.failures i) (is.stopped i)
+    record {
+      instances = instances ∙ ap (count_by (λ b. b)) (sym (take_all n t.seen.items (let l = is.many in omega arith)))
+          ∙ count-marks (λ k. list_any (is_at monitor k) rs) t.seen.items (λ k lt. is.seen k (let l = is.many in omega arith)) n (let l = is.many in omega arith);
+      deliveries = deliveries ∙ is.deliveries;
+      failures = failures ∙ is.failures;
+      stopped = stopped ∙ is.stopped;
+    }
+
+-- the line of these numbers is the monitor's
+pub line-is : (tasks : List Task) (rs : List Record) (monitor : ℕ) (m : Reported) (s : Summary) → IsSummary tasks rs monitor m s → count_line m.display_name s ≡ summary_text tasks rs monitor m
+line-is tasks rs monitor m s is = λ i. count_text m.display_name (is.instances i) (is.deliveries i) (is.failures i) (is.stopped i)

@@ -1,7 +1,9 @@
 pub mod AutomatonTexts
 pub mod Exit
 pub mod FormulaTexts
+pub mod Halts
 pub mod Printed
 pub mod Reported
+pub mod Summary
 pub mod Tallies
 pub mod inner

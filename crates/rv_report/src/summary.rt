@@ -5,7 +5,7 @@ ghost use Rattle.rv_model.specs.declared.record.Task.{Task};
 ghost use Rattle.rv_model.specs.Reports.{instances_in, summaries_text};
 ghost use Rattle.rv_report.specs.Reported.{reported, reported_of};
 ghost use Rattle.rv_report.specs.Tallies.{AreTallies};
-ghost use Rattle.rv_report.specs.inner.Tallies.{tally_text};
+ghost use Rattle.rv_report.specs.inner.Tallies.{count_line};
 
 use crate::instances::display_name;
 use crate::tally::Tally;
@@ -14,6 +14,16 @@ use rv_model::{Names, Scope};
 use rv_slots::Tasks;
 use rv_text::Line;
 use std::alloc::AllocError;
+
+/// The numbers of a monitor's line.
+#[derive(Clone, Copy, Debug, Drop, PartialEq, Eq)]
+pub struct Summary {
+    /// Those that have a record.
+    pub instances: u64,
+    pub deliveries: u64,
+    pub failures: u64,
+    pub stopped: u64,
+}
 
 /// How many instances a monitor of this scope has.
 pub(crate) fn instances_in(tasks: &Tasks, scope: Scope) -> usize
@@ -31,19 +41,19 @@ fn count_line(
     out: &mut Line,
     containers: &Names,
     monitor: &Monitor,
-    tally: &Tally,
+    summary: &Summary,
 ) -> Result<(), AllocError>
-    ensures { OnOk result (out.new ≡ out.old ++ tally_text (reported containers.now monitor.now).display_name tally.now) }
+    ensures { OnOk result (out.new ≡ out.old ++ count_line (reported containers.now monitor.now).display_name summary.now) }
 {
     display_name(out, containers, monitor.container, &monitor.name)?;
     out.text(b": instances ")?;
-    out.number(tally.instances() as u64)?;
+    out.number(summary.instances)?;
     out.text(b", deliveries ")?;
-    out.number(tally.deliveries)?;
+    out.number(summary.deliveries)?;
     out.text(b", failures ")?;
-    out.number(tally.failures)?;
+    out.number(summary.failures)?;
     out.text(b", stopped ")?;
-    out.number(tally.stopped)?;
+    out.number(summary.stopped)?;
     out.text(b"\n")
 }
 
@@ -58,7 +68,12 @@ pub(crate) fn summaries(
 {
     for place in 0..tallies.len() {
         let monitor = &bindings.monitors[place];
-        count_line(out, &bindings.containers, monitor, &tallies[place])?;
+        count_line(
+            out,
+            &bindings.containers,
+            monitor,
+            &tallies[place].summary(),
+        )?;
     }
     Ok(())
 }

@@ -1,9 +1,13 @@
 //! What the records of one monitor come to.
 ghost use Rattle.std.specs.Prelude.{◌≡◌, ◌+◌, ◌<◌, ◌==◌, ◌||◌, ℕ, List, [], ◌∷◌, ◌++◌, false, length, count_by, IfOk, OnOk, slice_index_or, if◌then◌else◌};
 ghost use Rattle.rv_model.specs.declared.record.Record.{Record};
+ghost use Rattle.rv_model.specs.declared.record.Task.{Task};
 ghost use Rattle.rv_model.specs.Records.{is_failure, is_stopped, is_ended};
+ghost use Rattle.rv_model.specs.Reports.{Reported, instances_in};
+ghost use Rattle.rv_report.specs.Summary.{IsSummary};
 ghost use Rattle.rv_report.specs.Tallies.{IsTally, IsWholeTally, tally_value};
 
+use crate::summary::Summary;
 use rv_model::{Answer, Delivered, Record};
 use std::alloc::{AllocError, Global};
 
@@ -16,7 +20,7 @@ pub(crate) struct Tally {
     pub stopped: u64,
 }
 
-fn is_failure(made: &Record) -> bool
+pub(crate) fn is_failure(made: &Record) -> bool
     ensures { result ≡ is_failure made.now }
 {
     matches!(made.outcome, Delivered::Done(Answer::Failed(_)))
@@ -131,9 +135,21 @@ impl Tally {
     }
 
     /// How many instances have a record.
-    pub(crate) fn instances(&self) -> usize
+    fn instances(&self) -> usize
         ensures { result ≡ count_by (λ b. b) self.now.seen.items }
     {
         self.seen.iter().filter(|seen| **seen).count()
+    }
+
+    /// The numbers of the monitor's line.
+    pub(crate) fn summary(&self) -> Summary
+        ensures { (tasks : List Task) (rs : List Record) (monitor : ℕ) (m : Reported) → IsTally monitor (instances_in tasks m.scope) rs self.now → IsSummary tasks rs monitor m result }
+    {
+        Summary {
+            instances: self.instances() as u64,
+            deliveries: self.deliveries,
+            failures: self.failures,
+            stopped: self.stopped,
+        }
     }
 }

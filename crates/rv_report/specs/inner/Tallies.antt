@@ -1,14 +1,15 @@
--- The text of a tally, and one record more.
-use Rattle.std.specs.Prelude.{ℕ, List, [], ◌∷◌, ◌++◌, count_by}
+-- The line of a monitor, and one record more.
+use Rattle.std.specs.Prelude.{ℕ, List, [], ◌∷◌, ◌++◌}
 use Rattle.rv_model.specs.declared.record.Record.{Record}
 use Rattle.rv_model.specs.declared.record.Task.{Task}
 use Rattle.rv_model.specs.Reports.{Reported, count_text}
+use Rattle.rv_report.specs.declared.summary.Summary.{Summary}
 use Rattle.rv_report.specs.declared.tally.Tally.{Tally}
 use Rattle.rv_report.specs.Tallies.{AreTallies, IsWholeTally, tally_at}
 
--- the line of a monitor that is shown so, by its tally
-abbrev pub tally_text : List ℕ → Tally → List ℕ
-tally_text shown t = count_text shown (count_by (λ b. b) t.seen.items) t.deliveries t.failures t.stopped
+-- the line of a monitor that is shown so, by its numbers
+abbrev pub count_line : List ℕ → Summary → List ℕ
+count_line shown s = count_text shown s.instances s.deliveries s.failures s.stopped
 
 -- the tallies of any records become those of these and one more
 abbrev pub CountsRecord : Record → List Tally → List Tally → Type 0

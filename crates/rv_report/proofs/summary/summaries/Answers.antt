@@ -6,7 +6,8 @@ use Rattle.rv_bind.specs.declared.bindings.Monitor.{Monitor}
 use Rattle.rv_report.specs.declared.tally.Tally.{Tally}
 use Rattle.rv_report.specs.Reported.{reported, reported_of}
 use Rattle.rv_report.specs.Tallies.{IsTally}
-use Rattle.rv_report.specs.inner.Tallies.{tally_text}
+use Rattle.rv_report.specs.declared.summary.Summary.{Summary}
+use Rattle.rv_report.specs.inner.Tallies.{count_line}
 use Rattle.rv_report.proofs.SummaryLemmas.{summaries-more}
 use Rattle.rv_report.proofs.TallyLemmas.{line-is}
 use Rattle.rv_report.proofs.summary.summaries.Goals as goal
@@ -28,7 +29,8 @@ loop-place-preserved c = λ tasks rs are.
     let mine : IsTally place (instances_in tasks m.scope) rs tally = subst (λ (x : Reported). IsTally place (instances_in tasks x.scope) rs tally) is
     (subst (IsTally place (instances_in tasks (get_or all place m).scope) rs) (sym c.index-tallies-place.is) each) in
     let before : List ℕ = summaries_text tasks rs 0 (take place all) in
-    let line : List ℕ = tally_text m.display_name tally in
+    let numbers : Summary = c.summary.result in
+    let line : List ℕ = count_line m.display_name numbers in
     c.in_ok-count_line.ensures ∙ ap (λ (z : List ℕ). z ++ line) (c.loop-place.invariant tasks rs are)
     ∙ append_assoc c.args.out.now before line
-    ∙ ap (λ (z : List ℕ). c.args.out.now ++ z) (ap (λ (z : List ℕ). before ++ z) (line-is tasks rs place m tally mine) ∙ sym (summaries-more tasks rs all place m below is))
+    ∙ ap (λ (z : List ℕ). c.args.out.now ++ z) (ap (λ (z : List ℕ). before ++ z) (line-is tasks rs place m numbers (c.summary.ensures tasks rs place m mine)) ∙ sym (summaries-more tasks rs all place m below is))
