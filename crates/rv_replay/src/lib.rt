@@ -9,4 +9,4 @@ mod walk;
 
 pub use digested::{Digested, report_lanes};
 pub use observer::Observer;
-pub use walk::{Replayed, observe_list, replay_list};
+pub use walk::{ObservedRun, Replayed, observe_list, replay_list};

@@ -18,6 +18,13 @@ use rv_route::DeliveryList;
 use rv_slots::Tasks;
 use std::alloc::{AllocError, Global};
 
+/// The setup that a run began with, and its history.
+#[derive(Drop)]
+pub struct ObservedRun {
+    pub setup: Setup,
+    pub closed: Closed,
+}
+
 /// The history, and what its records come to.
 #[derive(Drop)]
 pub struct Replayed {
@@ -75,14 +82,15 @@ pub fn observe_list<O: Observer>(
     reactors: &[Reactor],
     list: &DeliveryList,
     observer: &mut O,
-) -> Result<Closed, AllocError>
+) -> Result<ObservedRun, AllocError>
     requires { FitsList setup list.now }
     ensures { IfOk result (RunsObserved (O.observed context.now) setup (panics_of reactors.now) list.now observer.old observer.new) }
 {
     let mut core = Core::new(alloc, setup)?;
     walk(&mut core, context, reactors, list, observer)?;
     core.assert_invariant();
-    Ok(core.close())
+    let (setup, closed) = core.into_parts();
+    Ok(ObservedRun { setup, closed })
 }
 
 /// The same, each record being counted for the report.
@@ -98,6 +106,9 @@ pub fn replay_list(
     ensures { IfOk result (RunsList (reported_of bindings.now) tasks.now setup (panics_of reactors.now) list.now) }
 {
     let mut found = Found::new(alloc, bindings, tasks)?;
-    let closed = observe_list(alloc, setup, bindings, reactors, list, &mut found)?;
-    Ok(Replayed { closed, found })
+    let run = observe_list(alloc, setup, bindings, reactors, list, &mut found)?;
+    Ok(Replayed {
+        closed: run.closed,
+        found,
+    })
 }
