@@ -11,12 +11,13 @@ use Rattle.rv_model.specs.Scripts.{fails}
 use Rattle.rv_model.specs.Setups.{Setup}
 use Rattle.rv_bind.specs.declared.bindings.Bindings.{Bindings}
 use Rattle.rv_bind.specs.declared.bindings.Monitor.{Monitor}
-use Rattle.rv_core.specs.Judged.{JudgesBySpecs}
+use Rattle.rv_core.specs.Judged.{AllMean, JudgesBySpecs}
 use Rattle.rv_core.specs.Setup.{judges_of}
 use Rattle.rv_feed.specs.Runs.{IsRunBySpecs}
 use Rattle.rv_report.specs.Reported.{reported_of}
 use Rattle.rv_report.specs.Tallies.{IsFound}
 use Rattle.rv_route.specs.Listing.{ListedDelivery, works_listed}
+use Rattle.rv_replay.specs.Observing.{IsRunByTables}
 use Rattle.rv_reach.specs.declared.monitor.MonitorReach.{MonitorReach}
 use Rattle.rv_reach.specs.declared.reached.Reached.{Reached}
 use Rattle.rv_reach.specs.declared.run.ReachedRun.{ReachedRun}
@@ -43,12 +44,15 @@ pub record HaveReached (b : Bindings) (s : Setup) (js : List Judge) (h : List En
   pub many : length r.monitors.items ≡ length b.monitors.items
   pub each : (k : ℕ) (m : Monitor) (any : MonitorReach) → k < length b.monitors.items → HasReached s js h k (slice_index_or b.monitors.items k m).spec (slice_index_or r.monitors.items k any)
 
--- by judges of the specifications this is the one history of the works of the list, what its records come to was found,
--- and by the tables, which judge by the specifications, its deliveries have reached what was counted
+-- by judges of the specifications, such as the tables, this is the one history of the works of the list, its records were
+-- counted, what they come to was found, and by the tables its deliveries have reached what was counted. The setup is as it was
 pub record ReachesList (b : Bindings) (tasks : List Task) (setup : Setup) (panics : ℕ → Bool) (list : List ListedDelivery) (run : ReachedRun) : Type 0 where
   pub rs : List Record
   pub ascend : rs ≡ sort_records rs
+  pub setup_is : run.setup ≡ setup
   pub judges : JudgesBySpecs setup
   pub is_run : IsRunBySpecs IsOneHistory setup panics (works_listed list) [] rs run.closed
+  pub by_tables : (specs : List Spec) → AllMean specs setup.tables → IsRunByTables setup panics (works_listed list) specs rs run.closed
+  pub records_many : run.watched.records ≡ length rs
   pub is_found : IsFound (reported_of b) tasks rs run.watched.found
   pub have_reached : HaveReached b setup (judges_of setup) run.closed run.watched.reached

@@ -15,9 +15,10 @@ use rv_route::DeliveryList;
 use rv_slots::Tasks;
 use std::alloc::{AllocError, Global};
 
-/// The history, and what was counted of it.
+/// The setup that the run began with, its history, and what was counted of it.
 #[derive(Drop)]
 pub struct ReachedRun {
+    pub setup: Setup,
     pub closed: Closed,
     pub watched: Watched,
 }
@@ -37,7 +38,15 @@ pub fn reach_list(
 {
     let found = Found::new(alloc, bindings, tasks)?;
     let reached = Reached::new(alloc, bindings, &setup)?;
-    let mut watched = Watched { found, reached };
-    let closed = observe_list(alloc, setup, bindings, reactors, list, &mut watched)?;
-    Ok(ReachedRun { closed, watched })
+    let mut watched = Watched {
+        found,
+        reached,
+        records: 0,
+    };
+    let done = observe_list(alloc, setup, bindings, reactors, list, &mut watched)?;
+    Ok(ReachedRun {
+        setup: done.setup,
+        closed: done.closed,
+        watched,
+    })
 }

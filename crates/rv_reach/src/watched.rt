@@ -1,5 +1,6 @@
 //! What a report tells of a run, and what its deliveries have reached, of one walk.
 
+use crate::counters::more;
 use crate::reached::Reached;
 use rv_bind::Bindings;
 use rv_core::{Core, RowPhase};
@@ -8,14 +9,16 @@ use rv_replay::Observer;
 use rv_report::Found;
 use std::alloc::AllocError;
 
-/// Both are told of each delivery.
+/// Both are told of each delivery, and its record is counted.
 #[derive(Drop)]
 pub struct Watched {
     pub found: Found,
     pub reached: Reached,
+    pub records: u64,
 }
 
 impl Observer for Watched {
+    ghost use Rattle.std.specs.Prelude.{◌≡◌, length};
     ghost use Rattle.rv_report.specs.Reported.{reported_of};
     ghost use Rattle.rv_report.specs.Tallies.{IsFound};
     ghost use Rattle.rv_reach.specs.Watching.{AreReached};
@@ -23,7 +26,7 @@ impl Observer for Watched {
 
     type Context = Bindings;
 
-    ghost observed = { λ bindings tasks core rs watched. IsFound (reported_of bindings) tasks rs watched.found × AreReached bindings core watched.reached };
+    ghost observed = { λ bindings tasks core rs watched. IsFound (reported_of bindings) tasks rs watched.found × (watched.records ≡ length rs) × AreReached bindings core watched.reached };
 
     fn observe(
         &mut self,
@@ -34,8 +37,9 @@ impl Observer for Watched {
         made: &Record,
     ) -> Result<(), AllocError> {
         self.found.observe(bindings, core, slot, before, made)?;
+        self.records = more(self.records, true)?;
         self.reached.observe(bindings, core, slot, before, made)
     }
 
-    ghost passes = { λ bindings tasks core e rs watched on is. (is.0, reached-passes bindings core e watched.reached on is.1) };
+    ghost passes = { λ bindings tasks core e rs watched on is. (is.0, is.1, reached-passes bindings core e watched.reached on is.2) };
 }
