@@ -1,4 +1,5 @@
 pub mod LateTimes
 pub mod NamesNear
+pub mod RuleSteps
 pub mod TextSteps
 pub mod Times

@@ -28,19 +28,24 @@ pub struct Late {
 /// The latest timestamp, the first that is late, and how many are.
 #[derive(Drop)]
 pub(crate) struct Times {
-    latest: Option<Stamped>,
+    /// Whether there is a latest one.
+    any: bool,
+    /// The latest, whose memory is kept from line to line, and its line.
+    stamp: Vec<u8>,
+    line: u32,
     first_late: Option<Late>,
     late: u64,
 }
 
 impl Model for Times {
+    ghost use Rattle.std.specs.Prelude.{Some, None, if◌then◌else◌};
     ghost use Rattle.rv_matches.specs.inner.LateTimes.{HasTime, TimesValue};
 
     ghost Value = { TimesValue };
 
-    ghost view = { λ t. record { latest = t.latest; late = record { first = t.first_late; count = t.late } } };
+    ghost view = { λ t. record { latest = if t.any then Some (record { line = t.line; stamp = t.stamp.items }) else None; late = record { first = t.first_late; count = t.late } } };
 
-    ghost invariant = { λ t. HasTime t.latest };
+    ghost invariant = { λ t. HasTime (if t.any then Some (record { line = t.line; stamp = t.stamp.items }) else None) };
 }
 
 /// The timestamp of a line.
@@ -53,50 +58,58 @@ fn stamp_at(alloc: Global, line: u32, stamp: &[u8]) -> Result<Stamped, AllocErro
     })
 }
 
-/// The same once more.
-fn copy_of(alloc: Global, latest: &Option<Stamped>) -> Result<Option<Stamped>, AllocError>
-    ensures { IfOk result (λ copy. copy ≡ latest.now) }
-{
-    match latest {
-        Some(latest) => Ok(Some(stamp_at(alloc, latest.line, latest.stamp.bytes())?)),
-        None => Ok(None),
-    }
-}
-
-/// Whether the timestamp of the line becomes the latest.
-fn is_latest(latest: &Option<Stamped>, line: u32, stamp: &[u8]) -> bool
-    requires latest { HasTime latest.now }
-    requires time { is_time stamp.now ≡ true }
-    ensures { result ≡ is_latest latest.now (record { line = line; stamp = stamp.now }) }
-{
-    match latest {
-        Some(latest) => is_before(latest.stamp.bytes(), stamp),
-        None => true,
-    }
-}
-
-/// Whether the timestamp of the line is before the latest.
-fn is_late(latest: &Option<Stamped>, line: u32, stamp: &[u8]) -> bool
-    requires latest { HasTime latest.now }
-    requires time { is_time stamp.now ≡ true }
-    ensures { result ≡ is_late latest.now (record { line = line; stamp = stamp.now }) }
-{
-    match latest {
-        Some(latest) => is_before(stamp, latest.stamp.bytes()),
-        None => false,
-    }
-}
-
 impl Times {
     /// No timestamp was seen.
-    pub(crate) fn new() -> Times
+    pub(crate) fn new(alloc: Global) -> Times
         ensures { result ≡ times_of [] }
     {
         Times {
-            latest: None,
+            any: false,
+            stamp: Vec::new(alloc),
+            line: 0,
             first_late: None,
             late: 0,
         }
+    }
+
+    /// The latest timestamp.
+    fn latest(&self, alloc: Global) -> Result<Option<Stamped>, AllocError>
+        ensures { IfOk result (λ copy. copy ≡ self.now.latest) }
+    {
+        if !self.any {
+            return Ok(None);
+        }
+        Ok(Some(stamp_at(alloc, self.line, self.stamp.as_slice())?))
+    }
+
+    /// Whether the timestamp of the line becomes the latest.
+    fn is_latest(&self, line: u32, stamp: &[u8]) -> bool
+        requires { is_time stamp.now ≡ true }
+        ensures { result ≡ is_latest self.now.latest (record { line = line; stamp = stamp.now }) }
+    {
+        !self.any || is_before(self.stamp.as_slice(), stamp)
+    }
+
+    /// Whether the timestamp of the line is before the latest.
+    fn is_late(&self, line: u32, stamp: &[u8]) -> bool
+        requires { is_time stamp.now ≡ true }
+        ensures { result ≡ is_late self.now.latest (record { line = line; stamp = stamp.now }) }
+    {
+        self.any && is_before(stamp, self.stamp.as_slice())
+    }
+
+    /// The timestamp of the line becomes the latest.
+    fn set_latest(&mut self, line: u32, stamp: &[u8]) -> Result<(), AllocError>
+        requires { is_time stamp.now ≡ true }
+        ensures latest { OnOk result (self.new.latest ≡ Some (record { line = line; stamp = stamp.now })) }
+        ensures late { self.new.late ≡ self.old.late }
+    {
+        self.any = false;
+        self.stamp.clear();
+        self.stamp.extend_from_slice(stamp)?;
+        self.line = line;
+        self.any = true;
+        Ok(())
     }
 
     /// One more line that is late.
@@ -108,7 +121,7 @@ impl Times {
         self.late = one_more(self.late)?;
         if self.first_late.is_none() {
             let late = stamp_at(alloc, line, stamp)?;
-            let latest = copy_of(alloc, &self.latest)?;
+            let latest = self.latest(alloc)?;
             self.first_late = Some(Late { late, latest });
         }
         Ok(())
@@ -119,11 +132,11 @@ impl Times {
         requires { is_time stamp.now ≡ true }
         ensures { OnOk result (TellsTime (record { line = line; stamp = stamp.now }) self.old self.new) }
     {
-        if is_latest(&self.latest, line, stamp) {
-            self.latest = Some(stamp_at(alloc, line, stamp)?);
+        if self.is_latest(line, stamp) {
+            self.set_latest(line, stamp)?;
             return Ok(());
         }
-        if is_late(&self.latest, line, stamp) {
+        if self.is_late(line, stamp) {
             self.add_late(alloc, line, stamp)?;
             return Ok(());
         }

@@ -1,13 +1,17 @@
 //! What the lines of a trace are to the rules: events, tests, values, and what a trace tells of itself.
 #![tactic(auto)]
 
+mod event_facts;
 mod late;
 mod near;
+mod rule_lines;
 mod text_facts;
 mod times;
 mod words;
 
+pub use event_facts::{EventFacts, MOST_NAMES};
 pub use late::{Late, Stamped};
 pub use near::{FARTHEST, MOST_NEAR, Near, nearest};
+pub use rule_lines::{FieldLines, MOST_FIELDS, MOST_VALUES, RuleLine, RuleLines};
 pub use text_facts::{Entries, TextFacts};
 pub use words::{CountedWords, LONGEST};

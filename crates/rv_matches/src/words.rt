@@ -1,9 +1,10 @@
 //! Words by first appearance, each with how often it was there.
-ghost use Rattle.std.specs.Prelude.{◌≡◌, ◌+◌, ◌<◌, [], length, slice_get, IfOk, IfSome, OnOk};
-ghost use Rattle.rv_matches.specs.Words.{counted, CountsWord};
+ghost use Rattle.std.specs.Prelude.{◌≡◌, ◌+◌, ◌<◌, [], ◌∷◌, ◌++◌, length, map, false, slice_get, IfOk, IfSome, OnOk};
+ghost use Rattle.rv_matches.specs.Words.{counted, is_kept_among, CountsWord};
 
-use indexmap::IndexMap;
+use rv_model::Name;
 use std::alloc::{AllocError, Global};
+use std::collections::BTreeMap;
 use std::marker::Model;
 
 /// The most bytes of a name, of a value and of a timestamp that is kept.
@@ -16,22 +17,43 @@ pub(crate) fn one_more(count: u64) -> Result<u64, AllocError>
     count.checked_add(1).ok_or(AllocError)
 }
 
+/// A word that is kept, and how often it was there.
+#[derive(Drop)]
+struct Kept {
+    word: Name,
+    count: u64,
+}
+
+/// Once more.
+fn count_again(kept: &mut Kept) -> Result<(), AllocError>
+    ensures word { kept.new.word ≡ kept.old.word }
+    ensures count { OnOk result (kept.new.count ≡ kept.old.count + 1) }
+{
+    kept.count = one_more(kept.count)?;
+    Ok(())
+}
+
 /// The first words that are not too long, and how many others there were.
 #[derive(Drop)]
 pub struct CountedWords {
     /// How many words are kept at most.
     most: usize,
-    words: IndexMap<Vec<u8>, u64>,
+    list: Vec<Kept>,
+    /// The place of each word. No words that are chosen make an ordered map slow.
+    places: BTreeMap<Vec<u8>, usize>,
     others: u64,
 }
 
 impl Model for CountedWords {
     ghost use Rattle.std.specs.Prelude.{map};
+    ghost use Rattle.rv_trace.specs.FieldNames.{ArePlaces};
     ghost use Rattle.rv_matches.specs.Words.{CountedValue};
 
     ghost Value = { CountedValue };
 
-    ghost view = { λ c. record { most = c.most; words = map (λ e. (e.0.items, e.1)) c.words.entries; others = c.others } };
+    ghost view = { λ c. record { most = c.most; words = map (λ k. (k.word, k.count)) c.list.items; others = c.others } };
+
+    ghost invariant = { λ c. ArePlaces (map (λ k. k.word) c.list.items) c.places };
 }
 
 impl CountedWords {
@@ -41,9 +63,29 @@ impl CountedWords {
     {
         CountedWords {
             most,
-            words: IndexMap::new(alloc),
+            list: Vec::new(alloc),
+            places: BTreeMap::new(alloc),
             others: 0,
         }
+    }
+
+    /// A word that is new comes last.
+    fn keep(&mut self, alloc: Global, word: &[u8]) -> Result<(), AllocError>
+        requires { is_kept_among (map (λ counted. counted.0) self.old.words) word.now ≡ false }
+        ensures words { OnOk result (self.new.words ≡ self.old.words ++ (word.now, 1) ∷ []) }
+        ensures others { self.new.others ≡ self.old.others }
+        ensures most { self.new.most ≡ self.old.most }
+    {
+        let place = self.list.len();
+        let key = Vec::from_slice(alloc, word)?;
+        let word = Name::new(alloc, word)?;
+        self.list.reserve(1)?;
+        self.places.insert(key, place)?;
+        match self.list.push(Kept { word, count: 1 }) {
+            Ok(()) => {}
+            Err(_) => unreachable!(),
+        }
+        Ok(())
     }
 
     /// One more word.
@@ -51,15 +93,15 @@ impl CountedWords {
         ensures counts { OnOk result (CountsWord word.now self.old self.new) }
         ensures most { self.new.most ≡ self.old.most }
     {
-        if let Some(place) = self.words.get_index_of(word) {
-            self.words[place] = one_more(self.words[place])?;
+        if let Some(place) = self.places.get(word).copied() {
+            count_again(&mut self.list[place])?;
             return Ok(());
         }
-        if self.words.len() < self.most && word.len() <= LONGEST {
-            self.words.insert(Vec::from_slice(alloc, word)?, 1)?;
-        } else {
-            self.others = one_more(self.others)?;
+        if self.list.len() < self.most && word.len() <= LONGEST {
+            self.keep(alloc, word)?;
+            return Ok(());
         }
+        self.others = one_more(self.others)?;
         Ok(())
     }
 
@@ -67,7 +109,7 @@ impl CountedWords {
     pub fn len(&self) -> usize
         ensures { result ≡ length self.now.words }
     {
-        self.words.len()
+        self.list.len()
     }
 
     /// The word at a place, by first appearance.
@@ -75,10 +117,7 @@ impl CountedWords {
         requires { place < length self.now.words }
         ensures { IfSome (slice_get self.now.words place) (λ counted. result.now ≡ counted.0) }
     {
-        match self.words.get_index(place) {
-            Some((word, _)) => word.as_slice(),
-            None => b"",
-        }
+        self.list[place].word.bytes()
     }
 
     /// How often the word at a place was there.
@@ -86,7 +125,7 @@ impl CountedWords {
         requires { place < length self.now.words }
         ensures { IfSome (slice_get self.now.words place) (λ counted. result ≡ counted.1) }
     {
-        self.words[place]
+        self.list[place].count
     }
 
     /// How many words there were that are not kept.

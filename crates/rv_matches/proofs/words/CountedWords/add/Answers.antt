@@ -1,54 +1,80 @@
-use Rattle.std.proofs.Common.{◌≡◌, ◌<◌, ◌≤◌, ◌⊎◌, inl, inr, ℕ, false, [], ◌∷◌, ◌++◌, length, Option, None, Some, refl, sym, ap, ◌∙◌, arith}
-use Rattle.std.specs.Prelude.{bytes_eq, is_some, Bool}
-use Rattle.std.specs.List.{list_any}
-use Rattle.std.specs.Map.{keys_of, lookup}
+use Rattle.std.proofs.Common.{◌≡◌, ◌<◌, ◌≤◌, ◌⊎◌, inl, inr, ℕ, ◌+◌, true, false, List, [], ◌∷◌, ◌++◌, length, map, rules, get_or, None, Some, refl, sym, ap, ◌∙◌, subst, arith}
+use Rattle.std.specs.Prelude.{slice_get}
+use Rattle.std.specs.Vec.{vec_len}
 use Rattle.std.proofs.lemmas.Bool.{le-leb, lt-leb}
-use Rattle.std.proofs.lemmas.List.Quantifiers.{position-Some}
-use Rattle.std.proofs.lemmas.Map.Made.{is_some-lookup}
-use Rattle.std.proofs.lemmas.List.{length-map}
-use Rattle.indexmap.specs.Layout.{set_value_at}
-use Rattle.indexmap.proofs.CallerLemmas.{insert_entry-new}
+use Rattle.std.proofs.lemmas.Option.{slice_get-get_or}
+use Rattle.rv_trace.specs.FieldNames.{ArePlaces, place_in}
+use Rattle.rv_matches.specs.declared.words.Kept.{Kept}
 use Rattle.rv_matches.specs.declared.words.TheConstants.{LONGEST}
-use Rattle.rv_matches.specs.Words.{is_short}
-use Rattle.rv_matches.proofs.EntryLemmas.{Key, same_key, told, told_push}
+use Rattle.rv_matches.specs.Words.{Counted, CountedValue, is_kept_among, is_short}
 use Rattle.rv_matches.proofs.AddedLemmas.{found_added, new_added, other_added}
+use Rattle.rv_matches.proofs.KeptLemmas.{no_place, stands_among, stands_at, stands_once, stands_within, told, told_words, words_in, words_stay}
 use Rattle.rv_matches.proofs.words.CountedWords.add.Goals.{else-len-self-via-then-len-self+else-word-le-LONGEST, else-len-self-via-else-len-self}
 use Rattle.rv_matches.proofs.words.CountedWords.add.Goals as goal
 
-none_by : {X : Type 0} (o : Option X) → is_some o ≡ false → o ≡ None
-none_by None is = refl
-none_by (Some x) is = cc
+pub index_mut-requires : goal.index_mut-requires
+index_mut-requires c =
+    let found : place_in c.self.inside.places c.args.word.now ≡ Some c.in-Some.place = sym (c.copied.ensures ∙ c.get.ensures.value) ∙ c.in-Some.is in
+    let within : c.in-Some.place < length c.self.inside.list.items = stands_within c.self.inside.list.items c.self.inside.places c.self.invariant c.args.word.now c.in-Some.place found in
+    let many : vec_len c.self.inside.list ≡ length c.self.inside.list.items = search rules in
+    omega arith
+
+pub invariant_of-self : goal.invariant_of-self
+invariant_of-self c =
+    let list = c.self.inside.list.items in
+    let found : place_in c.self.inside.places c.args.word.now ≡ Some c.in-Some.place = sym (c.copied.ensures ∙ c.get.ensures.value) ∙ c.in-Some.is in
+    let within : c.in-Some.place < length list = stands_within list c.self.inside.places c.self.invariant c.args.word.now c.in-Some.place found in
+    let here : slice_get list c.in-Some.place ≡ Some c.index_mut.result.now = slice_get-get_or list c.in-Some.place c.index_mut.result.now within ∙ ap Some (sym c.index_mut.ensures.value) in
+    subst (λ ws. ArePlaces ws c.self.inside.places) (sym (words_stay list c.in-Some.place c.index_mut.result.now c.count_again.new.kept here c.count_again.ensures.word)) c.self.invariant
+
+pub invariant_of-self-in-Some : goal.invariant_of-self-in-Some
+invariant_of-self-in-Some c =
+    let list = c.self.inside.list.items in
+    let found : place_in c.self.inside.places c.args.word.now ≡ Some c.in-Some.place = sym (c.copied.ensures ∙ c.get.ensures.value) ∙ c.in-Some.is in
+    let within : c.in-Some.place < length list = stands_within list c.self.inside.places c.self.invariant c.args.word.now c.in-Some.place found in
+    let here : slice_get list c.in-Some.place ≡ Some c.index_mut.result.now = slice_get-get_or list c.in-Some.place c.index_mut.result.now within ∙ ap Some (sym c.index_mut.ensures.value) in
+    subst (λ ws. ArePlaces ws c.self.inside.places) (sym (words_stay list c.in-Some.place c.index_mut.result.now c.count_again.new.kept here c.count_again.ensures.word)) c.self.invariant
 
 pub returns-in-Some-clause-counts : goal.returns-in-Some-clause-counts
 returns-in-Some-clause-counts c = λ most words is.
     let inside = c.self.inside in
-    let entries = inside.words.entries in
+    let list = inside.list.items in
     let word = c.args.word.now in
-    let test : Key → Bool = λ k. bytes_eq word k.items in
-    let at = λ (d : Key). position-Some test (keys_of entries) c.in-Some.place d (sym c.in-Some.ensures.index) in
-    let within : c.in-Some.place < length (keys_of entries) = omega (arith, c.in-Some.ensures.within, length-map entries (λ (e : Key × ℕ). e.0)) in
-    found_added inside.most inside.others most entries words word (c.self.view_is ∙ is) c.in-Some.place c.index.result.now c.in-Some.ensures.unique within (λ d. (at d).1) c.index.ensures
-    (sym (c.in-Some.ensures.found ∙ is_some-lookup test entries)) _ refl (ap (λ n. told (set_value_at entries c.in-Some.place n)) c.in_ok-self-inside.ensures) refl
+    let place = c.in-Some.place in
+    let found : place_in inside.places word ≡ Some place = sym (c.copied.ensures ∙ c.get.ensures.value) ∙ c.in-Some.is in
+    let within : place < length list = stands_within list inside.places c.self.invariant word place found in
+    let here : slice_get list place ≡ Some c.index_mut.result.now = slice_get-get_or list place c.index_mut.result.now within ∙ ap Some (sym c.index_mut.ensures.value) in
+    found_added inside.most inside.others most list words word (c.self.view_is ∙ is) place c.index_mut.result.now c.count_again.new.kept
+    (stands_among (words_in list) inside.places c.self.invariant word place found)
+    (stands_at (words_in list) inside.places c.self.invariant word place found)
+    (stands_once (words_in list) inside.places c.self.invariant word place found)
+    here c.count_again.ensures.word c.in_ok-count_again.ensures.count _ refl refl refl
 
-pub returns-in_ok-insert-clause-counts : goal.returns-in_ok-insert-clause-counts
-returns-in_ok-insert-clause-counts c = λ most words is.
+pub keep-requires : goal.keep-requires
+keep-requires c =
     let inside = c.self.inside in
-    let entries = inside.words.entries in
-    let word = c.args.word.now in
-    let key = c.in_ok-from_slice.field-0 in
-    let missing : list_any (λ k. bytes_eq word k.items) (keys_of entries) ≡ false = sym (c.in_default.ensures.found ∙ is_some-lookup (λ k. bytes_eq word k.items) entries) in
-    let none : lookup (same_key key) entries ≡ None = none_by _ (is_some-lookup (same_key key) entries ∙ ap (λ w. list_any (λ k. bytes_eq w k.items) (keys_of entries)) c.in_ok-from_slice.ensures.items ∙ missing) in
-    new_added inside.most inside.others most entries words word (c.self.view_is ∙ is) missing (le-leb (length word) LONGEST c.if-word-le-LONGEST.true) (omega (arith, c.len.ensures.len)) _ refl
-    (ap told (c.in_ok-insert.ensures.entries ∙ insert_entry-new same_key inside.words key 1 none) ∙ told_push entries key 1 ∙ ap (λ w. told entries ++ (w, 1) ∷ []) c.in_ok-from_slice.ensures.items) refl
+    let none : is_kept_among (words_in inside.list.items) c.args.word.now ≡ false = no_place (words_in inside.list.items) inside.places c.self.invariant c.args.word.now (sym (c.copied.ensures ∙ c.get.ensures.value) ∙ c.in_default.is) in
+    ap (λ ws. is_kept_among ws c.args.word.now) (ap (λ (v : CountedValue). map (λ (d : Counted). d.0) v.words) (sym c.self.view_is) ∙ told_words inside.list.items) ∙ none
 
-pub returns-in_ok-self-inside-2-clause-counts : goal.returns-in_ok-self-inside-2-clause-counts
-returns-in_ok-self-inside-2-clause-counts c = λ most words is.
+pub returns-then-word-le-LONGEST-clause-counts : goal.returns-then-word-le-LONGEST-clause-counts
+returns-then-word-le-LONGEST-clause-counts c = λ most words is.
     let inside = c.self.inside in
-    let entries = inside.words.entries in
     let word = c.args.word.now in
-    let missing : list_any (λ k. bytes_eq word k.items) (keys_of entries) ≡ false = sym (c.in_default.ensures.found ∙ is_some-lookup (λ k. bytes_eq word k.items) entries) in
-    let full : (is_short word ≡ false) ⊎ (inside.most ≤ length entries) = elim c.else-len-self.branch [
+    let none : is_kept_among (words_in inside.list.items) word ≡ false = no_place (words_in inside.list.items) inside.places c.self.invariant word (sym (c.copied.ensures ∙ c.get.ensures.value) ∙ c.in_default.is) in
+    let many : c.len.result ≡ length inside.list.items = search rules in
+    let room : length inside.list.items < inside.most = omega (arith, c.if-len-self.true) in
+    let limit = ap (λ (v : CountedValue). v.most) (sym c.self.view_is) in
+    new_added inside.most inside.others most inside.list.items words word (c.self.view_is ∙ is) none (le-leb (length word) LONGEST c.if-word-le-LONGEST.true) room _ (c.keep.ensures.most ∙ limit)
+    (c.in_ok-keep.ensures.words ∙ ap (λ (v : CountedValue). v.words ++ (word, 1) ∷ []) (sym c.self.view_is)) (c.keep.ensures.others ∙ ap (λ (v : CountedValue). v.others) (sym c.self.view_is))
+
+pub returns-clause-counts : goal.returns-clause-counts
+returns-clause-counts c = λ most words is.
+    let inside = c.self.inside in
+    let word = c.args.word.now in
+    let none : is_kept_among (words_in inside.list.items) word ≡ false = no_place (words_in inside.list.items) inside.places c.self.invariant word (sym (c.copied.ensures ∙ c.get.ensures.value) ∙ c.in_default.is) in
+    let many : c.len.result ≡ length inside.list.items = search rules in
+    let full : (is_short word ≡ false) ⊎ (inside.most ≤ length inside.list.items) = elim c.else-len-self.branch [
       | else-len-self-via-then-len-self+else-word-le-LONGEST w ↦ inl (lt-leb (length word) LONGEST w.if-word-le-LONGEST.false)
-      | else-len-self-via-else-len-self w ↦ inr (omega (arith, c.len.ensures.len))
+      | else-len-self-via-else-len-self w ↦ inr (omega (arith, w.if-len-self.false))
     ] in
-    other_added inside.most inside.others most entries words word (c.self.view_is ∙ is) missing full _ refl refl c.in_ok-self-inside-2.ensures
+    other_added inside.most inside.others most inside.list.items words word (c.self.view_is ∙ is) none full _ refl refl c.in_ok-self-inside.ensures

@@ -1,0 +1,111 @@
+//! What the events of a trace tell: their names, and timestamps that go back.
+ghost use Rattle.std.specs.Prelude.{◌≡◌, [], OnOk};
+ghost use Rattle.rv_route.specs.Lines.{IsRoutable};
+ghost use Rattle.rv_matches.specs.LineEvents.{event_on, stamp_on, without_last};
+ghost use Rattle.rv_matches.specs.TraceFacts.{TellsEvent, event_facts};
+
+use crate::late::{Late, Times};
+use crate::times::is_time;
+use crate::words::{CountedWords, one_more};
+use rv_text::Words;
+use rv_trace::TraceLine;
+use std::alloc::{AllocError, Global};
+use std::marker::Model;
+
+/// The most names of events that are kept.
+pub const MOST_NAMES: usize = 4096;
+
+/// What the events of a trace tell.
+#[derive(Drop)]
+pub struct EventFacts {
+    events: u64,
+    names: CountedWords,
+    times: Times,
+}
+
+impl Model for EventFacts {
+    ghost use Rattle.rv_matches.specs.TraceFacts.{EventFactsValue};
+
+    ghost Value = { EventFactsValue };
+
+    ghost view = { λ e. record { events = e.events; names = e.names; latest = e.times.latest; late = e.times.late } };
+}
+
+/// The timestamp of a line: the word before the name, without its colon.
+fn stamp_on<'a>(text: &'a [u8], line: &TraceLine) -> &'a [u8]
+    requires { IsRoutable text.now line.now }
+    ensures { result.now ≡ stamp_on text.now line.now }
+{
+    let mut words = Words::new(&text[..line.name.from as usize]);
+    let mut last: &[u8] = b"";
+    while let Some(word) = words.next_word() {
+        last = word;
+    }
+    without_last(last)
+}
+
+/// A word without its last byte.
+fn without_last(word: &[u8]) -> &[u8]
+    ensures { result.now ≡ without_last word.now }
+{
+    if word.is_empty() {
+        return word;
+    }
+    &word[..word.len() - 1]
+}
+
+impl EventFacts {
+    /// No event was seen.
+    pub fn new(alloc: Global) -> EventFacts
+        ensures { result ≡ event_facts [] }
+    {
+        EventFacts {
+            events: 0,
+            names: CountedWords::new(alloc, MOST_NAMES),
+            times: Times::new(alloc),
+        }
+    }
+
+    /// One more event, whose pieces are places in the text: that of its line alone, since all before the name is read.
+    pub fn add(&mut self, alloc: Global, text: &[u8], line: &TraceLine) -> Result<(), AllocError>
+        requires { IsRoutable text.now line.now }
+        ensures { OnOk result (TellsEvent (event_on text.now line.now) self.old self.new) }
+    {
+        self.events = one_more(self.events)?;
+        self.names.add(alloc, &text[line.name.from as usize..line.name.to as usize])?;
+        let stamp = stamp_on(text, line);
+        if !is_time(stamp) {
+            return Ok(());
+        }
+        self.times.add(alloc, line.number, stamp)?;
+        Ok(())
+    }
+
+    /// How many events there are.
+    pub fn events(&self) -> u64
+        ensures { result ≡ self.now.events }
+    {
+        self.events
+    }
+
+    /// Their names, with how many lines each has.
+    pub fn names(&self) -> &CountedWords
+        ensures { result.now ≡ self.now.names }
+    {
+        &self.names
+    }
+
+    /// The first line that is before the latest above it.
+    pub fn first_late(&self) -> &Option<Late>
+        ensures { result.now ≡ self.now.late.first }
+    {
+        self.times.first_late()
+    }
+
+    /// How many lines are before the latest above them.
+    pub fn late(&self) -> u64
+        ensures { result ≡ self.now.late.count }
+    {
+        self.times.late()
+    }
+}
