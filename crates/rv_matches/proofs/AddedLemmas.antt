@@ -3,12 +3,12 @@ use Rattle.std.proofs.Common.{◌≡◌, ◌⊎◌, inl, inr, ℕ, ◌+◌, ◌<
 use Rattle.std.specs.Prelude.{slice_get}
 use Rattle.std.proofs.lemmas.List.{length-map, map-set}
 use Rattle.rv_matches.specs.declared.words.Kept.{Kept}
-use Rattle.rv_matches.specs.Words.{Counted, CountedValue, counted, counted_words, is_kept_among, is_short, kept_words, occurrences, others}
+use Rattle.rv_matches.specs.Words.{Counted, CountedValue, counted_value, counted_words, is_kept_among, is_short, kept_words, occurrences, others}
 use Rattle.rv_matches.proofs.CountLemmas.{counted_full, counted_new, kept_stay, others_full, others_new, others_stay}
 use Rattle.rv_matches.proofs.WordLemmas.{counts}
 use Rattle.rv_matches.proofs.KeptLemmas.{get_made, raised, told, words_in, words_kept}
 
-module _ (limit other most : ℕ) (list : List Kept) (words : List (List ℕ)) (word : List ℕ) (was : ◌≡◌ {A = CountedValue} (record { most = limit; words = told list; others = other }) (counted most words)) where
+module _ (limit other most : ℕ) (list : List Kept) (words : List (List ℕ)) (word : List ℕ) (was : ◌≡◌ {A = CountedValue} (record { most = limit; words = told list; others = other }) (counted_value most words)) where
   same_most : limit ≡ most
   same_most = ap (λ (v : CountedValue). v.most) was
 
@@ -31,13 +31,13 @@ module _ (limit other most : ℕ) (list : List Kept) (words : List (List ℕ)) (
   among = ap (λ ws. is_kept_among ws word) (sym same_kept)
 
   -- the values with the limit as it is written
-  with_limit : (v : CountedValue) → v.most ≡ limit → v.words ≡ counted_words most (words ++ word ∷ []) → v.others ≡ others most (words ++ word ∷ []) → v ≡ counted most (words ++ word ∷ [])
+  with_limit : (v : CountedValue) → v.most ≡ limit → v.words ≡ counted_words most (words ++ word ∷ []) → v.others ≡ others most (words ++ word ∷ []) → v ≡ counted_value most (words ++ word ∷ [])
   with_limit v limit_is words_are others_are = λ j. record { most = (limit_is ∙ same_most) j; words = words_are j; others = others_are j }
 
   -- a word that is found
   pub found_added : (place : ℕ) (before now : Kept) → is_kept_among (words_in list) word ≡ true → slice_get (words_in list) place ≡ Some word → ((o : ℕ) → slice_get (words_in list) o ≡ Some word → o ≡ place)
       → slice_get list place ≡ Some before → now.word ≡ before.word → now.count ≡ before.count + 1
-      → (v : CountedValue) → v.most ≡ limit → v.words ≡ told (set list place now) → v.others ≡ other → v ≡ counted most (words ++ word ∷ [])
+      → (v : CountedValue) → v.most ≡ limit → v.words ≡ told (set list place now) → v.others ≡ other → v ≡ counted_value most (words ++ word ∷ [])
   found_added place before now there at once here same more v limit_is words_are others_are =
       let kept : is_kept_among (kept_words most words) word ≡ true = among ∙ there in
       let at_kept : slice_get (kept_words most words) place ≡ Some word = ap (λ ws. slice_get ws place) (sym same_kept) ∙ at in
@@ -52,7 +52,7 @@ module _ (limit other most : ℕ) (list : List Kept) (words : List (List ℕ)) (
 
   -- a new one that has room
   pub new_added : is_kept_among (words_in list) word ≡ false → is_short word ≡ true → length list < limit
-      → (v : CountedValue) → v.most ≡ limit → v.words ≡ told list ++ (word, 1) ∷ [] → v.others ≡ other → v ≡ counted most (words ++ word ∷ [])
+      → (v : CountedValue) → v.most ≡ limit → v.words ≡ told list ++ (word, 1) ∷ [] → v.others ≡ other → v ≡ counted_value most (words ++ word ∷ [])
   new_added none short room v limit_is words_are others_are =
       let apart : is_kept_among (kept_words most words) word ≡ false = among ∙ none in
       let fits : length (kept_words most words) < most = omega (arith, many, same_most) in
@@ -62,7 +62,7 @@ module _ (limit other most : ℕ) (list : List Kept) (words : List (List ℕ)) (
 
   -- one that is not kept
   pub other_added : is_kept_among (words_in list) word ≡ false → (is_short word ≡ false) ⊎ (limit ≤ length list)
-      → (v : CountedValue) → v.most ≡ limit → v.words ≡ told list → v.others ≡ other + 1 → v ≡ counted most (words ++ word ∷ [])
+      → (v : CountedValue) → v.most ≡ limit → v.words ≡ told list → v.others ≡ other + 1 → v ≡ counted_value most (words ++ word ∷ [])
   other_added none full v limit_is words_are others_are =
       let apart : is_kept_among (kept_words most words) word ≡ false = among ∙ none in
       let filled : (is_short word ≡ false) ⊎ (most ≤ length (kept_words most words)) = elim full [

@@ -4,11 +4,12 @@ use Rattle.std.specs.Prelude.{filter}
 use Rattle.std.proofs.lemmas.List.{append-nil, length-append, map_push}
 use Rattle.std.proofs.lemmas.List.Elements.{filter-append}
 use Rattle.rv_matches.specs.declared.event_facts.TheConstants.{MOST_NAMES}
-use Rattle.rv_matches.specs.inner.LateTimes.{Stamped, TellsTime, TimesValue, times_of}
+use Rattle.rv_matches.specs.LateTimes.{Stamped}
+use Rattle.rv_matches.specs.inner.LateTimes.{TellsTime, TimesValue, times_of}
 use Rattle.rv_matches.specs.LineEvents.{LineEvent}
-use Rattle.rv_matches.specs.inner.Times.{is_time}
-use Rattle.rv_matches.specs.TraceFacts.{EventFactsValue, event_facts, event_names, names_of, stamped, stamps_of}
-use Rattle.rv_matches.specs.Words.{CountedValue, CountsWord, counted}
+use Rattle.rv_matches.specs.Times.{is_time}
+use Rattle.rv_matches.specs.TraceFacts.{EventFactsValue, event_facts, event_names, counted_names, stamped, stamps_of}
+use Rattle.rv_matches.specs.Words.{CountedValue, CountsWord, counted_value}
 
 module _ (lines : List LineEvent) (line : LineEvent) where
   -- one more timestamp, if it can be compared
@@ -18,11 +19,11 @@ module _ (lines : List LineEvent) (line : LineEvent) where
       ∙ filter-append (λ (s : Stamped). is_time s.stamp) (map stamped lines) (stamped line ∷ [])
 
   -- one more name
-  pub names_push : (old new : CountedValue) → CountsWord line.name old new → old ≡ names_of lines → new ≡ names_of (lines ++ line ∷ [])
+  pub names_push : (old new : CountedValue) → CountsWord line.name old new → old ≡ counted_names lines → new ≡ counted_names (lines ++ line ∷ [])
   names_push old new counts was =
-      counts MOST_NAMES (event_names lines) was ∙ ap (counted MOST_NAMES) (sym (map_push (λ (l : LineEvent). l.name) lines line))
+      counts MOST_NAMES (event_names lines) was ∙ ap (counted_value MOST_NAMES) (sym (map_push (λ (l : LineEvent). l.name) lines line))
 
-  module _ (old new : EventFactsValue) (was : old ≡ event_facts lines) (events : new.events ≡ old.events + 1) (names : new.names ≡ names_of (lines ++ line ∷ [])) where
+  module _ (old new : EventFactsValue) (was : old ≡ event_facts lines) (events : new.events ≡ old.events + 1) (names : new.names ≡ counted_names (lines ++ line ∷ [])) where
     -- one more event
     many : new.events ≡ length (lines ++ line ∷ [])
     many = events ∙ ap (λ (e : EventFactsValue). e.events + 1) was ∙ sym (length-append lines (line ∷ []))

@@ -9,8 +9,9 @@ use Rattle.std.proofs.lemmas.List.Sums.{fold_push, sum_by_push}
 use Rattle.rv_matches.specs.declared.rule_lines.FieldLines.{FieldLines}
 use Rattle.rv_matches.specs.declared.rule_lines.TheConstants.{MOST_VALUES}
 use Rattle.rv_matches.specs.LineEvents.{LineEvent, value_on}
-use Rattle.rv_matches.specs.RuleLines.{FieldCounts, field_counts, field_name, field_told, field_values}
-use Rattle.rv_matches.specs.Words.{CountedValue, CountsWord, counted, distinct, is_kept_among, with_word}
+use Rattle.rv_matches.specs.RuleLines.{FieldCounts, field_counts, field_told, field_values}
+use Rattle.rv_matches.specs.inner.RuleSteps.{field_name}
+use Rattle.rv_matches.specs.Words.{CountedValue, CountsWord, counted_value, distinct, is_kept_among, with_word}
 use Rattle.rv_matches.proofs.NearLemmas.{front_full, front_room}
 use Rattle.rv_matches.proofs.WordLemmas.{among_taken}
 
@@ -64,17 +65,17 @@ module _ (lines : List LineEvent) (line : LineEvent) (name : List ℕ) where
 
   -- what a field has, by its values and how many lines lack it
   abbrev counts_by : List (List ℕ) → ℕ → FieldCounts
-  counts_by values missing = record { field = name; values = (counted MOST_VALUES values).words; other = (counted MOST_VALUES values).others; missing = missing }
+  counts_by values missing = record { field = name; values = (counted_value MOST_VALUES values).words; other = (counted_value MOST_VALUES values).others; missing = missing }
 
   module _ (old new : FieldLines) (named : new.field ≡ name) (was : field_told old ≡ field_counts lines name) (most : old.values.most ≡ MOST_VALUES) where
     -- what is kept of the values is what is counted of them
-    old_values : old.values ≡ counted MOST_VALUES (field_values lines name)
+    old_values : old.values ≡ counted_value MOST_VALUES (field_values lines name)
     old_values = λ j. record { most = most j; words = (was j).values; others = (was j).other }
 
     -- one more value
     pub value_counted : (value : List ℕ) → value_on name line ≡ Some value → CountsWord value old.values new.values → new.missing ≡ old.missing → field_told new ≡ field_counts (lines ++ line ∷ []) name
     value_counted value is counts same =
-        let now : new.values ≡ counted MOST_VALUES (field_values lines name ++ value ∷ []) = counts MOST_VALUES (field_values lines name) old_values in
+        let now : new.values ≡ counted_value MOST_VALUES (field_values lines name ++ value ∷ []) = counts MOST_VALUES (field_values lines name) old_values in
         let values : field_values (lines ++ line ∷ []) name ≡ field_values lines name ++ value ∷ [] = values_push ∙ ap (λ (o : Option (List ℕ)). field_values lines name ++ cons_option o []) is in
         let missing : new.missing ≡ count_by (λ l. is_none (value_on name l)) (lines ++ line ∷ []) = same ∙ ap (λ (c : FieldCounts). c.missing) was ∙ sym (missing_push ∙ (let e : count_by (λ l. is_none (value_on name l)) lines + cond (is_none (value_on name line)) 1 0 ≡ count_by (λ l. is_none (value_on name l)) lines = ap (λ (o : Option (List ℕ)). count_by (λ l. is_none (value_on name l)) lines + cond (is_none o) 1 0) is ∙ omega arith in e)) in
         (λ j. record { field = named j; values = (now j).words; other = (now j).others; missing = new.missing })
@@ -85,6 +86,6 @@ module _ (lines : List LineEvent) (line : LineEvent) (name : List ℕ) where
     missing_counted is same more =
         let values : field_values (lines ++ line ∷ []) name ≡ field_values lines name = values_push ∙ ap (λ (o : Option (List ℕ)). field_values lines name ++ cons_option o []) is ∙ append-nil (field_values lines name) in
         let missing : new.missing ≡ count_by (λ l. is_none (value_on name l)) (lines ++ line ∷ []) = more ∙ ap (λ (c : FieldCounts). c.missing + 1) was ∙ sym (missing_push ∙ ap (λ (o : Option (List ℕ)). count_by (λ l. is_none (value_on name l)) lines + cond (is_none o) 1 0) is) in
-        let kept : new.values ≡ counted MOST_VALUES (field_values lines name) = same ∙ old_values in
+        let kept : new.values ≡ counted_value MOST_VALUES (field_values lines name) = same ∙ old_values in
         (λ j. record { field = named j; values = (kept j).words; other = (kept j).others; missing = new.missing })
         ∙ ap₂ counts_by (sym values) missing

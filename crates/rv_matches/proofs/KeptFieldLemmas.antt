@@ -3,7 +3,7 @@ use Rattle.std.proofs.Common.{◌≡◌, ℕ, zero, suc, ◌+◌, ◌<◌, Bool,
 use Rattle.std.specs.Prelude.{bytes_eq}
 use Rattle.std.proofs.lemmas.List.{map_push, take_more}
 use Rattle.rv_matches.specs.declared.rule_lines.FieldLines.{FieldLines}
-use Rattle.rv_matches.specs.RuleLines.{field_name}
+use Rattle.rv_matches.specs.inner.RuleSteps.{field_name}
 use Rattle.rv_matches.specs.Words.{is_kept_among}
 use Rattle.rv_matches.proofs.WordLemmas.{among_push, either_way}
 

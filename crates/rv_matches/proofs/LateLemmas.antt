@@ -6,9 +6,10 @@ use Rattle.std.specs.Option.{option_or}
 use Rattle.std.proofs.lemmas.Bool.{cond_both, cond-true, cond-false, lt-ltb, le-ltb, ltb-true, ltb-false}
 use Rattle.std.proofs.lemmas.List.{append-nil, append_assoc}
 use Rattle.std.proofs.lemmas.List.Sums.{fold_push}
-use Rattle.rv_matches.specs.inner.LateTimes.{Late, Stamped, TimesValue, is_before, is_late, is_latest, late_behind, later_of, latest_of, times_of}
+use Rattle.rv_matches.specs.LateTimes.{Late, Stamped, is_earlier, late_behind, later_of, latest_of}
+use Rattle.rv_matches.specs.inner.LateTimes.{TimesValue, is_late, is_latest, times_of}
 use Rattle.rv_matches.specs.TextFacts.{first_of}
-use Rattle.rv_matches.specs.inner.Times.{time_of}
+use Rattle.rv_matches.specs.Times.{time_of}
 use Rattle.rv_matches.proofs.FirstLemmas.{first_push}
 use Rattle.rv_matches.proofs.WordLemmas.{or_assoc, or_none}
 
@@ -22,7 +23,7 @@ late_of before s = record { late = s; latest = latest_of before }
 late_push : (before stamps : List Stamped) (s : Stamped) → late_behind before (stamps ++ s ∷ []) ≡ late_behind before stamps ++ late_behind (before ++ stamps) (s ∷ [])
 late_push before [] s = ap (λ (b : List Stamped). late_behind b (s ∷ [])) (sym (append-nil before))
 late_push before (t ∷ stamps) s =
-    let here : List Late = cond (list_any (is_before t) before) (late_of before t ∷ []) [] in
+    let here : List Late = cond (list_any (is_earlier t) before) (late_of before t ∷ []) [] in
     ap (λ (ls : List Late). here ++ ls) (late_push (before ++ t ∷ []) stamps s)
     ∙ sym (append_assoc here (late_behind (before ++ t ∷ []) stamps) (late_behind ((before ++ t ∷ []) ++ stamps) (s ∷ [])))
     ∙ ap (λ (b : List Stamped). (here ++ late_behind (before ++ t ∷ []) stamps) ++ late_behind b (s ∷ [])) (append_assoc before (t ∷ []) stamps)
@@ -32,18 +33,18 @@ less_more true c is = is refl
 less_more false c is = refl
 
 -- a timestamp is before the later of two where it is before one of them
-late_more : (best : Option Stamped) (t s : Stamped) → is_late (later_of best t) s ≡ (is_late best s || is_before s t)
+late_more : (best : Option Stamped) (t s : Stamped) → is_late (later_of best t) s ≡ (is_late best s || is_earlier s t)
 late_more None t s = refl
 late_more (Some best) t s =
-    cond_both (is_before best t) (Some t) (Some best) (λ o. is_late o s ≡ (is_before s best || is_before s t))
-    (λ so_it_is. less_more (is_before s best) (is_before s t) (λ is.
+    cond_both (is_earlier best t) (Some t) (Some best) (λ o. is_late o s ≡ (is_earlier s best || is_earlier s t))
+    (λ so_it_is. less_more (is_earlier s best) (is_earlier s t) (λ is.
     let less : time_of s.stamp < time_of best.stamp = ltb-true _ _ is in
     let later : time_of best.stamp < time_of t.stamp = ltb-true _ _ so_it_is in
     lt-ltb (time_of s.stamp) (time_of t.stamp) (omega arith)))
-    (λ it_is_not. less_more (is_before s t) (is_before s best) (λ is.
+    (λ it_is_not. less_more (is_earlier s t) (is_earlier s best) (λ is.
     let less : time_of s.stamp < time_of t.stamp = ltb-true _ _ is in
     let later : time_of t.stamp ≤ time_of best.stamp = ltb-false _ _ it_is_not in
-    lt-ltb (time_of s.stamp) (time_of best.stamp) (omega arith)) ∙ or_other (is_before s t) (is_before s best))
+    lt-ltb (time_of s.stamp) (time_of best.stamp) (omega arith)) ∙ or_other (is_earlier s t) (is_earlier s best))
   where
     or_other : (b c : Bool) → (b || c) ≡ (c || b)
     or_other true true = refl
@@ -52,18 +53,18 @@ late_more (Some best) t s =
     or_other false false = refl
 
 -- a timestamp is before the latest where it is before any
-any_late : (stamps : List Stamped) (best : Option Stamped) (s : Stamped) → is_late (fold later_of best stamps) s ≡ (is_late best s || list_any (is_before s) stamps)
+any_late : (stamps : List Stamped) (best : Option Stamped) (s : Stamped) → is_late (fold later_of best stamps) s ≡ (is_late best s || list_any (is_earlier s) stamps)
 any_late [] best s = sym (or_none (is_late best s))
 any_late (t ∷ stamps) best s =
     any_late stamps (later_of best t) s
-    ∙ ap (λ b. b || list_any (is_before s) stamps) (late_more best t s)
-    ∙ or_assoc (is_late best s) (is_before s t) (list_any (is_before s) stamps)
+    ∙ ap (λ b. b || list_any (is_earlier s) stamps) (late_more best t s)
+    ∙ or_assoc (is_late best s) (is_earlier s t) (list_any (is_earlier s) stamps)
 
 -- the late ones with one more
 late_more_one : (stamps : List Stamped) (s : Stamped) → late_behind [] (stamps ++ s ∷ []) ≡ late_behind [] stamps ++ cond (is_late (latest_of stamps) s) (late_of stamps s ∷ []) []
 late_more_one stamps s =
     late_push [] stamps s
-    ∙ ap (λ (ls : List Late). late_behind [] stamps ++ ls) (append-nil (cond (list_any (is_before s) stamps) (late_of stamps s ∷ []) []))
+    ∙ ap (λ (ls : List Late). late_behind [] stamps ++ ls) (append-nil (cond (list_any (is_earlier s) stamps) (late_of stamps s ∷ []) []))
     ∙ ap (λ b. late_behind [] stamps ++ cond b (late_of stamps s ∷ []) []) (sym (any_late stamps None s))
 
 -- ---- what is told with one more
@@ -77,12 +78,12 @@ latest_not_late : (best : Option Stamped) (s : Stamped) → is_latest best s ≡
 latest_not_late None s is = (refl, refl)
 latest_not_late (Some best) s is =
     let less : time_of best.stamp < time_of s.stamp = ltb-true _ _ is in
-    (cond-true (is_before best s) (Some s) (Some best) is, le-ltb (time_of s.stamp) (time_of best.stamp) (omega arith))
+    (cond-true (is_earlier best s) (Some s) (Some best) is, le-ltb (time_of s.stamp) (time_of best.stamp) (omega arith))
 
 -- what does not leaves the latest
 stays_latest : (best : Option Stamped) (s : Stamped) → is_latest best s ≡ false → later_of best s ≡ best
 stays_latest None s is = cc
-stays_latest (Some best) s is = cond-false (is_before best s) (Some s) (Some best) is
+stays_latest (Some best) s is = cond-false (is_earlier best s) (Some s) (Some best) is
 
 module _ (stamps : List Stamped) (s : Stamped) (new : TimesValue) where
   -- nothing is late if the one more is not

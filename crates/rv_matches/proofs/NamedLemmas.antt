@@ -11,7 +11,7 @@ use Rattle.rv_route.specs.declared.event.Event.{Event}
 use Rattle.rv_route.specs.Events.{HasEvent, IsAsked, is_on_event}
 use Rattle.rv_matches.specs.declared.rule_lines.RuleLine.{RuleLine}
 use Rattle.rv_matches.specs.LineEvents.{LineEvent, fires_on}
-use Rattle.rv_matches.specs.RuleLines.{AreRuleLines, IsRuleLine, RuleCounts, RuleLinesValue, is_fired, is_named, rule_counts}
+use Rattle.rv_matches.specs.RuleLines.{AreRuleLines, IsRuleLine, RuleCounts, RuleLinesValue, is_fired, has_rule, rule_counts}
 use Rattle.rv_matches.proofs.CountedRuleLemmas.{other_event}
 use Rattle.rv_matches.proofs.WordLemmas.{no_more, same_bytes}
 
@@ -57,8 +57,8 @@ none_on name index (rule ∷ rules) none has = go (is_on_event name rule) refl (
 
 module _ (rules : List OnValue) (lines : List LineEvent) (line : LineEvent) where
   -- one more line is named, or not
-  pub named_push : count_by (is_named rules) (lines ++ line ∷ []) ≡ count_by (is_named rules) lines + cond (is_named rules line) 1 0
-  named_push = sum_by_push (λ l. cond (is_named rules l) 1 0) lines line
+  pub named_push : count_by (has_rule rules) (lines ++ line ∷ []) ≡ count_by (has_rule rules) lines + cond (has_rule rules line) 1 0
+  named_push = sum_by_push (λ l. cond (has_rule rules l) 1 0) lines line
 
   -- on one more line some rule fires, or none
   pub fired_push : count_by (is_fired rules) (lines ++ line ∷ []) ≡ count_by (is_fired rules) lines + cond (is_fired rules line) 1 0
@@ -92,7 +92,7 @@ stay (rule ∷ rules) lines line (r ∷ list) none all = go (is_on_event line.na
 pub unnamed : (rules : List OnValue) (lines : List LineEvent) (line : LineEvent) (value : RuleLinesValue) → filter (is_on_event line.name) rules ≡ [] → AreRuleLines rules lines value → AreRuleLines rules (lines ++ line ∷ []) value
 unnamed rules lines line value none are = record {
   each = stay rules lines line value.rules none are.each;
-  named = are.named ∙ sym (named_push rules lines line ∙ no_more (count_by (is_named rules) lines) (is_named rules line) (none_any (is_on_event line.name) rules none));
+  named = are.named ∙ sym (named_push rules lines line ∙ no_more (count_by (has_rule rules) lines) (has_rule rules line) (none_any (is_on_event line.name) rules none));
   fired = are.fired ∙ sym (fired_push rules lines line ∙ no_more (count_by (is_fired rules) lines) (is_fired rules line) (none_fires rules lines line none));
 }
 

@@ -6,7 +6,8 @@ use Rattle.std.proofs.Math.Nat.{pow-suc, mul_assoc}
 use Rattle.rv_text.specs.Decimal.{all_digits, number_of}
 use Rattle.rv_text.proofs.DecimalLemmas.{number-more}
 use Rattle.rv_matches.specs.declared.words.TheConstants.{LONGEST}
-use Rattle.rv_matches.specs.inner.Times.{decimals_in, digit_at, digits_in, is_time, point_in, time_of}
+use Rattle.rv_matches.specs.Times.{decimals_in, digits_in, is_time, point_in, time_of}
+use Rattle.rv_matches.specs.inner.Times.{digit_at}
 use Rattle.rv_matches.proofs.TimeLemmas.{digit_here, digit_small, digits_length, point_high, zeros_before, zeros_behind}
 
 -- the number that so many digits spell

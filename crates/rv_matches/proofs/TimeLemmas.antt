@@ -10,7 +10,8 @@ use Rattle.rv_text.specs.Places.{is_digit, run_end}
 use Rattle.rv_text.proofs.DecimalLemmas.{all_digits-not, all_digits-each}
 use Rattle.rv_text.proofs.LeastLemmas.{run_end-each, run_end-high, run_end-low, run_end-stop}
 use Rattle.rv_matches.specs.declared.words.TheConstants.{LONGEST}
-use Rattle.rv_matches.specs.inner.Times.{decimals_in, digit_at, digits_in, is_time, point_in}
+use Rattle.rv_matches.specs.Times.{decimals_in, digits_in, is_time, point_in}
+use Rattle.rv_matches.specs.inner.Times.{digit_at}
 
 -- digits at every place
 digits-at : (text : List ℕ) (i : ℕ) → all_digits text ≡ true → i < length text → is_digit (get_or text i 0) ≡ true

@@ -1,7 +1,9 @@
+pub mod LateTimes
 pub mod LineEvents
 pub mod Nearest
 pub mod RuleLines
 pub mod TextFacts
+pub mod Times
 pub mod TraceFacts
 pub mod Words
 pub mod inner

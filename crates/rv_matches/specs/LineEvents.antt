@@ -1,5 +1,5 @@
 -- What a line of a trace says, as bytes: the timestamp, the name of the event and the fields.
-use Rattle.std.specs.Prelude.{ℕ, ◌-◌, Bool, bytes_eq, List, length, map, take, Option}
+use Rattle.std.specs.Prelude.{ℕ, ◌-◌, Bool, bytes_eq, List, length, take, Option}
 use Rattle.rv_bind.specs.RuleValues.{OnValue}
 use Rattle.rv_route.specs.Asking.{text_at, field_value, fires}
 use Rattle.rv_text.specs.Places.{between}
@@ -26,10 +26,6 @@ stamp_on text line = without_last (last_of (words_of (between text 0 line.name.f
 -- what the line says whose pieces are places in the text
 abbrev pub event_on : List ℕ → TraceLine → LineEvent
 event_on text line = record { number = line.number; stamp = stamp_on text line; name = text_at text line.name; fields = text_at text line.fields }
-
--- what the lines of a text say
-abbrev pub events_on : List ℕ → List TraceLine → List LineEvent
-events_on text lines = map (event_on text) lines
 
 -- the line is of this event
 abbrev pub is_of : List ℕ → LineEvent → Bool

@@ -81,8 +81,8 @@ rule_counts lines rule = record {
 -- ---- all rules
 
 -- some rule is on the event of the line
-abbrev pub is_named : List OnValue → LineEvent → Bool
-is_named rules line = list_any (λ rule. is_of rule.event line) rules
+abbrev pub has_rule : List OnValue → LineEvent → Bool
+has_rule rules line = list_any (λ rule. is_of rule.event line) rules
 
 -- some rule fires on the line
 abbrev pub is_fired : List OnValue → LineEvent → Bool
@@ -94,10 +94,6 @@ pub record RuleLinesValue : Type 0 where
   pub rules : List RuleLine
   pub named : ℕ
   pub fired : ℕ
-
--- the name of a field that is kept
-abbrev pub field_name : FieldLines → List ℕ
-field_name f = f.field
 
 -- what is kept of a field
 abbrev pub field_told : FieldLines → FieldCounts
@@ -117,7 +113,7 @@ pub record IsRuleLine (counts : RuleCounts) (r : RuleLine) : Type 0 where
 -- what is kept of all rules is what these lines are to them
 pub record AreRuleLines (rules : List OnValue) (lines : List LineEvent) (value : RuleLinesValue) : Type 0 where
   pub each : AllZip (λ rule r. IsRuleLine (rule_counts lines rule) r) rules value.rules
-  pub named : value.named ≡ count_by (is_named rules) lines
+  pub named : value.named ≡ count_by (has_rule rules) lines
   pub fired : value.fired ≡ count_by (is_fired rules) lines
 
 -- a field that is kept is that of a test, with as many values as may be kept

@@ -1,11 +1,11 @@
 -- What the events of a trace tell: their names, and timestamps that go back.
 use Rattle.std.specs.Prelude.{◌≡◌, ℕ, List, [], ◌∷◌, ◌++◌, length, map, filter, Option}
 use Rattle.rv_matches.specs.declared.event_facts.TheConstants.{MOST_NAMES}
-use Rattle.rv_matches.specs.inner.LateTimes.{Late, Stamped, latest_of, late_behind}
+use Rattle.rv_matches.specs.LateTimes.{Late, Stamped, latest_of, late_behind}
 use Rattle.rv_matches.specs.LineEvents.{LineEvent}
 use Rattle.rv_matches.specs.TextFacts.{FirstOf, first_of}
-use Rattle.rv_matches.specs.inner.Times.{is_time}
-use Rattle.rv_matches.specs.Words.{CountedValue, counted}
+use Rattle.rv_matches.specs.Times.{is_time}
+use Rattle.rv_matches.specs.Words.{CountedValue, counted_value}
 
 -- ---- timestamps
 
@@ -28,8 +28,8 @@ abbrev pub event_names : List LineEvent → List (List ℕ)
 event_names lines = map (λ line. line.name) lines
 
 -- the names that are kept, with the number of their lines
-abbrev pub names_of : List LineEvent → CountedValue
-names_of lines = counted MOST_NAMES (event_names lines)
+abbrev pub counted_names : List LineEvent → CountedValue
+counted_names lines = counted_value MOST_NAMES (event_names lines)
 
 -- how many events there are, their names, the latest of them, and those that are late
 pub record EventFactsValue : Type 0 where
@@ -39,7 +39,7 @@ pub record EventFactsValue : Type 0 where
   pub late : FirstOf Late
 
 abbrev pub event_facts : List LineEvent → EventFactsValue
-event_facts lines = record { events = length lines; names = names_of lines; latest = latest_of (stamps_of lines); late = first_of (late_lines lines) }
+event_facts lines = record { events = length lines; names = counted_names lines; latest = latest_of (stamps_of lines); late = first_of (late_lines lines) }
 
 -- what was told of any events becomes what is told of these and one more
 abbrev pub TellsEvent : LineEvent → EventFactsValue → EventFactsValue → Type 0

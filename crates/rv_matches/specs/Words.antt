@@ -48,9 +48,9 @@ pub record CountedValue : Type 0 where
   pub words : List Counted
   pub others : ℕ
 
-abbrev pub counted : ℕ → List (List ℕ) → CountedValue
-counted most words = record { most = most; words = counted_words most words; others = others most words }
+abbrev pub counted_value : ℕ → List (List ℕ) → CountedValue
+counted_value most words = record { most = most; words = counted_words most words; others = others most words }
 
 -- what was counted of any words becomes what is counted of these and one more
 abbrev pub CountsWord : List ℕ → CountedValue → CountedValue → Type 0
-CountsWord word old new = (most : ℕ) (words : List (List ℕ)) → old ≡ counted most words → new ≡ counted most (words ++ word ∷ [])
+CountsWord word old new = (most : ℕ) (words : List (List ℕ)) → old ≡ counted_value most words → new ≡ counted_value most (words ++ word ∷ [])

@@ -2,7 +2,7 @@
 ghost use Rattle.std.specs.Prelude.{◌≡◌, ◌+◌, [], true, Some, None, IfOk, OnOk};
 ghost use Rattle.std.specs.Option.{option_or};
 ghost use Rattle.rv_matches.specs.inner.LateTimes.{HasTime, TellsTime, is_late, is_latest, times_of};
-ghost use Rattle.rv_matches.specs.inner.Times.{is_time};
+ghost use Rattle.rv_matches.specs.Times.{is_time};
 
 use crate::times::is_before;
 use crate::words::one_more;

@@ -7,7 +7,8 @@ ghost use Rattle.rv_route.specs.Events.{HasFound, IsEventOf, is_on_event, tested
 ghost use Rattle.rv_route.specs.Lines.{IsRoutable};
 ghost use Rattle.rv_trace.specs.FoundFields.{AreFound, IsInside};
 ghost use Rattle.rv_matches.specs.LineEvents.{event_on};
-ghost use Rattle.rv_matches.specs.RuleLines.{AreRuleLines, CountsRuleLine, HasTest, IsByTests, IsForRules, IsRuleLine, field_counts, field_name, field_told, kept_fields, rule_counts};
+ghost use Rattle.rv_matches.specs.RuleLines.{AreRuleLines, CountsRuleLine, HasTest, IsByTests, IsForRules, IsRuleLine, field_counts, field_told, kept_fields, rule_counts};
+ghost use Rattle.rv_matches.specs.inner.RuleSteps.{field_name};
 ghost use Rattle.rv_matches.specs.inner.RuleSteps.{CountsEventLine, CountsFields, CountsLineOf, CountsTests, CountsValue, KeepsField, KeepsName};
 ghost use Rattle.rv_matches.specs.Words.{is_kept_among};
 

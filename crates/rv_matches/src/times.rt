@@ -1,7 +1,8 @@
 //! Timestamps as decimal numbers, which are compared digit by digit.
 ghost use Rattle.std.specs.Prelude.{◌≡◌, ◌≤◌, ◌<◌, ◌*◌, length, nat_lt, true};
 ghost use Rattle.rv_text.specs.Decimal.{all_digits};
-ghost use Rattle.rv_matches.specs.inner.Times.{digit_at, digits_in, is_time, point_in, time_of};
+ghost use Rattle.rv_matches.specs.Times.{digits_in, is_time, point_in, time_of};
+ghost use Rattle.rv_matches.specs.inner.Times.{digit_at};
 
 use crate::words::LONGEST;
 use rv_text::{ByteClass, run_end};

@@ -1,6 +1,6 @@
 //! Words by first appearance, each with how often it was there.
 ghost use Rattle.std.specs.Prelude.{◌≡◌, ◌+◌, ◌<◌, [], ◌∷◌, ◌++◌, length, map, false, slice_get, IfOk, IfSome, OnOk};
-ghost use Rattle.rv_matches.specs.Words.{counted, is_kept_among, CountsWord};
+ghost use Rattle.rv_matches.specs.Words.{counted_value, is_kept_among, CountsWord};
 
 use rv_model::Name;
 use std::alloc::{AllocError, Global};
@@ -59,7 +59,7 @@ impl Model for CountedWords {
 impl CountedWords {
     /// No word was there. No memory is taken.
     pub fn new(alloc: Global, most: usize) -> CountedWords
-        ensures { result ≡ counted most [] }
+        ensures { result ≡ counted_value most [] }
     {
         CountedWords {
             most,

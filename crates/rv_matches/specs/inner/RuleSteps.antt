@@ -10,6 +10,10 @@ use Rattle.rv_matches.specs.LineEvents.{LineEvent, value_on}
 use Rattle.rv_matches.specs.Words.{with_word}
 use Rattle.rv_matches.specs.RuleLines.{FieldCounts, IsRuleLine, field_counts, field_told, held, rule_counts}
 
+-- the name of a field that is kept
+abbrev pub field_name : FieldLines → List ℕ
+field_name f = f.field
+
 -- the counts of tests on any lines become those on these and one more that has these fields
 abbrev pub CountsTests : List ℕ → List Test → List ℕ → List ℕ → Type 0
 CountsTests fields tests old new = (lines : List LineEvent) (line : LineEvent) → line.fields ≡ fields → old ≡ map (held lines) tests → new ≡ map (held (lines ++ line ∷ [])) tests

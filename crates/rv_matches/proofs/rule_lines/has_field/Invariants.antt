@@ -1,5 +1,5 @@
 use Rattle.std.proofs.Common.{◌≡◌, false, map, take}
-use Rattle.rv_matches.specs.RuleLines.{field_name}
+use Rattle.rv_matches.specs.inner.RuleSteps.{field_name}
 use Rattle.rv_matches.specs.Words.{is_kept_among}
 use Rattle.rv_matches.proofs.rule_lines.has_field.Given as goal
 

@@ -2,7 +2,8 @@ use Rattle.std.proofs.Common.{◌≡◌, ◌≤◌, ◌<◌, true, false, ℕ, L
 use Rattle.std.proofs.lemmas.List.{length-map, map_push}
 use Rattle.rv_matches.specs.declared.rule_lines.FieldLines.{FieldLines}
 use Rattle.rv_matches.specs.declared.rule_lines.TheConstants.{MOST_FIELDS}
-use Rattle.rv_matches.specs.RuleLines.{FieldCounts, field_counts, field_name, field_told}
+use Rattle.rv_matches.specs.RuleLines.{FieldCounts, field_counts, field_told}
+use Rattle.rv_matches.specs.inner.RuleSteps.{field_name}
 use Rattle.rv_matches.specs.Words.{is_kept_among, with_word}
 use Rattle.rv_matches.proofs.FieldLemmas.{front_grows, front_stays, front_taken, told_names}
 use Rattle.rv_matches.proofs.rule_lines.keep_field.Goals.{then-len-ge-MOST_FIELDS-via-then-len-ge-MOST_FIELDS, then-len-ge-MOST_FIELDS-via-else-len-ge-MOST_FIELDS+then-has_field}

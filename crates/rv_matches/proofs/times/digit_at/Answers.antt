@@ -1,6 +1,6 @@
 use Rattle.std.proofs.Common.{◌≢◌, inl, inr, ◌-◌, get_or, sym, ap, ◌∙◌, arith}
 use Rattle.std.proofs.lemmas.List.{get_or_past}
-use Rattle.rv_matches.specs.inner.Times.{point_in}
+use Rattle.rv_matches.specs.Times.{point_in}
 use Rattle.rv_matches.proofs.SpelledLemmas.{time_short}
 use Rattle.rv_matches.proofs.TimeLemmas.{digit-low, digit_read, each_digit, point_high, zeros_before}
 use Rattle.rv_matches.proofs.times.digit_at.Goals.{then-digit-point, else-digit-point}

@@ -2,7 +2,7 @@ use Rattle.std.proofs.Common.{◌+◌, ◌<◌, length, sym, ap, ◌∙◌, arit
 use Rattle.std.specs.Prelude.{nat_eq}
 use Rattle.rv_text.specs.declared.runs.ByteClass.TheVariants as kinds
 use Rattle.rv_text.specs.Places.{run_end}
-use Rattle.rv_matches.specs.inner.Times.{point_in}
+use Rattle.rv_matches.specs.Times.{point_in}
 use Rattle.rv_matches.proofs.TimeLemmas.{part_is, whole_digits}
 use Rattle.rv_matches.proofs.times.has_digits.Goals as goal
 

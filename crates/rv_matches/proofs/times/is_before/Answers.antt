@@ -1,6 +1,7 @@
 use Rattle.std.proofs.Common.{◌≢◌, ◌+◌, ◌-◌, ◌*◌, ◌<◌, ◌≤◌, ltb, length, sym, ap₂, ◌∙◌, arith}
 use Rattle.rv_matches.specs.declared.words.TheConstants.{LONGEST}
-use Rattle.rv_matches.specs.inner.Times.{digit_at, point_in}
+use Rattle.rv_matches.specs.Times.{point_in}
+use Rattle.rv_matches.specs.inner.Times.{digit_at}
 use Rattle.rv_matches.proofs.SpelledLemmas.{before_by, before_none, time_short}
 use Rattle.rv_matches.proofs.TimeLemmas.{zeros_before}
 use Rattle.rv_matches.proofs.times.is_before.Goals as goal

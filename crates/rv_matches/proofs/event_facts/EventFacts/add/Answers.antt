@@ -1,7 +1,7 @@
 use Rattle.std.proofs.Common.{◌≡◌, true, false, ℕ, List, rules, refl, sym, ap, ◌∙◌, subst}
 use Rattle.rv_matches.specs.LineEvents.{event_on}
 use Rattle.rv_matches.specs.inner.LateTimes.{TellsTime}
-use Rattle.rv_matches.specs.inner.Times.{is_time}
+use Rattle.rv_matches.specs.Times.{is_time}
 use Rattle.rv_matches.specs.TraceFacts.{EventFactsValue}
 use Rattle.rv_matches.proofs.EventFactLemmas.{names_push, told_timed, told_untimed}
 use Rattle.rv_matches.proofs.event_facts.EventFacts.add.Goals as goal

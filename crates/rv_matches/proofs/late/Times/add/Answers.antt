@@ -1,6 +1,7 @@
 use Rattle.std.proofs.Common.{◌≡◌, ◌+◌, true, false, Some, sym, ap, ◌∙◌}
 use Rattle.std.specs.Option.{option_or}
-use Rattle.rv_matches.specs.inner.LateTimes.{Stamped, TimesValue, is_late, is_latest, latest_of}
+use Rattle.rv_matches.specs.LateTimes.{Stamped, latest_of}
+use Rattle.rv_matches.specs.inner.LateTimes.{TimesValue, is_late, is_latest}
 use Rattle.rv_matches.proofs.LateLemmas.{told_late, told_latest, told_neither}
 use Rattle.rv_matches.proofs.late.Times.add.Goals as goal
 

@@ -12,7 +12,7 @@ use Rattle.rv_route.proofs.EventLemmas.{asked-many}
 use Rattle.rv_route.proofs.IndexLemmas.{found-event}
 use Rattle.rv_matches.specs.declared.rule_lines.RuleLine.{RuleLine}
 use Rattle.rv_matches.specs.LineEvents.{LineEvent, event_on}
-use Rattle.rv_matches.specs.RuleLines.{AreRuleLines, IsForRules, IsRuleLine, RuleLinesValue, is_fired, is_named, rule_counts}
+use Rattle.rv_matches.specs.RuleLines.{AreRuleLines, IsForRules, IsRuleLine, RuleLinesValue, is_fired, has_rule, rule_counts}
 use Rattle.rv_matches.proofs.NamedLemmas.{fired_by, fired_push, named_push, none_asked, none_on, some_any, unnamed}
 use Rattle.rv_matches.proofs.PlaceLemmas.{fits_length}
 use Rattle.rv_matches.proofs.rule_lines.RuleLines.add.Goals as goal
@@ -52,7 +52,7 @@ returns-clause-counts c = λ lines are.
     let empty : eqb (vec_len event.rules) 0 ≡ true = eq-eqb (vec_len event.rules) 0 (omega arith) in
     let not_empty : eqb (vec_len event.rules) 0 ≡ false = sym c.is_empty.ensures ∙ c.if-is_empty.false in
     cc) in
-    let named : is_named all line ≡ true = some_any (is_on_event line.name) all some in
+    let named : has_rule all line ≡ true = some_any (is_on_event line.name) all some in
     let was : AreRuleLines all lines _ = subst (AreRuleLines all lines) (sym c.self.view_is) are in
     let begun : AllZip (λ (rule : OnValue) (r : RuleLine). IsRuleLine (rule_counts lines rule) r) all c.as_mut_slice.result.now = subst (λ (l : List RuleLine). AllZip (λ (rule : OnValue) (r : RuleLine). IsRuleLine (rule_counts lines rule) r) all l) (sym c.as_mut_slice.ensures.value) was.each in
     let fields = text_at c.args.text.now c.args.line.now.fields in
@@ -65,6 +65,6 @@ returns-clause-counts c = λ lines are.
     let written : (with_items c.self.inside.rules c.add_event.new.counts).items ≡ c.add_event.new.counts = with_items_is c.self.inside.rules c.add_event.new.counts (omega arith) in
     record {
       each = subst (λ (l : List RuleLine). AllZip (λ (rule : OnValue) (r : RuleLine). IsRuleLine (rule_counts (lines ++ line ∷ []) rule) r) all l) (sym written) now;
-      named = c.in_ok-self-inside.ensures ∙ ap (λ n. n + 1) was.named ∙ sym (named_push all lines line ∙ ap (λ b. count_by (is_named all) lines + cond b 1 0) named);
+      named = c.in_ok-self-inside.ensures ∙ ap (λ n. n + 1) was.named ∙ sym (named_push all lines line ∙ ap (λ b. count_by (has_rule all) lines + cond b 1 0) named);
       fired = c.in_ok-self-inside-2.ensures ∙ ap₂ (λ (n : ℕ) (b : Bool). n + cond b 1 0) was.fired fired ∙ sym (fired_push all lines line);
     }
