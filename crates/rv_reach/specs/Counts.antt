@@ -1,5 +1,5 @@
 -- The lists of numbers of a monitor: of its rows, edges and atoms.
-use Rattle.std.specs.Prelude.{ℕ, ◌+◌, ◌-◌, ◌&&◌, List, [], ◌∷◌, length, map, slice_index_or}
+use Rattle.std.specs.Prelude.{ℕ, ◌+◌, ◌-◌, List, [], length, map, slice_index_or}
 use Rattle.rv_model.specs.declared.automaton.Edge.{Edge}
 use Rattle.rv_model.specs.declared.formula.Spec.{Spec}
 use Rattle.rv_model.specs.declared.formula.Spec.TheVariants as spec

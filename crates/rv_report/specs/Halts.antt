@@ -1,4 +1,5 @@
--- Where a run was halted (Linux, Documentation/trace/rv, "Reactors"; this project's choice: docs/DECISIONS.md).
+-- Where a run was halted (Linux, Documentation/trace/rv, "Reactors"; this project's choice: docs/DECISIONS.md, "A panic ends the run
+-- behind its delivery").
 use Rattle.std.specs.Prelude.{Bool, false, ◌&&◌, List, find, Option, slice_get}
 use Rattle.std.specs.Option.{option_map, option_map_or}
 use Rattle.rv_model.specs.declared.record.Record.{Record}

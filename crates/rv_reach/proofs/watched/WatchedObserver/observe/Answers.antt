@@ -1,5 +1,5 @@
 -- Both are told of it, and there is one record more.
-use Rattle.std.proofs.Common.{◌≡◌, ℕ, ◌+◌, ap, sym, ◌∙◌, length-append, ◌∷◌, []}
+use Rattle.std.proofs.Common.{ℕ, ◌+◌, ap, sym, ◌∙◌, length-append, ◌∷◌, []}
 use Rattle.std.proofs.lemmas.Result.{on_ok_weaker}
 use Rattle.rv_reach.proofs.watched.WatchedObserver.observe.Goals as goal
 
