@@ -1,5 +1,5 @@
 -- The unread file that a part of the reading of a trace names is reached in the whole.
-use Rattle.std.proofs.Common.{◌≡◌, ℕ, ◌≤◌, List, []}
+use Rattle.std.proofs.Common.{ℕ, List}
 use Rattle.std.specs.Prelude.{Option, Result, Ok, Err}
 use Rattle.rv_io.specs.Files.{Files}
 use Rattle.rv_bind.specs.declared.fault.BindFault.{BindFault}

@@ -6,3 +6,4 @@ pub mod PiecesLemmas
 pub mod PossibleLemmas
 pub mod RefinesLemmas
 pub mod RoutedLemmas
+pub mod ToldLemmas

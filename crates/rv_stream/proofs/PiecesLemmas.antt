@@ -15,10 +15,10 @@ use Rattle.rv_text.proofs.ReadingLaws.{Refuses-and_then, Refuses-same, and_then-
 use Rattle.rv_trace.specs.declared.line.TraceLine.{TraceLine}
 use Rattle.rv_trace.specs.Lines.{LiesIn, moved_line}
 use Rattle.rv_trace.specs.Streams as streams
-use Rattle.rv_trace.specs.Streams.{Stream, TakesLine, IsTaken, AnswersLine, part_read}
+use Rattle.rv_trace.specs.Streams.{Stream, Adds, TakesLine, AnswersLine, part_read}
 use Rattle.rv_trace.specs.declared.trace.TheConstants.{MAX_BYTES}
 use Rattle.rv_trace.specs.Traces.{trace_of, all_read}
-use Rattle.rv_trace.proofs.TakenLemmas.{adds-nothing, takes-read, refused-read}
+use Rattle.rv_trace.proofs.TakenLemmas.{adds-nothing, takes-read}
 use Rattle.rv_trace.proofs.TraceLemmas.{trace_of-lies}
 use Rattle.rv_bind.specs.declared.bindings.Bindings.{Bindings}
 use Rattle.rv_route.specs.Fitting.{NumbersAscend}
@@ -146,26 +146,21 @@ module _ (bindings : Bindings) where
       go None is = late_is ∙ is ∙ sym (takes.noted ∙ ap refusal_of ok)
       go (Some fault) is = let both : Ok done ≡ Err fault = sym ok ∙ takes.again fault is in cc
 
-  -- no line was left
-  pub rest-routed : (old new : Stream) (router : RouterValue) (late : Option Refused) → streams.TakesNextLine old new (Ok None) → IsRouted bindings (passed_text old) router late → IsRouted bindings (passed_text new) router late
-  rest-routed old new router late t r =
-      let taken : IsTaken (take old.taken old.fed) (take new.taken old.fed) (part_read old.ended old.fed) = subst (λ (fed : List ℕ). IsTaken (take old.taken old.fed) (take new.taken fed) (part_read old.ended old.fed)) t.fed t.answers in
-      let a : List ℕ = take new.taken old.fed in
-      let read : trace_of a ≡ Ok r.lines = adds-nothing (passed_text old) a r.lines taken.adds r.read in
-      let same : routes_of a bindings.monitors.items bindings.rules.items r.lines no_routes ≡ routes_of (passed_text old) bindings.monitors.items bindings.rules.items r.lines no_routes =
-      sym (prefix old.fed new.taken r.lines (trace_of-lies a r.lines read)) ∙ prefix old.fed old.taken r.lines (trace_of-lies (passed_text old) r.lines r.read) in
-      subst (λ (fed : List ℕ). IsRouted bindings (take new.taken fed) router late) (sym t.fed) (record {
+  -- lines that are skipped route nothing
+  pub adds-routed : (fed : List ℕ) (i j : ℕ) (router : RouterValue) (late : Option Refused) → Adds (take i fed) (take j fed) [] → IsRouted bindings (take i fed) router late → IsRouted bindings (take j fed) router late
+  adds-routed fed i j router late adds r =
+      let a : List ℕ = take j fed in
+      let read : trace_of a ≡ Ok r.lines = adds-nothing (take i fed) a r.lines adds r.read in
+      let same : routes_of a bindings.monitors.items bindings.rules.items r.lines no_routes ≡ routes_of (take i fed) bindings.monitors.items bindings.rules.items r.lines no_routes =
+      sym (prefix fed j r.lines (trace_of-lies a r.lines read)) ∙ prefix fed i r.lines (trace_of-lies (take i fed) r.lines r.read) in
+      record {
         lines = r.lines;
         read = read;
         made = r.made;
         next = r.next;
         late_is = r.late_is;
         routed = subst (λ (q : Result Routes Refusal). RoutedAs router.refused q router.routes) (sym same) r.routed;
-      })
-
-  -- a line was refused
-  pub taken-refused : (old new : Stream) (router : RouterValue) (late : Option Refused) (refusal : Refusal) → streams.TakesNextLine old new (Err refusal) → IsRouted bindings (passed_text old) router late → trace_of (part_read old.ended old.fed) ≡ Err refusal
-  taken-refused old new router late refusal t r = refused-read (passed_text old) (take new.taken new.fed) (part_read old.ended old.fed) refusal r.lines t.answers r.read
+      }
 
   -- nothing was routed of no text
   pub none_routed : (router : RouterValue) (late : Option Refused) → IsFor bindings router → router.routes ≡ no_routes → router.next ≡ 0 → router.refused ≡ None → late ≡ None → IsRouted bindings [] router late

@@ -1,5 +1,5 @@
 -- What was read of a file may come of some text of it, and so of a trace.
-use Rattle.std.proofs.Common.{◌≡◌, ℕ, List, [], ◌++◌, refl, sym, ap}
+use Rattle.std.proofs.Common.{ℕ, List, [], ◌++◌, refl, sym, ap}
 use Rattle.std.specs.Prelude.{false, Some, Result, Ok, Err}
 use Rattle.rv_text.specs.declared.refusals.Refusal.{Refusal}
 use Rattle.rv_text.specs.declared.refusals.Refused.{Refused}
@@ -11,7 +11,7 @@ use Rattle.rv_trace.specs.Traces.{trace_of}
 use Rattle.rv_trace.proofs.FrontLemmas.{read-refused}
 use Rattle.rv_bind.specs.declared.fault.BindFault.{BindFault}
 use Rattle.rv_bind.specs.declared.fault.BindFault.TheVariants as faults
-use Rattle.rv_bind.specs.Outcomes.{Outcome, missing, reading, of_file, of_text, IsFaultIn}
+use Rattle.rv_bind.specs.Outcomes.{Outcome, reading, of_file, of_text, IsFaultIn}
 use Rattle.rv_bind.specs.Possible.{Only, MayRead, IsUnread, MayFault, MayCome}
 use Rattle.rv_bind.specs.Values.{BoundValue}
 use Rattle.rv_bind.proofs.PossibleLemmas.{unread_may}

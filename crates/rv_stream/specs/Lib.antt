@@ -1,3 +1,4 @@
 pub mod Listed
+pub mod Observing
 pub mod RoutedTraces
 pub mod inner

@@ -1,5 +1,5 @@
 -- The deliveries of a trace as one list, under bindings.
-use Rattle.std.specs.Prelude.{◌≡◌, ◌<◌, ◌≤◌, [], All, AllPairs, length}
+use Rattle.std.specs.Prelude.{◌<◌, ◌≤◌, All, AllPairs, length}
 use Rattle.rv_bind.specs.declared.bindings.Bindings.{Bindings}
 use Rattle.rv_bind.specs.WellFormed.{kinds_of}
 use Rattle.rv_route.specs.declared.listing.RoutedList.{RoutedList}

@@ -1,5 +1,5 @@
 -- What a trace comes to under bindings, as its text and as its file.
-use Rattle.std.specs.Prelude.{◌≡◌, ℕ, List, []}
+use Rattle.std.specs.Prelude.{ℕ, List}
 use Rattle.rv_io.specs.Files.{Files}
 use Rattle.rv_trace.specs.Traces.{trace_of}
 use Rattle.rv_bind.specs.Values.{BoundValue}

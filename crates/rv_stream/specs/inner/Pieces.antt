@@ -3,6 +3,7 @@ use Rattle.std.specs.Prelude.{◌≡◌, ◌≤◌, ℕ, List, [], ◌∷◌, �
 use Rattle.rv_text.specs.declared.refusals.Refusal.{Refusal}
 use Rattle.rv_text.specs.declared.refusals.Refused.{Refused}
 use Rattle.rv_text.specs.Readings.{Refuses}
+use Rattle.rv_text.specs.TextLines.{LineText, lines_of}
 use Rattle.rv_trace.specs.declared.line.TraceLine.{TraceLine}
 use Rattle.rv_trace.specs.Streams.{Stream}
 use Rattle.rv_trace.specs.Traces.{trace_of}
@@ -28,3 +29,7 @@ pub record IsRouted (bindings : Bindings) (text : List ℕ) (router : RouterValu
   pub next : (line : TraceLine) → NumbersAscend (lines ++ line ∷ []) → router.next ≤ line.number
   pub late_is : late ≡ router.refused
   pub routed : RoutedAs router.refused (routes_of text bindings.monitors.items bindings.rules.items lines no_routes) router.routes
+
+-- the lines of the text that was passed were observed
+abbrev pub IsTold : {O : Type 0} → (List LineText → O → Type 0) → Stream → O → Type 0
+IsTold observed s o = observed (lines_of (passed_text s)) o

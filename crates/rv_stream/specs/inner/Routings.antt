@@ -1,5 +1,5 @@
 -- A trace that is read and routed in pieces: what stands ready for more.
-use Rattle.std.specs.Prelude.{◌≡◌, ◌≤◌, ℕ, [], true, false}
+use Rattle.std.specs.Prelude.{◌≡◌, true, false}
 use Rattle.rv_bind.specs.declared.bindings.Bindings.{Bindings}
 use Rattle.rv_stream.specs.declared.routing.Routing.{Routing}
 use Rattle.rv_stream.specs.inner.Pieces.{passed_text, IsRouted}

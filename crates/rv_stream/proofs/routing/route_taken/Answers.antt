@@ -1,46 +1,74 @@
-use Rattle.std.proofs.Common.{◌≡◌, ◌∙◌, sym, ap, subst}
-use Rattle.std.specs.Prelude.{Option, Some, Ok}
+use Rattle.std.proofs.Common.{◌≡◌, refl, ◌∙◌, sym, ap, subst}
+use Rattle.std.specs.Prelude.{Option, Some, Ok, IfSome}
 use Rattle.std.proofs.lemmas.Result.{err_from_is_err_and}
-use Rattle.rv_trace.specs.Streams.{TakesNextLine, part_read}
+use Rattle.rv_trace.specs.AnyLines.{IsReadOn, TakesNextAny}
+use Rattle.rv_trace.specs.Lines.{LiesIn}
+use Rattle.rv_trace.specs.Streams.{part_read}
 use Rattle.rv_trace.specs.Traces.{trace_of}
 use Rattle.rv_trace.specs.declared.line.TraceLine.{TraceLine}
+use Rattle.rv_trace.specs.declared.taken.TakenLine.{TakenLine}
 use Rattle.rv_route.specs.Routers.{refusal_of}
-use Rattle.rv_stream.proofs.PiecesLemmas.{routable, taken-ascends, taken-routed, late-stays, rest-routed, taken-refused}
+use Rattle.rv_stream.proofs.PiecesLemmas.{taken-ascends, taken-routed, late-stays}
+use Rattle.rv_stream.proofs.ToldLemmas.{taken-next, told-more, skip-routed, refused-taken}
 use Rattle.rv_stream.proofs.routing.route_taken.Goals as goal
 
-pub line-requires-clause-line : goal.line-requires-clause-line
-line-requires-clause-line c = routable c.args.bindings.now c.take.new.self.text c.text.result.now c.in_ok-line.field-0 c.in-Some.line c.in-Some.is c.in_ok-line.ensures.lies c.take.ensures.small c.text.ensures
+pub returns-in_err-taken-clause-refused : goal.returns-in_err-taken-clause-refused
+returns-in_err-taken-clause-refused g c =
+    let given = err_from_is_err_and c.from_residual.result c.from_residual.ensures.1 in
+    let same : trace_of (part_read c.loop-taken.lines.ended c.loop-taken.lines.fed) ≡ trace_of (part_read c.args.lines.now.ended c.args.lines.now.fed) =
+    λ i. trace_of (part_read (c.loop-taken.invariant.1 i) (c.loop-taken.invariant.0 i)) in
+    rw (given.1, given.2)
+    (sym same ∙ refused-taken c.loop-taken.lines c.take_any.new.self c.args.bindings.now c.loop-taken.collector c.loop-taken.late c.loop-taken.invariant.2 c.in_err-taken.field-0.0 c.in_err-taken.ensures.takes)
 
 pub line-requires-clause-ascends : goal.line-requires-clause-ascends
-line-requires-clause-ascends c =
-    taken-ascends c.args.bindings.now c.loop-line.lines c.take.new.self c.in_ok-line.field-0 c.in-Some.line c.loop-line.collector c.loop-line.late c.in-Some.is c.in_ok-line.ensures.takes c.loop-line.invariant.2
+line-requires-clause-ascends g c =
+    let old = c.loop-taken.lines in
+    let new = c.take_any.new.self in
+    let line = c.in-Some-found.line in
+    let t = subst (λ (found : Option TakenLine). TakesNextAny old new (Ok found)) c.in-Some.is c.in_ok-taken.ensures.takes in
+    taken-ascends c.args.bindings.now old new (Some line) line c.loop-taken.collector c.loop-taken.late refl (taken-next old new c.in-Some.taken line c.in-Some-found.is t) c.loop-taken.invariant.2
 
-pub loop-line-preserved-in-Err : goal.loop-line-preserved-in-Err
-loop-line-preserved-in-Err c = (
-  c.take.ensures.takes.fed ∙ c.loop-line.invariant.0,
-  c.take.ensures.takes.ended ∙ c.loop-line.invariant.1,
-  taken-routed c.args.bindings.now c.loop-line.lines c.take.new.self c.in_ok-line.field-0 c.in-Some.line c.text.result.now c.loop-line.collector c.line.new.self c.loop-line.late (Some c.in-Err.fault) c.line.result
-      c.in-Some.is c.in_ok-line.ensures.takes c.in_ok-line.ensures.lies c.text.ensures c.loop-line.invariant.2 c.line.ensures.takes c.line.ensures.made (sym (c.line.ensures.takes.noted ∙ ap refusal_of c.in-Err.is)),
-  c.line.ensures.takes.listed ∙ c.loop-line.invariant.3,
-)
+pub loop-taken-preserved-in-Err : goal.loop-taken-preserved-in-Err
+loop-taken-preserved-in-Err g c =
+    let old = c.loop-taken.lines in
+    let new = c.take_any.new.self in
+    let line = c.in-Some-found.line in
+    let t = subst (λ (found : Option TakenLine). TakesNextAny old new (Ok found)) c.in-Some.is c.in_ok-taken.ensures.takes in
+    let read : IsReadOn new.text c.in-Some.taken = subst (λ (found : Option TakenLine). IfSome found (IsReadOn new.text)) c.in-Some.is c.in_ok-taken.ensures.read in
+    let lies : LiesIn new.text line = subst (λ (found : Option TraceLine). IfSome found (LiesIn new.text)) c.in-Some-found.is read.lies in (
+      c.take_any.ensures.takes.fed ∙ c.loop-taken.invariant.0,
+      c.take_any.ensures.takes.ended ∙ c.loop-taken.invariant.1,
+      taken-routed c.args.bindings.now old new (Some line) line c.text-text.result.now c.loop-taken.collector c.line.new.self c.loop-taken.late (Some c.in-Err.fault) c.line.result
+          refl (taken-next old new c.in-Some.taken line c.in-Some-found.is t) lies c.text-text.ensures c.loop-taken.invariant.2 c.line.ensures.takes c.line.ensures.made (sym (c.line.ensures.takes.noted ∙ ap refusal_of c.in-Err.is)),
+      c.line.ensures.takes.listed ∙ c.loop-taken.invariant.3,
+      told-more old new (g.O.LineObserver.observed c.args.context.now) c.in-Some.taken c.text-text.result.now c.loop-taken.observer c.observe.new.self c.text-text.ensures t c.in_ok-observe.ensures c.loop-taken.invariant.4,
+    )
 
-pub loop-line-preserved : goal.loop-line-preserved
-loop-line-preserved c = (
-  c.take.ensures.takes.fed ∙ c.loop-line.invariant.0,
-  c.take.ensures.takes.ended ∙ c.loop-line.invariant.1,
-  taken-routed c.args.bindings.now c.loop-line.lines c.take.new.self c.in_ok-line.field-0 c.in-Some.line c.text.result.now c.loop-line.collector c.line.new.self c.loop-line.late c.loop-line.late c.line.result
-      c.in-Some.is c.in_ok-line.ensures.takes c.in_ok-line.ensures.lies c.text.ensures c.loop-line.invariant.2 c.line.ensures.takes c.line.ensures.made
-      (late-stays c.args.bindings.now c.text.result.now c.in-Some.line c.loop-line.collector c.line.new.self c.loop-line.late c.line.result tt c.in_default-line.is c.loop-line.invariant.2.late_is c.line.ensures.takes),
-  c.line.ensures.takes.listed ∙ c.loop-line.invariant.3,
-)
+pub loop-taken-preserved-in_default-line : goal.loop-taken-preserved-in_default-line
+loop-taken-preserved-in_default-line g c =
+    let old = c.loop-taken.lines in
+    let new = c.take_any.new.self in
+    let line = c.in-Some-found.line in
+    let t = subst (λ (found : Option TakenLine). TakesNextAny old new (Ok found)) c.in-Some.is c.in_ok-taken.ensures.takes in
+    let read : IsReadOn new.text c.in-Some.taken = subst (λ (found : Option TakenLine). IfSome found (IsReadOn new.text)) c.in-Some.is c.in_ok-taken.ensures.read in
+    let lies : LiesIn new.text line = subst (λ (found : Option TraceLine). IfSome found (LiesIn new.text)) c.in-Some-found.is read.lies in (
+      c.take_any.ensures.takes.fed ∙ c.loop-taken.invariant.0,
+      c.take_any.ensures.takes.ended ∙ c.loop-taken.invariant.1,
+      taken-routed c.args.bindings.now old new (Some line) line c.text-text.result.now c.loop-taken.collector c.line.new.self c.loop-taken.late c.loop-taken.late c.line.result
+          refl (taken-next old new c.in-Some.taken line c.in-Some-found.is t) lies c.text-text.ensures c.loop-taken.invariant.2 c.line.ensures.takes c.line.ensures.made
+          (late-stays c.args.bindings.now c.text-text.result.now line c.loop-taken.collector c.line.new.self c.loop-taken.late c.line.result tt c.in_default-line.is c.loop-taken.invariant.2.late_is c.line.ensures.takes),
+      c.line.ensures.takes.listed ∙ c.loop-taken.invariant.3,
+      told-more old new (g.O.LineObserver.observed c.args.context.now) c.in-Some.taken c.text-text.result.now c.loop-taken.observer c.observe.new.self c.text-text.ensures t c.in_ok-observe.ensures c.loop-taken.invariant.4,
+    )
 
-pub returns-in_err-line-clause-refused : goal.returns-in_err-line-clause-refused
-returns-in_err-line-clause-refused c =
-    let given = err_from_is_err_and c.from_residual.result c.from_residual.ensures.1 in
-    let same : trace_of (part_read c.loop-line.lines.ended c.loop-line.lines.fed) ≡ trace_of (part_read c.args.lines.now.ended c.args.lines.now.fed) =
-    λ i. trace_of (part_read (c.loop-line.invariant.1 i) (c.loop-line.invariant.0 i)) in
-    rw (given.1, given.2) (sym same ∙ taken-refused c.args.bindings.now c.loop-line.lines c.take.new.self c.loop-line.collector c.loop-line.late c.in_err-line.field-0.0 c.in_err-line.ensures.takes c.loop-line.invariant.2)
-
-pub returns-clause-routed : goal.returns-clause-routed
-returns-clause-routed c = rest-routed c.args.bindings.now c.loop-line.lines c.take.new.self c.loop-line.collector c.loop-line.late
-    (subst (λ (found : Option TraceLine). TakesNextLine c.loop-line.lines c.take.new.self (Ok found)) c.in_default.is c.in_ok-line.ensures.takes) c.loop-line.invariant.2
+pub loop-taken-preserved : goal.loop-taken-preserved
+loop-taken-preserved g c =
+    let old = c.loop-taken.lines in
+    let new = c.take_any.new.self in
+    let t = subst (λ (found : Option TakenLine). TakesNextAny old new (Ok found)) c.in-Some.is c.in_ok-taken.ensures.takes in (
+      c.take_any.ensures.takes.fed ∙ c.loop-taken.invariant.0,
+      c.take_any.ensures.takes.ended ∙ c.loop-taken.invariant.1,
+      skip-routed old new c.args.bindings.now c.loop-taken.collector c.loop-taken.late c.loop-taken.invariant.2 c.in-Some.taken c.in_default-found.is t,
+      c.loop-taken.invariant.3,
+      told-more old new (g.O.LineObserver.observed c.args.context.now) c.in-Some.taken c.text-text.result.now c.loop-taken.observer c.observe.new.self c.text-text.ensures t c.in_ok-observe.ensures c.loop-taken.invariant.4,
+    )

@@ -2,6 +2,7 @@
 use Rattle.std.proofs.Common.{◌-◌, ◌≡◌, ◌≤◌, length}
 use Rattle.rv_io.specs.declared.store.TheConstants.{READ_LIMIT}
 use Rattle.rv_stream.specs.inner.Feeding.{IsFileFed}
+use Rattle.rv_stream.specs.inner.Pieces.{IsTold}
 use Rattle.rv_stream.specs.inner.Routings.{MayBeFed}
 use Rattle.rv_stream.proofs.trace_text.take_pieces.Given as goal
 
@@ -14,6 +15,7 @@ invariant-loop-place g l =
     × MayBeFed l.bound.bindings l.routing
     × IsFileFed (g.S.Store.files l.fn.store) l.trace l.place l.routing.lines.fed
     × (l.routing.collector.listed ≡ l.fn.routing.collector.listed)
+    × IsTold (g.O.LineObserver.observed l.context) l.routing.lines l.observer
 
 abbrev pub decreases-loop-place : goal.decreases-loop-place
 decreases-loop-place g l = READ_LIMIT - l.place

@@ -9,11 +9,11 @@ use Rattle.rv_stream.proofs.PiecesLemmas.{all-routed}
 use Rattle.rv_stream.proofs.routing.Routing.end_list.Goals as goal
 
 pub returns-clause-value : goal.returns-clause-value
-returns-clause-value c =
+returns-clause-value g c =
     all-routed c.args.bindings.now c.args.self.lines.fed c.route_rest.new.collector None (list_value c.end_list.result) refl c.in_ok-route_rest.ensures.routed c.end_list.ensures.value
 
 pub returns-clause-listed : goal.returns-clause-listed
-returns-clause-listed c =
+returns-clause-listed g c =
     let bindings = c.args.bindings.now in
     let text = c.args.self.lines.fed in
     let routed = c.in_ok-route_rest.ensures.routed in
@@ -21,7 +21,7 @@ returns-clause-listed c =
     let is = sym c.end_list.ensures.list in
     record {
       fit = c.end_list.ensures.fit (kinds_of bindings.monitors.items) (routed.made.fits (sym routed.late_is));
-      rules = read_from_rules text bindings.monitors.items bindings.rules.items (trace_of text) (list_value c.end_list.result) (returns-clause-value c);
+      rules = read_from_rules text bindings.monitors.items bindings.rules.items (trace_of text) (list_value c.end_list.result) (returns-clause-value g c);
       ascend = subst (AllPairs (λ (d e : ListedDelivery). d.line ≤ e.line)) is lines.ascend;
       cpus = subst (All (λ (d : ListedDelivery). d.cpu < 64)) is lines.cpus;
     }
