@@ -1,9 +1,3 @@
-pub mod AscendingLists
 pub mod FormedLemmas
 pub mod FoundLemmas
-pub mod GrowingLists
 pub mod NeverLemmas
-pub mod PairLemmas
-pub mod ReadLemmas
-pub mod SortedLists
-pub mod StableSorts

@@ -4,11 +4,11 @@ use Rattle.std.specs.Prelude.{◌==◌}
 use Rattle.std.proofs.lemmas.Bool.Decides.{nat_tests}
 use Rattle.rv_bind.specs.declared.bindings.Test.{Test}
 use Rattle.rv_bind.specs.declared.bindings.Test.TheVariants.{Is}
-use Rattle.rv_findings.specs.declared.counts.Near.{Near}
-use Rattle.rv_findings.specs.declared.counts.RuleCounts.{RuleCounts}
+use Rattle.rv_facts.specs.declared.counts.Near.{Near}
+use Rattle.rv_facts.specs.declared.counts.RuleCounts.{RuleCounts}
 use Rattle.rv_findings.specs.Findings.{near_text, nearest_text, never_holds, never_text, test_never_text}
-use Rattle.rv_findings.specs.Pairs.{pairs_from}
-use Rattle.rv_findings.proofs.PairLemmas.{next_pair, no_pair}
+use Rattle.rv_facts.specs.Pairs.{pairs_from}
+use Rattle.rv_facts.proofs.PairLemmas.{next_pair, no_pair}
 
 -- the first name is the nearest
 pub nearest_is : (near : List Near) (n : Near) → 0 < length near → n ≡ get_or near 0 n → nearest_text near ≡ near_text n

@@ -7,23 +7,23 @@ use Rattle.rv_bind.specs.declared.bindings.Test.TheVariants.{Is, IsNot}
 use Rattle.rv_bind.specs.RuleValues.{OnValue}
 use Rattle.rv_bind.specs.Values.{BoundValue}
 use Rattle.rv_model.specs.Reports.{line_end}
-use Rattle.rv_findings.specs.declared.lines.BindingLines.{BindingLines}
-use Rattle.rv_findings.specs.declared.counts.Counts.{Counts}
-use Rattle.rv_findings.specs.declared.counts.Entries.{Entries}
-use Rattle.rv_findings.specs.declared.counts.FieldCounts.{FieldCounts}
-use Rattle.rv_findings.specs.declared.counts.Late.{Late}
-use Rattle.rv_findings.specs.declared.counts.Near.{Near}
-use Rattle.rv_findings.specs.declared.counts.Returns.{Returns}
-use Rattle.rv_findings.specs.declared.counts.RuleCounts.{RuleCounts}
-use Rattle.rv_findings.specs.declared.counts.Stamped.{Stamped}
-use Rattle.rv_findings.specs.declared.counts.TraceCounts.{TraceCounts}
+use Rattle.rv_facts.specs.declared.lines.BindingLines.{BindingLines}
+use Rattle.rv_facts.specs.declared.counts.Counts.{Counts}
+use Rattle.rv_facts.specs.declared.counts.Entries.{Entries}
+use Rattle.rv_facts.specs.declared.counts.FieldCounts.{FieldCounts}
+use Rattle.rv_facts.specs.declared.counts.Late.{Late}
+use Rattle.rv_facts.specs.declared.counts.Near.{Near}
+use Rattle.rv_facts.specs.declared.counts.Returns.{Returns}
+use Rattle.rv_facts.specs.declared.counts.RuleCounts.{RuleCounts}
+use Rattle.rv_facts.specs.declared.counts.Stamped.{Stamped}
+use Rattle.rv_facts.specs.declared.counts.TraceCounts.{TraceCounts}
 use Rattle.rv_findings.specs.declared.finding.Finding.{Finding}
 use Rattle.rv_findings.specs.MonitorFindings.{found_if, monitor_findings}
-use Rattle.rv_findings.specs.Orders.{sorted_by}
+use Rattle.rv_facts.specs.Orders.{sorted_by}
 use Rattle.rv_findings.specs.OwnRules.{is_nothing}
-use Rattle.rv_findings.specs.Pairs.{of_pairs}
-use Rattle.rv_findings.specs.RuleFacts.{test_text}
-use Rattle.rv_findings.specs.Shown.{in_brackets, worded}
+use Rattle.rv_facts.specs.Pairs.{of_pairs}
+use Rattle.rv_facts.specs.RuleFacts.{test_text}
+use Rattle.rv_facts.specs.Shown.{in_brackets, worded}
 
 -- ---- a rule
 

@@ -1,11 +1,4 @@
-pub mod BindingLines
-pub mod Facts
 pub mod Findings
-pub mod MonitorFacts
 pub mod MonitorFindings
-pub mod Orders
 pub mod OwnRules
-pub mod Pairs
-pub mod RuleFacts
-pub mod Shown
 pub mod Whole

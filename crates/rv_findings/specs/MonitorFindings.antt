@@ -6,17 +6,19 @@ use Rattle.rv_model.specs.Machine.{Machine}
 use Rattle.rv_bind.specs.declared.bindings.Monitor.{Monitor}
 use Rattle.rv_bind.specs.Values.{BoundValue}
 use Rattle.rv_report.specs.Reported.{shown_by}
-use Rattle.rv_findings.specs.declared.lines.BindingLines.{BindingLines}
-use Rattle.rv_findings.specs.declared.counts.Counts.{Counts}
-use Rattle.rv_findings.specs.declared.counts.Halt.{Halt}
-use Rattle.rv_findings.specs.declared.counts.MonitorCounts.{MonitorCounts}
+use Rattle.rv_facts.specs.declared.lines.BindingLines.{BindingLines}
+use Rattle.rv_facts.specs.declared.counts.Counts.{Counts}
+use Rattle.rv_facts.specs.declared.counts.Halt.{Halt}
+use Rattle.rv_facts.specs.declared.counts.MonitorCounts.{MonitorCounts}
 use Rattle.rv_findings.specs.declared.finding.Asked.TheVariants.{Starts, Brings, Sets}
 use Rattle.rv_findings.specs.declared.finding.Finding.{Finding}
 use Rattle.rv_findings.specs.declared.finding.OwnRule.{OwnRule}
-use Rattle.rv_findings.specs.BindingLines.{begin_lines, lines_named}
-use Rattle.rv_findings.specs.MonitorFacts.{place_edge, edge_text, places}
+use Rattle.rv_findings.specs.declared.spec_findings.SpecPart.{SpecPart}
+use Rattle.rv_findings.specs.declared.spec_findings.SpecPart.TheVariants.{Events, Edges, Atoms}
+use Rattle.rv_facts.specs.BindingLines.{begin_lines, lines_named}
+use Rattle.rv_facts.specs.MonitorFacts.{place_edge, edge_text, places}
 use Rattle.rv_findings.specs.OwnRules.{first_of, first_or, is_nothing, final_line, least_of, lines_where, own_rules}
-use Rattle.rv_findings.specs.Shown.{in_brackets}
+use Rattle.rv_facts.specs.Shown.{in_brackets}
 
 -- one finding where it is so, and else none
 abbrev pub found_if : Bool → ℕ → List ℕ → List Finding
@@ -63,24 +65,37 @@ atom_finding name line called own lines c atoms place =
     let atom = slice_index_or atoms place [] in
     atom_findings_by name line c.letters (slice_index c.atoms.items place) atom (least_of (setting_lines called own lines atom place))
 
--- what no line brings or sets, and what none did
-unfoldable pub spec_findings : List ℕ → ℕ → List ℕ → List OwnRule → BindingLines → MonitorCounts → Spec → List Finding
-spec_findings name line called own lines c (spec.Da a) = flat_map (event_finding name line own a.events) (places (length a.events))
-spec_findings name line called own lines c (spec.Ltl rule) = flat_map (atom_finding name line called own lines c rule.atoms) (places (length rule.atoms))
-
 -- the edge is not taken
 abbrev pub edge_finding : List ℕ → ℕ → List OwnRule → MonitorCounts → Machine → ℕ → List Finding
 edge_finding name line own c a place = found_if (slice_index c.edges.items place == 0)
     (first_or line (lines_where (Brings (place_edge a place).event) own))
     (codes "edge-never-taken: " ++ edge_text a (place_edge a place) ++ codes " of " ++ name)
 
--- edges of a monitor that is started, where they are asked for
-abbrev pub edge_findings : List ℕ → ℕ → List OwnRule → MonitorCounts → Spec → List Finding
-edge_findings name line own c (spec.Da a) = if c.instances_started == 0 then [] else flat_map (edge_finding name line own c a) (places (length a.edges))
-edge_findings name line own c (spec.Ltl rule) = []
+-- how many places a part has: of an automaton its events and edges, of a rule its atoms
+abbrev pub part_size : SpecPart → Spec → ℕ
+part_size Events (spec.Da a) = length a.events
+part_size Edges (spec.Da a) = length a.edges
+part_size Atoms (spec.Ltl rule) = length rule.atoms
+part_size _ _ = 0
 
-unfoldable pub asked_edges : Bool → List ℕ → ℕ → List OwnRule → MonitorCounts → Spec → List Finding
-asked_edges edges name line own c spec = if edges then edge_findings name line own c spec else []
+-- what is found at a place of a part
+abbrev pub place_finding : List ℕ → ℕ → List ℕ → List OwnRule → BindingLines → MonitorCounts → Spec → SpecPart → ℕ → List Finding
+place_finding name line called own lines c (spec.Da a) Events place = event_finding name line own a.events place
+place_finding name line called own lines c (spec.Da a) Edges place = edge_finding name line own c a place
+place_finding name line called own lines c (spec.Ltl rule) Atoms place = atom_finding name line called own lines c rule.atoms place
+place_finding name line called own lines c _ _ place = []
+
+-- what is found at all of them
+abbrev pub part_findings : List ℕ → ℕ → List ℕ → List OwnRule → BindingLines → MonitorCounts → Spec → SpecPart → List Finding
+part_findings name line called own lines c spec part = flat_map (place_finding name line called own lines c spec part) (places (part_size part spec))
+
+-- what no line brings or sets, and what none did
+unfoldable pub spec_findings : List ℕ → ℕ → List ℕ → List OwnRule → BindingLines → MonitorCounts → Spec → List Finding
+spec_findings name line called own lines c spec = part_findings name line called own lines c spec Events ++ part_findings name line called own lines c spec Atoms
+
+-- edges of a monitor that is started, where they are asked for
+unfoldable pub asked_edges : Bool → List ℕ → ℕ → List ℕ → List OwnRule → BindingLines → MonitorCounts → Spec → List Finding
+asked_edges edges name line called own lines c spec = if edges && not (c.instances_started == 0) then part_findings name line called own lines c spec Edges else []
 
 -- ---- the halt
 
@@ -100,7 +115,7 @@ findings_of name own edges lines counts place m c =
     ++ start_findings name line (m.enabled && not (counts.trace.events == 0)) (not (c.instances_started == 0)) (first_of (lines_where Starts own))
     ++ react_findings name line (lines_named m.name lines.reacts.items)
     ++ spec_findings name line m.name own lines c m.spec
-    ++ asked_edges edges name line own c m.spec
+    ++ asked_edges edges name line m.name own lines c m.spec
     ++ halt_finding name place (lines_named m.name lines.reacts.items) counts.halt counts.undelivered
 
 -- the monitor at an index

@@ -10,7 +10,7 @@ use Rattle.rv_bind.specs.RuleValues.{OnValue}
 use Rattle.rv_findings.specs.declared.finding.Asked.{Asked}
 use Rattle.rv_findings.specs.declared.finding.Asked.TheVariants.{Starts, Brings, Sets}
 use Rattle.rv_findings.specs.declared.finding.OwnRule.{OwnRule}
-use Rattle.rv_findings.specs.Pairs.{of_pairs}
+use Rattle.rv_facts.specs.Pairs.{of_pairs}
 
 -- ---- lines of the bindings
 

@@ -5,15 +5,15 @@ use Rattle.rv_model.specs.declared.formula.Spec.TheVariants as spec
 use Rattle.rv_model.specs.Reports.{line_end}
 use Rattle.rv_bind.specs.declared.bindings.Monitor.{Monitor}
 use Rattle.rv_bind.specs.BoundViews.{bound_value}
-use Rattle.rv_findings.specs.declared.counts.Counts.{Counts}
-use Rattle.rv_findings.specs.declared.counts.MonitorCounts.{MonitorCounts}
+use Rattle.rv_facts.specs.declared.counts.Counts.{Counts}
+use Rattle.rv_facts.specs.declared.counts.MonitorCounts.{MonitorCounts}
 use Rattle.rv_findings.specs.declared.coverage.Told.{Told}
-use Rattle.rv_findings.specs.declared.whole.Share.{Share}
-use Rattle.rv_findings.specs.declared.whole.Share.TheVariants.{States, Edges, Rows, Atoms}
-use Rattle.rv_findings.specs.Facts.{facts_text}
+use Rattle.rv_facts.specs.declared.monitor_facts.Share.{Share}
+use Rattle.rv_facts.specs.declared.monitor_facts.Share.TheVariants.{States, Edges, Rows, Atoms}
+use Rattle.rv_facts.specs.Facts.{facts_text}
 use Rattle.rv_findings.specs.Findings.{bindings_findings, file_text, trace_findings}
-use Rattle.rv_findings.specs.Pairs.{of_pairs}
-use Rattle.rv_findings.specs.Shown.{numbered}
+use Rattle.rv_facts.specs.Pairs.{of_pairs}
+use Rattle.rv_facts.specs.Shown.{numbered}
 
 -- the numbers of a monitor of which it is told how many are not 0: of an automaton its states and edges, of a rule its rows
 -- and atoms

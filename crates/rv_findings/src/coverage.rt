@@ -4,12 +4,10 @@ ghost use Rattle.rv_bind.specs.BoundViews.{bound_value};
 ghost use Rattle.rv_bind.specs.WellFormed.{IsWellFormed};
 ghost use Rattle.rv_findings.specs.Whole.{coverage_status, coverage_text, finding_count, findings_text};
 
-use crate::counts::Counts;
-use crate::facts::put_facts;
 use crate::findings::{bindings_findings, put_file, trace_findings};
-use crate::lines::BindingLines;
 use crate::whole::put_whole;
 use rv_bind::Bound;
+use rv_facts::{BindingLines, Counts, put_facts};
 use rv_text::{CLEAN, FAILURE, Line};
 use std::alloc::{AllocError, Global};
 

@@ -2,10 +2,10 @@
 ghost use Rattle.std.specs.Prelude.{◌≡◌, ◌++◌, ◌∷◌, [], IfOk, OnOk};
 ghost use Rattle.rv_findings.specs.MonitorFindings.{found_if};
 ghost use Rattle.rv_findings.specs.OwnRules.{brings, first_of, first_or, is_asked, is_nothing, is_start, final_line, least_line, least_of, lines_where, own_rule, own_rules, sets};
-ghost use Rattle.rv_findings.specs.Shown.{in_brackets};
+ghost use Rattle.rv_facts.specs.Shown.{in_brackets};
 
-use crate::pieces::put_brackets;
 use rv_bind::On;
+use rv_facts::put_brackets;
 use rv_model::{Hit, Mode, What, has_bit};
 use rv_text::Line;
 use std::alloc::{AllocError, Global};
@@ -162,7 +162,7 @@ fn add_own(
 }
 
 /// The rules of the monitor at an index, each with its line.
-#[tactic(auto, using(crate::proofs::PairLemmas::more_pairs, crate::proofs::PairLemmas::all_pairs))]
+#[tactic(auto, using(rv_facts::proofs::PairLemmas::more_pairs, rv_facts::proofs::PairLemmas::all_pairs))]
 pub(crate) fn own_rules(
     alloc: Global,
     monitor: usize,

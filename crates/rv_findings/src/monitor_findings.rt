@@ -1,19 +1,17 @@
 //! The findings about a monitor.
 ghost use Rattle.std.specs.Prelude.{◌≡◌, ◌++◌, IfOk, OnOk, codes, decimal};
 ghost use Rattle.rv_bind.specs.BoundViews.{bound_value};
-ghost use Rattle.rv_findings.specs.BindingLines.{lines_named};
-ghost use Rattle.rv_findings.specs.Shown.{in_brackets};
-ghost use Rattle.rv_findings.specs.MonitorFindings.{asked_edges, findings_of, halt_finding, monitor_findings, off_findings, react_findings, start_findings};
+ghost use Rattle.rv_facts.specs.BindingLines.{lines_named};
+ghost use Rattle.rv_facts.specs.Shown.{in_brackets};
+ghost use Rattle.rv_findings.specs.MonitorFindings.{asked_edges, findings_of, halt_finding, monitor_findings, off_findings, react_findings, spec_findings, start_findings};
 
-use crate::counts::{Counts, Halt, MonitorCounts};
 use crate::finding::{
     Asked, Finding, OwnRule, add, add_if, around, first_of, first_or, is_nothing, last_line,
     lines_where, named, own_rules,
 };
-use crate::lines::{BindingLines, Named};
-use crate::pieces::{line_at, put_brackets};
-use crate::spec_findings::{add_edges, add_spec};
+use crate::spec_findings::{SpecPart, add_part};
 use rv_bind::{Bound, Monitor};
+use rv_facts::{BindingLines, Counts, Halt, MonitorCounts, Named, line_at, put_brackets};
 use rv_model::{Name, Spec};
 use rv_report::display_name;
 use rv_text::Line;
@@ -133,7 +131,28 @@ fn add_halt(
     }
 }
 
-/// Its edges that were not taken, where they are asked for.
+/// What no line brings or sets, and what none did.
+#[tactic(auto, unfolding(crate::specs::MonitorFindings::spec_findings))]
+fn add_spec(
+    alloc: Global,
+    found: &mut Vec<Finding>,
+    name: &[u8],
+    line: u32,
+    called: &Name,
+    own: &[OwnRule],
+    lines: &BindingLines,
+    c: &MonitorCounts,
+    spec: &Spec,
+) -> Result<(), AllocError>
+    ensures { OnOk result (found.new.items ≡ found.old.items ++ spec_findings name.now line called.now own.now lines.now c.now spec.now) }
+{
+    let part = SpecPart::Events;
+    add_part(alloc, found, name, line, called, own, lines, c, spec, part)?;
+    let part = SpecPart::Atoms;
+    add_part(alloc, found, name, line, called, own, lines, c, spec, part)
+}
+
+/// Its edges that were not taken, where they are asked for, and it was started.
 #[tactic(auto, unfolding(crate::specs::MonitorFindings::asked_edges))]
 fn add_asked_edges(
     alloc: Global,
@@ -141,14 +160,17 @@ fn add_asked_edges(
     edges: bool,
     name: &[u8],
     line: u32,
+    called: &Name,
     own: &[OwnRule],
+    lines: &BindingLines,
     c: &MonitorCounts,
     spec: &Spec,
 ) -> Result<(), AllocError>
-    ensures { OnOk result (found.new.items ≡ found.old.items ++ asked_edges edges name.now line own.now c.now spec.now) }
+    ensures { OnOk result (found.new.items ≡ found.old.items ++ asked_edges edges name.now line called.now own.now lines.now c.now spec.now) }
 {
-    if edges {
-        add_edges(alloc, found, name, line, own, c, spec)
+    if edges && c.instances_started != 0 {
+        let part = SpecPart::Edges;
+        add_part(alloc, found, name, line, called, own, lines, c, spec, part)
     } else {
         Ok(())
     }
@@ -188,7 +210,9 @@ fn add_findings_of(
     )?;
     add_react(alloc, found, name, line, &reacts)?;
     add_spec(alloc, found, name, line, &m.name, own, lines, c, &m.spec)?;
-    add_asked_edges(alloc, found, edges, name, line, own, c, &m.spec)?;
+    add_asked_edges(
+        alloc, found, edges, name, line, &m.name, own, lines, c, &m.spec,
+    )?;
     add_halt(
         alloc,
         found,

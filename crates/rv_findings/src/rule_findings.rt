@@ -2,11 +2,9 @@
 ghost use Rattle.std.specs.Prelude.{◌≡◌, ◌++◌, OnOk};
 ghost use Rattle.rv_findings.specs.Findings.{field_of_test, is_missing, is_missing_in, missing_text, near_text, nearest_text, never, never_text, no_hold_text, no_line_text, no_match_text, rule_finding, silent_text, test_never_text};
 
-use crate::counts::{FieldCounts, Near, RuleCounts};
 use crate::finding::{Finding, add, plain};
-use crate::pieces::{line_at, put_brackets, put_word};
-use crate::rule_facts::put_test_text;
 use rv_bind::{On, Test};
+use rv_facts::{FieldCounts, Near, RuleCounts, line_at, put_brackets, put_test_text, put_word};
 use rv_text::Line;
 use std::alloc::{AllocError, Global};
 

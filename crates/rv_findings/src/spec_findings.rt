@@ -1,19 +1,27 @@
 //! The findings about a monitor's specification: what no line brings or sets, and what none did.
-ghost use Rattle.std.specs.Prelude.{◌≡◌, ◌++◌, ◌<◌, [], IfOk, OnOk, codes, flat_map, length, slice_index_or};
-ghost use Rattle.rv_findings.specs.BindingLines.{begin_lines};
-ghost use Rattle.rv_findings.specs.MonitorFacts.{edge_text, places};
-ghost use Rattle.rv_findings.specs.Shown.{in_brackets};
-ghost use Rattle.rv_findings.specs.MonitorFindings.{atom_finding, atom_findings_by, atom_text, edge_finding, edge_findings, event_finding, setting_lines, spec_findings};
+ghost use Rattle.std.specs.Prelude.{◌≡◌, ◌++◌, ◌<◌, [], IfOk, OnOk, codes, length, slice_index_or};
+ghost use Rattle.rv_facts.specs.BindingLines.{begin_lines};
+ghost use Rattle.rv_facts.specs.MonitorFacts.{edge_text};
+ghost use Rattle.rv_facts.specs.Shown.{in_brackets};
+ghost use Rattle.rv_findings.specs.MonitorFindings.{atom_finding, atom_findings_by, atom_text, edge_finding, event_finding, part_findings, part_size, place_finding, setting_lines};
 
-use crate::counts::MonitorCounts;
 use crate::finding::{Asked, Finding, OwnRule, add, first_or, is_nothing, least_of, lines_where};
-use crate::lines::{Begun, BindingLines};
-use crate::monitor_facts::put_edge_names;
-use crate::pieces::{number_at, put_brackets};
+use rv_facts::{Begun, BindingLines, MonitorCounts, number_at, put_brackets, put_edge_names};
 use rv_model::{Automaton, Edge, Name, Names, Spec};
 use rv_report::put_name;
 use rv_text::Line;
 use std::alloc::{AllocError, Global};
+
+/// What is told of place by place.
+#[derive(Clone, Copy, Drop)]
+pub(crate) enum SpecPart {
+    /// The events of an automaton that no line brings.
+    Events,
+    /// The edges of an automaton that were not taken.
+    Edges,
+    /// The atoms of a rule that no line sets, or that no letter has.
+    Atoms,
+}
 
 /// What is told of an event that no line brings.
 fn event_text(alloc: Global, name: &[u8], events: &Names, event: usize) -> Result<Line, AllocError>
@@ -166,68 +174,6 @@ fn add_atom(
     )
 }
 
-/// The events of an automaton that no line brings.
-#[tactic(auto, using(crate::proofs::GrowingLists::none_numbered, crate::proofs::GrowingLists::more_numbered))]
-fn add_events(
-    alloc: Global,
-    found: &mut Vec<Finding>,
-    name: &[u8],
-    line: u32,
-    own: &[OwnRule],
-    events: &Names,
-) -> Result<(), AllocError>
-    ensures { OnOk result (found.new.items ≡ found.old.items ++ flat_map (event_finding name.now line own.now events.now) (places (length events.now))) }
-{
-    'events: for event in 0..events.len() {
-        add_event(alloc, found, name, line, own, events, event)?;
-    }
-    Ok(())
-}
-
-/// The atoms of a rule.
-#[tactic(auto, using(crate::proofs::GrowingLists::none_numbered, crate::proofs::GrowingLists::more_numbered))]
-fn add_atoms(
-    alloc: Global,
-    found: &mut Vec<Finding>,
-    name: &[u8],
-    line: u32,
-    called: &Name,
-    own: &[OwnRule],
-    lines: &BindingLines,
-    c: &MonitorCounts,
-    atoms: &Names,
-) -> Result<(), AllocError>
-    ensures { OnOk result (found.new.items ≡ found.old.items ++ flat_map (atom_finding name.now line called.now own.now lines.now c.now atoms.now) (places (length atoms.now))) }
-{
-    'atoms: for place in 0..atoms.len() {
-        add_atom(
-            alloc, found, name, line, called, own, lines, c, atoms, place,
-        )?;
-    }
-    Ok(())
-}
-
-/// What no line brings or sets, and what none did.
-#[tactic(auto, unfolding(crate::specs::MonitorFindings::spec_findings))]
-pub(crate) fn add_spec(
-    alloc: Global,
-    found: &mut Vec<Finding>,
-    name: &[u8],
-    line: u32,
-    called: &Name,
-    own: &[OwnRule],
-    lines: &BindingLines,
-    c: &MonitorCounts,
-    spec: &Spec,
-) -> Result<(), AllocError>
-    ensures { OnOk result (found.new.items ≡ found.old.items ++ spec_findings name.now line called.now own.now lines.now c.now spec.now) }
-{
-    match spec {
-        Spec::Da(automaton) => add_events(alloc, found, name, line, own, &automaton.events),
-        Spec::Ltl(rule) => add_atoms(alloc, found, name, line, called, own, lines, c, &rule.atoms),
-    }
-}
-
 /// What is told of an edge that was not taken.
 fn edge_never_text(
     alloc: Global,
@@ -268,41 +214,84 @@ fn add_edge(
     add(found, first_or(line, &lines), text)
 }
 
-/// The edges of an automaton.
-#[tactic(auto, using(crate::proofs::GrowingLists::none_numbered, crate::proofs::GrowingLists::more_numbered))]
-fn add_automaton_edges(
-    alloc: Global,
-    found: &mut Vec<Finding>,
-    name: &[u8],
-    line: u32,
-    own: &[OwnRule],
-    c: &MonitorCounts,
-    automaton: &Automaton,
-) -> Result<(), AllocError>
-    ensures { OnOk result (found.new.items ≡ found.old.items ++ flat_map (edge_finding name.now line own.now c.now automaton.now) (places (length automaton.now.edges))) }
-{
-    'edges: for place in 0..automaton.edges.len() {
-        add_edge(alloc, found, name, line, own, c, automaton, place)?;
-    }
-    Ok(())
-}
-
-/// The edges of a monitor that is started.
-pub(crate) fn add_edges(
-    alloc: Global,
-    found: &mut Vec<Finding>,
-    name: &[u8],
-    line: u32,
-    own: &[OwnRule],
-    c: &MonitorCounts,
-    spec: &Spec,
-) -> Result<(), AllocError>
-    ensures { OnOk result (found.new.items ≡ found.old.items ++ edge_findings name.now line own.now c.now spec.now) }
+/// The number of its places in the specification.
+fn part_size(part: SpecPart, spec: &Spec) -> usize
+    ensures { result ≡ part_size part spec.now }
 {
     match spec {
-        Spec::Da(automaton) if c.instances_started != 0 => {
-            add_automaton_edges(alloc, found, name, line, own, c, automaton)
-        }
-        _ => Ok(()),
+        Spec::Da(automaton) => match part {
+            SpecPart::Events => automaton.events.len(),
+            SpecPart::Edges => automaton.edges.len(),
+            SpecPart::Atoms => 0,
+        },
+        Spec::Ltl(rule) => match part {
+            SpecPart::Atoms => rule.atoms.len(),
+            SpecPart::Events | SpecPart::Edges => 0,
+        },
     }
+}
+
+/// What is found at a place of a part.
+fn add_place(
+    alloc: Global,
+    found: &mut Vec<Finding>,
+    name: &[u8],
+    line: u32,
+    called: &Name,
+    own: &[OwnRule],
+    lines: &BindingLines,
+    c: &MonitorCounts,
+    spec: &Spec,
+    part: SpecPart,
+    place: usize,
+) -> Result<(), AllocError>
+    requires { place < part_size part spec.now }
+    ensures { OnOk result (found.new.items ≡ found.old.items ++ place_finding name.now line called.now own.now lines.now c.now spec.now part place) }
+{
+    match spec {
+        Spec::Da(automaton) => match part {
+            SpecPart::Events => add_event(alloc, found, name, line, own, &automaton.events, place),
+            SpecPart::Edges => add_edge(alloc, found, name, line, own, c, automaton, place),
+            SpecPart::Atoms => Ok(()),
+        },
+        Spec::Ltl(rule) => match part {
+            SpecPart::Atoms => add_atom(
+                alloc,
+                found,
+                name,
+                line,
+                called,
+                own,
+                lines,
+                c,
+                &rule.atoms,
+                place,
+            ),
+            SpecPart::Events | SpecPart::Edges => Ok(()),
+        },
+    }
+}
+
+/// What is found at all places of a part.
+#[tactic(auto, using(rv_facts::proofs::GrowingLists::none_numbered, rv_facts::proofs::GrowingLists::more_numbered))]
+pub(crate) fn add_part(
+    alloc: Global,
+    found: &mut Vec<Finding>,
+    name: &[u8],
+    line: u32,
+    called: &Name,
+    own: &[OwnRule],
+    lines: &BindingLines,
+    c: &MonitorCounts,
+    spec: &Spec,
+    part: SpecPart,
+) -> Result<(), AllocError>
+    ensures { OnOk result (found.new.items ≡ found.old.items ++ part_findings name.now line called.now own.now lines.now c.now spec.now part) }
+{
+    'places: for place in 0..part_size(part, spec) {
+        add_place(
+            alloc, found, name, line, called, own, lines, c, spec, part, place,
+        )?;
+    }
+    Ok(())
 }

@@ -1,11 +1,10 @@
 //! The findings about the trace.
 ghost use Rattle.std.specs.Prelude.{◌≡◌, ◌++◌, IfOk, OnOk, codes, decimal};
 ghost use Rattle.rv_findings.specs.Findings.{empty_finding, late_finding, latest_text, overwritten_finding, return_finding, trace_findings};
-ghost use Rattle.rv_findings.specs.Shown.{in_brackets};
+ghost use Rattle.rv_facts.specs.Shown.{in_brackets};
 
-use crate::counts::{Entries, Late, Returns, Stamped, TraceCounts};
 use crate::finding::{Finding, add, add_if, around, plain, with_number};
-use crate::pieces::put_brackets;
+use rv_facts::{Entries, Late, Returns, Stamped, TraceCounts, put_brackets};
 use rv_text::Line;
 use std::alloc::{AllocError, Global};
 

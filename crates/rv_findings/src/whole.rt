@@ -1,27 +1,13 @@
 //! How much was reached.
 ghost use Rattle.std.specs.Prelude.{◌≡◌, ◌++◌, IfOk, OnOk, map};
 ghost use Rattle.rv_findings.specs.Whole.{all_numbers, numbers_of, own_numbers, share_text, watched_text, whole_text};
-ghost use Rattle.rv_findings.specs.Pairs.{of_pairs};
+ghost use Rattle.rv_facts.specs.Pairs.{of_pairs};
 
-use crate::counts::{Counts, MonitorCounts, RuleCounts};
-use crate::pieces::put_number;
 use rv_bind::Monitor;
+use rv_facts::{Counts, MonitorCounts, RuleCounts, Share, put_number};
 use rv_model::Spec;
 use rv_text::Line;
 use std::alloc::{AllocError, Global};
-
-/// What it is told of how many were reached.
-#[derive(Clone, Copy, Drop)]
-pub(crate) enum Share {
-    /// The states of automata.
-    States,
-    /// The edges of automata.
-    Edges,
-    /// The rows of rules, from row 1 on.
-    Rows,
-    /// The atoms of rules.
-    Atoms,
-}
 
 /// The numbers of a monitor.
 fn numbers_of<'a>(share: Share, spec: &Spec, c: &'a MonitorCounts) -> &'a [u64]
@@ -55,7 +41,7 @@ fn add_numbers(
 }
 
 /// Those of all monitors.
-#[tactic(auto, using(crate::proofs::PairLemmas::more_pairs, crate::proofs::PairLemmas::all_pairs))]
+#[tactic(auto, using(rv_facts::proofs::PairLemmas::more_pairs, rv_facts::proofs::PairLemmas::all_pairs))]
 fn all_numbers(
     alloc: Global,
     share: Share,
@@ -107,39 +93,15 @@ fn all_started(alloc: Global, monitors: &[MonitorCounts]) -> Result<Vec<u64>, Al
     Ok(numbers)
 }
 
-/// The rules that fired.
-fn put_fired(
-    alloc: Global,
-    out: &mut Line,
-    name: &[u8],
-    rules: &[RuleCounts],
-) -> Result<(), AllocError>
-    ensures { OnOk result (out.new ≡ out.old ++ share_text name.now (map (λ r. r.fires) rules.now)) }
-{
-    let fires = all_fires(alloc, rules)?;
-    put_share(out, name, &fires)
-}
-
-/// The monitors that were started.
-fn put_started(
-    alloc: Global,
-    out: &mut Line,
-    name: &[u8],
-    monitors: &[MonitorCounts],
-) -> Result<(), AllocError>
-    ensures { OnOk result (out.new ≡ out.old ++ share_text name.now (map (λ c. c.instances_started) monitors.now)) }
-{
-    let started = all_started(alloc, monitors)?;
-    put_share(out, name, &started)
-}
-
 /// The rules that fired, and the monitors that were started.
 #[tactic(auto, unfolding(crate::specs::Whole::watched_text))]
 fn put_watched(alloc: Global, out: &mut Line, counts: &Counts) -> Result<(), AllocError>
     ensures { OnOk result (out.new ≡ out.old ++ watched_text counts.now) }
 {
-    put_fired(alloc, out, b"all monitors: rules fired", &counts.rules)?;
-    put_started(alloc, out, b", monitors started", &counts.monitors)
+    let fires = all_fires(alloc, &counts.rules)?;
+    put_share(out, b"all monitors: rules fired", &fires)?;
+    let started = all_started(alloc, &counts.monitors)?;
+    put_share(out, b", monitors started", &started)
 }
 
 /// One share of all monitors.

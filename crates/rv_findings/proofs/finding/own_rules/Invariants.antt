@@ -1,6 +1,6 @@
 -- The pairs so far and those that are to come are the whole.
 use Rattle.std.proofs.Common.{◌≡◌, ◌++◌, drop}
-use Rattle.rv_findings.specs.Pairs.{of_pairs, pairs_from}
+use Rattle.rv_facts.specs.Pairs.{of_pairs, pairs_from}
 use Rattle.rv_findings.specs.OwnRules.{own_rule}
 use Rattle.rv_findings.proofs.finding.own_rules.Given as goal
 

@@ -1,6 +1,6 @@
 -- The lines so far and those that are to come are the whole.
 use Rattle.std.proofs.Common.{◌≡◌, ◌++◌, drop}
-use Rattle.rv_findings.specs.BindingLines.{lines_named}
+use Rattle.rv_facts.specs.BindingLines.{lines_named}
 use Rattle.rv_findings.proofs.monitor_findings.lines_named.Given as goal
 
 abbrev pub invariant-lines : goal.invariant-lines

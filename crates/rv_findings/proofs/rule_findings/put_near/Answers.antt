@@ -2,7 +2,7 @@
 use Rattle.std.proofs.Common.{List, ℕ, ◌++◌, ap, ◌∙◌}
 use Rattle.std.specs.Prelude.{codes}
 use Rattle.std.proofs.lemmas.Result.{on_ok_weaker}
-use Rattle.rv_findings.specs.Shown.{worded}
+use Rattle.rv_facts.specs.Shown.{worded}
 use Rattle.rv_findings.proofs.rule_findings.put_near.Goals as goal
 
 pub returns : goal.returns

@@ -1,7 +1,7 @@
 -- The tests that are left have the first one that holds on no line.
 use Rattle.std.proofs.Common.{◌≡◌, drop}
 use Rattle.rv_findings.specs.Findings.{never, never_holds}
-use Rattle.rv_findings.specs.Pairs.{pairs_from}
+use Rattle.rv_facts.specs.Pairs.{pairs_from}
 use Rattle.rv_findings.proofs.rule_findings.put_never.Given as goal
 
 abbrev pub invariant-tests : goal.invariant-tests

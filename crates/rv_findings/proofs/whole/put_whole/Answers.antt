@@ -4,9 +4,9 @@ use Rattle.std.specs.Prelude.{codes}
 use Rattle.std.proofs.lemmas.Result.{on_ok_weaker}
 use Rattle.rv_model.specs.Reports.{line_end}
 use Rattle.rv_report.proofs.ChainLemmas.{after}
-use Rattle.rv_findings.specs.declared.whole.Share.{Share}
-use Rattle.rv_findings.specs.declared.whole.Share.TheVariants.{States, Edges, Rows, Atoms}
-use Rattle.rv_findings.specs.Shown.{numbered}
+use Rattle.rv_facts.specs.declared.monitor_facts.Share.{Share}
+use Rattle.rv_facts.specs.declared.monitor_facts.Share.TheVariants.{States, Edges, Rows, Atoms}
+use Rattle.rv_facts.specs.Shown.{numbered}
 use Rattle.rv_findings.specs.Whole.{all_numbers, share_text, watched_text, whole_text}
 use Rattle.rv_findings.proofs.whole.put_whole.Goals as goal
 
