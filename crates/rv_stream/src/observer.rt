@@ -25,6 +25,7 @@ pub trait LineObserver {
     ) -> Result<(), AllocError>
         requires read { IsReadOn text.now taken.now }
         requires small { length text.now ≤ MAX_BYTES }
+        requires so_far { (lines : List LineText) × observed context.now lines self.old }
         ensures { OnOk result (ObservesLine (observed context.now) text.now taken.now self.old self.new) };
 }
 

@@ -1,6 +1,7 @@
 use Rattle.std.proofs.Common.{◌≡◌, refl, ◌∙◌, sym, ap, subst}
 use Rattle.std.specs.Prelude.{Option, Some, Ok, IfSome}
 use Rattle.std.proofs.lemmas.Result.{err_from_is_err_and}
+use Rattle.rv_text.specs.TextLines.{lines_of}
 use Rattle.rv_trace.specs.AnyLines.{IsReadOn, TakesNextAny}
 use Rattle.rv_trace.specs.Lines.{LiesIn}
 use Rattle.rv_trace.specs.Streams.{part_read}
@@ -8,6 +9,7 @@ use Rattle.rv_trace.specs.Traces.{trace_of}
 use Rattle.rv_trace.specs.declared.line.TraceLine.{TraceLine}
 use Rattle.rv_trace.specs.declared.taken.TakenLine.{TakenLine}
 use Rattle.rv_route.specs.Routers.{refusal_of}
+use Rattle.rv_stream.specs.inner.Pieces.{passed_text}
 use Rattle.rv_stream.proofs.PiecesLemmas.{taken-ascends, taken-routed, late-stays}
 use Rattle.rv_stream.proofs.ToldLemmas.{taken-next, told-more, skip-routed, refused-taken}
 use Rattle.rv_stream.proofs.routing.route_taken.Goals as goal
@@ -72,3 +74,6 @@ loop-taken-preserved g c =
       c.loop-taken.invariant.3,
       told-more old new (g.O.LineObserver.observed c.args.context.now) c.in-Some.taken c.text-text.result.now c.loop-taken.observer c.observe.new.self c.text-text.ensures t c.in_ok-observe.ensures c.loop-taken.invariant.4,
     )
+
+pub observe-requires-clause-so_far : goal.observe-requires-clause-so_far
+observe-requires-clause-so_far g c = (lines_of (passed_text c.loop-taken.lines), c.loop-taken.invariant.4)
