@@ -79,5 +79,5 @@ abbrev pub text_facts : List LineText → TextFactsValue
 text_facts lines = record { lines = length lines; overwritten = slice_get (overwritten lines) 0; returns = returns_of lines }
 
 -- what was told of any lines becomes what is told of these and one more
-abbrev pub TellsLine : LineText → TextFactsValue → TextFactsValue → Type 0
-TellsLine line old new = (lines : List LineText) → old ≡ text_facts lines → new ≡ text_facts (lines ++ line ∷ [])
+abbrev pub TellsTextLine : LineText → TextFactsValue → TextFactsValue → Type 0
+TellsTextLine line old new = (lines : List LineText) → old ≡ text_facts lines → new ≡ text_facts (lines ++ line ∷ [])

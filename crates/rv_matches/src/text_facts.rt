@@ -2,7 +2,7 @@
 ghost use Rattle.std.specs.Prelude.{◌≡◌, [], OnOk};
 ghost use Rattle.std.specs.Option.{option_or};
 ghost use Rattle.rv_text.specs.TextLines.{line_text};
-ghost use Rattle.rv_matches.specs.TextFacts.{TellsLine, entries_in, entries_on, text_facts};
+ghost use Rattle.rv_matches.specs.TextFacts.{TellsTextLine, entries_in, entries_on, text_facts};
 ghost use Rattle.rv_matches.specs.inner.TextSteps.{TellsReturn, if_overwritten};
 
 use crate::words::one_more;
@@ -121,7 +121,7 @@ impl TextFacts {
 
     /// One more line.
     pub fn add(&mut self, line: TextLine) -> Result<(), AllocError>
-        ensures { OnOk result (TellsLine (line_text line.entry) self.old self.new) }
+        ensures { OnOk result (TellsTextLine (line_text line.entry) self.old self.new) }
     {
         self.lines = one_more(self.lines)?;
         self.add_return(line)?;
