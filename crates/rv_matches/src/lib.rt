@@ -3,6 +3,7 @@
 
 mod event_facts;
 mod late;
+mod limits;
 mod near;
 mod rule_lines;
 mod text_facts;
@@ -11,6 +12,7 @@ mod words;
 
 pub use event_facts::{EventFacts, MOST_NAMES};
 pub use late::{Late, Stamped};
+pub use limits::limits_are_numerals;
 pub use near::{FARTHEST, MOST_NEAR, Near, nearest};
 pub use rule_lines::{FieldLines, MOST_FIELDS, MOST_VALUES, RuleLine, RuleLines};
 pub use text_facts::{Entries, TextFacts};
