@@ -1,8 +1,8 @@
 -- What lines are to a rule as one more comes: one of its event on which it fires, one on which it does not, and one of another event.
-use Rattle.std.proofs.Common.{◌≡◌, ℕ, suc, ◌+◌, ◌<◌, Bool, true, false, cond, eqb, ◌&&◌, inl, inr, List, [], ◌∷◌, ◌++◌, length, map, replicate, refl, sym, ap, ap₂, ◌∙◌, subst, arith}
-use Rattle.std.specs.Prelude.{bytes_eq, filter, count_by}
+use Rattle.std.proofs.Common.{◌≡◌, ℕ, ◌+◌, true, false, cond, eqb, ◌&&◌, inl, inr, List, [], ◌∷◌, ◌++◌, length, map, replicate, refl, sym, ap, ap₂, ◌∙◌, subst, arith}
+use Rattle.std.specs.Prelude.{bytes_eq}
 use Rattle.std.specs.List.{list_all}
-use Rattle.std.proofs.lemmas.Bool.{cases_Bool, eqb-true, ne_eqb, and_left}
+use Rattle.std.proofs.lemmas.Bool.{cases_Bool, ne_eqb, and_left}
 use Rattle.std.proofs.lemmas.List.{append-nil, length-append}
 use Rattle.std.proofs.lemmas.List.Elements.{filter-append}
 use Rattle.std.proofs.lemmas.List.Sums.{sum_by_push}
@@ -11,7 +11,7 @@ use Rattle.rv_bind.specs.RuleValues.{OnValue}
 use Rattle.rv_route.specs.Asking.{holds}
 use Rattle.rv_matches.specs.declared.rule_lines.RuleLine.{RuleLine}
 use Rattle.rv_matches.specs.LineEvents.{LineEvent, fires_on, is_of}
-use Rattle.rv_matches.specs.RuleLines.{FieldCounts, IsRuleLine, RuleCounts, TestCounts, field_counts, field_told, fired, held, holds_told, kept_fields, lines_of_event, rule_counts, unless_fired}
+use Rattle.rv_matches.specs.RuleLines.{IsRuleLine, RuleCounts, field_counts, field_told, fired, held, holds_told, kept_fields, lines_of_event, rule_counts, unless_fired}
 use Rattle.rv_matches.specs.inner.RuleSteps.{CountsFields, CountsTests}
 use Rattle.rv_matches.proofs.WordLemmas.{itself, no_more}
 

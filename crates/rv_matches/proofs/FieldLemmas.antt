@@ -1,17 +1,17 @@
 -- The fields that tests name, as one more test comes, and what a field has with one more value or one more line without it.
-use Rattle.std.proofs.Common.{◌≡◌, ℕ, ◌+◌, ◌<◌, ◌≤◌, inl, inr, Bool, true, false, cond, List, [], ◌∷◌, ◌++◌, length, map, take, Option, Some, None, refl, sym, ap, ap₂, ◌∙◌, arith}
-use Rattle.std.specs.Prelude.{filter_map, count_by, is_none}
+use Rattle.std.proofs.Common.{◌≡◌, ℕ, ◌+◌, ◌<◌, ◌≤◌, inl, inr, true, false, cond, List, [], ◌∷◌, ◌++◌, length, map, take, Option, Some, None, refl, sym, ap, ap₂, ◌∙◌, arith}
+use Rattle.std.specs.Prelude.{count_by, is_none}
 use Rattle.std.specs.List.{cons_option}
 use Rattle.std.proofs.lemmas.Bool.{cases_Bool, cond-true, cond-false, cond_both}
 use Rattle.std.proofs.lemmas.List.{append-nil, length-append, length-take, take_all}
 use Rattle.std.proofs.lemmas.List.Elements.{filter_map-append}
-use Rattle.std.proofs.lemmas.List.Sums.{fold_push, sum_by_push}
+use Rattle.std.proofs.lemmas.List.Sums.{sum_by_push}
 use Rattle.rv_matches.specs.declared.rule_lines.FieldLines.{FieldLines}
 use Rattle.rv_matches.specs.declared.rule_lines.TheConstants.{MOST_VALUES}
 use Rattle.rv_matches.specs.LineEvents.{LineEvent, value_on}
 use Rattle.rv_matches.specs.RuleLines.{FieldCounts, field_counts, field_told, field_values}
 use Rattle.rv_matches.specs.inner.RuleSteps.{field_name}
-use Rattle.rv_matches.specs.Words.{CountedValue, CountsWord, counted_value, distinct, is_kept_among, with_word}
+use Rattle.rv_matches.specs.Words.{CountsWord, counted_value, is_kept_among, with_word}
 use Rattle.rv_matches.proofs.NearLemmas.{front_full, front_room}
 use Rattle.rv_matches.proofs.WordLemmas.{among_taken}
 

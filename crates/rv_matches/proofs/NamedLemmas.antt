@@ -1,5 +1,5 @@
 -- A line of an event that some rule is on, and a line of any other.
-use Rattle.std.proofs.Common.{◌≡◌, ◌≢◌, ℕ, ◌+◌, Bool, true, false, cond, ◌&&◌, ◌||◌, List, [], ◌∷◌, ◌++◌, length, refl, sym, ap, ap₂, ◌∙◌, subst, arith}
+use Rattle.std.proofs.Common.{◌≡◌, ◌≢◌, ℕ, ◌+◌, Bool, true, false, cond, ◌&&◌, ◌||◌, List, [], ◌∷◌, ◌++◌, length, refl, sym, ap, ◌∙◌, subst, arith}
 use Rattle.std.specs.Prelude.{All, filter, count_by}
 use Rattle.std.specs.List.{AllZip, list_all, list_any}
 use Rattle.std.proofs.lemmas.List.Elements.{All-head, All-tail}
@@ -10,7 +10,7 @@ use Rattle.rv_route.specs.declared.event.Asked.{Asked}
 use Rattle.rv_route.specs.declared.event.Event.{Event}
 use Rattle.rv_route.specs.Events.{HasEvent, IsAsked, is_on_event}
 use Rattle.rv_matches.specs.declared.rule_lines.RuleLine.{RuleLine}
-use Rattle.rv_matches.specs.LineEvents.{LineEvent, fires_on}
+use Rattle.rv_matches.specs.LineEvents.{LineEvent}
 use Rattle.rv_matches.specs.RuleLines.{AreRuleLines, IsRuleLine, RuleCounts, RuleLinesValue, is_fired, has_rule, rule_counts}
 use Rattle.rv_matches.proofs.CountedRuleLemmas.{other_event}
 use Rattle.rv_matches.proofs.WordLemmas.{no_more, same_bytes}

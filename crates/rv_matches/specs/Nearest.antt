@@ -1,5 +1,5 @@
 -- The names of the trace that come nearest to one of the bindings.
-use Rattle.std.specs.Prelude.{ℕ, ◌+◌, ◌/◌, min, ◌==◌, nat_le, nat_eq, List, [], ◌∷◌, length, map, filter, flat_map, take, if◌then◌else◌}
+use Rattle.std.specs.Prelude.{ℕ, ◌+◌, ◌/◌, min, ◌==◌, nat_le, nat_eq, List, [], length, map, filter, flat_map, take, if◌then◌else◌}
 use Rattle.strsim.specs.Edits.{levenshtein_row}
 use Rattle.rv_model.specs.Numbers.{list_of}
 use Rattle.rv_text.specs.Pieces.{pieces_by}

@@ -1,5 +1,5 @@
 -- Timestamps as decimal numbers: digits, and maybe a point and digits behind it.
-use Rattle.std.specs.Prelude.{ℕ, ◌+◌, ◌-◌, ◌*◌, ◌^◌, Bool, ◌&&◌, nat_le, nat_lt, List, ◌++◌, length, slice_index, if◌then◌else◌}
+use Rattle.std.specs.Prelude.{ℕ, ◌+◌, ◌-◌, ◌*◌, ◌^◌, Bool, ◌&&◌, nat_le, List, ◌++◌, length}
 use Rattle.rv_text.specs.Decimal.{all_digits, number_of}
 use Rattle.rv_text.specs.declared.runs.ByteClass.TheVariants as kinds
 use Rattle.rv_text.specs.Places.{between, run_end}

@@ -15,7 +15,9 @@ ghost use Rattle.rv_matches.specs.Words.{is_kept_among};
 use crate::words::{CountedWords, one_more};
 use rv_bind::{On, Test};
 use rv_model::Name;
-use rv_route::{Asked, Event, Finds, Index, event_at, index_of, is_met, test_holds, tested_field, value_at};
+use rv_route::{
+    Asked, Event, Finds, Index, event_at, index_of, is_met, test_holds, tested_field, value_at,
+};
 use rv_trace::{Span, TraceLine};
 use std::alloc::{AllocError, Global};
 use std::marker::Model;
@@ -192,7 +194,11 @@ fn add_fields(
 {
     for place in 0..list.len() {
         let test = list[place].test;
-        add_value(alloc, &mut list[place], value_at(fields, found, asked.tests[test]))?;
+        add_value(
+            alloc,
+            &mut list[place],
+            value_at(fields, found, asked.tests[test]),
+        )?;
     }
     Ok(())
 }
@@ -272,7 +278,13 @@ impl RuleLines {
     }
 
     /// One more line, whose pieces are places in the text.
-    pub fn add(&mut self, alloc: Global, rules: &[On], text: &[u8], line: &TraceLine) -> Result<(), AllocError>
+    pub fn add(
+        &mut self,
+        alloc: Global,
+        rules: &[On],
+        text: &[u8],
+        line: &TraceLine,
+    ) -> Result<(), AllocError>
         requires made { IsForRules rules.now self.old }
         requires line { IsRoutable text.now line.now }
         ensures counts { OnOk result (CountsRuleLine rules.now (event_on text.now line.now) self.old self.new) }
@@ -287,7 +299,14 @@ impl RuleLines {
         }
         let fields = &text[line.fields.from as usize..line.fields.to as usize];
         self.finds.look_up(fields, &event.fields)?;
-        let fired = add_event(alloc, self.rules.as_mut_slice(), rules, event, fields, self.finds.spans())?;
+        let fired = add_event(
+            alloc,
+            self.rules.as_mut_slice(),
+            rules,
+            event,
+            fields,
+            self.finds.spans(),
+        )?;
         self.named = one_more(self.named)?;
         self.fired = count_if(self.fired, fired)?;
         Ok(())

@@ -1,4 +1,4 @@
-use Rattle.std.proofs.Common.{◌≡◌, ℕ, true, false, Some, map, take}
+use Rattle.std.proofs.Common.{◌≡◌, ℕ, true, false, Some, take}
 use Rattle.std.specs.Prelude.{filter, slice_get}
 use Rattle.std.specs.List.{AllZip, list_all, list_any}
 use Rattle.rv_bind.specs.RuleValues.{OnValue}

@@ -1,4 +1,4 @@
-use Rattle.std.proofs.Common.{◌≡◌, ◌<◌, ◌≤◌, ◌++◌, ◌∷◌, [], length, get_or, map, Some, rules, sym, ap, ◌∙◌, subst, arith}
+use Rattle.std.proofs.Common.{◌≡◌, ◌<◌, ◌++◌, ◌∷◌, [], length, get_or, Some, rules, sym, ap, ◌∙◌, subst, arith}
 use Rattle.std.specs.Prelude.{slice_get}
 use Rattle.std.specs.Vec.{vec_len}
 use Rattle.std.proofs.lemmas.List.{length-map, length-set}
@@ -6,7 +6,7 @@ use Rattle.std.proofs.lemmas.List.Elements.{All-set}
 use Rattle.rv_route.specs.Events.{tested_fields}
 use Rattle.rv_matches.specs.declared.rule_lines.FieldLines.{FieldLines}
 use Rattle.rv_matches.specs.RuleLines.{HasTest, field_counts, field_told}
-use Rattle.rv_matches.proofs.MixedLemmas.{length-mixed, mixed_all, mixed_none}
+use Rattle.rv_matches.proofs.MixedLemmas.{mixed_all, mixed_none}
 use Rattle.rv_matches.proofs.RuleTestLemmas.{fields_more, at_any, test_within, value_there}
 use Rattle.rv_matches.proofs.rule_lines.add_fields.Goals as goal
 
@@ -50,8 +50,8 @@ loop-place-preserved c =
       many = length-set list place new ∙ c.loop-place.invariant.many;
       tests = All-set (HasTest tests) list place new new_has c.loop-place.invariant.tests;
       counts = λ lines line names is was.
-        fields_more lines line names list place old new (c.loop-place.invariant.counts lines line names is was) inside c.index_mut.ensures.value
-        (c.in_ok-add_value.ensures.counts lines line (value_there fields c.args.found.now places tests c.requires.found.tests old has c.index-in-loop-place.result.now line at is ∙ sym c.value_at.ensures));
+          fields_more lines line names list place old new (c.loop-place.invariant.counts lines line names is was) inside c.index_mut.ensures.value
+          (c.in_ok-add_value.ensures.counts lines line (value_there fields c.args.found.now places tests c.requires.found.tests old has c.index-in-loop-place.result.now line at is ∙ sym c.value_at.ensures));
     }
 
 pub returns-clause-counts : goal.returns-clause-counts

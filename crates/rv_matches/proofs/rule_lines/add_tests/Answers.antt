@@ -1,4 +1,4 @@
-use Rattle.std.proofs.Common.{◌≡◌, ◌<◌, ◌≤◌, ◌++◌, ◌∷◌, [], length, get_or, map, rules, sym, ap, ◌∙◌, arith}
+use Rattle.std.proofs.Common.{◌≡◌, ◌<◌, ◌++◌, ◌∷◌, [], length, get_or, map, rules, sym, ap, ◌∙◌, arith}
 use Rattle.std.proofs.lemmas.List.{length-map, length-set}
 use Rattle.rv_trace.specs.Fields.{field_of}
 use Rattle.rv_trace.specs.FoundFields.{found_at}
@@ -34,8 +34,8 @@ loop-test-preserved c =
     record {
       many = length-set c.loop-test.holds.items place c.in_ok-holds.field-0 ∙ c.loop-test.invariant.many;
       counts = λ lines line is was.
-        tests_more fields lines line tests place test c.loop-test.holds.items c.index-in-loop-test.result.now c.in_ok-holds.field-0 c.test_holds.result
-        is (c.loop-test.invariant.counts lines line is was) inside at c.index-in-loop-test.ensures c.in_ok-holds.ensures here;
+          tests_more fields lines line tests place test c.loop-test.holds.items c.index-in-loop-test.result.now c.in_ok-holds.field-0 c.test_holds.result
+          is (c.loop-test.invariant.counts lines line is was) inside at c.index-in-loop-test.ensures c.in_ok-holds.ensures here;
     }
 
 pub returns-clause-counts : goal.returns-clause-counts

@@ -1,8 +1,7 @@
-use Rattle.std.proofs.Common.{◌≡◌, ◌+◌, ◌<◌, ℕ, List, [], ◌∷◌, ◌++◌, length, map, take, rules, Some, sym, ap, ◌∙◌, arith}
-use Rattle.std.specs.Prelude.{fold, option_map, slice_get}
+use Rattle.std.proofs.Common.{◌≡◌, ◌+◌, ◌<◌, ℕ, List, [], length, map, take, rules, Some, sym, ap, ◌∙◌}
+use Rattle.std.specs.Prelude.{option_map, slice_get}
 use Rattle.std.proofs.lemmas.List.Sums.{fold_push}
 use Rattle.std.proofs.lemmas.Option.{slice_get-get_or, slice_get-map}
-use Rattle.rv_bind.specs.declared.bindings.Test.{Test}
 use Rattle.rv_route.specs.Events.{tested_field, tested_fields}
 use Rattle.rv_route.proofs.EventLemmas.{names-more}
 use Rattle.rv_matches.specs.declared.rule_lines.TheConstants.{MOST_FIELDS}

@@ -1,4 +1,4 @@
-use Rattle.std.proofs.Common.{◌≡◌, ◌≤◌, ◌<◌, true, false, ℕ, List, [], ◌∷◌, ◌++◌, length, map, take, rules, sym, ap, ap₂, ◌∙◌, arith}
+use Rattle.std.proofs.Common.{◌≡◌, false, List, [], ◌∷◌, ◌++◌, length, map, take, rules, sym, ap, ap₂, ◌∙◌, arith}
 use Rattle.std.proofs.lemmas.List.{length-map, map_push}
 use Rattle.rv_matches.specs.declared.rule_lines.FieldLines.{FieldLines}
 use Rattle.rv_matches.specs.declared.rule_lines.TheConstants.{MOST_FIELDS}

@@ -1,4 +1,4 @@
-use Rattle.std.proofs.Common.{◌≡◌, ℕ, List, [], length, map, replicate, rules, refl, ap, ◌∙◌}
+use Rattle.std.proofs.Common.{◌≡◌, List, [], length, map, rules, refl, ap, ◌∙◌}
 use Rattle.rv_bind.specs.RuleValues.{OnValue}
 use Rattle.rv_bind.specs.declared.bindings.Test.{Test}
 use Rattle.rv_matches.specs.RuleLines.{field_counts, kept_fields}

@@ -11,8 +11,8 @@ use Rattle.rv_route.specs.Events.{IsEventOf, is_on_event}
 use Rattle.rv_route.proofs.EventLemmas.{asked-many}
 use Rattle.rv_route.proofs.IndexLemmas.{found-event}
 use Rattle.rv_matches.specs.declared.rule_lines.RuleLine.{RuleLine}
-use Rattle.rv_matches.specs.LineEvents.{LineEvent, event_on}
-use Rattle.rv_matches.specs.RuleLines.{AreRuleLines, IsForRules, IsRuleLine, RuleLinesValue, is_fired, has_rule, rule_counts}
+use Rattle.rv_matches.specs.LineEvents.{event_on}
+use Rattle.rv_matches.specs.RuleLines.{AreRuleLines, IsForRules, IsRuleLine, is_fired, has_rule, rule_counts}
 use Rattle.rv_matches.proofs.NamedLemmas.{fired_by, fired_push, named_push, none_asked, none_on, some_any, unnamed}
 use Rattle.rv_matches.proofs.PlaceLemmas.{fits_length}
 use Rattle.rv_matches.proofs.rule_lines.RuleLines.add.Goals as goal

@@ -1,14 +1,13 @@
-use Rattle.std.proofs.Common.{◌≡◌, ◌<◌, ◌≤◌, ◌⊎◌, inl, inr, ℕ, ◌+◌, true, false, List, [], ◌∷◌, ◌++◌, length, map, rules, get_or, None, Some, refl, sym, ap, ◌∙◌, subst, arith}
+use Rattle.std.proofs.Common.{◌≡◌, ◌<◌, ◌≤◌, ◌⊎◌, inl, inr, false, [], ◌∷◌, ◌++◌, length, map, rules, Some, refl, sym, ap, ◌∙◌, subst, arith}
 use Rattle.std.specs.Prelude.{slice_get}
 use Rattle.std.specs.Vec.{vec_len}
 use Rattle.std.proofs.lemmas.Bool.{le-leb, lt-leb}
 use Rattle.std.proofs.lemmas.Option.{slice_get-get_or}
 use Rattle.rv_trace.specs.FieldNames.{ArePlaces, place_in}
-use Rattle.rv_matches.specs.declared.words.Kept.{Kept}
 use Rattle.rv_matches.specs.declared.words.TheConstants.{LONGEST}
 use Rattle.rv_matches.specs.Words.{Counted, CountedValue, is_kept_among, is_short}
 use Rattle.rv_matches.proofs.AddedLemmas.{found_added, new_added, other_added}
-use Rattle.rv_matches.proofs.KeptLemmas.{no_place, stands_among, stands_at, stands_once, stands_within, told, told_words, words_in, words_stay}
+use Rattle.rv_matches.proofs.KeptLemmas.{no_place, stands_among, stands_at, stands_once, stands_within, told_words, words_in, words_stay}
 use Rattle.rv_matches.proofs.words.CountedWords.add.Goals.{else-len-self-via-then-len-self+else-word-le-LONGEST, else-len-self-via-else-len-self}
 use Rattle.rv_matches.proofs.words.CountedWords.add.Goals as goal
 
