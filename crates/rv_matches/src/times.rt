@@ -58,6 +58,9 @@ pub(crate) fn is_before(one: &[u8], other: &[u8]) -> bool
     requires other { is_time other.now ≡ true }
     ensures { result ≡ nat_lt (time_of one.now) (time_of other.now) }
 {
+    if one == other {
+        return false;
+    }
     let point = point_in(one);
     let its = point_in(other);
     let first = LONGEST - point.max(its);

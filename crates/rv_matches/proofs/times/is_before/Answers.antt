@@ -1,10 +1,19 @@
-use Rattle.std.proofs.Common.{◌≢◌, ◌+◌, ◌-◌, ◌*◌, ◌<◌, ◌≤◌, ltb, length, sym, ap₂, ◌∙◌, arith}
+use Rattle.std.proofs.Common.{◌≡◌, ◌≢◌, ℕ, List, ◌+◌, ◌-◌, ◌*◌, ◌<◌, ◌≤◌, ltb, length, sym, ap, ap₂, ◌∙◌, arith}
+use Rattle.std.proofs.lemmas.Bool.{le-ltb}
+use Rattle.std.proofs.lemmas.Slice.Eq.{bytes_eq-Decides}
 use Rattle.rv_matches.specs.declared.words.TheConstants.{LONGEST}
-use Rattle.rv_matches.specs.Times.{point_in}
+use Rattle.rv_matches.specs.Times.{point_in, time_of}
 use Rattle.rv_matches.specs.inner.Times.{digit_at}
 use Rattle.rv_matches.proofs.SpelledLemmas.{before_by, before_none, time_short}
 use Rattle.rv_matches.proofs.TimeLemmas.{zeros_before}
 use Rattle.rv_matches.proofs.times.is_before.Goals as goal
+
+pub returns-then-eq : goal.returns-then-eq
+returns-then-eq c =
+    let one = c.args.one.now in
+    let other = c.args.other.now in
+    let same : one ≡ other = (bytes_eq-Decides one other).0 (sym c.eq.ensures ∙ c.if-eq.true) in
+    sym (ap (λ (s : List ℕ). ltb (time_of one) (time_of s)) (sym same) ∙ le-ltb (time_of one) (time_of one) (omega arith))
 
 pub loop-place-init : goal.loop-place-init
 loop-place-init c = λ k before.
