@@ -16,13 +16,11 @@ use Rattle.rv_trace.specs.declared.line.TraceLine.{TraceLine}
 use Rattle.rv_trace.specs.Lines.{LiesIn, moved_line}
 use Rattle.rv_trace.specs.Streams as streams
 use Rattle.rv_trace.specs.Streams.{Stream, Adds, TakesLine, AnswersLine, part_read}
-use Rattle.rv_trace.specs.declared.trace.TheConstants.{MAX_BYTES}
 use Rattle.rv_trace.specs.Traces.{trace_of, all_read}
 use Rattle.rv_trace.proofs.TakenLemmas.{adds-nothing, takes-read}
 use Rattle.rv_trace.proofs.TraceLemmas.{trace_of-lies}
 use Rattle.rv_bind.specs.declared.bindings.Bindings.{Bindings}
 use Rattle.rv_route.specs.Fitting.{NumbersAscend}
-use Rattle.rv_route.specs.Lines.{IsRoutable}
 use Rattle.rv_route.specs.Routers.{RouterValue, IsFor, RoutesLine, refusal_of}
 use Rattle.rv_route.specs.LineByLine.{Routes, GivesRoutes, routes_of, line_routes, no_routes, routed_of, works_of}
 use Rattle.rv_route.specs.Routing.{RoutedValue, route_of}
@@ -111,12 +109,6 @@ module _ (bindings : Bindings) where
   -- the next line has a higher number than those that were routed
   pub line-ascends : (whole text before after : List ℕ) (line : TraceLine) (router : RouterValue) (late : Option Refused) → IsRouted bindings before router late → TakesLine before after whole text line → router.next ≤ line.number
   line-ascends whole text before after line router late r taken = r.next (moved_line taken.last.from line) (trace_ascends after (r.lines ++ moved_line taken.last.from line ∷ []) (takes-read before after whole text line r.lines taken r.read))
-
-  -- a line that was taken lies in its text
-  pub routable : (text given : List ℕ) (found : Option TraceLine) (line : TraceLine) → found ≡ Some line → IfSome found (LiesIn text) → length text ≤ MAX_BYTES → given ≡ text → IsRoutable given line
-  routable text given found line is lies small same =
-      let own : LiesIn text line = subst (λ (o : Option TraceLine). IfSome o (LiesIn text)) is lies in
-      subst (λ (t : List ℕ). IsRoutable t line) (sym same) (record { size = omega arith; lies = own })
 
   -- what a call took, where it took a line
   line-taken : (old new : Stream) (found : Option TraceLine) (line : TraceLine) → found ≡ Some line → streams.TakesNextLine old new (Ok found) → TakesLine (take old.taken old.fed) (take new.taken old.fed) (part_read old.ended old.fed) new.text line
