@@ -75,7 +75,10 @@ impl Recorder for Digested {
 
     #[inline(always)]
     fn add(&mut self, made: &Record) {
-        self.full = count(&mut self.digest, self.full, made);
+        // (written only where it turns: lanes stand side by side)
+        if count(&mut self.digest, self.full, made) {
+            self.full = true;
+        }
         self.records.push(made);
     }
 }

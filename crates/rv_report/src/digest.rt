@@ -1,6 +1,7 @@
 //! What is kept of records where the bindings are not at hand.
 ghost use Rattle.std.specs.Prelude.{◌≡◌, ◌<◌, ◌∷◌, [], ◌++◌, ℕ, List, length, OnOk};
 ghost use Rattle.rv_model.specs.declared.record.Record.{Record};
+ghost use Rattle.rv_model.specs.Records.{status_of};
 ghost use Rattle.rv_report.specs.Tallies.{IsDigest, tally_at};
 ghost use Rattle.rv_report.specs.inner.Tallies.{AreWhole};
 
@@ -50,6 +51,18 @@ fn count(alloc: Global, tallies: &mut Vec<Tally>, made: &Record) -> Result<(), A
     tallies[monitor].add_any(made)
 }
 
+/// The status with one record more. It is written only where it is another one: lanes stand side by side, and what one
+/// writes its neighbours read anew.
+#[inline(always)]
+fn note_status(status: &mut u8, made: &Record)
+    ensures { (rs : List Record) → status.old ≡ status_of rs → status.new ≡ status_of (rs ++ made.now ∷ []) }
+{
+    let with = status_with(*status, made);
+    if with != *status {
+        *status = with;
+    }
+}
+
 impl Digest {
     /// Of no records.
     pub fn new(alloc: Global) -> Digest
@@ -69,7 +82,7 @@ impl Digest {
         ensures { OnOk result ((rs : List Record) → IsDigest rs self.old → IsDigest (rs ++ made.now ∷ []) self.new) }
     {
         count(self.alloc, &mut self.tallies, made)?;
-        self.status = status_with(self.status, made);
+        note_status(&mut self.status, made);
         if has_reaction(made) {
             self.reactions.push(*made)?;
         }
