@@ -36,7 +36,7 @@ not_there (k ∷ kept) word none = go (bytes_eq word k) refl (not_there kept wor
     go false is rest = rest
 
 -- one that stands somewhere is
-is_there : (kept : List (List ℕ)) (word : List ℕ) (place : ℕ) → slice_get kept place ≡ Some word → is_kept_among kept word ≡ true
+pub is_there : (kept : List (List ℕ)) (word : List ℕ) (place : ℕ) → slice_get kept place ≡ Some word → is_kept_among kept word ≡ true
 is_there [] word place at = cc
 is_there (k ∷ kept) word zero at =
     let same : k ≡ word = cc in
@@ -60,15 +60,16 @@ module _ (kept : List (List ℕ)) (places : BTreeMap (Vec ℕ Global) ℕ) (are 
       go None is = refl
       go (Some place) is = let there : is_kept_among kept word ≡ true = is_there kept word place (are.each place word is) in cc
 
-  -- a word with a place stands there alone
+  -- a word with a place stands there
   pub stands_at : (place : ℕ) → place_in places word ≡ Some place → slice_get kept place ≡ Some word
   stands_at place is = are.each place word is
 
-  pub stands_once : (place : ℕ) → place_in places word ≡ Some place → (other : ℕ) → slice_get kept other ≡ Some word → other ≡ place
-  stands_once place is other there = let found : place_in places word ≡ Some other = are.has other word there in cc
-
-  pub stands_among : (place : ℕ) → place_in places word ≡ Some place → is_kept_among kept word ≡ true
-  stands_among place is = is_there kept word place (are.each place word is)
+  -- a word that stands somewhere stands there alone
+  pub stands_once : (place : ℕ) → slice_get kept place ≡ Some word → (other : ℕ) → slice_get kept other ≡ Some word → other ≡ place
+  stands_once place at other there =
+      let first : place_in places word ≡ Some place = are.has place word at in
+      let second : place_in places word ≡ Some other = are.has other word there in
+      cc
 
 -- ---- its count grows
 
@@ -112,8 +113,12 @@ words_stay [] place before now at same = refl
 words_stay (k ∷ list) zero before now at same = let here : k ≡ before = cc in ap (λ (w : List ℕ). w ∷ words_in list) (same ∙ sym (ap (λ (b : Kept). b.word) here))
 words_stay (k ∷ list) (suc place) before now at same = ap (λ (ws : List (List ℕ)). k.word ∷ ws) (words_stay list place before now at same)
 
--- where a word has its place, there is one
-pub stands_within : (list : List Kept) (places : BTreeMap (Vec ℕ Global) ℕ) (are : ArePlaces (words_in list) places) (word : List ℕ) (place : ℕ) → place_in places word ≡ Some place → place < length list
-stands_within list places are word place is =
-    let within : place < length (words_in list) = slice_get_within (words_in list) place word (are.each place word is) in
+-- where a word stands among those that are told, it stands in the list
+pub stands_in : (list : List Kept) (words : List Counted) (place : ℕ) (word : List ℕ) → told list ≡ words → slice_get (map (λ (d : Counted). d.0) words) place ≡ Some word → slice_get (words_in list) place ≡ Some word
+stands_in list words place word is at = ap (λ ws. slice_get ws place) (sym (told_words list) ∙ ap (map (λ (d : Counted). d.0)) is) ∙ at
+
+-- where a word stands, there is a place
+pub stands_within : (list : List Kept) (word : List ℕ) (place : ℕ) → slice_get (words_in list) place ≡ Some word → place < length list
+stands_within list word place at =
+    let within : place < length (words_in list) = slice_get_within (words_in list) place word at in
     omega (arith, length-map list (λ (k : Kept). k.word))

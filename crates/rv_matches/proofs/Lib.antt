@@ -1,8 +1,10 @@
 pub mod AddedLemmas
+pub mod AskedLemmas
 pub mod CountLemmas
 pub mod CountedRuleLemmas
 pub mod EventFactLemmas
 pub mod EventLineLemmas
+pub mod FarLemmas
 pub mod FieldLemmas
 pub mod FirstLemmas
 pub mod KeptFieldLemmas
@@ -13,7 +15,10 @@ pub mod NamedLemmas
 pub mod NearLemmas
 pub mod PlaceLemmas
 pub mod RuleTestLemmas
+pub mod ShortLemmas
 pub mod SpelledLemmas
+pub mod StampLemmas
 pub mod TextLemmas
 pub mod TimeLemmas
+pub mod TopBitLemmas
 pub mod WordLemmas

@@ -48,14 +48,14 @@ nears_more event names far place d within =
     ∙ filter-append (λ (n : Near). eqb n.distance far) (map (near event) (take place names)) (near event (get_or names place d) ∷ [])
 
 -- a name too, behind those that were found
-pub found_more : (event : List ℕ) (names : List Counted) (far place dist : ℕ) (counted : Counted) (before now later : List Near) → slice_get names place ≡ Some counted → dist ≡ distance event counted.0
+pub found_more : (event : List ℕ) (names : List Counted) (far place dist : ℕ) (counted : Counted) (before now later : List Near) → slice_get names place ≡ Some counted → near_at counted dist far ≡ near_at counted (distance event counted.0) far
     → now ≡ take MOST_NEAR (before ++ nears_at event (take place names) far) → later ≡ take MOST_NEAR (now ++ near_at counted dist far)
     → later ≡ take MOST_NEAR (before ++ nears_at event (take (place + 1) names) far)
 found_more event names far place dist counted before now later at is now_is later_is =
     let within : place < length names = slice_get_within names place counted at in
     let there : get_or names place counted ≡ counted = get_or_from_slice_get names place counted counted at in
     let one : List Near = near_at (get_or names place counted) (distance event (get_or names place counted).0) far in
-    let same : near_at counted dist far ≡ one = ap (λ (n : ℕ). near_at counted n far) is ∙ ap (λ (c : Counted). near_at c (distance event c.0) far) (sym there) in
+    let same : near_at counted dist far ≡ one = is ∙ ap (λ (c : Counted). near_at c (distance event c.0) far) (sym there) in
     later_is
     ∙ ap₂ (λ (xs ys : List Near). take MOST_NEAR (xs ++ ys)) now_is same
     ∙ front_front MOST_NEAR (before ++ nears_at event (take place names) far) one

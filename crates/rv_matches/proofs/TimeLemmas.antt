@@ -22,7 +22,7 @@ digits-at text i all inside =
     ]
 
 -- a digit is no more than 9
-digit-high : (byte : ℕ) → is_digit byte ≡ true → byte - 48 ≤ 9
+pub digit-high : (byte : ℕ) → is_digit byte ≡ true → byte - 48 ≤ 9
 digit-high byte is = omega (arith, leb-true byte 57 (and_parts (leb 48 byte) (leb byte 57) is).1)
 
 -- and no less than that of 0

@@ -1,5 +1,5 @@
 -- What the lines of a trace are to a rule: those of its event, those on which it fires, and what its fields have there.
-use Rattle.std.specs.Prelude.{◌≡◌, ◌≤◌, ℕ, Bool, ◌==◌, List, [], ◌∷◌, ◌++◌, length, map, take, filter, filter_map, count_by, All, Some, is_none, slice_get, if◌then◌else◌}
+use Rattle.std.specs.Prelude.{◌≡◌, ◌≤◌, ℕ, Bool, ◌==◌, List, [], ◌∷◌, ◌++◌, length, map, take, filter, filter_map, count_by, All, Some, None, is_none, slice_get, if◌then◌else◌}
 use Rattle.std.specs.List.{AllZip, list_any}
 use Rattle.rv_bind.specs.declared.bindings.Test.{Test}
 use Rattle.rv_bind.specs.RuleValues.{OnValue}
@@ -88,8 +88,13 @@ has_rule rules line = list_any (λ rule. is_of rule.event line) rules
 abbrev pub is_fired : List OnValue → LineEvent → Bool
 is_fired rules line = list_any (λ rule. fires_on rule line) rules
 
--- what is kept of rules: what the lines are to each, how many lines some rule names, and on how many some rule fires
+-- the rule by no field, which fires on the same lines
+abbrev pub without_by : OnValue → OnValue
+without_by rule = record { monitor = rule.monitor; event = rule.event; by = None; tests = rule.tests; hit = rule.hit }
+
+-- what is kept of rules: the rules by no field, and by their events; what the lines are to each, how many lines some rule names, and on how many some rule fires
 pub record RuleLinesValue : Type 0 where
+  pub asked : List OnValue
   pub index : List Event
   pub rules : List RuleLine
   pub named : ℕ
@@ -128,8 +133,9 @@ pub record IsByTests (rule : OnValue) (r : RuleLine) : Type 0 where
 
 -- it is kept for these rules
 pub record IsForRules (rules : List OnValue) (value : RuleLinesValue) : Type 0 where
-  pub index : IsIndexOf rules value.index
-  pub places : AllZip IsByTests rules value.rules
+  pub asked : value.asked ≡ map without_by rules
+  pub index : IsIndexOf value.asked value.index
+  pub places : AllZip IsByTests value.asked value.rules
 
 -- what was counted of any lines becomes what is counted of these and one more
 abbrev pub CountsRuleLine : List OnValue → LineEvent → RuleLinesValue → RuleLinesValue → Type 0

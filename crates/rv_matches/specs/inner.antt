@@ -1,5 +1,6 @@
 pub mod LateTimes
 pub mod NamesNear
 pub mod RuleSteps
+pub mod ShortTimes
 pub mod TextSteps
 pub mod Times

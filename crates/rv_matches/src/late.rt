@@ -1,10 +1,11 @@
 //! Timestamps that go back: the latest one so far, and the lines whose time is before it.
-ghost use Rattle.std.specs.Prelude.{◌≡◌, ◌+◌, [], true, Some, None, IfOk, OnOk};
+ghost use Rattle.std.specs.Prelude.{◌≡◌, ◌+◌, [], true, Some, None, IfOk, IfSome, OnOk};
 ghost use Rattle.std.specs.Option.{option_or};
 ghost use Rattle.rv_matches.specs.inner.LateTimes.{HasTime, TellsTime, is_late, is_latest, times_of};
 ghost use Rattle.rv_matches.specs.Times.{is_time};
+ghost use Rattle.rv_matches.specs.inner.ShortTimes.{IsShortTime};
 
-use crate::times::is_before;
+use crate::short_times::{ShortTime, is_earlier};
 use crate::words::one_more;
 use rv_model::Name;
 use std::alloc::{AllocError, Global};
@@ -32,20 +33,23 @@ pub(crate) struct Times {
     any: bool,
     /// The latest, whose memory is kept from line to line, and its line.
     stamp: Vec<u8>,
+    /// The latest as a number, if it is short.
+    short: Option<ShortTime>,
     line: u32,
     first_late: Option<Late>,
     late: u64,
 }
 
 impl Model for Times {
-    ghost use Rattle.std.specs.Prelude.{Some, None, if◌then◌else◌};
+    ghost use Rattle.std.specs.Prelude.{Some, None, IfSome, if◌then◌else◌};
     ghost use Rattle.rv_matches.specs.inner.LateTimes.{HasTime, TimesValue};
+    ghost use Rattle.rv_matches.specs.inner.ShortTimes.{IsShortTime};
 
     ghost Value = { TimesValue };
 
     ghost view = { λ t. record { latest = if t.any then Some (record { line = t.line; stamp = t.stamp.items }) else None; late = record { first = t.first_late; count = t.late } } };
 
-    ghost invariant = { λ t. HasTime (if t.any then Some (record { line = t.line; stamp = t.stamp.items }) else None) };
+    ghost invariant = { λ t. HasTime (if t.any then Some (record { line = t.line; stamp = t.stamp.items }) else None) × IfSome t.short (IsShortTime t.stamp.items) };
 }
 
 /// The timestamp of a line.
@@ -66,6 +70,7 @@ impl Times {
         Times {
             any: false,
             stamp: Vec::new(alloc),
+            short: None,
             line: 0,
             first_late: None,
             late: 0,
@@ -83,30 +88,40 @@ impl Times {
     }
 
     /// Whether the timestamp of the line becomes the latest.
-    fn is_latest(&self, line: u32, stamp: &[u8]) -> bool
-        requires { is_time stamp.now ≡ true }
+    fn is_latest(&self, line: u32, stamp: &[u8], short: Option<ShortTime>) -> bool
+        requires time { is_time stamp.now ≡ true }
+        requires short { IfSome short (IsShortTime stamp.now) }
         ensures { result ≡ is_latest self.now.latest (record { line = line; stamp = stamp.now }) }
     {
-        !self.any || is_before(self.stamp.as_slice(), stamp)
+        !self.any || is_earlier(self.stamp.as_slice(), self.short, stamp, short)
     }
 
     /// Whether the timestamp of the line is before the latest.
-    fn is_late(&self, line: u32, stamp: &[u8]) -> bool
-        requires { is_time stamp.now ≡ true }
+    fn is_late(&self, line: u32, stamp: &[u8], short: Option<ShortTime>) -> bool
+        requires time { is_time stamp.now ≡ true }
+        requires short { IfSome short (IsShortTime stamp.now) }
         ensures { result ≡ is_late self.now.latest (record { line = line; stamp = stamp.now }) }
     {
-        self.any && is_before(stamp, self.stamp.as_slice())
+        self.any && is_earlier(stamp, short, self.stamp.as_slice(), self.short)
     }
 
     /// The timestamp of the line becomes the latest.
-    fn set_latest(&mut self, line: u32, stamp: &[u8]) -> Result<(), AllocError>
-        requires { is_time stamp.now ≡ true }
+    fn set_latest(
+        &mut self,
+        line: u32,
+        stamp: &[u8],
+        short: Option<ShortTime>,
+    ) -> Result<(), AllocError>
+        requires time { is_time stamp.now ≡ true }
+        requires short { IfSome short (IsShortTime stamp.now) }
         ensures latest { OnOk result (self.new.latest ≡ Some (record { line = line; stamp = stamp.now })) }
         ensures late { self.new.late ≡ self.old.late }
     {
         self.any = false;
+        self.short = None;
         self.stamp.clear();
         self.stamp.extend_from_slice(stamp)?;
+        self.short = short;
         self.line = line;
         self.any = true;
         Ok(())
@@ -128,15 +143,22 @@ impl Times {
     }
 
     /// One more timestamp.
-    pub(crate) fn add(&mut self, alloc: Global, line: u32, stamp: &[u8]) -> Result<(), AllocError>
-        requires { is_time stamp.now ≡ true }
+    pub(crate) fn add(
+        &mut self,
+        alloc: Global,
+        line: u32,
+        stamp: &[u8],
+        short: Option<ShortTime>,
+    ) -> Result<(), AllocError>
+        requires time { is_time stamp.now ≡ true }
+        requires short { IfSome short (IsShortTime stamp.now) }
         ensures { OnOk result (TellsTime (record { line = line; stamp = stamp.now }) self.old self.new) }
     {
-        if self.is_latest(line, stamp) {
-            self.set_latest(line, stamp)?;
+        if self.is_latest(line, stamp, short) {
+            self.set_latest(line, stamp, short)?;
             return Ok(());
         }
-        if self.is_late(line, stamp) {
+        if self.is_late(line, stamp, short) {
             self.add_late(alloc, line, stamp)?;
             return Ok(());
         }

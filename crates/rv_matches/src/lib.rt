@@ -1,11 +1,14 @@
 //! What the lines of a trace are to the rules: events, tests, values, and what a trace tells of itself.
 #![tactic(auto)]
 
+mod asked_rules;
 mod event_facts;
+mod lanes;
 mod late;
 mod limits;
 mod near;
 mod rule_lines;
+mod short_times;
 mod text_facts;
 mod times;
 mod words;

@@ -1,7 +1,7 @@
 //! The names of a trace that come nearest to one of the bindings, by Levenshtein's distance over bytes.
-ghost use Rattle.std.specs.Prelude.{◌≡◌, ◌<◌, ◌≤◌, ◌++◌, ℕ, List, length, map, slice_get, take, IfOk, IfSome, OnOk};
+ghost use Rattle.std.specs.Prelude.{◌≡◌, ◌<◌, ◌≤◌, ◌++◌, ℕ, List, length, map, min, slice_get, take, IfOk, IfSome, OnOk};
 ghost use Rattle.rv_matches.specs.Nearest.{distance, edits, nearest, nears_at, own_name, reach};
-ghost use Rattle.rv_matches.specs.inner.NamesNear.{near_at};
+ghost use Rattle.rv_matches.specs.inner.NamesNear.{IsAsNear, near_at};
 
 use crate::words::{CountedWords, LONGEST};
 use rv_model::Name;
@@ -41,14 +41,34 @@ fn edits(alloc: Global, one: &[u8], other: &[u8]) -> Result<usize, AllocError>
     generic_levenshtein(alloc, one, other)
 }
 
-/// The least number of edits, where of each name its own part may stand for the whole.
-fn distance(alloc: Global, one: &[u8], other: &[u8]) -> Result<usize, AllocError>
-    ensures { IfOk result (λ n. n ≡ distance one.now other.now) }
+/// The edits, or so many where even the lengths differ by as many.
+fn near_edits(alloc: Global, one: &[u8], other: &[u8], far: usize) -> Result<usize, AllocError>
+    ensures { IfOk result (IsAsNear far (edits one.now other.now)) }
 {
-    let own = own_name(one);
+    if one.len().abs_diff(other.len()) >= far {
+        return Ok(far);
+    }
+    edits(alloc, one, other)
+}
+
+/// The least number of edits, where of each name its own part may stand for the whole.
+fn distance(
+    alloc: Global,
+    one: &[u8],
+    own: &[u8],
+    other: &[u8],
+    far: usize,
+) -> Result<usize, AllocError>
+    requires { own.now ≡ own_name one.now }
+    ensures { IfOk result (IsAsNear far (distance one.now other.now)) }
+{
     let its = own_name(other);
-    let whole = edits(alloc, one, other)?.min(edits(alloc, one, its)?);
-    let part = edits(alloc, own, other)?.min(edits(alloc, own, its)?);
+    let whole = near_edits(alloc, one, other, far)?;
+    if own == one && its == other {
+        return Ok(whole);
+    }
+    let whole = whole.min(near_edits(alloc, one, its, far)?);
+    let part = near_edits(alloc, own, other, far)?.min(near_edits(alloc, own, its, far)?);
     Ok(whole.min(part))
 }
 
@@ -59,13 +79,19 @@ fn reach(event: &[u8]) -> usize
     (own_name(event).len() / 3).min(FARTHEST)
 }
 
-/// The distance of each name.
-fn distances(alloc: Global, event: &[u8], names: &CountedWords) -> Result<Vec<usize>, AllocError>
-    ensures { IfOk result (λ list. list.items ≡ map (λ counted. distance event.now counted.0) names.now.words) }
+/// The distance of each name, up to the one that is too far.
+fn distances(
+    alloc: Global,
+    event: &[u8],
+    names: &CountedWords,
+    far: usize,
+) -> Result<Vec<usize>, AllocError>
+    ensures { IfOk result (λ list. map (λ near. min near far) list.items ≡ map (λ counted. min (distance event.now counted.0) far) names.now.words) }
 {
+    let own = own_name(event);
     let mut list = Vec::with_capacity(alloc, names.len())?;
     for place in 0..names.len() {
-        list.push(distance(alloc, event, names.word(place))?)?;
+        list.push(distance(alloc, event, own, names.word(place), far)?)?;
     }
     Ok(list)
 }
@@ -107,7 +133,7 @@ fn add_far(
 ) -> Result<(), AllocError>
     requires many { length distances.now ≡ length names.now.words }
     requires few { length found.old.items ≤ MOST_NEAR }
-    ensures added { OnOk result ((event : List ℕ) → distances.now ≡ map (λ counted. distance event counted.0) names.now.words → found.new.items ≡ take MOST_NEAR (found.old.items ++ nears_at event names.now.words far)) }
+    ensures added { OnOk result ((event : List ℕ) (least : ℕ) → far < least → map (λ near. min near least) distances.now ≡ map (λ counted. min (distance event counted.0) least) names.now.words → found.new.items ≡ take MOST_NEAR (found.old.items ++ nears_at event names.now.words far)) }
     ensures few { length found.new.items ≤ MOST_NEAR }
 {
     for place in 0..distances.len() {
@@ -124,8 +150,9 @@ pub fn nearest(alloc: Global, event: &[u8], names: &CountedWords) -> Result<Vec<
     if event.len() > LONGEST {
         return Ok(found);
     }
-    let distances = distances(alloc, event, names)?;
-    for far in 0..reach(event) + 1 {
+    let far = reach(event) + 1;
+    let distances = distances(alloc, event, names, far)?;
+    for far in 0..far {
         add_far(alloc, names, distances.as_slice(), far, &mut found)?;
     }
     Ok(found)

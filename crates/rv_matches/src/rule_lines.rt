@@ -12,6 +12,7 @@ ghost use Rattle.rv_matches.specs.inner.RuleSteps.{field_name};
 ghost use Rattle.rv_matches.specs.inner.RuleSteps.{CountsEventLine, CountsFields, CountsLineOf, CountsTests, CountsValue, KeepsField, KeepsName};
 ghost use Rattle.rv_matches.specs.Words.{is_kept_among};
 
+use crate::asked_rules::asked_rules;
 use crate::words::{CountedWords, one_more};
 use rv_bind::{On, Test};
 use rv_model::Name;
@@ -52,6 +53,8 @@ pub struct RuleLine {
 /// What the lines are to all rules. Only the rules on a line's event are looked at.
 #[derive(Drop)]
 pub struct RuleLines {
+    /// The rules without what only routing needs: no other field is looked up than those of tests.
+    asked: Vec<On>,
     index: Index,
     /// What a line's fields have.
     finds: Finds,
@@ -65,7 +68,7 @@ impl Model for RuleLines {
 
     ghost Value = { RuleLinesValue };
 
-    ghost view = { λ r. record { index = r.index; rules = r.rules.items; named = r.named; fired = r.fired } };
+    ghost view = { λ r. record { asked = r.asked.items; index = r.index; rules = r.rules.items; named = r.named; fired = r.fired } };
 }
 
 /// One more where it is so.
@@ -203,7 +206,31 @@ fn add_fields(
     Ok(())
 }
 
+/// Empties a list that is not yet empty.
+#[inline(always)]
+fn empty<T: Drop>(list: &mut Vec<T>)
+    ensures { list.new.items ≡ [] }
+{
+    if !list.is_empty() {
+        list.clear();
+    }
+}
+
+/// Whether the rule fires. One without tests fires on each line of its event.
+#[inline(always)]
+fn is_fired(fields: &[u8], rule: &On, asked: &Asked, found: &[Option<Span>]) -> bool
+    requires found { HasFound fields.now found.now asked.now rule.now }
+    requires inside { All (IsInside fields.now) found.now }
+    ensures { result ≡ list_all (holds fields.now) rule.now.tests }
+{
+    if rule.tests.is_empty() {
+        return true;
+    }
+    is_met(fields, rule, asked, found)
+}
+
 /// One more line of the rule's event, whose fields were looked up. Whether the rule fires.
+#[inline(always)]
 fn add_line(
     alloc: Global,
     count: &mut RuleLine,
@@ -220,10 +247,10 @@ fn add_line(
     ensures places { IsByTests rule.now count.new }
 {
     count.lines = one_more(count.lines)?;
-    if is_met(fields, rule, asked, found) {
+    if is_fired(fields, rule, asked, found) {
         count.fires = one_more(count.fires)?;
-        count.holds.clear();
-        count.fields.clear();
+        empty(&mut count.holds);
+        empty(&mut count.fields);
         return Ok(true);
     }
     add_tests(&mut count.holds, rule, asked, fields, found)?;
@@ -263,12 +290,14 @@ impl RuleLines {
         ensures made { IfOk result (IsForRules rules.now) }
         ensures none { IfOk result (AreRuleLines rules.now []) }
     {
-        let index = index_of(alloc, rules)?;
+        let asked = asked_rules(alloc, rules)?;
+        let index = index_of(alloc, asked.as_slice())?;
         let mut counts = Vec::with_capacity(alloc, rules.len())?;
-        for rule in rules {
+        for rule in &asked {
             counts.push(no_lines(alloc, rule)?)?;
         }
         Ok(RuleLines {
+            asked,
             index,
             finds: Finds::new(alloc),
             rules: counts,
@@ -277,7 +306,7 @@ impl RuleLines {
         })
     }
 
-    /// One more line, whose pieces are places in the text.
+    /// One more line, whose pieces are places in the text. What is asked of it was kept at first: the rules are for the contract.
     pub fn add(
         &mut self,
         alloc: Global,
@@ -302,7 +331,7 @@ impl RuleLines {
         let fired = add_event(
             alloc,
             self.rules.as_mut_slice(),
-            rules,
+            self.asked.as_slice(),
             event,
             fields,
             self.finds.spans(),

@@ -1,5 +1,6 @@
 //! What the lines of a text tell, events or not: how many they are, their ends, and the kernel's comment on its buffer.
-ghost use Rattle.std.specs.Prelude.{◌≡◌, [], OnOk};
+ghost use Rattle.std.specs.Prelude.{◌≡◌, [], ◌∷◌, nat_eq, OnOk};
+ghost use Rattle.std.specs.List.{ends_with};
 ghost use Rattle.std.specs.Option.{option_or};
 ghost use Rattle.rv_text.specs.TextLines.{line_text};
 ghost use Rattle.rv_matches.specs.TextFacts.{TellsTextLine, entries_in, entries_on, text_facts};
@@ -33,6 +34,14 @@ impl Model for TextFacts {
     ghost Value = { TextFactsValue };
 
     ghost view = { λ t. record { lines = t.lines; overwritten = t.overwritten; returns = record { first = t.first_return; count = t.returns } } };
+}
+
+/// Whether the text ends in a carriage return.
+#[inline(always)]
+fn is_returning(text: &[u8]) -> bool
+    ensures { result ≡ ends_with nat_eq text.now (13 ∷ []) }
+{
+    !text.is_empty() && text[text.len() - 1] == b'\r'
 }
 
 /// The two numbers that a slash parts.
@@ -99,7 +108,7 @@ impl TextFacts {
         ensures returns { OnOk result (TellsReturn (line_text line.entry) self.old.returns self.new.returns) }
         ensures kept { OnOk result ((self.new.lines ≡ self.old.lines) × (self.new.overwritten ≡ self.old.overwritten)) }
     {
-        if !line.bytes.ends_with(b"\r") {
+        if !is_returning(line.bytes) {
             return Ok(());
         }
         self.returns = one_more(self.returns)?;

@@ -1,5 +1,5 @@
 //! Words by first appearance, each with how often it was there.
-ghost use Rattle.std.specs.Prelude.{◌≡◌, ◌+◌, ◌<◌, [], ◌∷◌, ◌++◌, length, map, false, slice_get, IfOk, IfSome, OnOk};
+ghost use Rattle.std.specs.Prelude.{◌≡◌, ◌+◌, ◌<◌, [], ◌∷◌, ◌++◌, length, map, false, slice_get, Some, IfOk, IfSome, IfNone, OnOk};
 ghost use Rattle.rv_matches.specs.Words.{counted_value, is_kept_among, CountsWord};
 
 use rv_model::Name;
@@ -15,6 +15,24 @@ pub(crate) fn one_more(count: u64) -> Result<u64, AllocError>
     ensures { IfOk result (λ n. n ≡ count + 1) }
 {
     count.checked_add(1).ok_or(AllocError)
+}
+
+/// How many keys there are.
+const KEYS: usize = 512;
+/// Up to so many words are found in the map alone.
+const FEW_WORDS: usize = 16;
+
+/// A number that most words have for themselves, from their middle and last byte and their length.
+#[inline(always)]
+fn key_of(word: &[u8]) -> usize
+    ensures { result < KEYS }
+{
+    if word.is_empty() {
+        return 0;
+    }
+    let middle = word[word.len() / 2] as usize;
+    let last = word[word.len() - 1] as usize;
+    ((middle * 3 + last) * 3 + word.len() % 256) % KEYS
 }
 
 /// A word that is kept, and how often it was there.
@@ -41,6 +59,10 @@ pub struct CountedWords {
     list: Vec<Kept>,
     /// The place of each word. No words that are chosen make an ordered map slow.
     places: BTreeMap<Vec<u8>, usize>,
+    /// For each key the place of the first word with it, where there may be many words. It is only believed if the word stands there.
+    leads: Vec<Option<usize>>,
+    /// The place of the word that was counted again last: many come in runs. It is only believed if the word stands there.
+    last: usize,
     others: u64,
 }
 
@@ -65,8 +87,61 @@ impl CountedWords {
             most,
             list: Vec::new(alloc),
             places: BTreeMap::new(alloc),
+            leads: Vec::new(alloc),
+            last: 0,
             others: 0,
         }
+    }
+
+    /// The place, if the word stands there.
+    #[inline(always)]
+    fn held_place(&self, word: &[u8], place: usize) -> Option<usize>
+        ensures { IfSome result (λ place. slice_get (map (λ counted. counted.0) self.now.words) place ≡ Some word.now) }
+    {
+        let kept = self.list.get(place)?;
+        if kept.word.bytes() == word {
+            return Some(place);
+        }
+        None
+    }
+
+    /// Where the last word stands or the word's key leads, if the word stands there.
+    #[inline(always)]
+    fn led_place(&self, word: &[u8]) -> Option<usize>
+        ensures { IfSome result (λ place. slice_get (map (λ counted. counted.0) self.now.words) place ≡ Some word.now) }
+    {
+        if let Some(place) = self.held_place(word, self.last) {
+            return Some(place);
+        }
+        let place = (*self.leads.get(key_of(word))?)?;
+        self.held_place(word, place)
+    }
+
+    /// Where the word stands, if it is kept.
+    fn place_of(&self, word: &[u8]) -> Option<usize>
+        ensures some { IfSome result (λ place. slice_get (map (λ counted. counted.0) self.now.words) place ≡ Some word.now) }
+        ensures none { IfNone result (is_kept_among (map (λ counted. counted.0) self.now.words) word.now ≡ false) }
+    {
+        if let Some(place) = self.places.get(word) {
+            return Some(*place);
+        }
+        None
+    }
+
+    /// The key leads to the place, if it leads nowhere yet.
+    fn lead(&mut self, alloc: Global, key: usize, place: usize) -> Result<(), AllocError>
+        ensures { self.new ≡ self.old }
+    {
+        if self.most <= FEW_WORDS {
+            return Ok(());
+        }
+        if self.leads.is_empty() {
+            self.leads = vec![in alloc; None; KEYS]?;
+        }
+        if key < self.leads.len() && self.leads[key].is_none() {
+            self.leads[key] = Some(place);
+        }
+        Ok(())
     }
 
     /// A word that is new comes last.
@@ -77,6 +152,7 @@ impl CountedWords {
         ensures most { self.new.most ≡ self.old.most }
     {
         let place = self.list.len();
+        let lead = key_of(word);
         let key = Vec::from_slice(alloc, word)?;
         let word = Name::new(alloc, word)?;
         self.list.reserve(1)?;
@@ -85,15 +161,17 @@ impl CountedWords {
             Ok(()) => {}
             Err(_) => unreachable!(),
         }
+        self.lead(alloc, lead, place)?;
         Ok(())
     }
 
-    /// One more word.
-    pub fn add(&mut self, alloc: Global, word: &[u8]) -> Result<(), AllocError>
+    /// One more word, wherever it stands. Apart from the words that are found at once, which are most.
+    #[inline(never)]
+    fn add_sought(&mut self, alloc: Global, word: &[u8]) -> Result<(), AllocError>
         ensures counts { OnOk result (CountsWord word.now self.old self.new) }
         ensures most { self.new.most ≡ self.old.most }
     {
-        if let Some(place) = self.places.get(word).copied() {
+        if let Some(place) = self.place_of(word) {
             count_again(&mut self.list[place])?;
             return Ok(());
         }
@@ -103,6 +181,20 @@ impl CountedWords {
         }
         self.others = one_more(self.others)?;
         Ok(())
+    }
+
+    /// One more word.
+    #[inline(always)]
+    pub fn add(&mut self, alloc: Global, word: &[u8]) -> Result<(), AllocError>
+        ensures counts { OnOk result (CountsWord word.now self.old self.new) }
+        ensures most { self.new.most ≡ self.old.most }
+    {
+        if let Some(place) = self.led_place(word) {
+            self.last = place;
+            count_again(&mut self.list[place])?;
+            return Ok(());
+        }
+        self.add_sought(alloc, word)
     }
 
     /// How many words are kept.

@@ -1,5 +1,5 @@
 -- What is asked of an entry that is a delivery, or an end, on a slot.
-use Rattle.std.proofs.Common.{◌≡◌, ◌≢◌, ◌⊎◌, ℕ, ◌+◌, Bool, true, false, ◌&&◌, ◌||◌, ◌==◌, List, [], ◌∷◌, reverse, refl, sym, ap, ◌∙◌, true≢false, arith}
+use Rattle.std.proofs.Common.{◌≡◌, ◌≢◌, ◌⊎◌, ℕ, ◌+◌, ◌<◌, ◌≤◌, Bool, true, false, ◌&&◌, ◌||◌, ◌==◌, List, [], ◌∷◌, reverse, refl, sym, ap, ◌∙◌, true≢false, arith}
 use Rattle.std.specs.Bool.{if◌then◌else◌}
 use Rattle.std.proofs.lemmas.List.{reverse-append}
 use Rattle.rv_model.specs.declared.entry.Act.{Act}
@@ -39,6 +39,10 @@ told-same n m is = grind arith
 -- two numbers are the same, or not
 pub same_or_not : (n m : ℕ) → (n ≡ m) ⊎ (n ≢ m)
 same_or_not n m = grind arith
+
+-- a number is below another, or not
+pub below_or_not : (n m : ℕ) → (n < m) ⊎ (m ≤ n)
+below_or_not n m = grind arith
 
 -- both, of which one is not so
 pub and-false : (b c : Bool) → c ≡ false → (b && c) ≡ false

@@ -4,8 +4,8 @@ ghost use Rattle.rv_model.specs.Letters.{atoms_in};
 ghost use Rattle.rv_model.specs.Phases.{rows_of};
 ghost use Rattle.rv_model.specs.Setups.{judge_of};
 ghost use Rattle.rv_core.specs.Setup.{judges_of};
-ghost use Rattle.rv_reach.specs.Reached.{is_event, is_run, takes};
-ghost use Rattle.rv_reach.specs.inner.RowSets.{rows_before, rows_behind, runs_behind};
+ghost use Rattle.rv_reach.specs.Reached.{is_kept, is_run, is_started};
+ghost use Rattle.rv_reach.specs.inner.RowSets.{is_move, rows_before, rows_behind, runs_behind};
 ghost use Rattle.rv_reach.specs.inner.Counters.{IsJudged};
 
 use rv_core::{Core, RowPhase};
@@ -89,33 +89,36 @@ pub(crate) fn atoms_in(letter: Letter) -> u32
     }
 }
 
+/// Whether a run begins with it.
+#[inline(always)]
+pub(crate) fn is_started(answer: Answer) -> bool
+    ensures { result ≡ is_started answer }
+{
+    matches!(answer, Answer::Started)
+}
+
+/// Whether the run goes on.
+#[inline(always)]
+pub(crate) fn is_kept(answer: Answer) -> bool
+    ensures { result ≡ is_kept answer }
+{
+    matches!(answer, Answer::Kept)
+}
+
 /// Whether the letter holds, and is one of the run.
-fn is_run(mode: Mode, answer: Answer) -> bool
+#[inline(always)]
+pub(crate) fn is_run(mode: Mode, answer: Answer) -> bool
     ensures { result ≡ is_run mode answer }
 {
-    match answer {
-        Answer::Started => matches!(mode, Mode::StartRun),
-        Answer::Kept => true,
-        _ => false,
-    }
+    is_kept(answer) || is_started(answer) && matches!(mode, Mode::StartRun)
 }
 
-/// Whether the letter is this event.
-fn is_event(event: u8, letter: Letter) -> bool
-    ensures { result ≡ is_event event letter }
+/// Whether the edge goes by the event from one set of rows to another. State k of an automaton has the row k + 1.
+#[inline(always)]
+pub(crate) fn is_move(edge: &Edge, event: u8, from: u32, to: u32) -> bool
+    ensures { result ≡ is_move edge.now event from to }
 {
-    match letter {
-        Letter::Event(brought) => brought == event,
-        Letter::Atoms(_) => false,
-    }
-}
-
-/// Whether the letter takes the edge. State k of an automaton has the row k + 1.
-pub(crate) fn takes(edge: &Edge, judged: &Judged) -> bool
-    ensures { result ≡ takes edge.now judged.now.mode judged.now.answer judged.now.letter judged.now.from (rows_behind judged.now.after) }
-{
-    is_run(judged.mode, judged.answer)
-        && is_event(edge.event, judged.letter)
-        && has_bit(u64::from(judged.from), edge.from as usize + 1)
-        && has_bit(u64::from(rows_behind(judged.after)), edge.to as usize + 1)
+    event == edge.event
+        && has_bit(u64::from(from), edge.from as usize + 1)
+        && has_bit(u64::from(to), edge.to as usize + 1)
 }

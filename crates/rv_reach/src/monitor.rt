@@ -1,11 +1,11 @@
 //! What the deliveries of one monitor have reached.
 ghost use Rattle.std.specs.Prelude.{◌≡◌, ◌<◌, IfOk, OnOk, count_by, sum};
 ghost use Rattle.rv_reach.specs.Counts.{atom_count, edges_of};
-ghost use Rattle.rv_reach.specs.Reached.{is_kept, is_passed, is_started};
-ghost use Rattle.rv_reach.specs.inner.Counters.{EndsInstance, IsMarked, IsUnreached, JudgesLetter, PassesDelivery, ReachesRecord};
+ghost use Rattle.rv_reach.specs.Reached.{is_passed};
+ghost use Rattle.rv_reach.specs.inner.Counters.{CountsAnswer, EndsInstance, IsMarked, IsUnreached, JudgesLetter, PassesDelivery, ReachesRecord};
 
 use crate::counters::{count_bits, count_edges, more};
-use crate::judged::{Judged, atoms_in, judged_of, rows_behind, runs_behind};
+use crate::judged::{Judged, atoms_in, is_kept, is_started, judged_of, rows_behind, runs_behind};
 use rv_core::{Core, RowPhase};
 use rv_model::{Answer, Delivered, Edge, Record, Spec, fails};
 use std::alloc::{AllocError, Global};
@@ -58,25 +58,15 @@ fn atom_count(spec: &Spec) -> usize
     }
 }
 
+#[inline(always)]
 fn is_passed(answer: Answer) -> bool
     ensures { result ≡ is_passed answer }
 {
     matches!(answer, Answer::Passed)
 }
 
-fn is_started(answer: Answer) -> bool
-    ensures { result ≡ is_started answer }
-{
-    matches!(answer, Answer::Started)
-}
-
-fn is_kept(answer: Answer) -> bool
-    ensures { result ≡ is_kept answer }
-{
-    matches!(answer, Answer::Kept)
-}
-
 /// Marks the instance on which a letter was judged, where there is such a one.
+#[inline(always)]
 fn mark(instances: &mut Vec<InstanceReach>, judged: &Judged)
     ensures { IsMarked judged.now instances.old.items instances.new.items }
 {
@@ -142,6 +132,7 @@ impl MonitorReach {
     }
 
     /// The record of one delivery more, on the machine that has made it.
+    #[inline(always)]
     pub(crate) fn add(
         &mut self,
         spec: &Spec,
@@ -194,17 +185,33 @@ impl MonitorReach {
         Ok(())
     }
 
+    /// A letter has this answer.
+    #[inline(always)]
+    fn answer(&mut self, answer: Answer) -> Result<(), AllocError>
+        ensures { OnOk result (CountsAnswer answer self.old self.new) }
+    {
+        self.letters = more(self.letters, true)?;
+        if is_kept(answer) {
+            self.kept = more(self.kept, true)?;
+            return Ok(());
+        }
+        if is_started(answer) {
+            self.started = more(self.started, true)?;
+            return Ok(());
+        }
+        self.failed = more(self.failed, fails(answer))?;
+        Ok(())
+    }
+
     /// A letter is judged.
+    #[inline(always)]
     fn judge(&mut self, edges: &[Edge], judged: &Judged) -> Result<(), AllocError>
         ensures { OnOk result (JudgesLetter edges.now judged.now self.old self.new) }
     {
-        self.started = more(self.started, is_started(judged.answer))?;
-        self.kept = more(self.kept, is_kept(judged.answer))?;
-        self.failed = more(self.failed, fails(judged.answer))?;
-        self.letters = more(self.letters, true)?;
+        self.answer(judged.answer)?;
+        count_edges(&mut self.edges, edges, judged)?;
         mark(&mut self.instances, judged);
         count_bits(&mut self.rows, rows_behind(judged.after), 1)?;
-        count_edges(&mut self.edges, edges, judged)?;
         count_bits(&mut self.atoms, atoms_in(judged.letter), 0)
     }
 }

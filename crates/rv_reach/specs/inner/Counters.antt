@@ -1,5 +1,5 @@
 -- What one delivery adds to the counts of its monitor.
-use Rattle.std.specs.Prelude.{◌≡◌, ◌≢◌, ℕ, ◌+◌, ◌<◌, ◌≤◌, ◌==◌, ◌||◌, Bool, true, false, List, [], length, reverse, replicate, slice_index, slice_index_or, if◌then◌else◌}
+use Rattle.std.specs.Prelude.{◌≡◌, ◌≢◌, ℕ, ◌+◌, ◌<◌, ◌≤◌, ◌^◌, ◌==◌, ◌||◌, Bool, true, false, List, [], length, reverse, replicate, slice_index, slice_index_or, if◌then◌else◌}
 use Rattle.rv_model.specs.declared.automaton.Edge.{Edge}
 use Rattle.rv_model.specs.declared.entry.Answer.{Answer}
 use Rattle.rv_model.specs.declared.formula.Spec.{Spec}
@@ -30,8 +30,14 @@ pub record CountsMore (counts : ℕ → Bool) (old new : List ℕ) : Type 0 wher
 -- the counts before the place have gone up, and the others not yet
 pub record CountedTo (counts : ℕ → Bool) (place : ℕ) (old cur : List ℕ) : Type 0 where
   pub many : length cur ≡ length old
-  pub done : (k : ℕ) → k < place → slice_index cur k ≡ slice_index old k + one_if (counts k)
-  pub rest : (k : ℕ) → place ≤ k → slice_index cur k ≡ slice_index old k
+  pub done : (k : ℕ) → k < length old → k < place → slice_index cur k ≡ slice_index old k + one_if (counts k)
+  pub rest : (k : ℕ) → k < length old → place ≤ k → slice_index cur k ≡ slice_index old k
+
+-- the counts have gone up but for those whose bits are left
+pub record CountedBut (left : ℕ) (counts : ℕ → Bool) (old cur : List ℕ) : Type 0 where
+  pub fits : left < 2 ^ 32
+  pub many : length cur ≡ length old
+  pub each : (k : ℕ) → k < length old → slice_index cur k + one_if (has_bit left k) ≡ slice_index old k + one_if (counts k)
 
 -- one instance is now another, and the others stay
 pub record Becomes (instance : ℕ) (next : InstanceReach → InstanceReach) (old new : List InstanceReach) : Type 0 where
@@ -56,6 +62,15 @@ pub record EndsInstance (instance : ℕ) (old new : MonitorReach) : Type 0 where
 abbrev pub PassesDelivery : MonitorReach → MonitorReach → Type 0
 PassesDelivery old new = new ≡ record old { passed = old.passed + 1 }
 
+-- a letter has this answer
+pub record CountsAnswer (answer : Answer) (old new : MonitorReach) : Type 0 where
+  pub started : new.started ≡ old.started + one_if (is_started answer)
+  pub kept : new.kept ≡ old.kept + one_if (is_kept answer)
+  pub failed : new.failed ≡ old.failed + one_if (fails answer)
+  pub letters : new.letters ≡ old.letters + 1
+  pub rest : new ≡ record old { started = new.started; kept = new.kept; failed = new.failed; letters = new.letters }
+
+-- and it is judged
 pub record JudgesLetter (all : List Edge) (judged : Judged) (old new : MonitorReach) : Type 0 where
   pub passed : new.passed ≡ old.passed
   pub started : new.started ≡ old.started + one_if (is_started judged.answer)

@@ -1,4 +1,4 @@
-use Rattle.std.proofs.Common.{◌≡◌, ◌<◌, ℕ, List, [], ◌∷◌, ◌++◌, length, get_or, map, take, Some, sym, ap, ap₂, ◌∙◌, subst, arith}
+use Rattle.std.proofs.Common.{◌≡◌, ◌<◌, ℕ, List, [], ◌∷◌, ◌++◌, length, get_or, map, min, take, Some, sym, ap, ap₂, ◌∙◌, subst, arith}
 use Rattle.std.specs.Prelude.{IfSome, slice_get}
 use Rattle.std.proofs.lemmas.List.{map_push, take_more}
 use Rattle.std.proofs.lemmas.Option.{slice_get-get_or}
@@ -16,7 +16,8 @@ loop-place-preserved c =
     let counted : Counted = get_or words place none in
     let at : slice_get words place ≡ Some counted = slice_get-get_or words place none inside in
     let named : c.word.result.now ≡ counted.0 = subst (λ o. IfSome o (λ n. c.word.result.now ≡ n.0)) at c.word.ensures in
-    let value : c.in_ok-distance.field-0 ≡ distance event counted.0 = c.in_ok-distance.ensures ∙ ap (distance event) named in
-    c.in_ok-push.ensures.items
+    let value : min c.in_ok-distance.field-0 c.args.far ≡ min (distance event counted.0) c.args.far = sym c.in_ok-distance.ensures ∙ ap (λ (n : List ℕ). min (distance event n) c.args.far) named in
+    ap (map (λ d. min d c.args.far)) c.in_ok-push.ensures.items
+    ∙ map_push (λ d. min d c.args.far) c.loop-place.list.items c.in_ok-distance.field-0
     ∙ ap₂ (λ (ds : List ℕ) (d : ℕ). ds ++ d ∷ []) c.loop-place.invariant value
-    ∙ sym (ap (map (λ (n : Counted). distance event n.0)) (take_more words place none inside) ∙ map_push (λ (n : Counted). distance event n.0) (take place words) counted)
+    ∙ sym (ap (map (λ (n : Counted). min (distance event n.0) c.args.far)) (take_more words place none inside) ∙ map_push (λ (n : Counted). min (distance event n.0) c.args.far) (take place words) counted)

@@ -7,18 +7,18 @@ use Rattle.rv_matches.specs.inner.RuleSteps.{CountsFields, CountsTests}
 use Rattle.rv_matches.proofs.CountedRuleLemmas.{firing, quiet}
 use Rattle.rv_matches.proofs.rule_lines.add_line.Goals as goal
 
-pub returns-then-is_met-clause-counts : goal.returns-then-is_met-clause-counts
-returns-then-is_met-clause-counts c = λ lines line named is was.
+pub returns-then-is_fired-clause-counts : goal.returns-then-is_fired-clause-counts
+returns-then-is_fired-clause-counts c = λ lines line named is was.
     let rule = c.args.rule.now in
-    let yes : list_all (holds line.fields) rule.tests ≡ true = ap (λ (f : List ℕ). list_all (holds f) rule.tests) is ∙ sym c.is_met.ensures ∙ c.if-is_met.true in
-    let new : RuleLine = record { lines = c.in_ok-count.field-0; fires = c.in_ok-count-2.field-0; holds = c.clear.new.self; fields = c.clear-then-is_met.new.self } in
-    firing rule lines line named c.args.count.now new was c.in_ok-count.ensures yes c.in_ok-count-2.ensures c.clear.ensures.items c.clear-then-is_met.ensures.items
+    let yes : list_all (holds line.fields) rule.tests ≡ true = ap (λ (f : List ℕ). list_all (holds f) rule.tests) is ∙ sym c.is_fired.ensures ∙ c.if-is_fired.true in
+    let new : RuleLine = record { lines = c.in_ok-count.field-0; fires = c.in_ok-count-2.field-0; holds = c.empty.new.list; fields = c.empty-then-is_fired.new.list } in
+    firing rule lines line named c.args.count.now new was c.in_ok-count.ensures yes c.in_ok-count-2.ensures c.empty.ensures c.empty-then-is_fired.ensures
 
 pub returns-clause-counts : goal.returns-clause-counts
 returns-clause-counts c = λ lines line named is was.
     let rule = c.args.rule.now in
     let old : RuleLine = c.args.count.now in
-    let no : list_all (holds line.fields) rule.tests ≡ false = ap (λ (f : List ℕ). list_all (holds f) rule.tests) is ∙ sym c.is_met.ensures ∙ c.if-is_met.false in
+    let no : list_all (holds line.fields) rule.tests ≡ false = ap (λ (f : List ℕ). list_all (holds f) rule.tests) is ∙ sym c.is_fired.ensures ∙ c.if-is_fired.false in
     let new : RuleLine = record { lines = c.in_ok-count.field-0; fires = old.fires; holds = c.add_tests.new.holds; fields = c.add_fields.new.list } in
     quiet rule lines line named old new was c.in_ok-count.ensures no refl
     (subst (λ (f : List ℕ). CountsTests f rule.tests old.holds.items new.holds.items) (sym is) c.in_ok-add_tests.ensures.counts) c.add_tests.ensures.many

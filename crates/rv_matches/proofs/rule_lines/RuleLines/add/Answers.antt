@@ -7,44 +7,46 @@ use Rattle.std.proofs.lemmas.List.{with_items_is}
 use Rattle.rv_bind.specs.RuleValues.{OnValue}
 use Rattle.rv_route.specs.declared.event.Event.{Event}
 use Rattle.rv_route.specs.Asking.{holds, text_at}
-use Rattle.rv_route.specs.Events.{IsEventOf, is_on_event}
+use Rattle.rv_route.specs.Events.{IsEventOf, IsIndexOf, is_on_event}
 use Rattle.rv_route.proofs.EventLemmas.{asked-many}
 use Rattle.rv_route.proofs.IndexLemmas.{found-event}
 use Rattle.rv_matches.specs.declared.rule_lines.RuleLine.{RuleLine}
 use Rattle.rv_matches.specs.LineEvents.{event_on}
 use Rattle.rv_matches.specs.RuleLines.{AreRuleLines, IsForRules, IsRuleLine, is_fired, has_rule, rule_counts}
+use Rattle.rv_matches.proofs.AskedLemmas.{by_asked}
 use Rattle.rv_matches.proofs.NamedLemmas.{fired_by, fired_push, named_push, none_asked, none_on, some_any, unnamed}
 use Rattle.rv_matches.proofs.PlaceLemmas.{fits_length}
 use Rattle.rv_matches.proofs.rule_lines.RuleLines.add.Goals as goal
 
 pub returns-in_default-clause-counts : goal.returns-in_default-clause-counts
 returns-in_default-clause-counts c = λ lines are.
-    let all = c.args.rules.now in
+    let all = c.self.inside.asked.items in
     let line = event_on c.args.text.now c.args.line.now in
     let index : List Event = c.self.inside.index in
-    let made = subst (IsForRules all) (sym c.self.view_is) c.requires.made in
-    unnamed all lines line c.args.self.now (none_on line.name index all c.in_default.ensures.none made.index.has) are
+    let made = subst (IsForRules c.args.rules.now) (sym c.self.view_is) c.requires.made in
+    by_asked c.args.rules.now all lines (lines ++ line ∷ []) _ _ made.asked (unnamed all lines line c.args.self.now (none_on line.name index all c.in_default.ensures.none made.index.has)) are
 
 pub returns-then-is_empty-clause-counts : goal.returns-then-is_empty-clause-counts
 returns-then-is_empty-clause-counts c = λ lines are.
-    let all = c.args.rules.now in
+    let all = c.self.inside.asked.items in
     let line = event_on c.args.text.now c.args.line.now in
     let index : List Event = c.self.inside.index in
-    let made = subst (IsForRules all) (sym c.self.view_is) c.requires.made in
+    let made = subst (IsForRules c.args.rules.now) (sym c.self.view_is) c.requires.made in
     let event : Event = c.in-Some.event.now in
     let of : IsEventOf all line.name event = found-event line.name index all event made.index c.in-Some.ensures.among c.in-Some.ensures.named in
     let empty : vec_len event.rules ≡ 0 = eqb-true (vec_len event.rules) 0 (sym c.is_empty.ensures ∙ c.if-is_empty.true) in
     let many : vec_len event.rules ≡ length event.rules.items = search rules in
-    unnamed all lines line c.args.self.now (none_asked all event.fields event.rules.items (filter (is_on_event line.name) all) (omega arith) of.asked) are
+    by_asked c.args.rules.now all lines (lines ++ line ∷ []) _ _ made.asked (unnamed all lines line c.args.self.now (none_asked all event.fields event.rules.items (filter (is_on_event line.name) all) (omega arith) of.asked)) are
 
 pub returns-clause-counts : goal.returns-clause-counts
-returns-clause-counts c = λ lines are.
-    let all = c.args.rules.now in
+returns-clause-counts c = λ lines are_rules.
+    let all = c.as_slice.result.now in
     let line = event_on c.args.text.now c.args.line.now in
     let index : List Event = c.self.inside.index in
-    let made = subst (IsForRules all) (sym c.self.view_is) c.requires.made in
+    let made = subst (IsForRules c.args.rules.now) (sym c.self.view_is) c.requires.made in
+    let indexed : IsIndexOf all index = subst (λ (rs : List OnValue). IsIndexOf rs index) (sym c.as_slice.ensures.value) made.index in
     let event : Event = c.in-Some.event.now in
-    let of : IsEventOf all line.name event = found-event line.name index all event made.index c.in-Some.ensures.among c.in-Some.ensures.named in
+    let of : IsEventOf all line.name event = found-event line.name index all event indexed c.in-Some.ensures.among c.in-Some.ensures.named in
     let those = filter (is_on_event line.name) all in
     let many : vec_len event.rules ≡ length event.rules.items = search rules in
     let some : those ≢ [] = λ none.
@@ -53,6 +55,7 @@ returns-clause-counts c = λ lines are.
     let not_empty : eqb (vec_len event.rules) 0 ≡ false = sym c.is_empty.ensures ∙ c.if-is_empty.false in
     cc) in
     let named : has_rule all line ≡ true = some_any (is_on_event line.name) all some in
+    by_asked c.args.rules.now all lines (lines ++ line ∷ []) c.args.self.now _ (c.as_slice.ensures.value ∙ made.asked) (λ are.
     let was : AreRuleLines all lines _ = subst (AreRuleLines all lines) (sym c.self.view_is) are in
     let begun : AllZip (λ (rule : OnValue) (r : RuleLine). IsRuleLine (rule_counts lines rule) r) all c.as_mut_slice.result.now = subst (λ (l : List RuleLine). AllZip (λ (rule : OnValue) (r : RuleLine). IsRuleLine (rule_counts lines rule) r) all l) (sym c.as_mut_slice.ensures.value) was.each in
     let fields = text_at c.args.text.now c.args.line.now.fields in
@@ -67,4 +70,4 @@ returns-clause-counts c = λ lines are.
       each = subst (λ (l : List RuleLine). AllZip (λ (rule : OnValue) (r : RuleLine). IsRuleLine (rule_counts (lines ++ line ∷ []) rule) r) all l) (sym written) now;
       named = c.in_ok-self-inside.ensures ∙ ap (λ n. n + 1) was.named ∙ sym (named_push all lines line ∙ ap (λ b. count_by (has_rule all) lines + cond b 1 0) named);
       fired = c.in_ok-self-inside-2.ensures ∙ ap₂ (λ (n : ℕ) (b : Bool). n + cond b 1 0) was.fired fired ∙ sym (fired_push all lines line);
-    }
+    }) are_rules
