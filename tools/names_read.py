@@ -705,7 +705,7 @@ class Checkout:
         """The item that `use path::name` brings into a file of code."""
         if not path:
             crate, inner = file.crate, []
-            if name in self.below or name in ("std", "crate"):
+            if name in self.below[file.crate] or name in ("std", "crate"):
                 return None
         elif path[0] == "crate":
             crate, inner = file.crate, list(path[1:])
@@ -713,7 +713,7 @@ class Checkout:
             crate, inner = file.crate, file.module.split("::")[:-1] + list(path[1:])
         elif path[0] == "self":
             crate, inner = file.crate, ([] if file.module == "lib" else file.module.split("::")) + list(path[1:])
-        elif path[0] in self.below:
+        elif path[0] in self.below[file.crate]:  # (another crate may have the name of a module)
             crate, inner = path[0], list(path[1:])
         elif (file.crate, path[0]) in self.modules:
             crate, inner = file.crate, list(path)

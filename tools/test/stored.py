@@ -1,6 +1,7 @@
 """What tests of tools with stored outputs share: each case is a command of the shell, and what it prints has to be what is stored.
 
-The commands run in a copy of the repository's top without its crates, where `rv` is the built program and the tools are on the PATH.
+The commands run in a copy of the repository's top without its crates, where `rv` and `rv-coverage` are the built programs and the tools
+are on the PATH.
 """
 import difflib
 import os
@@ -15,7 +16,9 @@ sys.dont_write_bytecode = True
 sys.path.insert(0, f"{ROOT}/tools/lib")
 from rv_tool import Parser, run_tool  # noqa: E402
 
-LATEST = 60  # seconds for a command
+LATEST = 300  # seconds for a command
+# by the option that names another program: the command and the crate
+PROGRAMS = {"--rv": ("rv", "rv"), "--rv-coverage": ("rv-coverage", "coverage")}
 
 
 def blocks_of(path):
@@ -35,9 +38,17 @@ def run(command, top, environment):
     return text + ("" if text.endswith("\n") or not text else "\n") + f"status {ran.returncode}\n"
 
 
-def compare(name, commands, top, environment, is_writing):
-    """Runs the commands in a folder, prints what differs from what is stored, or stores it; returns the status of the test."""
-    path, outputs, differ = f"{ROOT}/tools/test/{name}.stored", [], 0
+def changes(before, after, names):
+    """What differs, as lines."""
+    return difflib.unified_diff(before.splitlines(), after.splitlines(), *names, lineterm="")
+
+
+def compare(name, commands, top, environment, is_writing, twin=None):
+    """Runs the commands in a folder, prints what differs from what is stored, or stores it; returns the status of the test.
+
+    A twin is what has to print the same in place of the first word of each command.
+    """
+    path, outputs, differ, twins = f"{ROOT}/tools/test/{name}.stored", [], 0, 0
     stored = blocks_of(path)
     for command in commands:
         said = run(command, top, environment).replace(top, "TOP")
@@ -45,41 +56,49 @@ def compare(name, commands, top, environment, is_writing):
         if said != stored.get(command):
             differ += 1
             if not is_writing:
-                changes = difflib.unified_diff(stored.get(command, "").splitlines(), said.splitlines(), "stored", "said", lineterm="")
-                print(f"$ {command}", *changes, sep="\n    ")
+                print(f"$ {command}", *changes(stored.get(command, ""), said, ("stored", "said")), sep="\n    ")
+        if twin:
+            other = run(" ".join([twin, *command.split(" ")[1:]]), top, environment).replace(top, "TOP")
+            if other != said:
+                twins += 1
+                print(f"$ {command}", *changes(other, said, ("twin", "said")), sep="\n    ")
     if is_writing:
         with open(path, "w", encoding="utf-8", errors="surrogateescape", newline="\n") as file:
             file.write("".join(outputs))
         print(f"{name}: {len(outputs)} outputs stored, {differ} of them new")
-        return 0
-    print(f"{name}: {len(commands) - differ} of {len(commands)} commands agree")
-    return 1 if differ else 0
+        return 1 if twins else 0
+    told = f", and {len(commands) - twins} with the twin" if twin else ""
+    print(f"{name}: {len(commands) - differ} of {len(commands)} commands agree{told}")
+    return 1 if differ or twins else 0
 
 
-def main(name, describe, commands, needs=(), files=()):
-    """Runs the commands; ends with 0 where all agree, 1 where one differs, 3 where the program or a tool is missing."""
+def main(name, describe, commands, needs=(), files=(), option="--rv", twin=None):
+    """Runs the commands; ends with 0 where all agree, 1 where one differs, 3 where the program that an option names, or a tool, is missing."""
+    command, crate = PROGRAMS[option]
     parser = Parser(describe)
-    parser.add_argument("--rv", metavar="PROGRAM", default=f"{ROOT}/crates/rv/out/rv")
+    parser.add_argument(option, metavar="PROGRAM", dest="program", default=f"{ROOT}/crates/{crate}/out/{crate}")
     parser.add_argument("--write", action="store_true")
     given = parser.parse_args()
     for missing in [it for it in needs if not shutil.which(it)]:
         print(f"{name}: {missing} is missing")
         return 3
-    if not os.access(given.rv, os.X_OK):
-        print(f"{name}: {given.rv} is not the built program; ./rv builds it")
+    if not os.access(given.program, os.X_OK):
+        print(f"{name}: {given.program} is not the built program; ./{command} builds it")
         return 3
     with tempfile.TemporaryDirectory() as room:
         top = os.path.join(os.path.realpath(room), "top")
-        os.makedirs(f"{top}/crates/rv/out")
+        os.makedirs(f"{top}/crates/{crate}/out")
+        os.makedirs(f"{top}/bin")
         for it in ("docs", "tools"):
             shutil.copytree(f"{ROOT}/{it}", f"{top}/{it}")
         shutil.copytree(os.path.realpath(f"{ROOT}/examples"), f"{top}/examples")
-        os.symlink(os.path.abspath(given.rv), f"{top}/crates/rv/out/rv")
+        for link in (f"crates/{crate}/out/{crate}", f"bin/{command}"):
+            os.symlink(os.path.abspath(given.program), f"{top}/{link}")
         for file, text in files:
             with open(f"{top}/{file}", "w", encoding="utf-8", newline="\n") as to:
                 to.write(text)
-        environment = dict(os.environ, LC_ALL="C.UTF-8", PATH=f"{top}/tools:{top}/crates/rv/out:{os.environ['PATH']}")
-        return compare(name, commands, top, environment, given.write)
+        environment = dict(os.environ, LC_ALL="C.UTF-8", PATH=f"{top}/tools:{top}/bin:{os.environ['PATH']}")
+        return compare(name, commands, top, environment, given.write, twin)
 
 
 def finish(*words, **more):

@@ -13,7 +13,8 @@ use Rattle.rv_tool.specs.declared.replay.FinishedRun.{FinishedRun}
 use Rattle.rv_tool.specs.Calls.{CallEnd, Call}
 use Rattle.rv_tool.specs.Changes.{input_beside}
 use Rattle.rv_tool.specs.Checks.{IsCheckReport, checked_input}
-use Rattle.rv_tool.specs.inner.Commands.{IsOneReport, IsVerdictReport, IsText, IsPrinted, IsSessionText, ComesTo, CommandComes, IsPut}
+use Rattle.rv_tool.specs.inner.Commands.{IsOneReport, IsVerdictReport, IsText, IsPrinted, IsSessionText, ComesTo, CommandComes}
+use Rattle.rv_tool.specs.Puts.{IsPut}
 use Rattle.rv_tool.specs.HeaderFiles.{header_in}
 use Rattle.rv_tool.specs.Headline.{IsReported, Ending, GivesUp, PrintsText, PrintsRefusal, PrintsSome, Ends}
 use Rattle.rv_tool.specs.Inputs.{InputValue, run_input}
@@ -114,10 +115,12 @@ pub record IsAnswered (asked : Option CommandValue) (told : Option Files) (c : C
 module _ (c : Call) (told : Option Files) (result : Result FinishedRun BindFault) (put : IsPut result c.end) where
   -- what goes with the value is told as it is
   module _ {Y : Type 0} (May : Outcome Y → Type 0) (Goes : Y → List Entry → List ℕ → ℕ → Type 0) (outcome : Files → Outcome Y) (comes : ComesTo May Goes outcome told c.faults_before c.faults_after result) where
-    report_told : (Weaker : Y → List Entry → List ℕ → ℕ → Type 0) → ((y : Y) (h : List Entry) (text : List ℕ) (said : ℕ) → Goes y h text said → Weaker y h text said) → (files : Files) → told ≡ Some files → AnswersBy (λ y. PrintsSome (Weaker y)) outcome files c
+    -- on a store that tells its files
+    pub report_told : (Weaker : Y → List Entry → List ℕ → ℕ → Type 0) → ((y : Y) (h : List Entry) (text : List ℕ) (said : ℕ) → Goes y h text said → Weaker y h text said) → (files : Files) → told ≡ Some files → AnswersBy (λ y. PrintsSome (Weaker y)) outcome files c
     report_told Weaker weaker = told_ends c May Goes (λ y. PrintsSome (Weaker y)) (λ y text said goes written. inl (text, said, weaker y c.end.history text said goes, written)) outcome told (λ y up. inr up) result comes put
 
-    report_untold : told ≡ None → EndsOnSome May (λ y. PrintsSome (Goes y)) c
+    -- on one that does not
+    pub report_untold : told ≡ None → EndsOnSome May (λ y. PrintsSome (Goes y)) c
     report_untold = untold_ends c May Goes (λ y. PrintsSome (Goes y)) (λ y text said goes written. inl (text, said, goes, written)) outcome told result comes put
 
   -- a text that is one of these is printed

@@ -19,7 +19,7 @@ use Rattle.rv_tool.specs.declared.replay.FinishedRun.{FinishedRun}
 use Rattle.rv_tool.specs.inner.Commands.{IsOneReport}
 use Rattle.rv_tool.specs.Headline.{IsReported}
 use Rattle.rv_tool.specs.Inputs.{InputValue, run_of}
-use Rattle.rv_tool.specs.inner.Listed.{listed_value, IsPreparedList}
+use Rattle.rv_tool.specs.Listed.{listed_value, IsPreparedList}
 use Rattle.rv_tool.specs.Verdicts.{HasOneVerdict}
 
 module _ (i : InputValue) (apart : LinesApart (run_of i).works) (h : List Entry) (text : List ℕ) (status : ℕ) (is : IsReported IsOneHistory i h text status) where

@@ -61,7 +61,7 @@ module _ {X Y : Type 0} (first : Outcome X → Type 0) (next : X → Outcome Y �
     next_comes view (Err fault) may = next_fails fault may
 
 -- a fault has no value
-keeping_fails : {Y : Type 0} (Is : Y → Type 0) (May : Outcome Y → Type 0) (fault : BindFault) → MayFault fault May → MayFault fault (Keeping Is May)
+pub keeping_fails : {Y : Type 0} (Is : Y → Type 0) (May : Outcome Y → Type 0) (fault : BindFault) → MayFault fault May → MayFault fault (Keeping Is May)
 keeping_fails Is May faults.Memory may = tt
 keeping_fails Is May (faults.Refused file refusal) may = may
 keeping_fails Is May (faults.Unread file) may = may

@@ -24,7 +24,7 @@ module _ (Is : Histories) (i : InputValue) (setup : Setup) (reactors : List Reac
   specs = map (λ (m : Monitor). m.spec) i.bound.monitors
 
   -- what is run is the run of the input
-  input_is : input_with setup specs (panics_of reactors) works changes ≡ run_of i
+  pub input_is : input_with setup specs (panics_of reactors) works changes ≡ run_of i
   input_is = λ j. record { setup = setup_is j; specs = specs; panics = panics_of (reactors_are j); works = works_are j; changes = changes_are j }
 
   -- a run of the works beside the changes

@@ -6,10 +6,12 @@ pub mod GeneratedBound
 pub mod Headline
 pub mod Inputs
 pub mod Journals
+pub mod Listed
 pub mod Loaded
 pub mod Loads
 pub mod CountsFit
 pub mod Output
+pub mod Puts
 pub mod Runs
 pub mod Sessions
 pub mod Possible

@@ -4,7 +4,6 @@ pub mod CountsFit
 pub mod JournalPieces
 pub mod Journals
 pub mod LaneReports
-pub mod Listed
 pub mod Prepared
 pub mod SessionValues
 pub mod WatchReports

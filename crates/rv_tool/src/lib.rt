@@ -21,4 +21,6 @@ mod widths;
 mod words;
 
 pub use laws::{load_is_accepted, load_is_bound};
-pub use top::{Finished, rv};
+pub use listed::{PreparedList, prepare_list};
+pub use replay::FinishedRun;
+pub use top::{Finished, put_done, put_usage, rv};

@@ -7,7 +7,7 @@ ghost use Rattle.rv_bind.specs.WellFormed.{IsWellFormed};
 ghost use Rattle.rv_route.specs.Routed.{list_value};
 ghost use Rattle.rv_tool.specs.Inputs.{run_input};
 ghost use Rattle.rv_stream.specs.Listed.{IsListed};
-ghost use Rattle.rv_tool.specs.inner.Listed.{IsPreparedList, listed_value};
+ghost use Rattle.rv_tool.specs.Listed.{IsPreparedList, listed_value};
 ghost use Rattle.rv_tool.specs.Possible.{MayInput};
 
 use crate::input::{RunParts, make_parts};
@@ -22,12 +22,14 @@ use std::alloc::{AllocError, Global};
 
 /// What a run on one thread begins with.
 #[derive(Drop)]
-pub(crate) struct PreparedList {
-    pub(crate) bindings: Bindings,
-    pub(crate) tasks: Tasks,
-    pub(crate) setup: Setup,
-    pub(crate) reactors: Vec<Reactor>,
-    pub(crate) list: DeliveryList,
+pub struct PreparedList {
+    pub bindings: Bindings,
+    pub tasks: Tasks,
+    pub setup: Setup,
+    /// At each index the reactor of the monitor at that index.
+    pub reactors: Vec<Reactor>,
+    /// The deliveries, in the order of the trace.
+    pub list: DeliveryList,
 }
 
 /// Reads the bindings and the trace.
@@ -44,14 +46,18 @@ pub(crate) fn read_listed<S: Store>(
 {
     let bound = read_bindings(alloc, store, bindings)?;
     let routed = read_list(alloc, store, trace, &bound)?;
-    match prepare(alloc, bound, routed) {
+    match prepare_list(alloc, bound, routed) {
         Ok(ready) => Ok(ready),
         Err(AllocError) => Err(BindFault::Memory),
     }
 }
 
-/// What the bindings and the list make ready.
-fn prepare(alloc: Global, bound: Bound, routed: RoutedList) -> Result<PreparedList, AllocError>
+/// What the bindings and the list make ready. The one error is want of memory.
+pub fn prepare_list(
+    alloc: Global,
+    bound: Bound,
+    routed: RoutedList,
+) -> Result<PreparedList, AllocError>
     requires formed { IsWellFormed (bound_value bound) }
     requires listed { IsListed bound.bindings routed }
     ensures ready { IfOk result IsPreparedList }

@@ -4,7 +4,7 @@ ghost use Rattle.rv_model.specs.Histories.{IsOneHistory};
 ghost use Rattle.rv_feed.specs.Lane.{lane_records};
 ghost use Rattle.rv_tool.specs.Headline.{IsReported};
 ghost use Rattle.rv_tool.specs.inner.LaneReports.{ReportsLanes};
-ghost use Rattle.rv_tool.specs.inner.Listed.{listed_value, IsPreparedList};
+ghost use Rattle.rv_tool.specs.Listed.{listed_value, IsPreparedList};
 
 use crate::listed::PreparedList;
 use rv_bind::Bindings;
@@ -17,10 +17,12 @@ use std::alloc::{AllocError, Global};
 
 /// What a command came to, before anything is put.
 #[derive(Drop)]
-pub(crate) struct FinishedRun {
-    pub(crate) status: u8,
-    pub(crate) text: Vec<u8>,
-    pub(crate) closed: Closed,
+pub struct FinishedRun {
+    /// The exit status that goes with the text.
+    pub status: u8,
+    pub text: Vec<u8>,
+    /// The history, which is empty where nothing ran.
+    pub closed: Closed,
 }
 
 /// The report of the lanes of a run, and its history.

@@ -3,7 +3,8 @@ ghost use Rattle.std.specs.Prelude.{◌≡◌, [], Some, None, option_copied, If
 ghost use Rattle.rv_io.specs.Files.{Files};
 ghost use Rattle.rv_tool.specs.Calls.{call, call_end};
 ghost use Rattle.rv_tool.specs.Checks.{verdict_text, verdict_status};
-ghost use Rattle.rv_tool.specs.inner.Commands.{CommandComes, IsPut, IsFinished, IsText};
+ghost use Rattle.rv_tool.specs.inner.Commands.{CommandComes, IsFinished, IsText};
+ghost use Rattle.rv_tool.specs.Puts.{IsPut};
 ghost use Rattle.rv_tool.specs.Headline.{PrintsText};
 ghost use Rattle.rv_tool.specs.Opaque.{AnswersOpaque};
 ghost use Rattle.rv_tool.specs.Output.{refusal_text, missing_text};
@@ -59,16 +60,8 @@ pub fn rv<R: Threads + Sync, S: Store, K: Sink, G: Gate + Send>(
     ensures opaque { S.files store.old ≡ None → AnswersOpaque (command_of (texts_of words.now)) (call S.Store K.Sink store.old store.new out.old out.new result) }
 {
     match read_words(words) {
-        Some(command) => put(alloc, out, run(rt, alloc, store, gate, command)),
-        None => refused(
-            alloc,
-            out,
-            None,
-            Refusal {
-                number: USAGE,
-                line: 0,
-            },
-        ),
+        Some(command) => put_done(alloc, out, run(rt, alloc, store, gate, command)),
+        None => put_usage(alloc, out),
     }
 }
 
@@ -183,8 +176,12 @@ fn judged(alloc: Global, verdict: Verdict) -> Result<FinishedRun, AllocError>
     Ok(without_run(text, verdict_status(verdict)))
 }
 
-/// Puts the text of what was done, or a line that says why there is none.
-fn put<K: Sink>(alloc: Global, out: &mut K, done: Result<FinishedRun, BindFault>) -> Finished
+/// Puts the text of what was done, or a line that says why there is none. Want of memory touches no sink (status 5).
+pub fn put_done<K: Sink>(
+    alloc: Global,
+    out: &mut K,
+    done: Result<FinishedRun, BindFault>,
+) -> Finished
     ensures { IsPut done (call_end K.Sink out.old out.new result) }
 {
     match done {
@@ -207,6 +204,21 @@ fn put<K: Sink>(alloc: Global, out: &mut K, done: Result<FinishedRun, BindFault>
         Err(BindFault::Unread { file }) => unread(alloc, out, file.bytes()),
         Err(BindFault::Memory) => give_up(),
     }
+}
+
+/// Says that the words are no command.
+pub fn put_usage<K: Sink>(alloc: Global, out: &mut K) -> Finished
+    ensures { PrintsText (refusal_text None (record { number = USAGE; line = 0 })) 2 (call_end K.Sink out.old out.new result) }
+{
+    refused(
+        alloc,
+        out,
+        None,
+        Refusal {
+            number: USAGE,
+            line: 0,
+        },
+    )
 }
 
 /// Puts the line of a refusal.

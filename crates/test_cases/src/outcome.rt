@@ -1,6 +1,7 @@
-//! A run of the top call, and what it comes to.
+//! A run of a top call, and what it comes to.
 
 use crate::fault::CaseFault;
+use rv_coverage::rv_coverage;
 use rv_io::{MemSink, OpenGate, Store};
 use rv_tool::rv;
 use std::alloc::Global;
@@ -12,6 +13,9 @@ const PIECE: usize = 4096;
 /// The most bytes that a run puts.
 const ROOM: usize = 1_048_576;
 
+/// The word before those of the second program.
+const COVERAGE: &str = "rv-coverage";
+
 /// Whether the run ends with this status, and puts this text.
 pub(crate) fn is_outcome<R: Threads + Sync, S: Store>(
     rt: &R,
@@ -22,6 +26,11 @@ pub(crate) fn is_outcome<R: Threads + Sync, S: Store>(
     text: &[u8],
 ) -> Result<bool, CaseFault> {
     let mut out = MemSink::new(alloc, PIECE, ROOM)?;
-    let finished = rv(rt, alloc, words, store, &mut out, &OpenGate);
+    let finished = match words {
+        [first, rest @ ..] if first.as_str() == COVERAGE => {
+            rv_coverage(alloc, rest, store, &mut out)
+        }
+        _ => rv(rt, alloc, words, store, &mut out, &OpenGate),
+    };
     Ok(finished.status as u64 == status && out.taken() == text)
 }

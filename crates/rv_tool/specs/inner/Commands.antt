@@ -1,5 +1,5 @@
--- What a command comes to before it is put, and how that is put.
-use Rattle.std.specs.Prelude.{◌≡◌, ℕ, List, [], Option, Some, Result, Ok, Err}
+-- What a command comes to before it is put.
+use Rattle.std.specs.Prelude.{◌≡◌, ℕ, List, [], codes, Option, Some, Result, Ok, Err}
 use Rattle.std.specs.declared.alloc.AllocError.{AllocError}
 use Rattle.rv_io.specs.Files.{Files}
 use Rattle.rv_model.specs.declared.entry.Entry.{Entry}
@@ -13,11 +13,10 @@ use Rattle.rv_tool.specs.declared.replay.FinishedRun.{FinishedRun}
 use Rattle.rv_tool.specs.Changes.{input_beside}
 use Rattle.rv_tool.specs.Checks.{IsCheckReport, checked_input}
 use Rattle.rv_tool.specs.HeaderFiles.{header_in}
-use Rattle.rv_tool.specs.Headline.{Ending, GivesUp, PrintsText, IsReported}
+use Rattle.rv_tool.specs.Headline.{IsReported}
 use Rattle.rv_tool.specs.Inputs.{InputValue, run_input}
 use Rattle.rv_tool.specs.Journals.{IsJournalReport, recordable_input}
 use Rattle.rv_tool.specs.Loaded.{generated_files}
-use Rattle.rv_tool.specs.Output.{IsWritten, refusal_text, missing_text}
 use Rattle.rv_tool.specs.Possible.{MayInput, MayRunBeside, MayWatch, MayRecord, MayCheck, MayTable, MayHeader, MayControl}
 use Rattle.rv_tool.specs.Sessions.{Printed, control_in}
 use Rattle.rv_tool.specs.Tables.{table_in}
@@ -25,7 +24,6 @@ use Rattle.rv_tool.specs.Verdicts.{HasOneVerdict, HasVerdicts}
 use Rattle.rv_tool.specs.Watched.{watched_input}
 use Rattle.rv_tool.specs.WatchReports.{IsWatchReport}
 use Rattle.rv_tool.specs.Words.{CommandValue, replay, feed, feed_beside, journal, check, watch, table, header, control, load}
-use Rattle.std.specs.Prelude.{codes}
 
 -- ---- what goes with a history, a text and a status
 
@@ -75,12 +73,3 @@ CommandComes (control bindings script) = ComesTo (MayControl bindings script) Is
 abbrev pub IsFinished : Result FinishedRun AllocError → Result FinishedRun BindFault → Type 0
 IsFinished (Ok done) result = result ≡ Ok done
 IsFinished (Err none) result = result ≡ Err faults.Memory
-
--- ---- how that is put
-
--- what was done is put, or why there is nothing to put
-abbrev pub IsPut : Result FinishedRun BindFault → Ending
-IsPut (Ok done) c = IsWritten c.before c.after done.text.items done.status c.status × (c.history ≡ done.closed)
-IsPut (Err faults.Memory) c = GivesUp c
-IsPut (Err (faults.Refused file refusal)) c = PrintsText (refusal_text (Some file) refusal) 2 c
-IsPut (Err (faults.Unread file)) c = PrintsText (missing_text file) 3 c

@@ -1,7 +1,7 @@
 use Rattle.std.proofs.lemmas.Result.{err_from_is_err_and}
 use Rattle.rv_bind.specs.BoundViews.{bound_value}
 use Rattle.rv_route.specs.Routed.{list_value}
-use Rattle.rv_tool.specs.inner.Listed.{listed_value}
+use Rattle.rv_tool.specs.Listed.{listed_value}
 use Rattle.rv_tool.proofs.BlamesLemmas.{input_behind_reads}
 use Rattle.rv_tool.proofs.PossibleLemmas.{input_unbound, input_unrouted, input_may}
 use Rattle.rv_tool.proofs.listed.read_listed.Goals as goal

@@ -3,7 +3,7 @@ use Rattle.rv_model.specs.Histories.{IsOneHistory}
 use Rattle.rv_model.specs.Reports.{report_text}
 use Rattle.rv_report.specs.Reported.{reported_of}
 use Rattle.rv_route.specs.Listing.{works_listed}
-use Rattle.rv_tool.specs.inner.Listed.{listed_value}
+use Rattle.rv_tool.specs.Listed.{listed_value}
 use Rattle.rv_tool.proofs.ReportedLemmas.{reported_is}
 use Rattle.rv_tool.proofs.replay.replayed.Goals as goal
 

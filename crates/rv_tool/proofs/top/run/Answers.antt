@@ -8,7 +8,7 @@ use Rattle.rv_tool.specs.Checks.{CheckedValue, IsCheckReport, checked_input}
 use Rattle.rv_tool.specs.Headline.{IsReported}
 use Rattle.rv_tool.specs.inner.Commands.{IsOneReport, IsVerdictReport, IsSessionText}
 use Rattle.rv_tool.specs.Inputs.{run_input}
-use Rattle.rv_tool.specs.inner.Listed.{listed_value}
+use Rattle.rv_tool.specs.Listed.{listed_value}
 use Rattle.rv_tool.specs.inner.Prepared.{prepared_value}
 use Rattle.rv_tool.specs.Journals.{IsJournalReport, recordable_input}
 use Rattle.rv_tool.specs.Possible.{MayInput, MayRunBeside, MayWatch, MayRecord, MayCheck, MayControl}

@@ -1,0 +1,4 @@
+pub mod CoveredLemmas
+pub mod MayTextsLemmas
+pub mod ReplayReadsLemmas
+pub mod TextsLemmas

@@ -1,0 +1,5 @@
+pub mod Headline
+pub mod ReplayReads
+pub mod Texts
+pub mod Words
+pub mod inner
