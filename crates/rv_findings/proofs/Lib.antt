@@ -1,3 +1,14 @@
 pub mod FormedLemmas
 pub mod FoundLemmas
+pub mod KindLemmas
+pub mod MonitorZeros
 pub mod NeverLemmas
+pub mod NothingLemmas
+pub mod PartLemmas
+pub mod PartZeros
+pub mod QuietLemmas
+pub mod SomeLemmas
+pub mod TestLemmas
+pub mod TraceZeros
+pub mod WatchedLemmas
+pub mod ZerosLemmas

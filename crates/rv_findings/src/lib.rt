@@ -4,6 +4,7 @@
 mod coverage;
 mod finding;
 mod findings;
+mod laws;
 mod monitor_findings;
 mod rule_findings;
 mod spec_findings;
@@ -11,3 +12,4 @@ mod trace_findings;
 mod whole;
 
 pub use coverage::{CoverageReport, Told, coverage_text};
+pub use laws::{all_is_watched, findings_are_zeros};

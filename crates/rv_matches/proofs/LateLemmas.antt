@@ -7,7 +7,7 @@ use Rattle.std.proofs.lemmas.Bool.{cond_both, cond-true, cond-false, lt-ltb, le-
 use Rattle.std.proofs.lemmas.List.{append-nil, append_assoc}
 use Rattle.std.proofs.lemmas.List.Sums.{fold_push}
 use Rattle.rv_matches.specs.LateTimes.{Late, Stamped, is_earlier, late_behind, later_of, latest_of}
-use Rattle.rv_matches.specs.inner.LateTimes.{TimesValue, is_late, is_latest, times_of}
+use Rattle.rv_matches.specs.inner.LateTimes.{IfLike, IfTaken, TimesValue, is_late, is_latest, times_of}
 use Rattle.rv_matches.specs.TextFacts.{first_of}
 use Rattle.rv_matches.specs.Times.{time_of}
 use Rattle.rv_matches.proofs.FirstLemmas.{first_push}
@@ -96,6 +96,10 @@ module _ (stamps : List Stamped) (s : Stamped) (new : TimesValue) where
       let both = latest_not_late (latest_of stamps) s is in
       same_times new (times_of (stamps ++ s ∷ [])) (latest ∙ sym (fold_push later_of None stamps s ∙ both.0)) (late ∙ not_late both.1)
 
+  -- one that is not late, where the later one is now the latest
+  pub told_on_time : is_late (latest_of stamps) s ≡ false → new.latest ≡ later_of (latest_of stamps) s → new.late ≡ (times_of stamps).late → new ≡ times_of (stamps ++ s ∷ [])
+  told_on_time it_is_not latest late = same_times new (times_of (stamps ++ s ∷ [])) (latest ∙ sym (fold_push later_of None stamps s)) (late ∙ not_late it_is_not)
+
   -- one that is late
   pub told_late : is_latest (latest_of stamps) s ≡ false → is_late (latest_of stamps) s ≡ true → new.latest ≡ latest_of stamps → new.late.first ≡ option_or (times_of stamps).late.first (Some (late_of stamps s)) → new.late.count ≡ (times_of stamps).late.count + 1 → new ≡ times_of (stamps ++ s ∷ [])
   told_late other so_it_is latest first count =
@@ -106,3 +110,13 @@ module _ (stamps : List Stamped) (s : Stamped) (new : TimesValue) where
   pub told_neither : is_latest (latest_of stamps) s ≡ false → is_late (latest_of stamps) s ≡ false → new ≡ times_of stamps → new ≡ times_of (stamps ++ s ∷ [])
   told_neither other it_is_not same =
       same_times new (times_of (stamps ++ s ∷ [])) (ap (λ (t : TimesValue). t.latest) same ∙ sym (fold_push later_of None stamps s ∙ stays_latest (latest_of stamps) s other)) (ap (λ (t : TimesValue). t.late) same ∙ not_late it_is_not)
+
+-- a timestamp is told of if it was taken
+pub told_taken : (is : Bool) (s : Stamped) (begun old new : TimesValue) → begun ≡ old → IfTaken is s begun.latest new.latest → new.late ≡ begun.late → IfLike is s old new
+told_taken true s begun old new same taken late = (
+  taken.0,
+  λ stamps was.
+      let latest : begun.latest ≡ latest_of stamps = ap (λ (t : TimesValue). t.latest) (same ∙ was) in
+      told_on_time stamps s new (ap (λ o. is_late o s) (sym latest) ∙ taken.1) (taken.2 ∙ ap (λ o. later_of o s) latest) (late ∙ ap (λ (t : TimesValue). t.late) (same ∙ was)),
+)
+told_taken false s begun old new same latest late = same_times new begun latest late ∙ same

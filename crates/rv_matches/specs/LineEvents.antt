@@ -19,9 +19,13 @@ pub record LineEvent : Type 0 where
 abbrev pub without_last : List ℕ → List ℕ
 without_last word = take (length word - 1) word
 
+-- the word before a place, without its last byte
+abbrev pub stamp_before : List ℕ → ℕ → List ℕ
+stamp_before text place = without_last (last_of (words_of (between text 0 place)))
+
 -- the timestamp is the word before the name
 abbrev pub stamp_on : List ℕ → TraceLine → List ℕ
-stamp_on text line = without_last (last_of (words_of (between text 0 line.name.from)))
+stamp_on text line = stamp_before text line.name.from
 
 -- what the line says whose pieces are places in the text
 abbrev pub event_on : List ℕ → TraceLine → LineEvent

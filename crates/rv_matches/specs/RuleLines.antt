@@ -1,11 +1,12 @@
 -- What the lines of a trace are to a rule: those of its event, those on which it fires, and what its fields have there.
-use Rattle.std.specs.Prelude.{◌≡◌, ◌≤◌, ℕ, Bool, ◌==◌, List, [], ◌∷◌, ◌++◌, length, map, take, filter, filter_map, count_by, All, Some, None, is_none, slice_get, if◌then◌else◌}
+use Rattle.std.specs.Prelude.{◌≡◌, ◌≢◌, ◌≤◌, ℕ, Bool, ◌==◌, List, [], ◌∷◌, ◌++◌, length, map, take, filter, filter_map, count_by, All, Some, None, is_none, slice_get, if◌then◌else◌}
 use Rattle.std.specs.List.{AllZip, list_any}
 use Rattle.rv_bind.specs.declared.bindings.Test.{Test}
 use Rattle.rv_bind.specs.RuleValues.{OnValue}
 use Rattle.rv_route.specs.Asking.{holds}
-use Rattle.rv_route.specs.Events.{IsIndexOf, tested_fields}
+use Rattle.rv_route.specs.Events.{IsIndexOf, is_on_event, places_on, tested_fields}
 use Rattle.rv_route.specs.declared.event.Event.{Event}
+use Rattle.rv_matches.specs.declared.plain_events.PlainEvent.{PlainEvent}
 use Rattle.rv_matches.specs.declared.rule_lines.FieldLines.{FieldLines}
 use Rattle.rv_matches.specs.declared.rule_lines.RuleLine.{RuleLine}
 use Rattle.rv_matches.specs.declared.rule_lines.TheConstants.{MOST_FIELDS, MOST_VALUES}
@@ -92,10 +93,11 @@ is_fired rules line = list_any (λ rule. fires_on rule line) rules
 abbrev pub without_by : OnValue → OnValue
 without_by rule = record { monitor = rule.monitor; event = rule.event; by = None; tests = rule.tests; hit = rule.hit }
 
--- what is kept of rules: the rules by no field, and by their events; what the lines are to each, how many lines some rule names, and on how many some rule fires
+-- what is kept of rules: the rules by no field, by their events, and the events whose rules have no tests; what the lines are to each, how many lines some rule names, and on how many some rule fires
 pub record RuleLinesValue : Type 0 where
   pub asked : List OnValue
   pub index : List Event
+  pub plain : List PlainEvent
   pub rules : List RuleLine
   pub named : ℕ
   pub fired : ℕ
@@ -131,10 +133,17 @@ pub record IsByTests (rule : OnValue) (r : RuleLine) : Type 0 where
   pub holds : length r.holds.items ≤ length rule.tests
   pub fields : All (HasTest rule.tests) r.fields.items
 
+-- some rules are on the event, at these places, and none of them has a test
+pub record IsPlainEvent (rules : List OnValue) (event : PlainEvent) : Type 0 where
+  pub places : event.rules.items ≡ places_on event.name 0 rules
+  pub tests : All (λ rule. rule.tests ≡ []) (filter (is_on_event event.name) rules)
+  pub some : filter (is_on_event event.name) rules ≢ []
+
 -- it is kept for these rules
 pub record IsForRules (rules : List OnValue) (value : RuleLinesValue) : Type 0 where
   pub asked : value.asked ≡ map without_by rules
   pub index : IsIndexOf value.asked value.index
+  pub plain : All (IsPlainEvent value.asked) value.plain
   pub places : AllZip IsByTests value.asked value.rules
 
 -- what was counted of any lines becomes what is counted of these and one more

@@ -1,3 +1,4 @@
+pub mod Lanes
 pub mod LateTimes
 pub mod NamesNear
 pub mod RuleSteps

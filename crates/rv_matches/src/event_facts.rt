@@ -108,7 +108,7 @@ impl EventFacts {
         EventFacts {
             events: 0,
             names: CountedWords::new(alloc, MOST_NAMES),
-            times: Times::new(alloc),
+            times: Times::new(),
         }
     }
 
@@ -118,7 +118,17 @@ impl EventFacts {
         ensures { OnOk result (TellsEvent (event_on text.now line.now) self.old self.new) }
     {
         self.events = one_more(self.events)?;
-        self.names.add(alloc, &text[line.name.from as usize..line.name.to as usize])?;
+        self.names.add_in(
+            alloc,
+            &text[line.name.from as usize..line.name.to as usize],
+            &text[line.name.from as usize..],
+        )?;
+        if self
+            .times
+            .add_before(line.number, text, line.name.from as usize)
+        {
+            return Ok(());
+        }
         let stamp = stamp_on(text, line);
         let short = short_time(stamp);
         if !is_comparable(stamp, short) {

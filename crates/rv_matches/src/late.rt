@@ -1,11 +1,13 @@
 //! Timestamps that go back: the latest one so far, and the lines whose time is before it.
-ghost use Rattle.std.specs.Prelude.{◌≡◌, ◌+◌, [], true, Some, None, IfOk, IfSome, OnOk};
+ghost use Rattle.std.specs.Prelude.{◌≡◌, ◌≤◌, ◌+◌, [], length, true, Some, None, IfOk, IfSome, OnOk};
 ghost use Rattle.std.specs.Option.{option_or};
-ghost use Rattle.rv_matches.specs.inner.LateTimes.{HasTime, TellsTime, is_late, is_latest, times_of};
+ghost use Rattle.rv_matches.specs.inner.LateTimes.{HasTime, IfLike, TellsTime, is_late, is_latest, times_of};
+ghost use Rattle.rv_matches.specs.LineEvents.{stamp_before};
 ghost use Rattle.rv_matches.specs.Times.{is_time};
 ghost use Rattle.rv_matches.specs.inner.ShortTimes.{IsShortTime};
 
-use crate::short_times::{ShortTime, is_earlier};
+use crate::latest_stamp::LatestStamp;
+use crate::short_times::{ShortTime, is_earlier, short_time};
 use crate::words::one_more;
 use rv_model::Name;
 use std::alloc::{AllocError, Global};
@@ -29,27 +31,19 @@ pub struct Late {
 /// The latest timestamp, the first that is late, and how many are.
 #[derive(Drop)]
 pub(crate) struct Times {
-    /// Whether there is a latest one.
-    any: bool,
-    /// The latest, whose memory is kept from line to line, and its line.
-    stamp: Vec<u8>,
-    /// The latest as a number, if it is short.
-    short: Option<ShortTime>,
-    line: u32,
+    latest: LatestStamp,
     first_late: Option<Late>,
     late: u64,
 }
 
 impl Model for Times {
-    ghost use Rattle.std.specs.Prelude.{Some, None, IfSome, if◌then◌else◌};
     ghost use Rattle.rv_matches.specs.inner.LateTimes.{HasTime, TimesValue};
-    ghost use Rattle.rv_matches.specs.inner.ShortTimes.{IsShortTime};
 
     ghost Value = { TimesValue };
 
-    ghost view = { λ t. record { latest = if t.any then Some (record { line = t.line; stamp = t.stamp.items }) else None; late = record { first = t.first_late; count = t.late } } };
+    ghost view = { λ t. record { latest = t.latest; late = record { first = t.first_late; count = t.late } } };
 
-    ghost invariant = { λ t. HasTime (if t.any then Some (record { line = t.line; stamp = t.stamp.items }) else None) × IfSome t.short (IsShortTime t.stamp.items) };
+    ghost invariant = { λ t. HasTime t.latest };
 }
 
 /// The timestamp of a line.
@@ -64,14 +58,11 @@ fn stamp_at(alloc: Global, line: u32, stamp: &[u8]) -> Result<Stamped, AllocErro
 
 impl Times {
     /// No timestamp was seen.
-    pub(crate) fn new(alloc: Global) -> Times
+    pub(crate) fn new() -> Times
         ensures { result ≡ times_of [] }
     {
         Times {
-            any: false,
-            stamp: Vec::new(alloc),
-            short: None,
-            line: 0,
+            latest: LatestStamp::new(),
             first_late: None,
             late: 0,
         }
@@ -81,10 +72,10 @@ impl Times {
     fn latest(&self, alloc: Global) -> Result<Option<Stamped>, AllocError>
         ensures { IfOk result (λ copy. copy ≡ self.now.latest) }
     {
-        if !self.any {
+        let Some(stamp) = self.latest.stamp() else {
             return Ok(None);
-        }
-        Ok(Some(stamp_at(alloc, self.line, self.stamp.as_slice())?))
+        };
+        Ok(Some(stamp_at(alloc, self.latest.line(), stamp)?))
     }
 
     /// Whether the timestamp of the line becomes the latest.
@@ -93,7 +84,10 @@ impl Times {
         requires short { IfSome short (IsShortTime stamp.now) }
         ensures { result ≡ is_latest self.now.latest (record { line = line; stamp = stamp.now }) }
     {
-        !self.any || is_earlier(self.stamp.as_slice(), self.short, stamp, short)
+        let Some(latest) = self.latest.stamp() else {
+            return true;
+        };
+        is_earlier(latest, short_time(latest), stamp, short)
     }
 
     /// Whether the timestamp of the line is before the latest.
@@ -102,29 +96,10 @@ impl Times {
         requires short { IfSome short (IsShortTime stamp.now) }
         ensures { result ≡ is_late self.now.latest (record { line = line; stamp = stamp.now }) }
     {
-        self.any && is_earlier(stamp, short, self.stamp.as_slice(), self.short)
-    }
-
-    /// The timestamp of the line becomes the latest.
-    fn set_latest(
-        &mut self,
-        line: u32,
-        stamp: &[u8],
-        short: Option<ShortTime>,
-    ) -> Result<(), AllocError>
-        requires time { is_time stamp.now ≡ true }
-        requires short { IfSome short (IsShortTime stamp.now) }
-        ensures latest { OnOk result (self.new.latest ≡ Some (record { line = line; stamp = stamp.now })) }
-        ensures late { self.new.late ≡ self.old.late }
-    {
-        self.any = false;
-        self.short = None;
-        self.stamp.clear();
-        self.stamp.extend_from_slice(stamp)?;
-        self.short = short;
-        self.line = line;
-        self.any = true;
-        Ok(())
+        let Some(latest) = self.latest.stamp() else {
+            return false;
+        };
+        is_earlier(stamp, short, latest, short_time(latest))
     }
 
     /// One more line that is late.
@@ -155,7 +130,7 @@ impl Times {
         ensures { OnOk result (TellsTime (record { line = line; stamp = stamp.now }) self.old self.new) }
     {
         if self.is_latest(line, stamp, short) {
-            self.set_latest(line, stamp, short)?;
+            self.latest.set(alloc, line, stamp)?;
             return Ok(());
         }
         if self.is_late(line, stamp, short) {
@@ -163,6 +138,15 @@ impl Times {
             return Ok(());
         }
         Ok(())
+    }
+
+    /// One more timestamp, the word before a name, if it has the form of the latest and is not before it.
+    #[inline(always)]
+    pub(crate) fn add_before(&mut self, line: u32, text: &[u8], name: usize) -> bool
+        requires { name ≤ length text.now }
+        ensures { IfLike result (record { line = line; stamp = stamp_before text.now name }) self.old self.new }
+    {
+        self.latest.take_before(line, text, name)
     }
 
     /// The first line that is before the latest above it.

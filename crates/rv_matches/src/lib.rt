@@ -3,10 +3,13 @@
 
 mod asked_rules;
 mod event_facts;
+mod held_word;
 mod lanes;
 mod late;
+mod latest_stamp;
 mod limits;
 mod near;
+mod plain_events;
 mod rule_lines;
 mod short_times;
 mod text_facts;

@@ -9,10 +9,11 @@ ghost use Rattle.rv_trace.specs.FoundFields.{AreFound, IsInside};
 ghost use Rattle.rv_matches.specs.LineEvents.{event_on};
 ghost use Rattle.rv_matches.specs.RuleLines.{AreRuleLines, CountsRuleLine, HasTest, IsByTests, IsForRules, IsRuleLine, field_counts, field_told, kept_fields, rule_counts};
 ghost use Rattle.rv_matches.specs.inner.RuleSteps.{field_name};
-ghost use Rattle.rv_matches.specs.inner.RuleSteps.{CountsEventLine, CountsFields, CountsLineOf, CountsTests, CountsValue, KeepsField, KeepsName};
+ghost use Rattle.rv_matches.specs.inner.RuleSteps.{CountsEventLine, CountsFields, CountsLineOf, CountsNamedLine, CountsTests, CountsValue, KeepsField, KeepsName};
 ghost use Rattle.rv_matches.specs.Words.{is_kept_among};
 
 use crate::asked_rules::asked_rules;
+use crate::plain_events::{PlainEvents, add_fired, add_plain};
 use crate::words::{CountedWords, one_more};
 use rv_bind::{On, Test};
 use rv_model::Name;
@@ -56,6 +57,8 @@ pub struct RuleLines {
     /// The rules without what only routing needs: no other field is looked up than those of tests.
     asked: Vec<On>,
     index: Index,
+    /// The events whose rules have no tests.
+    plain: PlainEvents,
     /// What a line's fields have.
     finds: Finds,
     rules: Vec<RuleLine>,
@@ -68,7 +71,7 @@ impl Model for RuleLines {
 
     ghost Value = { RuleLinesValue };
 
-    ghost view = { λ r. record { asked = r.asked.items; index = r.index; rules = r.rules.items; named = r.named; fired = r.fired } };
+    ghost view = { λ r. record { asked = r.asked.items; index = r.index; plain = r.plain; rules = r.rules.items; named = r.named; fired = r.fired } };
 }
 
 /// One more where it is so.
@@ -206,16 +209,6 @@ fn add_fields(
     Ok(())
 }
 
-/// Empties a list that is not yet empty.
-#[inline(always)]
-fn empty<T: Drop>(list: &mut Vec<T>)
-    ensures { list.new.items ≡ [] }
-{
-    if !list.is_empty() {
-        list.clear();
-    }
-}
-
 /// Whether the rule fires. One without tests fires on each line of its event.
 #[inline(always)]
 fn is_fired(fields: &[u8], rule: &On, asked: &Asked, found: &[Option<Span>]) -> bool
@@ -246,13 +239,11 @@ fn add_line(
     ensures fires { IfOk result (λ fires. fires ≡ list_all (holds fields.now) rule.now.tests) }
     ensures places { IsByTests rule.now count.new }
 {
-    count.lines = one_more(count.lines)?;
     if is_fired(fields, rule, asked, found) {
-        count.fires = one_more(count.fires)?;
-        empty(&mut count.holds);
-        empty(&mut count.fields);
+        add_fired(count)?;
         return Ok(true);
     }
+    count.lines = one_more(count.lines)?;
     add_tests(&mut count.holds, rule, asked, fields, found)?;
     add_fields(alloc, &mut count.fields, rule, asked, fields, found)?;
     Ok(false)
@@ -291,7 +282,9 @@ impl RuleLines {
         ensures none { IfOk result (AreRuleLines rules.now []) }
     {
         let asked = asked_rules(alloc, rules)?;
-        let index = index_of(alloc, asked.as_slice())?;
+        let list = asked.as_slice();
+        let index = index_of(alloc, list)?;
+        let plain = PlainEvents::new(alloc, list, &index)?;
         let mut counts = Vec::with_capacity(alloc, rules.len())?;
         for rule in &asked {
             counts.push(no_lines(alloc, rule)?)?;
@@ -299,6 +292,7 @@ impl RuleLines {
         Ok(RuleLines {
             asked,
             index,
+            plain,
             finds: Finds::new(alloc),
             rules: counts,
             named: 0,
@@ -320,13 +314,42 @@ impl RuleLines {
         ensures made { IsForRules rules.now self.new }
     {
         let name = &text[line.name.from as usize..line.name.to as usize];
+        if let Some(place) = self.plain.find(name, &text[line.name.from as usize..]) {
+            add_plain(
+                self.rules.as_mut_slice(),
+                self.asked.as_slice(),
+                self.plain.at(place),
+            )?;
+            self.named = one_more(self.named)?;
+            self.fired = one_more(self.fired)?;
+            return Ok(());
+        }
+        let fields = &text[line.fields.from as usize..line.fields.to as usize];
+        self.add_asked(alloc, rules, name, fields)?;
+        Ok(())
+    }
+
+    /// One more line of an event whose rules may have tests. Apart from the events that are found at once, and by what it needs
+    /// alone: for a line that it were given all lines would have to be kept.
+    #[inline(never)]
+    fn add_asked(
+        &mut self,
+        alloc: Global,
+        rules: &[On],
+        name: &[u8],
+        fields: &[u8],
+    ) -> Result<(), AllocError>
+        requires made { IsForRules rules.now self.old }
+        requires few { length fields.now ≤ 4294967295 }
+        ensures counts { OnOk result (CountsNamedLine rules.now name.now fields.now self.old self.new) }
+        ensures made { IsForRules rules.now self.new }
+    {
         let Some(event) = event_at(&self.index, name) else {
             return Ok(());
         };
         if event.rules.is_empty() {
             return Ok(());
         }
-        let fields = &text[line.fields.from as usize..line.fields.to as usize];
         self.finds.look_up(fields, &event.fields)?;
         let fired = add_event(
             alloc,

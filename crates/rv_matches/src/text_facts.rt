@@ -124,7 +124,9 @@ impl TextFacts {
         ensures kept { (self.new.lines ≡ self.old.lines) × (self.new.returns ≡ self.old.returns) }
     {
         if self.overwritten.is_none() {
-            self.overwritten = overwritten_on(line);
+            if let Some(entries) = overwritten_on(line) {
+                self.overwritten = Some(entries);
+            }
         }
     }
 

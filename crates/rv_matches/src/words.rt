@@ -1,8 +1,8 @@
 //! Words by first appearance, each with how often it was there.
-ghost use Rattle.std.specs.Prelude.{◌≡◌, ◌+◌, ◌<◌, [], ◌∷◌, ◌++◌, length, map, false, slice_get, Some, IfOk, IfSome, IfNone, OnOk};
+ghost use Rattle.std.specs.Prelude.{◌≡◌, ◌+◌, ◌<◌, [], ◌∷◌, ◌++◌, length, map, take, false, slice_get, Some, IfOk, IfSome, IfNone, OnOk};
 ghost use Rattle.rv_matches.specs.Words.{counted_value, is_kept_among, CountsWord};
 
-use rv_model::Name;
+use crate::held_word::HeldWord;
 use std::alloc::{AllocError, Global};
 use std::collections::BTreeMap;
 use std::marker::Model;
@@ -18,13 +18,13 @@ pub(crate) fn one_more(count: u64) -> Result<u64, AllocError>
 }
 
 /// How many keys there are.
-const KEYS: usize = 512;
+pub(crate) const KEYS: usize = 512;
 /// Up to so many words are found in the map alone.
 const FEW_WORDS: usize = 16;
 
 /// A number that most words have for themselves, from their middle and last byte and their length.
 #[inline(always)]
-fn key_of(word: &[u8]) -> usize
+pub(crate) fn key_of(word: &[u8]) -> usize
     ensures { result < KEYS }
 {
     if word.is_empty() {
@@ -38,7 +38,7 @@ fn key_of(word: &[u8]) -> usize
 /// A word that is kept, and how often it was there.
 #[derive(Drop)]
 struct Kept {
-    word: Name,
+    word: HeldWord,
     count: u64,
 }
 
@@ -95,11 +95,12 @@ impl CountedWords {
 
     /// The place, if the word stands there.
     #[inline(always)]
-    fn held_place(&self, word: &[u8], place: usize) -> Option<usize>
+    fn held_place(&self, word: &[u8], text: &[u8], place: usize) -> Option<usize>
+        requires { take (length word.now) text.now ≡ word.now }
         ensures { IfSome result (λ place. slice_get (map (λ counted. counted.0) self.now.words) place ≡ Some word.now) }
     {
         let kept = self.list.get(place)?;
-        if kept.word.bytes() == word {
+        if kept.word.is(word, text) {
             return Some(place);
         }
         None
@@ -107,14 +108,15 @@ impl CountedWords {
 
     /// Where the last word stands or the word's key leads, if the word stands there.
     #[inline(always)]
-    fn led_place(&self, word: &[u8]) -> Option<usize>
+    fn led_place(&self, word: &[u8], text: &[u8]) -> Option<usize>
+        requires { take (length word.now) text.now ≡ word.now }
         ensures { IfSome result (λ place. slice_get (map (λ counted. counted.0) self.now.words) place ≡ Some word.now) }
     {
-        if let Some(place) = self.held_place(word, self.last) {
+        if let Some(place) = self.held_place(word, text, self.last) {
             return Some(place);
         }
         let place = (*self.leads.get(key_of(word))?)?;
-        self.held_place(word, place)
+        self.held_place(word, text, place)
     }
 
     /// Where the word stands, if it is kept.
@@ -154,7 +156,7 @@ impl CountedWords {
         let place = self.list.len();
         let lead = key_of(word);
         let key = Vec::from_slice(alloc, word)?;
-        let word = Name::new(alloc, word)?;
+        let word = HeldWord::new(alloc, word)?;
         self.list.reserve(1)?;
         self.places.insert(key, place)?;
         match self.list.push(Kept { word, count: 1 }) {
@@ -189,7 +191,22 @@ impl CountedWords {
         ensures counts { OnOk result (CountsWord word.now self.old self.new) }
         ensures most { self.new.most ≡ self.old.most }
     {
-        if let Some(place) = self.led_place(word) {
+        self.add_in(alloc, word, word)
+    }
+
+    /// One more word, with which a text begins.
+    #[inline(always)]
+    pub(crate) fn add_in(
+        &mut self,
+        alloc: Global,
+        word: &[u8],
+        text: &[u8],
+    ) -> Result<(), AllocError>
+        requires { take (length word.now) text.now ≡ word.now }
+        ensures counts { OnOk result (CountsWord word.now self.old self.new) }
+        ensures most { self.new.most ≡ self.old.most }
+    {
+        if let Some(place) = self.led_place(word, text) {
             self.last = place;
             count_again(&mut self.list[place])?;
             return Ok(());

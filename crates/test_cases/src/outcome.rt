@@ -16,6 +16,27 @@ const ROOM: usize = 1_048_576;
 /// The word before those of the second program.
 const COVERAGE: &str = "rv-coverage";
 
+/// The status of a run of the first program.
+fn rv_status<R: Threads + Sync, S: Store>(
+    rt: &R,
+    alloc: Global,
+    words: &[String],
+    store: &mut S,
+    out: &mut MemSink,
+) -> u8 {
+    rv(rt, alloc, words, store, out, &OpenGate).status
+}
+
+/// The status of a run of the second program.
+fn coverage_status<S: Store>(
+    alloc: Global,
+    words: &[String],
+    store: &mut S,
+    out: &mut MemSink,
+) -> u8 {
+    rv_coverage(alloc, words, store, out).status
+}
+
 /// Whether the run ends with this status, and puts this text.
 pub(crate) fn is_outcome<R: Threads + Sync, S: Store>(
     rt: &R,
@@ -26,11 +47,11 @@ pub(crate) fn is_outcome<R: Threads + Sync, S: Store>(
     text: &[u8],
 ) -> Result<bool, CaseFault> {
     let mut out = MemSink::new(alloc, PIECE, ROOM)?;
-    let finished = match words {
+    let ended = match words {
         [first, rest @ ..] if first.as_str() == COVERAGE => {
-            rv_coverage(alloc, rest, store, &mut out)
+            coverage_status(alloc, rest, store, &mut out)
         }
-        _ => rv(rt, alloc, words, store, &mut out, &OpenGate),
+        _ => rv_status(rt, alloc, words, store, &mut out),
     };
-    Ok(finished.status as u64 == status && out.taken() == text)
+    Ok(ended as u64 == status && out.taken() == text)
 }

@@ -73,18 +73,24 @@ fn is_judged<R: Threads + Sync>(
 #[test]
 fn a_race_leaves_the_journal_of_a_history(rt: HostRuntime) -> Result<(), Fail> {
     let alloc = rt.alloc();
-    // Who loses, to whom, the trace, and the loser's seat.
-    for (loser, other, trace, seat) in [(0, 1, RACE, 2), (1, 0, MIRRORED, 3)] {
+    let of_first = "2 deliver 0 event da 0 8589934592 17179869184\n";
+    let of_second = "3 deliver 0 event da 0 8589934592 17179869184\n";
+    // Who loses, to whom, the trace, the loser's seat, and the line of the other's second turn.
+    for (loser, other, trace, seat, second) in [
+        (0, 1, RACE, 2, of_second),
+        (1, 0, MIRRORED, 3, of_first),
+    ] {
         let mut store = store_of(alloc, GLOBAL, trace)?;
         let waits = race(loser, other);
         let came = run_held(&rt, alloc, "journal wip.rv wip.txt", &mut store, &waits)?;
         let journal = came.text();
         let stops = stops(alloc, journal)?;
         let (fourth, _) = split_out(alloc, journal, 4)?;
-        let (_, short) = split_out(alloc, journal, 5)?;
+        let (fifth, short) = split_out(alloc, journal, 5)?;
         let agrees = came.status == 6
             && came.late == 0
             && stops.as_slice() == [seat].as_slice()
+            && fifth.as_slice() == second.as_bytes()
             && is_judged(&rt, alloc, &mut store, journal.as_bytes(), 0, "yes\n")?
             && is_judged(&rt, alloc, &mut store, short.as_slice(), 1, "no: line 5\n")?;
         assert!(rt; agrees, "by {seat}: {journal}");

@@ -1,14 +1,15 @@
 -- What is kept of rules as one more line of an event comes.
-use Rattle.std.specs.Prelude.{◌≡◌, ℕ, List, [], ◌∷◌, ◌++◌, map, take, Option}
+use Rattle.std.specs.Prelude.{◌≡◌, ℕ, List, [], ◌∷◌, ◌++◌, map, take, Option, Some, option_map, slice_get}
 use Rattle.std.specs.List.{AllZip}
 use Rattle.rv_bind.specs.declared.bindings.Test.{Test}
 use Rattle.rv_bind.specs.RuleValues.{OnValue}
+use Rattle.rv_matches.specs.declared.plain_events.PlainEvent.{PlainEvent}
 use Rattle.rv_matches.specs.declared.rule_lines.FieldLines.{FieldLines}
 use Rattle.rv_matches.specs.declared.rule_lines.RuleLine.{RuleLine}
 use Rattle.rv_matches.specs.declared.rule_lines.TheConstants.{MOST_FIELDS}
 use Rattle.rv_matches.specs.LineEvents.{LineEvent, value_on}
 use Rattle.rv_matches.specs.Words.{with_word}
-use Rattle.rv_matches.specs.RuleLines.{FieldCounts, IsRuleLine, field_counts, field_told, held, rule_counts}
+use Rattle.rv_matches.specs.RuleLines.{CountsRuleLine, FieldCounts, IsRuleLine, RuleLinesValue, field_counts, field_told, held, rule_counts}
 
 -- the name of a field that is kept
 abbrev pub field_name : FieldLines → List ℕ
@@ -44,3 +45,11 @@ CountsEventLine rule fields old new = (lines : List LineEvent) (line : LineEvent
 abbrev pub CountsLineOf : List OnValue → List ℕ → List ℕ → List RuleLine → List RuleLine → Type 0
 CountsLineOf rules name fields old new = (lines : List LineEvent) (line : LineEvent) → line.name ≡ name → line.fields ≡ fields
     → AllZip (λ rule r. IsRuleLine (rule_counts lines rule) r) rules old → AllZip (λ rule r. IsRuleLine (rule_counts (lines ++ line ∷ []) rule) r) rules new
+
+-- the event at a place has the name
+abbrev pub IsNamedAt : List PlainEvent → ℕ → List ℕ → Type 0
+IsNamedAt events place name = option_map (λ event. event.name) (slice_get events place) ≡ Some name
+
+-- what was counted of any lines becomes what is counted of these and one more with this name and these fields
+abbrev pub CountsNamedLine : List OnValue → List ℕ → List ℕ → RuleLinesValue → RuleLinesValue → Type 0
+CountsNamedLine rules name fields old new = (number : ℕ) (stamp : List ℕ) → CountsRuleLine rules (record { number = number; stamp = stamp; name = name; fields = fields }) old new

@@ -1,18 +1,17 @@
-use Rattle.std.proofs.Common.{◌≡◌, true, false, ℕ, List, map, sym, ap, ◌∙◌, subst, refl}
+use Rattle.std.proofs.Common.{◌≡◌, false, ℕ, List, map, sym, ap, ◌∙◌, subst, refl}
 use Rattle.std.specs.List.{list_all}
 use Rattle.rv_route.specs.Asking.{holds}
 use Rattle.rv_matches.specs.declared.rule_lines.RuleLine.{RuleLine}
 use Rattle.rv_matches.specs.RuleLines.{field_told}
 use Rattle.rv_matches.specs.inner.RuleSteps.{CountsFields, CountsTests}
-use Rattle.rv_matches.proofs.CountedRuleLemmas.{firing, quiet}
+use Rattle.rv_matches.proofs.CountedRuleLemmas.{quiet}
 use Rattle.rv_matches.proofs.rule_lines.add_line.Goals as goal
 
 pub returns-then-is_fired-clause-counts : goal.returns-then-is_fired-clause-counts
-returns-then-is_fired-clause-counts c = λ lines line named is was.
-    let rule = c.args.rule.now in
-    let yes : list_all (holds line.fields) rule.tests ≡ true = ap (λ (f : List ℕ). list_all (holds f) rule.tests) is ∙ sym c.is_fired.ensures ∙ c.if-is_fired.true in
-    let new : RuleLine = record { lines = c.in_ok-count.field-0; fires = c.in_ok-count-2.field-0; holds = c.empty.new.list; fields = c.empty-then-is_fired.new.list } in
-    firing rule lines line named c.args.count.now new was c.in_ok-count.ensures yes c.in_ok-count-2.ensures c.empty.ensures c.empty-then-is_fired.ensures
+returns-then-is_fired-clause-counts c = c.in_ok-add_fired.ensures.counts c.args.rule.now c.args.fields.now (sym c.is_fired.ensures ∙ c.if-is_fired.true)
+
+pub returns-then-is_fired-clause-places : goal.returns-then-is_fired-clause-places
+returns-then-is_fired-clause-places c = c.add_fired.ensures.places c.args.rule.now c.requires.places
 
 pub returns-clause-counts : goal.returns-clause-counts
 returns-clause-counts c = λ lines line named is was.

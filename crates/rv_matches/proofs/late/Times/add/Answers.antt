@@ -11,7 +11,7 @@ returns-then-is_latest c = λ stamps is.
     let was = is in
     let latest = ap (λ (t : TimesValue). t.latest) was in
     let yes : is_latest (latest_of stamps) s ≡ true = ap (λ o. is_latest o s) (sym latest) ∙ sym c.is_latest.ensures ∙ c.if-is_latest.true in
-    told_latest stamps s _ yes c.in_ok-set_latest.ensures.latest (c.set_latest.ensures.late ∙ ap (λ (t : TimesValue). t.late) is)
+    told_latest stamps s _ yes c.in_ok-set.ensures.ok (ap (λ (t : TimesValue). t.late) (c.self.view_is ∙ is))
 
 pub returns-then-is_late : goal.returns-then-is_late
 returns-then-is_late c = λ stamps is.

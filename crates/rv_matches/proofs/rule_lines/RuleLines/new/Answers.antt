@@ -1,10 +1,11 @@
 use Rattle.std.proofs.Common.{◌≡◌, ◌+◌, ◌<◌, [], ◌∷◌, ◌++◌, List, length, map, take, refl, rules, sym, ap, ◌∙◌, subst, arith}
+use Rattle.std.specs.Prelude.{All}
 use Rattle.std.specs.List.{AllZip}
 use Rattle.std.proofs.lemmas.List.{take_all, take_more}
 use Rattle.rv_bind.specs.RuleValues.{OnValue}
 use Rattle.rv_route.specs.Events.{IsIndexOf}
 use Rattle.rv_matches.specs.declared.rule_lines.RuleLine.{RuleLine}
-use Rattle.rv_matches.specs.RuleLines.{IsByTests, IsRuleLine, rule_counts, without_by}
+use Rattle.rv_matches.specs.RuleLines.{IsByTests, IsPlainEvent, IsRuleLine, rule_counts, without_by}
 use Rattle.rv_matches.proofs.AskedLemmas.{asked_are}
 use Rattle.rv_matches.proofs.PlaceLemmas.{fits_push}
 use Rattle.rv_matches.proofs.rule_lines.RuleLines.new.Goals as goal
@@ -29,7 +30,8 @@ returns-clause-made c =
     let whole : take c.loop-rule.rule-index all ≡ c.in_ok-asked.asked.items = take_all c.loop-rule.rule-index all (omega arith) ∙ c.deref-rule-items.ensures.value in
     record {
       asked = c.in_ok-asked.ensures;
-      index = subst (λ (rs : List OnValue). IsIndexOf rs c.in_ok-index.index) c.as_slice.ensures.value c.in_ok-index.ensures;
+      plain = subst (λ (rs : List OnValue). All (IsPlainEvent rs) c.in_ok-plain.plain) c.as_slice-list.ensures.value c.in_ok-plain.ensures;
+      index = subst (λ (rs : List OnValue). IsIndexOf rs c.in_ok-index.index) c.as_slice-list.ensures.value c.in_ok-index.ensures;
       places = subst (λ (rs : List OnValue). AllZip IsByTests rs c.loop-rule.counts.items) whole c.loop-rule.invariant.places;
     }
 

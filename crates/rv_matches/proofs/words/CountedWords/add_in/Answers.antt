@@ -1,4 +1,4 @@
-use Rattle.std.proofs.Common.{◌≡◌, ◌<◌, length, map, rules, Some, refl, sym, ap, ◌∙◌, subst, arith}
+use Rattle.std.proofs.Common.{◌≡◌, ◌<◌, length, rules, Some, refl, sym, ap, ◌∙◌, subst, arith}
 use Rattle.std.specs.Prelude.{slice_get}
 use Rattle.std.specs.Vec.{vec_len}
 use Rattle.std.proofs.lemmas.Option.{slice_get-get_or}
@@ -6,7 +6,7 @@ use Rattle.rv_trace.specs.FieldNames.{ArePlaces}
 use Rattle.rv_matches.specs.Words.{CountedValue}
 use Rattle.rv_matches.proofs.AddedLemmas.{found_added}
 use Rattle.rv_matches.proofs.KeptLemmas.{is_there, stands_in, stands_once, stands_within, words_in, words_stay}
-use Rattle.rv_matches.proofs.words.CountedWords.add.Goals as goal
+use Rattle.rv_matches.proofs.words.CountedWords.add_in.Goals as goal
 
 pub index_mut-requires : goal.index_mut-requires
 index_mut-requires c =
