@@ -6,12 +6,12 @@ ghost use Rattle.rv_route.specs.Lines.{IsRoutable};
 ghost use Rattle.rv_matches.specs.LineEvents.{event_on, stamp_on, without_last};
 ghost use Rattle.rv_matches.specs.TraceFacts.{TellsEvent, event_facts};
 
-use crate::lanes::{WIDTH, blank_bits, highest};
+use crate::lanes::highest;
 use crate::late::{Late, Times};
 use crate::short_times::{is_comparable, short_time};
 use crate::words::{CountedWords, one_more};
 use rv_text::ByteClass;
-use rv_trace::TraceLine;
+use rv_trace::{TraceLine, WIDTH, blank_bits};
 use std::alloc::{AllocError, Global};
 use std::marker::Model;
 

@@ -6,7 +6,8 @@ ghost use Rattle.rv_text.specs.declared.runs.ByteClass.TheVariants as kinds;
 ghost use Rattle.rv_matches.specs.LineEvents.{stamp_before};
 ghost use Rattle.rv_matches.specs.inner.LateTimes.{HasTime, IfTaken, stamp_in};
 
-use crate::lanes::{WIDTH, alike_in, same_in};
+use crate::lanes::alike_in;
+use rv_trace::{WIDTH, same_in};
 use std::alloc::{AllocError, Global};
 use std::marker::Model;
 use std::simd::prelude::*;

@@ -3,7 +3,6 @@
 
 mod asked_rules;
 mod event_facts;
-mod held_word;
 mod lanes;
 mod late;
 mod latest_stamp;

@@ -7,11 +7,11 @@ ghost use Rattle.rv_route.specs.Events.{IsIndexOf, asked_place};
 ghost use Rattle.rv_matches.specs.RuleLines.{IsByTests, IsPlainEvent};
 ghost use Rattle.rv_matches.specs.inner.RuleSteps.{CountsEventLine, CountsLineOf, IsNamedAt};
 
-use crate::held_word::HeldWord;
 use crate::rule_lines::RuleLine;
 use crate::words::{KEYS, key_of, one_more};
 use rv_bind::On;
 use rv_route::{Event, Index, event_at};
+use rv_trace::HeldWord;
 use std::alloc::{AllocError, Global};
 use std::marker::Model;
 
@@ -123,7 +123,7 @@ impl PlainEvents {
         if self.find(name, name).is_some() {
             return Ok(());
         }
-        let Some(event) = event_at(index, name) else {
+        let Some(event) = event_at(index, name, name) else {
             return Ok(());
         };
         if event.rules.is_empty() {

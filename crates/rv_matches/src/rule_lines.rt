@@ -344,7 +344,7 @@ impl RuleLines {
         ensures counts { OnOk result (CountsNamedLine rules.now name.now fields.now self.old self.new) }
         ensures made { IsForRules rules.now self.new }
     {
-        let Some(event) = event_at(&self.index, name) else {
+        let Some(event) = event_at(&self.index, name, name) else {
             return Ok(());
         };
         if event.rules.is_empty() {

@@ -2,7 +2,7 @@
 ghost use Rattle.std.specs.Prelude.{◌≡◌, ◌+◌, ◌<◌, [], ◌∷◌, ◌++◌, length, map, take, false, slice_get, Some, IfOk, IfSome, IfNone, OnOk};
 ghost use Rattle.rv_matches.specs.Words.{counted_value, is_kept_among, CountsWord};
 
-use crate::held_word::HeldWord;
+use rv_trace::HeldWord;
 use std::alloc::{AllocError, Global};
 use std::collections::BTreeMap;
 use std::marker::Model;

@@ -1,3 +1,2 @@
 pub mod Counters
-pub mod MonitorCounts
 pub mod RowSets

@@ -9,7 +9,7 @@ use crate::asking::has_value;
 use crate::field_tests::{FieldTest, by_field};
 use rv_bind::{On, Test};
 use rv_model::Name;
-use rv_trace::FieldNames;
+use rv_trace::{FieldNames, HeldWord};
 use std::alloc::{AllocError, Global};
 
 /// From so many tests on they are asked field by field.
@@ -31,7 +31,7 @@ pub struct Asked {
 /// An event that rules are on.
 #[derive(Drop)]
 pub struct Event {
-    pub name: Name,
+    pub name: HeldWord,
     /// The fields that its rules name, each once.
     pub fields: FieldNames,
     /// Its rules, in their order.
@@ -46,7 +46,7 @@ pub(crate) fn event_of(alloc: Global, rules: &[On], name: &[u8]) -> Result<Event
     let mut names = FieldNames::new(alloc);
     let asked = asked_on(alloc, rules, name, &mut names)?;
     Ok(Event {
-        name: Name::new(alloc, name)?,
+        name: HeldWord::new(alloc, name)?,
         fields: names,
         rules: asked,
     })

@@ -31,7 +31,8 @@ pub(crate) fn take(
     ensures gives { GivesRoutes result deliveries.new.routes (line_routes text.now line.now bindings.now.monitors.items bindings.now.rules.items deliveries.old.routes) }
     ensures kept { GathersLine line.now.number deliveries.old deliveries.new }
 {
-    match event_at(index, &text[line.name.from as usize..line.name.to as usize]) {
+    let from = line.name.from as usize;
+    match event_at(index, &text[from..line.name.to as usize], &text[from..]) {
         Some(event) => fire(deliveries, bindings, event, text, line, finds),
         None => Ok(()),
     }

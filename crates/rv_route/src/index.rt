@@ -1,10 +1,9 @@
 //! The events that rules are on, by their names.
-ghost use Rattle.std.specs.Prelude.{◌≡◌, ◌≢◌, ◌<◌, [], ◌∷◌, ◌++◌, List, ℕ, All, IfOk, IfSome, IfNone, OnOk, slice_get};
+ghost use Rattle.std.specs.Prelude.{◌≡◌, ◌≢◌, ◌<◌, [], ◌∷◌, ◌++◌, List, ℕ, length, take, All, IfOk, IfSome, IfNone, OnOk, slice_get};
 ghost use Rattle.std.specs.List.{IsAmong};
 ghost use Rattle.rv_route.specs.Events.{IsEventOf, HasEvent, IsIndexOf};
 ghost use Rattle.rv_route.specs.EventKeys.{key_of};
 
-use crate::asking::has_value;
 use crate::event::{Event, event_of};
 use rv_bind::On;
 use std::alloc::{AllocError, Global};
@@ -51,29 +50,36 @@ fn key_of(name: &[u8]) -> usize
     (((first * 3 + middle) * 3 + last) * 3 + name.len() % 256) % KEYS
 }
 
-/// The event of a name, if a rule is on it.
+/// The event of the name with which the text begins, if a rule is on it.
 #[inline(always)]
-pub fn event_at<'a>(index: &'a Index, name: &[u8]) -> Option<&'a Event>
+pub fn event_at<'a>(index: &'a Index, name: &[u8], text: &[u8]) -> Option<&'a Event>
+    requires { take (length name.now) text.now ≡ name.now }
     ensures among { IfSome result (λ event. IsAmong index.now event.now) }
     ensures named { IfSome result (λ event. event.now.name ≡ name.now) }
     ensures none { IfNone result (¬ HasEvent index.now name.now) }
 {
     let events = index.events.as_slice();
-    match named_at(events, index.firsts[key_of(name)], name) {
+    match named_at(events, index.firsts[key_of(name)], name, text) {
         Some(event) => Some(event),
-        None => named_at(events, index.others.get(name).copied(), name),
+        None => named_at(events, index.others.get(name).copied(), name, text),
     }
 }
 
 /// The event at the place, if the name is its own.
 #[inline(always)]
-fn named_at<'a>(events: &'a [Event], place: Option<usize>, name: &[u8]) -> Option<&'a Event>
+fn named_at<'a>(
+    events: &'a [Event],
+    place: Option<usize>,
+    name: &[u8],
+    text: &[u8],
+) -> Option<&'a Event>
+    requires { take (length name.now) text.now ≡ name.now }
     ensures among { IfSome result (λ event. IsAmong events.now event.now) }
     ensures named { IfSome result (λ event. event.now.name ≡ name.now) }
     ensures none { IfNone result (IfSome place (λ at. IfSome (slice_get events.now at) (λ event. event.name ≢ name.now))) }
 {
     let event = events.get(place?)?;
-    if has_value(name, event.name.bytes()) {
+    if event.name.is(name, text) {
         return Some(event);
     }
     None
@@ -108,7 +114,7 @@ fn note(alloc: Global, index: &mut Index, rules: &[On], name: &[u8]) -> Result<(
     ensures noted { OnOk result (HasEvent index.new name.now) }
     ensures kept { OnOk result ((other : List ℕ) → HasEvent index.old other → HasEvent index.new other) }
 {
-    if event_at(index, name).is_some() {
+    if event_at(index, name, name).is_some() {
         return Ok(());
     }
     let event = event_of(alloc, rules, name)?;

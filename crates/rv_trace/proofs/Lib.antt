@@ -6,12 +6,14 @@ pub mod FieldLemmas
 pub mod FrontLemmas
 pub mod HeadLemmas
 pub mod HeldLemmas
+pub mod HeldWordLemmas
 pub mod LaneLemmas
 pub mod LiesLemmas
 pub mod LineLemmas
 pub mod MoveLemmas
 pub mod NamingLemmas
 pub mod OrderedLemmas
+pub mod PairLemmas
 pub mod PlaceLemmas
 pub mod RunLemmas
 pub mod SeekLemmas

@@ -1,6 +1,6 @@
 -- A run goes on from any of its places.
 use Rattle.std.proofs.Common.{◌≡◌, ℕ, ◌+◌, ◌-◌, ◌*◌, ◌<◌, ◌≤◌, inl, inr, true, false, not, cond, ◌/◌, ◌%◌, ◌^◌, List, length, get_or, take, drop, sym, ◌∙◌, ap, subst, arith, take-take}
-use Rattle.std.proofs.lemmas.Bool.{cases_lt, false≢true, and_parts, leb-true}
+use Rattle.std.proofs.lemmas.Bool.{cases_lt, false≢true, and_parts, leb-true, not-false, not-true}
 use Rattle.std.proofs.lemmas.List.{get_or_past, get_or-drop, length-drop}
 use Rattle.std.specs.Int.{bit_at}
 use Rattle.std.proofs.lemmas.Nat.{shr-shr}
@@ -83,6 +83,36 @@ number-longer text from end to more =
     let front : take (end - from) (take (to - from) (drop from text)) ≡ take (end - from) (drop from text) = take-take (end - from) (to - from) (drop from text) (omega arith) in
     omega (arith, ap number_of front, number-front (between text from to) (end - from))
 
+-- three digits, and then another byte
+module _ (text : List ℕ) (from : ℕ) (inside : from + 3 < length text) (first : is_digit (get_or text from 0) ≡ true) (second : is_digit (get_or text (from + 1) 0) ≡ true)
+    (third : is_digit (get_or text (from + 2) 0) ≡ true) where
+  three : AreOf kinds.Digit text from (from + 3)
+  three =
+      let one = AreOf-more kinds.Digit text from from (λ k low high. absurd (omega arith)) first in
+      let two = AreOf-more kinds.Digit text from (from + 1) one second in
+      λ k low high. AreOf-more kinds.Digit text from (from + 2) (λ j l h. two j l (omega arith)) third k low (omega arith)
+
+  -- they end there
+  pub three-end : is_digit (get_or text (from + 3) 0) ≡ false → from + 3 ≡ run_end kinds.Digit text from
+  three-end other = sym (run_end-is kinds.Digit text from (from + 3) (omega arith) (omega arith) three (λ _. other))
+
+  -- and spell their number
+  pub three-number : ((get_or text from 0 - 48) * 10 + (get_or text (from + 1) 0 - 48)) * 10 + (get_or text (from + 2) 0 - 48) ≡ number_of (between text from (from + 3))
+  three-number =
+      let none = number-start text from in
+      let one = number-on text from from (omega arith) (omega arith) in
+      let two = number-on text from (from + 1) (omega arith) (omega arith) in
+      let all = number-on text from (from + 2) (omega arith) (omega arith) in
+      omega (
+        arith,
+        none,
+        one,
+        two,
+        all,
+        ap (λ n. number_of (between text from n)) (let e : from + 1 + 1 ≡ from + 2 = omega arith in e),
+        ap (λ n. number_of (between text from n)) (let e : from + 2 + 1 ≡ from + 3 = omega arith in e),
+      )
+
 -- the bits of the last load, from a place on
 module _ (text : List ℕ) (place blanks : ℕ) (low : place ≤ length text) (high : length text < place + 16) (room : 16 ≤ length text) (mask : IsMask is_blank text (length text - 16) 16 blanks) where
   -- the bits of the load without those before the place
@@ -124,3 +154,27 @@ module _ (text : List ℕ) (place blanks : ℕ) (low : place ≤ length text) (h
       run_end-is kinds.Word text place (place + k) (omega arith) (omega arith)
       (λ j from to. rest-word j from (omega arith) (below (j - place) (omega arith)))
       (λ _. ap not (one_true _ (sym (rest-bit k inside) ∙ set)))
+
+-- the bits of the bytes of a load that are no digits
+module _ (text : List ℕ) (from others : ℕ) (room : from + 16 ≤ length text) (mask : IsMask (λ byte. not (is_digit byte)) text from 16 others) where
+  -- the lowest of those from a place on stands for the end of the digits there
+  module _ (place : ℕ) (low : from ≤ place) (bits : ℕ → ℕ) (from_place : (k : ℕ) → bits k ≡ bit_at others (place - from + k)) (k : ℕ) (set : bits k ≡ 1) (below : (j : ℕ) → j < k → bits j ≡ 0) where
+    -- it lies in the load
+    pub other-inside : place + k < from + 16
+    other-inside =
+        elim (cases_lt (place - from + k) 16) [
+          | inl inside ↦ omega arith
+          | inr past ↦ absurd (omega (arith, from_place k, set, mask.within (place - from + k) past))
+        ]
+
+    -- those before it are digits, and it is none
+    pub other-end : run_end kinds.Digit text place ≡ place + k
+    other-end =
+        run_end-is kinds.Digit text place (place + k) (omega arith) (omega (arith, other-inside))
+        (λ j first last.
+        let here : from + (place - from + (j - place)) ≡ j = omega arith in
+        let clear = sym (mask.bits (place - from + (j - place)) (omega (arith, other-inside))) ∙ sym (from_place (j - place)) ∙ below (j - place) (omega arith) in
+        ap (λ n. is_digit (get_or text n 0)) (sym here) ∙ not-false _ (zero_false _ clear))
+        (λ _.
+        let here : from + (place - from + k) ≡ place + k = omega arith in
+        ap (λ n. is_digit (get_or text n 0)) (sym here) ∙ not-true _ (one_true _ (sym (mask.bits (place - from + k) (omega (arith, other-inside))) ∙ sym (from_place k) ∙ set)))

@@ -1,12 +1,13 @@
 //! The parts of a trace line: behind its head stand a timestamp, the name of an event, and the fields.
-ghost use Rattle.std.specs.Prelude.{◌≡◌, ◌<◌, ◌≤◌, ◌+◌, ◌||◌, ◌==◌, ℕ, length, slice_index, IfSome, option_map};
-ghost use Rattle.rv_text.specs.Places.{is_blank, run_end};
+ghost use Rattle.std.specs.Prelude.{◌≡◌, ◌≢◌, ◌<◌, ◌≤◌, ◌+◌, ◌||◌, ◌==◌, ℕ, not, length, slice_index, IfSome, option_map};
+ghost use Rattle.rv_text.specs.Places.{is_blank, is_digit, run_end};
 ghost use Rattle.rv_text.specs.declared.runs.ByteClass.TheVariants as kinds;
 ghost use Rattle.rv_trace.specs.Lines.{word_at, is_stamp, stamp_end, event_part, parts_of};
 ghost use Rattle.rv_trace.specs.inner.LineParts.{HasHeadNumbers, is_that_end, end_from};
+ghost use Rattle.rv_trace.specs.inner.Runs.{IsMask};
 
 use crate::head::{Head, find_head};
-use crate::runs::{blanks_end, byte_at, digits_end, word_end};
+use crate::runs::{WIDTH, blanks_end, byte_at, digits_end, lowest, other_bits, word_end};
 use rv_text::ByteClass;
 
 /// A piece of the line, by its places.
@@ -48,10 +49,74 @@ fn word_at(text: &[u8], place: usize) -> LinePart
     LinePart { from, to }
 }
 
-/// The place behind the timestamp that begins here, whatever stands there.
+/// Where the digits end that begin here, by the bits of the bytes that are none.
+#[inline(always)]
+fn near_end(text: &[u8], from: usize, others: u64) -> usize
+    requires mask { IsMask (λ byte. not (is_digit byte)) text.now from WIDTH others }
+    requires within { from + WIDTH ≤ length text.now }
+    requires some { others ≢ 0 }
+    ensures value { result ≡ run_end kinds.Digit text.now from }
+    ensures low { from ≤ result }
+    ensures high { result < from + WIDTH }
+{
+    from + lowest(others)
+}
+
+/// Where the digits end that begin behind a point. The bits are those of the bytes from a place before it that are no digits.
+#[inline(always)]
+fn part_end(text: &[u8], from: usize, others: u64, point: usize) -> usize
+    requires mask { IsMask (λ byte. not (is_digit byte)) text.now from WIDTH others }
+    requires within { from + WIDTH ≤ length text.now }
+    requires low { from ≤ point }
+    requires high { point < from + WIDTH }
+    ensures value { result ≡ run_end kinds.Digit text.now (point + 1) }
+    ensures low { point + 1 ≤ result }
+    ensures high { result ≤ length text.now }
+{
+    let rest = others >> (point + 1 - from);
+    if rest == 0 {
+        return digits_end(text, point + 1);
+    }
+    point + 1 + lowest(rest)
+}
+
+/// The place behind the timestamp that begins here, whatever stands there. One load has most of them whole.
 #[inline(always)]
 #[tactic(auto, unfolding(crate::specs::Lines::is_stamp))]
 fn behind_stamp(text: &[u8], from: usize) -> Option<usize>
+    requires { from ≤ length text.now }
+    ensures value { (to : ℕ) → is_stamp text.now (record { from = from; to = to }) ≡ is_that_end result to }
+    ensures high { IfSome result (λ end. end ≤ length text.now) }
+{
+    if text.len() - from < WIDTH {
+        return behind_far_stamp(text, from);
+    }
+    let others = other_bits(text, from);
+    if others == 0 {
+        return behind_far_stamp(text, from);
+    }
+    let whole = near_end(text, from, others);
+    if whole == from {
+        return None;
+    }
+    match text[whole] {
+        b':' => Some(whole + 1),
+        b'.' => {
+            let part = part_end(text, from, others, whole);
+            if part > whole + 1 && byte_at(text, part) == b':' {
+                Some(part + 1)
+            } else {
+                None
+            }
+        }
+        _ => None,
+    }
+}
+
+/// The same, at the end of a line, or of more digits.
+#[inline(never)]
+#[tactic(auto, unfolding(crate::specs::Lines::is_stamp))]
+fn behind_far_stamp(text: &[u8], from: usize) -> Option<usize>
     requires { from ≤ length text.now }
     ensures value { (to : ℕ) → is_stamp text.now (record { from = from; to = to }) ≡ is_that_end result to }
     ensures high { IfSome result (λ end. end ≤ length text.now) }

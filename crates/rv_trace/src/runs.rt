@@ -1,9 +1,9 @@
 //! Where runs of bytes end in a line. Sixteen bytes are looked at together, as long as so many are left.
-ghost use Rattle.std.specs.Prelude.{◌≡◌, ◌≢◌, ℕ, ◌<◌, ◌≤◌, ◌+◌, ◌-◌, ◌==◌, not, length, slice_index};
+ghost use Rattle.std.specs.Prelude.{◌≡◌, ◌≢◌, ℕ, ◌<◌, ◌≤◌, ◌+◌, ◌-◌, ◌==◌, not, nat_eq, length, slice_index};
 ghost use Rattle.rv_text.specs.Decimal.{number_of};
-ghost use Rattle.rv_text.specs.Places.{is_blank, has_class, least, run_end, between};
+ghost use Rattle.rv_text.specs.Places.{is_blank, is_digit, has_class, least, run_end, between};
 ghost use Rattle.rv_text.specs.declared.runs.ByteClass.TheVariants as kinds;
-ghost use Rattle.rv_trace.specs.inner.Runs.{CountsAs, IsMask, IsRunIn, first_set};
+ghost use Rattle.rv_trace.specs.inner.Runs.{CountsAs, IsMask, IsPairRun, IsRunIn, first_set};
 ghost use Rattle.std.specs.Int.{bit_at};
 
 use rv_text::{ByteClass, run_end};
@@ -36,7 +36,7 @@ pub fn byte_at(text: &[u8], place: usize) -> u8
 
 /// The place of the lowest bit that is set, or the number of lanes.
 #[inline(always)]
-fn first_set(mask: u64) -> usize
+pub fn first_set(mask: u64) -> usize
     ensures { result ≡ first_set mask WIDTH }
 {
     if mask == 0 {
@@ -59,7 +59,7 @@ pub(crate) fn lowest(mask: u64) -> usize
 
 /// A bit for each of the next bytes, set at a blank.
 #[inline(always)]
-pub(crate) fn blank_bits(text: &[u8], place: usize) -> u64
+pub fn blank_bits(text: &[u8], place: usize) -> u64
     requires { place + WIDTH ≤ length text.now }
     ensures { IsMask is_blank text.now place WIDTH result }
 {
@@ -76,6 +76,28 @@ pub(crate) fn equals_bits(text: &[u8], place: usize) -> u64
 {
     let bytes = u8x16::from_slice(&text[place..]);
     bytes.simd_eq(u8x16::splat(b'=')).to_bitmask()
+}
+
+/// A bit for each of the next bytes, set where it is no digit.
+#[inline(always)]
+pub(crate) fn other_bits(text: &[u8], place: usize) -> u64
+    requires { place + WIDTH ≤ length text.now }
+    ensures { IsMask (λ byte. not (is_digit byte)) text.now place WIDTH result }
+{
+    let bytes = u8x16::from_slice(&text[place..]);
+    let others = bytes.simd_lt(u8x16::splat(b'0')) | bytes.simd_gt(u8x16::splat(b'9'));
+    others.to_bitmask()
+}
+
+/// How many of the first bytes are the same, one after the other.
+#[inline(always)]
+pub fn same_in(one: &[u8], other: &[u8]) -> usize
+    requires one { WIDTH ≤ length one.now }
+    requires other { WIDTH ≤ length other.now }
+    ensures { IsPairRun nat_eq one.now other.now WIDTH result }
+{
+    let stops = u8x16::from_slice(one).simd_ne(u8x16::from_slice(other));
+    first_set(stops.to_bitmask())
 }
 
 /// How many of the next bytes are of the kind, from the first on.
@@ -263,4 +285,41 @@ pub(crate) fn digits_from(text: &[u8], from: usize) -> Digits
         end += 1;
     }
     Digits { end, number }
+}
+
+/// The same, where as a rule there are three.
+#[inline(always)]
+pub(crate) fn three_digits_from(text: &[u8], from: usize) -> Digits
+    requires { from ≤ length text.now }
+    ensures end { result.end ≡ run_end kinds.Digit text.now from }
+    ensures low { from ≤ result.end }
+    ensures high { result.end ≤ length text.now }
+    ensures number { CountsAs result.number (number_of (between text.now from result.end)) }
+{
+    let end = from + 3;
+    if end < text.len()
+        && ByteClass::Digit.has(text[from])
+        && ByteClass::Digit.has(text[from + 1])
+        && ByteClass::Digit.has(text[from + 2])
+        && !ByteClass::Digit.has(text[end])
+    {
+        let tens = (text[from] - b'0') as u64 * 10 + (text[from + 1] - b'0') as u64;
+        return Digits {
+            end,
+            number: tens * 10 + (text[from + 2] - b'0') as u64,
+        };
+    }
+    any_digits_from(text, from)
+}
+
+/// The digits from `from` on, apart from its caller.
+#[inline(never)]
+fn any_digits_from(text: &[u8], from: usize) -> Digits
+    requires { from ≤ length text.now }
+    ensures end { result.end ≡ run_end kinds.Digit text.now from }
+    ensures low { from ≤ result.end }
+    ensures high { result.end ≤ length text.now }
+    ensures number { CountsAs result.number (number_of (between text.now from result.end)) }
+{
+    digits_from(text, from)
 }

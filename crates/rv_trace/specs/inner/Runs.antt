@@ -18,6 +18,12 @@ pub record IsMask (test : ℕ → Bool) (text : List ℕ) (from count mask : ℕ
   pub bits : (k : ℕ) → k < count → bit_at mask k ≡ (if test (slice_index text (from + k)) then 1 else 0)
   pub within : (k : ℕ) → count ≤ k → bit_at mask k ≡ 0
 
+-- so many of the first `count` bytes of two texts pass the test, pair after pair, and the next pair does not
+pub record IsPairRun (test : ℕ → ℕ → Bool) (one other : List ℕ) (count run : ℕ) : Type 0 where
+  pub most : run ≤ count
+  pub each : (k : ℕ) → k < run → test (slice_index one k) (slice_index other k) ≡ true
+  pub stop : run < count → test (slice_index one run) (slice_index other run) ≡ false
+
 -- a number stands for another one: it is the same, or both are larger than each number that a trace may have
 abbrev pub CountsAs : ℕ → ℕ → Type 0
 CountsAs number other = (number ≡ other) ⊎ ((LAST_PID < number) × (LAST_PID < other))

@@ -1,6 +1,7 @@
 use Rattle.std.proofs.Common.{get_or}
 use Rattle.rv_matches.specs.inner.Lanes.{is_alike}
-use Rattle.rv_matches.proofs.PairLemmas.{apart, apart_is, apart_lanes, pair_run}
+use Rattle.rv_trace.proofs.PairLemmas.{pair_run}
+use Rattle.rv_matches.proofs.PairLemmas.{apart, apart_is, apart_lanes}
 use Rattle.rv_matches.proofs.lanes.alike_in.Goals as goal
 
 pub returns : goal.returns

@@ -1,15 +1,15 @@
 //! A word whose first bytes stand beside it, so that a short one is compared by one load.
-ghost use Rattle.std.specs.Prelude.{◌≡◌, ◌≤◌, length, take, true, IfOk};
+ghost use Rattle.std.specs.Prelude.{◌≡◌, length, min, take, bytes_eq, IfOk};
 
-use crate::lanes::{WIDTH, same_in};
+use crate::runs::{WIDTH, same_in};
 use rv_model::Name;
 use std::alloc::{AllocError, Global};
 use std::marker::Model;
 
 /// The word.
 #[derive(Drop)]
-pub(crate) struct HeldWord {
-    /// The bytes of a short word, and any behind them.
+pub struct HeldWord {
+    /// The first bytes of the word, and any behind a short one.
     near: [u8; 16],
     /// How many bytes the word has.
     end: usize,
@@ -17,30 +17,28 @@ pub(crate) struct HeldWord {
 }
 
 impl Model for HeldWord {
-    ghost use Rattle.std.specs.Prelude.{◌≡◌, ◌≤◌, ℕ, List, length, take};
+    ghost use Rattle.std.specs.Prelude.{◌≡◌, ℕ, List, length, min, take};
 
     ghost Value = { List ℕ };
 
     ghost view = { λ w. w.word };
 
-    ghost invariant = { λ w. (w.end ≡ length w.word) × (w.end ≤ 16 → take w.end w.near ≡ w.word) };
+    ghost invariant = { λ w. (w.end ≡ length w.word) × (take (min w.end 16) w.near ≡ take 16 w.word) };
 }
 
-/// The bytes of a short word, and zeros behind them.
+/// The first bytes of a word, and zeros behind a short one.
 fn near_of(bytes: &[u8]) -> [u8; 16]
-    ensures { length bytes.now ≤ WIDTH → take (length bytes.now) result ≡ bytes.now }
+    ensures { take (min (length bytes.now) WIDTH) result ≡ take WIDTH bytes.now }
 {
     let mut near = [0; 16];
-    if bytes.len() > WIDTH {
-        return near;
-    }
-    near[..bytes.len()].copy_from_slice(bytes);
+    let count = bytes.len().min(WIDTH);
+    near[..count].copy_from_slice(&bytes[..count]);
     near
 }
 
 impl HeldWord {
     /// The word with these bytes.
-    pub(crate) fn new(alloc: Global, bytes: &[u8]) -> Result<HeldWord, AllocError>
+    pub fn new(alloc: Global, bytes: &[u8]) -> Result<HeldWord, AllocError>
         ensures { IfOk result (λ held. held ≡ bytes.now) }
     {
         let word = Name::new(alloc, bytes)?;
@@ -53,7 +51,7 @@ impl HeldWord {
 
     /// Its bytes.
     #[inline(always)]
-    pub(crate) fn bytes(&self) -> &[u8]
+    pub fn bytes(&self) -> &[u8]
         ensures { result.now ≡ self.now }
     {
         self.word.bytes()
@@ -62,16 +60,16 @@ impl HeldWord {
     /// Whether it has these bytes, byte by byte. Apart from the words that are compared at once, which are most.
     #[inline(never)]
     fn is_far(&self, word: &[u8]) -> bool
-        ensures { result ≡ true → self.now ≡ word.now }
+        ensures { result ≡ bytes_eq word.now self.now }
     {
-        self.word.bytes() == word
+        word == self.word.bytes()
     }
 
     /// Whether it is the word with which the text begins. Where the text goes on for as many bytes they are looked at together.
     #[inline(always)]
-    pub(crate) fn is(&self, word: &[u8], text: &[u8]) -> bool
+    pub fn is(&self, word: &[u8], text: &[u8]) -> bool
         requires { take (length word.now) text.now ≡ word.now }
-        ensures { result ≡ true → self.now ≡ word.now }
+        ensures { result ≡ bytes_eq word.now self.now }
     {
         let end = word.len();
         if end != self.end {

@@ -1,7 +1,7 @@
 use Rattle.std.proofs.Common.{cond, eqb, get_or, not, refl}
 use Rattle.std.specs.Prelude.{nat_eq}
-use Rattle.rv_matches.proofs.PairLemmas.{pair_run, set_lane}
-use Rattle.rv_matches.proofs.lanes.same_in.Goals as goal
+use Rattle.rv_trace.proofs.PairLemmas.{pair_run, set_lane}
+use Rattle.rv_trace.proofs.runs.same_in.Goals as goal
 
 pub returns : goal.returns
 returns c =
