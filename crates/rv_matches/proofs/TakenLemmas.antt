@@ -8,7 +8,7 @@ use Rattle.rv_text.specs.declared.runs.ByteClass.TheVariants as kinds
 use Rattle.rv_matches.specs.declared.words.TheConstants.{LONGEST}
 use Rattle.rv_matches.specs.LateTimes.{Stamped, is_earlier}
 use Rattle.rv_matches.specs.Times.{is_time, point_in, time_of}
-use Rattle.rv_trace.specs.inner.Runs.{IsPairRun}
+use Rattle.rv_trace.specs.Masks.{IsPairRun}
 use Rattle.rv_matches.specs.inner.Lanes.{is_alike}
 use Rattle.rv_matches.specs.inner.LateTimes.{HasTime, IfTaken}
 use Rattle.rv_matches.proofs.LikeLemmas.{like_later, like_time, point_no_digit}

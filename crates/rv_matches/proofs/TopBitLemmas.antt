@@ -6,7 +6,7 @@ use Rattle.std.proofs.lemmas.Nat.Bits.{bit_at_above}
 use Rattle.std.proofs.Math.Nat.{div-eq_of_lt-le, pow-suc}
 use Rattle.rv_text.specs.Places.{has_class, is_blank}
 use Rattle.rv_text.specs.declared.runs.ByteClass.TheVariants as kinds
-use Rattle.rv_trace.specs.inner.Runs.{IsMask}
+use Rattle.rv_trace.specs.Masks.{IsMask}
 use Rattle.rv_trace.proofs.BitLemmas.{one_true, zero_false}
 
 -- the bit of the largest power of two in a number is set, and none above it

@@ -1,7 +1,7 @@
 //! Sixteen bytes that are looked at together.
 ghost use Rattle.std.specs.Prelude.{◌≡◌, ◌≢◌, ◌≤◌, ◌<◌, ℕ, length};
 ghost use Rattle.std.specs.Int.{bit_at};
-ghost use Rattle.rv_trace.specs.inner.Runs.{IsPairRun};
+ghost use Rattle.rv_trace.specs.Masks.{IsPairRun};
 ghost use Rattle.rv_matches.specs.inner.Lanes.{is_alike};
 
 use rv_trace::{WIDTH, first_set};

@@ -28,6 +28,6 @@ pub use laws::{
 };
 pub use name::{Name, Names};
 pub use reactor::Reactor;
-pub use record::{Delivered, Record, RecordList, Task};
+pub use record::{Delivered, Record, Task};
 pub use switches::{HALTED, MONITORING, REACTING, fails, is_enabled_by};
 pub use work::{Change, CpuWork, Delivery, Scope, Turn};

@@ -1,6 +1,4 @@
 //! What a run tells of each delivery.
-ghost use Rattle.std.specs.Prelude.{◌≡◌, ◌<◌, List, length, slice_index_or};
-
 use crate::entry::Answer;
 use crate::hit::Hit;
 
@@ -26,23 +24,6 @@ pub struct Record {
     pub outcome: Delivered,
     /// Whether the switches showed reacting on at its turn's look.
     pub reacting: bool,
-}
-
-/// Records that are asked for one by one, and need not lie in memory as they are given.
-pub trait RecordList {
-    ghost use Rattle.rv_model.specs.declared.record.Record.{Record};
-
-    /// In their order.
-    ghost records: { Self → List Record };
-
-    /// How many there are.
-    fn count(&self) -> usize
-        ensures { result ≡ length (records self.now) };
-
-    /// The record at an index.
-    fn record(&self, place: usize) -> Record
-        requires { place < length (records self.now) }
-        ensures { (r : Record) → result ≡ slice_index_or (records self.now) place r };
 }
 
 /// A task of the trace. The idle task of each CPU has pid 0; any other task has `cpu` 0.

@@ -5,7 +5,7 @@ use Rattle.std.proofs.lemmas.Grind.{same_number_lists}
 use Rattle.std.proofs.lemmas.List.{get_or-take}
 use Rattle.std.proofs.lemmas.Slice.Eq.{bytes_eq-Decides}
 use Rattle.std.specs.Prelude.{bytes_eq, min, nat_eq}
-use Rattle.rv_trace.specs.inner.Runs.{IsPairRun}
+use Rattle.rv_trace.specs.Masks.{IsPairRun}
 
 module _ (near held word text : List ℕ) (run : ℕ) (as_long : length word ≡ length held) (first : take (min (length held) 16) near ≡ take 16 held)
     (front : take (length word) text ≡ word) (pairs : IsPairRun nat_eq near text 16 run) where

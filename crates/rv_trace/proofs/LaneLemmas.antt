@@ -7,7 +7,8 @@ use Rattle.std.specs.Int.{bit_at}
 use Rattle.std.proofs.lemmas.List.Sums.{prefix_len-le-length, prefix_len_passes, prefix_len_stops}
 use Rattle.std.specs.List.{prefix_len}
 use lib.Lanes.{chunk, zip2, mask_l, top}
-use Rattle.rv_trace.specs.inner.Runs.{IsMask, IsRunIn, first_set}
+use Rattle.rv_trace.specs.inner.Runs.{IsRunIn}
+use Rattle.rv_trace.specs.Masks.{IsMask, first_set}
 
 -- an operation on two vectors that were computed lane by lane from v
 pub joined : (h : ℕ → ℕ → ℕ) (f g : ℕ → ℕ) (v : List ℕ) {a b : List ℕ} → a ≡ map f v → b ≡ map g v → zip2 h a b ≡ map (λ x. h (f x) (g x)) v

@@ -6,7 +6,7 @@ use Rattle.std.proofs.lemmas.List.Sums.{prefix_len-le-length, prefix_len_passes,
 use Rattle.std.proofs.lemmas.Simd.{first_set_mask_l, get_or-chunk, get_or-zip2, length-chunk, length-zip2, mask_l-mod}
 use Rattle.std.specs.List.{prefix_len}
 use lib.Lanes.{chunk, zip2, mask_l, top}
-use Rattle.rv_trace.specs.inner.Runs.{IsPairRun, first_set}
+use Rattle.rv_trace.specs.Masks.{IsPairRun, first_set}
 
 module _ (test : ℕ → ℕ → Bool) (one other : List ℕ) (room : 16 ≤ length one) (room' : 16 ≤ length other)
     (run : ℕ) (z : List ℕ) (found : run ≡ first_set (mask_l (map (top 7) z) % 2 ^ 64) 16)

@@ -5,7 +5,7 @@ use Rattle.std.proofs.lemmas.List.{get_or_past, get_or-drop, length-drop}
 use Rattle.std.specs.Int.{bit_at}
 use Rattle.std.proofs.lemmas.Nat.{shr-shr}
 use Rattle.std.proofs.lemmas.Nat.Bits.{bit_at-zero}
-use Rattle.rv_trace.specs.inner.Runs.{IsMask}
+use Rattle.rv_trace.specs.Masks.{IsMask}
 use Rattle.rv_trace.proofs.BitLemmas.{zero_false, one_true}
 use Rattle.rv_text.specs.Places.{is_digit, is_blank, has_class, run_end, between}
 use Rattle.rv_text.specs.Decimal.{number_of}

@@ -4,7 +4,7 @@ ghost use Rattle.rv_text.specs.Places.{is_blank, is_digit, run_end};
 ghost use Rattle.rv_text.specs.declared.runs.ByteClass.TheVariants as kinds;
 ghost use Rattle.rv_trace.specs.Lines.{word_at, is_stamp, stamp_end, event_part, parts_of};
 ghost use Rattle.rv_trace.specs.inner.LineParts.{HasHeadNumbers, is_that_end, end_from};
-ghost use Rattle.rv_trace.specs.inner.Runs.{IsMask};
+ghost use Rattle.rv_trace.specs.Masks.{IsMask};
 
 use crate::head::{Head, find_head};
 use crate::runs::{WIDTH, blanks_end, byte_at, digits_end, lowest, other_bits, word_end};
@@ -80,6 +80,33 @@ fn part_end(text: &[u8], from: usize, others: u64, point: usize) -> usize
     point + 1 + lowest(rest)
 }
 
+/// The place behind a timestamp, whatever stands there, by the ends of its digits: of the first ones, and of those that begin
+/// behind the next byte.
+#[inline(always)]
+#[tactic(auto, unfolding(crate::specs::Lines::is_stamp))]
+fn behind_digits(text: &[u8], from: usize, whole: usize, part: usize) -> Option<usize>
+    requires whole { whole ≡ run_end kinds.Digit text.now from }
+    requires some { from < whole }
+    requires within { whole < length text.now }
+    requires part { part ≡ run_end kinds.Digit text.now (whole + 1) }
+    requires low { whole + 1 ≤ part }
+    requires high { part ≤ length text.now }
+    ensures value { (to : ℕ) → is_stamp text.now (record { from = from; to = to }) ≡ is_that_end result to }
+    ensures high { IfSome result (λ end. end ≤ length text.now) }
+{
+    match text[whole] {
+        b':' => Some(whole + 1),
+        b'.' => {
+            if part > whole + 1 && byte_at(text, part) == b':' {
+                Some(part + 1)
+            } else {
+                None
+            }
+        }
+        _ => None,
+    }
+}
+
 /// The place behind the timestamp that begins here, whatever stands there. One load has most of them whole.
 #[inline(always)]
 #[tactic(auto, unfolding(crate::specs::Lines::is_stamp))]
@@ -99,18 +126,8 @@ fn behind_stamp(text: &[u8], from: usize) -> Option<usize>
     if whole == from {
         return None;
     }
-    match text[whole] {
-        b':' => Some(whole + 1),
-        b'.' => {
-            let part = part_end(text, from, others, whole);
-            if part > whole + 1 && byte_at(text, part) == b':' {
-                Some(part + 1)
-            } else {
-                None
-            }
-        }
-        _ => None,
-    }
+    let part = part_end(text, from, others, whole);
+    behind_digits(text, from, whole, part)
 }
 
 /// The same, at the end of a line, or of more digits.
@@ -122,21 +139,11 @@ fn behind_far_stamp(text: &[u8], from: usize) -> Option<usize>
     ensures high { IfSome result (λ end. end ≤ length text.now) }
 {
     let whole = digits_end(text, from);
-    if whole == from {
+    if whole == from || whole == text.len() {
         return None;
     }
-    match byte_at(text, whole) {
-        b':' => Some(whole + 1),
-        b'.' => {
-            let part = digits_end(text, whole + 1);
-            if part > whole + 1 && byte_at(text, part) == b':' {
-                Some(part + 1)
-            } else {
-                None
-            }
-        }
-        _ => None,
-    }
+    let part = digits_end(text, whole + 1);
+    behind_digits(text, from, whole, part)
 }
 
 /// Whether no word goes on here.

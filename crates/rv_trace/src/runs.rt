@@ -3,7 +3,8 @@ ghost use Rattle.std.specs.Prelude.{◌≡◌, ◌≢◌, ℕ, ◌<◌, ◌≤�
 ghost use Rattle.rv_text.specs.Decimal.{number_of};
 ghost use Rattle.rv_text.specs.Places.{is_blank, is_digit, has_class, least, run_end, between};
 ghost use Rattle.rv_text.specs.declared.runs.ByteClass.TheVariants as kinds;
-ghost use Rattle.rv_trace.specs.inner.Runs.{CountsAs, IsMask, IsPairRun, IsRunIn, first_set};
+ghost use Rattle.rv_trace.specs.inner.Runs.{CountsAs, IsRunIn};
+ghost use Rattle.rv_trace.specs.Masks.{IsMask, IsPairRun, first_set};
 ghost use Rattle.std.specs.Int.{bit_at};
 
 use rv_text::{ByteClass, run_end};
@@ -309,17 +310,5 @@ pub(crate) fn three_digits_from(text: &[u8], from: usize) -> Digits
             number: tens * 10 + (text[from + 2] - b'0') as u64,
         };
     }
-    any_digits_from(text, from)
-}
-
-/// The digits from `from` on, apart from its caller.
-#[inline(never)]
-fn any_digits_from(text: &[u8], from: usize) -> Digits
-    requires { from ≤ length text.now }
-    ensures end { result.end ≡ run_end kinds.Digit text.now from }
-    ensures low { from ≤ result.end }
-    ensures high { result.end ≤ length text.now }
-    ensures number { CountsAs result.number (number_of (between text.now from result.end)) }
-{
     digits_from(text, from)
 }
