@@ -12,9 +12,9 @@ ghost use Rattle.rv_route.specs.Events.{tested_fields, HasFound};
 use crate::event::Asked;
 use crate::field_tests::FieldTest;
 use rv_bind::{Monitor, On, Test};
-use rv_model::{Name, Scope};
+use rv_model::Scope;
 use rv_text::ByteClass;
-use rv_trace::{LAST_PID, Span, TraceLine, field};
+use rv_trace::{HeldWord, LAST_PID, Span, TraceLine, held_field};
 use std::alloc::AllocError;
 
 /// What a rule asks for.
@@ -34,7 +34,7 @@ pub enum Ask {
 #[inline(always)]
 pub(crate) fn look_up(
     fields: &[u8],
-    names: &[Name],
+    names: &[HeldWord],
     found: &mut Vec<Option<Span>>,
 ) -> Result<(), AllocError>
     requires { length fields.now ≤ 4294967295 }
@@ -43,7 +43,7 @@ pub(crate) fn look_up(
 {
     found.clear();
     for name in names {
-        found.push(field(fields, name.bytes()))?;
+        found.push(held_field(fields, name))?;
     }
     Ok(())
 }

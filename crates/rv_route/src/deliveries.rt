@@ -40,7 +40,7 @@ impl Model for Deliveries {
 
     ghost view = { λ r. record { routes = record { tasks = r.tasks; lanes = if r.listed then lanes_listed (listed_from r.targets.items 0 r.items.items) else r.lanes.items; count = r.count }; targets = r.targets.items; listed = r.listed; list = listed_from r.targets.items 0 r.items.items } };
 
-    ghost invariant = { λ r. (length r.lanes.items ≡ 64) × (r.count ≤ 4000000) × All (λ lane. length lane.deliveries ≤ r.count) r.lanes.items × (length r.targets.items ≤ 65536) × (r.listed ≡ true → length r.items.items ≡ r.count) × All (λ item. item.rule < length r.targets.items) r.items.items };
+    ghost invariant = { λ r. (length r.lanes.items ≡ 64) × (r.count ≤ 4000000) × All (λ lane. length lane.deliveries ≤ r.count) r.lanes.items × (length r.targets.items ≤ 256) × (r.listed ≡ true → length r.items.items ≡ r.count) × All (λ item. item.rule < length r.targets.items) r.items.items };
 }
 
 impl Deliveries {
@@ -55,10 +55,14 @@ impl Deliveries {
         ensures refused { IfErr result (λ refused. refused ≡ Memory) }
         ensures kept { GathersLine line.now.number self.old self.new }
     {
+        // No task and no CPU has a larger number.
+        if instance > u16::MAX as u32 {
+            return Err(Refused::Memory);
+        }
         self.items.push(Listed {
             line: line.number,
-            instance,
-            rule: place as u16,
+            instance: instance as u16,
+            rule: place as u8,
             cpu: line.cpu,
         })?;
         self.count += 1;

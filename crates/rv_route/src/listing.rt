@@ -15,12 +15,12 @@ pub struct Target {
     pub hit: Hit,
 }
 
-/// A delivery in 12 bytes: its trace line, its instance, its rule by its place among the rules, and its CPU.
+/// A delivery in 8 bytes: its trace line, its instance, its rule by its place among the rules, and its CPU.
 #[derive(Clone, Copy, Drop)]
 pub struct Listed {
     pub line: u32,
-    pub instance: u32,
-    pub rule: u16,
+    pub instance: u16,
+    pub rule: u8,
     pub cpu: u8,
 }
 
@@ -52,9 +52,9 @@ pub struct RoutedList {
 /// What each rule hits.
 pub(crate) fn targets_of(alloc: Global, rules: &[On]) -> Result<Vec<Target>, AllocError>
     ensures targets { IfOk result (λ targets. targets.items ≡ map target_of rules.now) }
-    ensures few { IfOk result (λ targets. length targets.items ≤ 65536) }
+    ensures few { IfOk result (λ targets. length targets.items ≤ 256) }
 {
-    if rules.len() > 65_536 {
+    if rules.len() > 256 {
         return Err(AllocError);
     }
     let mut targets = Vec::with_capacity(alloc, rules.len())?;
@@ -105,7 +105,7 @@ impl DeliveryList {
         Delivery {
             order: place as u32,
             monitor: target.monitor,
-            instance: item.instance,
+            instance: item.instance as u32,
             hit: target.hit,
         }
     }

@@ -8,11 +8,11 @@ ghost use Rattle.rv_trace.specs.FoundFields.{AreFound, IsInside, Extends};
 ghost use Rattle.rv_trace.specs.FieldNames.{IsPlain, is_plain_byte};
 ghost use Rattle.rv_trace.specs.inner.Naming.{TakesWord};
 
-use crate::fields::field;
+use crate::fields::held_field;
 use crate::found_fields::FoundFields;
+use crate::held_word::HeldWord;
 use crate::line::Span;
 use crate::runs::word_end;
-use rv_model::Name;
 use rv_text::ByteClass;
 use std::alloc::{AllocError, Global};
 use std::collections::BTreeMap;
@@ -21,7 +21,7 @@ use std::marker::Model;
 /// Names of fields, each once.
 #[derive(Drop)]
 pub struct FieldNames {
-    names: Vec<Name>,
+    names: Vec<HeldWord>,
     /// Where each name stands. No names that are chosen make an ordered map slow.
     places: BTreeMap<Vec<u8>, usize>,
     /// Whether each name lies within a word, so that a word can have no other field than its first `=` tells.
@@ -82,7 +82,7 @@ impl FieldNames {
     }
 
     /// The names, in order.
-    pub fn names(&self) -> &[Name]
+    pub fn names(&self) -> &[HeldWord]
         ensures { result.now ≡ self.now }
     {
         self.names.as_slice()
@@ -101,7 +101,7 @@ impl FieldNames {
         let place = self.names.len();
         let plain = self.plain && is_plain(name);
         let key = Vec::from_slice(alloc, name)?;
-        let owned = Name::new(alloc, name)?;
+        let owned = HeldWord::new(alloc, name)?;
         self.names.reserve(1)?;
         self.places.insert(key, place)?;
         match self.names.push(owned) {
@@ -121,7 +121,7 @@ impl FieldNames {
         ensures inside { OnOk result (All (IsInside fields.now) found.new) }
     {
         for place in 0..self.names.len() {
-            if let Some(span) = field(fields, self.names[place].bytes()) {
+            if let Some(span) = held_field(fields, &self.names[place]) {
                 found.note(place, span)?;
             }
         }

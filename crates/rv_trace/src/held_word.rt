@@ -1,5 +1,6 @@
 //! A word whose first bytes stand beside it, so that a short one is compared by one load.
-ghost use Rattle.std.specs.Prelude.{◌≡◌, length, min, take, bytes_eq, IfOk};
+ghost use Rattle.std.specs.Prelude.{◌≡◌, ◌<◌, ◌^◌, length, min, take, bytes_eq, nat_eq, IfOk};
+ghost use Rattle.std.specs.List.{starts_with};
 
 use crate::runs::{WIDTH, same_in};
 use rv_model::Name;
@@ -55,6 +56,34 @@ impl HeldWord {
         ensures { result.now ≡ self.now }
     {
         self.word.bytes()
+    }
+
+    /// How many bytes it has.
+    #[inline(always)]
+    pub(crate) fn len(&self) -> usize
+        ensures len { result ≡ length self.now }
+        ensures few { result < 2 ^ 63 }
+    {
+        self.word.bytes().len()
+    }
+
+    /// Whether the text begins with it, byte by byte. Apart from the words that are compared at once, which are most.
+    #[inline(never)]
+    fn begins_far(&self, text: &[u8]) -> bool
+        ensures { result ≡ starts_with nat_eq text.now self.now }
+    {
+        text.starts_with(self.word.bytes())
+    }
+
+    /// Whether the text begins with it. Where the text goes on for as many bytes they are looked at together.
+    #[inline(always)]
+    pub(crate) fn begins(&self, text: &[u8]) -> bool
+        ensures { result ≡ starts_with nat_eq text.now self.now }
+    {
+        if self.end > WIDTH || text.len() < WIDTH {
+            return self.begins_far(text);
+        }
+        same_in(&self.near, text) >= self.end
     }
 
     /// Whether it has these bytes, byte by byte. Apart from the words that are compared at once, which are most.

@@ -18,7 +18,7 @@ mod taken;
 mod trace;
 
 pub use field_names::FieldNames;
-pub use fields::field;
+pub use fields::{field, held_field};
 pub use found_fields::FoundFields;
 pub use held_word::HeldWord;
 pub use laws::{
