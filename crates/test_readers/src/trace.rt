@@ -1,6 +1,6 @@
 //! Lines of recorded traces and lines that come close to a limit. What they say was worked out apart from this code.
 use rv_text::{Refusal, Refused};
-use rv_trace::{Lines, Span, TraceLine, field, read_line, read_trace};
+use rv_trace::{HeldWord, Lines, Span, TraceLine, field, held_field, read_line, read_trace};
 use std::alloc::Global;
 use std::process::Abort;
 use std::test::Fail;
@@ -240,10 +240,16 @@ fn a_line_is_read_where_it_stands(rt: HostRuntime) -> Result<(), Fail> {
     Ok(())
 }
 
-/// Where the field's value stands, in fields that are short.
-fn found(rt: &impl Abort, fields: &str, name: &str) -> Option<(u32, u32)> {
+/// Where the field's value stands, in fields that are short. A name that is held finds the same.
+fn found(rt: &impl Abort, alloc: Global, fields: &str, name: &str) -> Option<(u32, u32)> {
     assert!(rt; fields.len() < 100);
-    field(fields.as_bytes(), name.as_bytes()).map(|span| (span.from, span.to))
+    let held = HeldWord::new(alloc, name.as_bytes()).ok()?;
+    let found = held_field(fields.as_bytes(), &held);
+    assert!(rt;
+        found == field(fields.as_bytes(), name.as_bytes()),
+        "at {fields}, {name}"
+    );
+    found.map(|span| (span.from, span.to))
 }
 
 #[test]
@@ -274,7 +280,10 @@ fn a_field_is_found_at_the_beginning_or_behind_a_blank(rt: HostRuntime) {
         ("a b=3", "a b", Some((4, 5))),
     ];
     for (fields, name, want) in cases {
-        assert!(rt; found(&rt, fields, name) == want, "at {fields}, {name}");
+        assert!(rt;
+            found(&rt, rt.alloc(), fields, name) == want,
+            "at {fields}, {name}"
+        );
     }
 }
 
