@@ -1,5 +1,5 @@
 -- A formula's rows by the bits of their sets.
-use Rattle.std.proofs.Common.{◌≡◌, ℕ, zero, suc, ◌+◌, ◌-◌, ◌^◌, ◌<◌, ◌≤◌, ◌==◌, ◌&&◌, ◌||◌, nat_lt, Bool, true, false, ◌⊎◌, inl, inr, List, [], length, map, arith, refl, sym, ap, ◌∙◌, add-one, subst}
+use Rattle.std.proofs.Common.{◌≡◌, ℕ, zero, suc, ◌+◌, ◌-◌, ◌^◌, ◌<◌, ◌≤◌, ◌==◌, ◌&&◌, ◌||◌, nat_lt, Bool, true, false, ◌⊎◌, inl, inr, List, [], length, map, arith, refl, sym, ap, ◌∙◌, subst}
 use Rattle.std.specs.List.{All, list_all}
 use Rattle.std.proofs.lemmas.List.{get_or_past, get_or-map, length-map}
 use Rattle.std.proofs.lemmas.Nat.Bits.{bit_at_above}
@@ -22,9 +22,13 @@ use Rattle.rv_table.proofs.SetLemmas.{some_follows-none, some_follows-more, is_s
 pub All-ltl : (fs : List Formula) → All IsLabel (map ltl fs) → All (λ f. IsLabel (ltl f)) fs
 All-ltl fs all = λ i d lt. let l : i < length (map ltl fs) = subst (λ n. i < n) (sym (length-map fs ltl)) lt in subst IsLabel (get_or-map ltl fs i d (ltl d) lt) (all i (ltl d) l)
 
+-- no row is before row 0
+pub some_next_none : (nodes : List Node) (set q : ℕ) → some_next nodes set 0 q ≡ false
+some_next_none nodes set q = refl
+
 -- one more row
-pub some_next_more : (nodes : List Node) (set n q : ℕ) → some_next nodes set (n + 1) q ≡ (some_next nodes set n q || (has_bit set n && has_bit (node_at nodes n).next q))
-some_next_more nodes set n q = rw (add-one n) refl
+pub some_next_more : (nodes : List Node) (set n q : ℕ) → some_next nodes set (suc n) q ≡ (some_next nodes set n q || (has_bit set n && has_bit (node_at nodes n).next q))
+some_next_more nodes set n q = refl
 
 -- nothing is added
 or_none : (a b : Bool) → (a || (b && false)) ≡ a
@@ -43,8 +47,15 @@ next-past nodes set q (suc more) =
     ∙ ap (λ b. some_next nodes set (more + length nodes) q || (has_bit set (more + length nodes) && b)) nothing
     ∙ or_none (some_next nodes set (more + length nodes) q) (has_bit set (more + length nodes)) ∙ next-past nodes set q more
   where
-    one : (n : ℕ) → suc more + n ≡ more + n + 1
+    one : (n : ℕ) → suc more + n ≡ suc (more + n)
     one n = omega arith
+
+-- the rows below 32 are all rows
+pub next-rows : (nodes : List Node) (set q : ℕ) → length nodes ≤ 32 → some_next nodes set 32 q ≡ some_next nodes set (length nodes) q
+next-rows nodes set q few = go (32 - length nodes) (omega arith)
+  where
+    go : (more : ℕ) → more + length nodes ≡ 32 → some_next nodes set 32 q ≡ some_next nodes set (length nodes) q
+    go more e = ap (λ n. some_next nodes set n q) (sym e) ∙ next-past nodes set q more
 
 -- a row that follows by the earlier rows or by this one
 both-ways : (row some all here next : Bool) → ((row && (some && all)) || (here && (row && (next && all)))) ≡ (row && ((some || (here && next)) && all))
@@ -67,17 +78,13 @@ module _ (nodes : List Node) (set : ℕ) (x : Letter) (q : ℕ) where
   follows-next : (n : ℕ) → some_follows (of_labels nodes) set x n q ≡ (is_row && (some_next nodes set n q && allows))
   follows-next zero = some_follows-none (of_labels nodes) set x q ∙ and_none is_row allows
   follows-next (suc n) =
-      ap (λ k. some_follows (of_labels nodes) set x k q) (sym (add-one n)) ∙ some_follows-more (of_labels nodes) set x n q
+      some_follows-more (of_labels nodes) set x n q
       ∙ ap (λ b. b || (has_bit set n && (is_row && (has_bit (node_at nodes n).next q && allows)))) (follows-next n)
       ∙ both-ways is_row (some_next nodes set n q) allows (has_bit set n) (has_bit (node_at nodes n).next q)
 
   -- a row that follows the set is there, is a next row of a row of the set, and has true labels
   pub follows-rows : length nodes ≤ 32 → some_follows (of_labels nodes) set x 32 q ≡ (is_row && (some_next nodes set (length nodes) q && allows))
-  follows-rows few = go (32 - length nodes) (omega arith)
-    where
-      go : (more : ℕ) → more + length nodes ≡ 32 → some_follows (of_labels nodes) set x 32 q ≡ (is_row && (some_next nodes set (length nodes) q && allows))
-      go more e =
-          follows-next 32 ∙ ap (λ b. is_row && (b && allows)) (ap (λ n. some_next nodes set n q) (sym e) ∙ next-past nodes set q more)
+  follows-rows few = follows-next 32 ∙ ap (λ b. is_row && (b && allows)) (next-rows nodes set q few)
 
 -- a place is in a list or past it
 within : (i n : ℕ) → (i < n) ⊎ (n ≤ i)

@@ -9,10 +9,9 @@ ghost use Rattle.rv_model.specs.declared.hit.Letter.TheVariants.{Event};
 ghost use Rattle.rv_table.specs.inner.Numbered.{some_next};
 ghost use Rattle.rv_table.specs.Rows.{IsEventRows, IsLabelRows};
 
-use crate::bits::with;
+use crate::bits::{lowest, with, without_member};
 use crate::nodes::Nodes;
 use crate::row::Row;
-use rv_model::has_bit;
 
 /// The entry of a row by the event.
 fn entry(rows: &[Row], row: u8, event: u8) -> Option<u8>
@@ -24,19 +23,14 @@ fn entry(rows: &[Row], row: u8, event: u8) -> Option<u8>
     }
 }
 
-/// The set with the row that follows this one, if the other set has this one.
-fn follow(rows: &[Row], out: u32, set: u32, row: u8, event: u8) -> u32
-    requires row { row < 32 }
-    requires rows { IsEventRows rows.now }
-    ensures { (q : ℕ) → q < 32 → has_bit result q ≡ (has_bit out q || (has_bit set row && is_next (entry_by rows.now row (Event event)) q)) }
+/// The set with the row that follows this one, if one does.
+fn follow(rows: &[Row], out: u32, row: u8, event: u8) -> u32
+    requires { IsEventRows rows.now }
+    ensures { (q : ℕ) → q < 32 → has_bit result q ≡ (has_bit out q || is_next (entry_by rows.now row (Event event)) q) }
 {
-    if has_bit(set as u64, row as usize) {
-        match entry(rows, row, event) {
-            Some(next) => with(out, next),
-            None => out,
-        }
-    } else {
-        out
+    match entry(rows, row, event) {
+        Some(next) => with(out, next),
+        None => out,
     }
 }
 
@@ -45,25 +39,22 @@ pub fn follow_events(rows: &[Row], set: u32, event: u8) -> u32
     requires { IsEventRows rows.now }
     ensures { (count : ℕ) → result ≡ step_set (of_events count rows.now) set (Event event) }
 {
-    let mut out: u32 = 0;
-    let mut row: u8 = 0;
+    let mut out = 0;
     let mut rest = set;
     while rest != 0 {
-        out = follow(rows, out, set, row, event);
-        row += 1;
-        rest >>= 1;
+        let row = lowest(rest);
+        out = follow(rows, out, row, event);
+        rest = without_member(rest, row);
     }
     out
 }
 
-/// The set with the next rows of this row, if the other set has this row.
+/// The set with the next rows of this row. Past the last row there are none.
 #[tactic(auto, using(rv_model::proofs::SetLemmas::has_or))]
-fn join(next: u32, set: u32, row: u8, nodes: &Nodes) -> u32
-    requires few { row < 32 }
-    requires row { row < length nodes.now }
-    ensures { (q : ℕ) → has_bit result q ≡ (has_bit next q || (has_bit set row && has_bit (node_at nodes.now row).next q)) }
+fn join(next: u32, row: u8, nodes: &Nodes) -> u32
+    ensures { (q : ℕ) → has_bit result q ≡ (has_bit next q || has_bit (node_at nodes.now row).next q) }
 {
-    if has_bit(set as u64, row as usize) {
+    if (row as usize) < nodes.len() {
         next | nodes.next(row as usize)
     } else {
         next
@@ -71,14 +62,16 @@ fn join(next: u32, set: u32, row: u8, nodes: &Nodes) -> u32
 }
 
 /// The next rows of the set's rows.
-#[tactic(auto, using(crate::proofs::LabelLemmas::some_next_more))]
 fn next_of(nodes: &Nodes, set: u32) -> u32
     requires { length nodes.now ≤ 32 }
     ensures { (q : ℕ) → has_bit result q ≡ some_next nodes.now set (length nodes.now) q }
 {
     let mut next = 0;
-    for row in 0..nodes.len() {
-        next = join(next, set, row as u8, nodes);
+    let mut left = set;
+    while left != 0 {
+        let row = lowest(left);
+        next = join(next, row, nodes);
+        left = without_member(left, row);
     }
     next
 }
