@@ -75,7 +75,8 @@ impl HeldWord {
         text.starts_with(self.word.bytes())
     }
 
-    /// Whether the text begins with it. Where the text goes on for as many bytes they are looked at together.
+    /// Whether the text begins with it. The bytes of a word that one load holds are looked at together, where the text goes on
+    /// for a whole load.
     #[inline(always)]
     pub(crate) fn begins(&self, text: &[u8]) -> bool
         ensures { result ≡ starts_with nat_eq text.now self.now }
@@ -94,7 +95,8 @@ impl HeldWord {
         word == self.word.bytes()
     }
 
-    /// Whether it is the word with which the text begins. Where the text goes on for as many bytes they are looked at together.
+    /// Whether it is the word with which the text begins. The bytes that one load holds are looked at together, where the text
+    /// goes on for a whole load.
     #[inline(always)]
     pub fn is(&self, word: &[u8], text: &[u8]) -> bool
         requires { take (length word.now) text.now ≡ word.now }
