@@ -17,7 +17,7 @@ use Rattle.rv_core.specs.Core.{CoreValue, Steps}
 use Rattle.rv_core.specs.Setup.{judges_of}
 use Rattle.rv_feed.specs.inner.Composing.{did-composes}
 use Rattle.rv_feed.specs.Players.{Composes, LooksAt, Halts, Serves}
-use Rattle.rv_feed.specs.inner.Turns.{Did}
+use Rattle.rv_feed.specs.Turns.{Did}
 use Rattle.rv_feed.proofs.ActLemmas.{hit-free, hit-held, hit-done}
 use Rattle.rv_feed.proofs.DoneLemmas.{did-step}
 

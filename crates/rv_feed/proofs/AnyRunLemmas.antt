@@ -16,7 +16,8 @@ use Rattle.rv_feed.specs.Existence.{OneExists}
 use Rattle.rv_feed.specs.Lane.{LaneValue, FitLanes, works_of}
 use Rattle.rv_feed.specs.Order.{Ran}
 use Rattle.rv_feed.specs.inner.SoFar.{next_turn_of, IsPending, next_line, LaneSoFar, PlaysNext, RunSoFar}
-use Rattle.rv_feed.specs.inner.Turns.{Did, PlaysTurn}
+use Rattle.rv_feed.specs.Turns.{Did}
+use Rattle.rv_feed.specs.inner.Turns.{PlaysTurn}
 use Rattle.rv_feed.proofs.AnyActLemmas.{IsReplayed, DoesAfter}
 use Rattle.rv_feed.proofs.AnyTurnLemmas.{SomeTurn, some-turn}
 use Rattle.rv_feed.proofs.LaneLemmas.{names-in, work-at}

@@ -15,7 +15,7 @@ use Rattle.rv_model.proofs.ScriptLemmas.{played-own}
 use Rattle.rv_core.specs.Core.{CoreValue, Steps}
 use Rattle.rv_core.specs.Setup.{judges_of}
 use Rattle.rv_feed.specs.Players.{Serves}
-use Rattle.rv_feed.specs.inner.Turns.{Did}
+use Rattle.rv_feed.specs.Turns.{Did}
 use Rattle.rv_feed.proofs.ActLemmas.{hit-free, hit-held, hit-done}
 
 -- one step of the machine

@@ -7,8 +7,8 @@ use Rattle.rv_model.specs.Scripts.{Played}
 use Rattle.rv_model.specs.Histories.{IsNoStop, IsPermittedTo, look_count, looks_of, NoneOf, IsInOrder, line_at}
 use Rattle.rv_model.specs.Works.{Work}
 use Rattle.rv_model.proofs.CutLemmas.{at_each-append, at_each-front, at_each-weaker}
-use Rattle.rv_feed.specs.Turns.{entries_played}
-use Rattle.rv_feed.specs.inner.Turns.{AllBy, NoLooks, IsOneTurn}
+use Rattle.rv_feed.specs.Turns.{entries_played, AllBy}
+use Rattle.rv_feed.specs.inner.Turns.{NoLooks, IsOneTurn}
 
 -- no entry is another seat's
 pub none-by : (seat other : ℕ) (ps : List Played) → AllBy seat ps → seat ≢ other → NoneOf other (entries_played ps)

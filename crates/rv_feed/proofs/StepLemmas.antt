@@ -18,8 +18,8 @@ use Rattle.rv_model.proofs.SeatLemmas.{looks_of-append, line-index}
 use Rattle.rv_core.specs.Core.{CoreValue}
 use Rattle.rv_core.specs.Setup.{judges_of}
 use Rattle.rv_feed.specs.Lane.{LaneValue, FitLanes, works_of}
-use Rattle.rv_feed.specs.Turns.{entries_played}
-use Rattle.rv_feed.specs.inner.Turns.{Did, PlaysTurn}
+use Rattle.rv_feed.specs.Turns.{entries_played, Did}
+use Rattle.rv_feed.specs.inner.Turns.{PlaysTurn}
 use Rattle.rv_feed.specs.inner.SoFar.{next_turn_of, IsPending, next_line, PlaysNext, Going, LaneSoFar, RunSoFar}
 use Rattle.rv_feed.proofs.EntryLemmas.{none-by, IsIn, by-at, one-at, one-looks, below-more, order-more}
 use Rattle.rv_feed.proofs.StayLemmas.{lane-stays}

@@ -19,7 +19,7 @@ pub use feeders::{run_feeders, run_halves};
 pub use lane::{Lane, is_panic, record_on};
 pub use laws::one_thread_has_a_history;
 pub use order::run_in_order;
-pub use player::Player;
+pub use player::{Player, serve_hit};
 pub use recording::{Recorder, RecordingLane, assert_lanes};
 pub use rv_model::{Delivered, Record};
 pub use turn::ends_script;

@@ -1,14 +1,17 @@
 //! What plays a script: the machine of one thread, or a seat of a board.
-ghost use Rattle.std.specs.Prelude.{◌≡◌, ℕ, ◌+◌, List};
+ghost use Rattle.std.specs.Prelude.{◌≡◌, ℕ, ◌+◌, ◌<◌, List, length, slice_index};
 ghost use Rattle.rv_model.specs.Scripts.{Played};
-ghost use Rattle.rv_model.specs.Setups.{Setup};
+ghost use Rattle.rv_model.specs.Setups.{Setup, slot_of};
+ghost use Rattle.rv_core.specs.Advance.{FitsHit};
 ghost use Rattle.rv_core.specs.Deliveries.{FitsDelivery};
+ghost use Rattle.rv_core.specs.Setup.{table_at};
 ghost use Rattle.rv_feed.specs.Players.{Composes, LooksAt, Serves, Halts};
+ghost use Rattle.rv_feed.specs.Turns.{Did};
 
 use rv_board::{Board, Seat};
 use rv_core::Core;
 use rv_io::Gate;
-use rv_model::{Act, Answer, Delivered, Delivery, HALTED};
+use rv_model::{Act, Answer, Delivered, Delivery, HALTED, Hit};
 
 /// What plays a CPU's script.
 pub trait Player {
@@ -56,10 +59,27 @@ pub trait Player {
     ghost composes: { (cpu : ℕ) → Composes (does cpu) };
 }
 
+/// Serves a delivery with this hit to the instance, as `serve` of a machine does, whatever its order. The hit is lent, and not
+/// copied.
+#[inline(always)]
+pub fn serve_hit(core: &mut Core, cpu: u8, monitor: u8, instance: u32, hit: &Hit) -> Delivered
+    requires monitor { monitor < length core.old.setup.shape }
+    requires instance { instance < slice_index core.old.setup.shape monitor }
+    requires hit { FitsHit (table_at core.old.setup (slot_of core.old.setup.shape monitor instance)) hit.now }
+    ensures { (order : ℕ) → Serves (Did (2 + cpu)) core.old.setup core.old core.new (record { order = order; monitor = monitor; instance = instance; hit = hit.now }) result }
+{
+    let slot = core.shape().slot(monitor, instance);
+    let seat = 2 + cpu as u32;
+    if hit.mode.is_end() {
+        return Delivered::Done(core.step(seat, &Act::End { slot }));
+    }
+    Delivered::Done(core.deliver(seat, monitor, slot, hit))
+}
+
 /// On one thread the machine plays for each CPU, as its seat.
 impl Player for Core {
     ghost use Rattle.std.proofs.Common.{ap};
-    ghost use Rattle.rv_feed.specs.inner.Turns.{Did};
+    ghost use Rattle.rv_feed.specs.Turns.{Did};
     ghost use Rattle.rv_feed.specs.inner.Composing.{did-composes};
 
     type Shared = ();
@@ -86,12 +106,13 @@ impl Player for Core {
         delivery: &Delivery,
         _gate: &mut G,
     ) -> Delivered {
-        let slot = self.shape().slot(delivery.monitor, delivery.instance);
-        let seat = 2 + cpu as u32;
-        if delivery.hit.mode.is_end() {
-            return Delivered::Done(self.step(seat, &Act::End { slot }));
-        }
-        Delivered::Done(self.deliver(seat, delivery.monitor, slot, &delivery.hit))
+        serve_hit(
+            self,
+            cpu,
+            delivery.monitor,
+            delivery.instance,
+            &delivery.hit,
+        )
     }
 
     fn halt(&mut self, _shared: &(), cpu: u8) {

@@ -350,14 +350,14 @@ impl RuleLines {
         if event.rules.is_empty() {
             return Ok(());
         }
-        self.finds.look_up(fields, &event.fields)?;
+        let found = self.finds.look_up(fields, &event.fields)?;
         let fired = add_event(
             alloc,
             self.rules.as_mut_slice(),
             self.asked.as_slice(),
             event,
             fields,
-            self.finds.spans(),
+            found,
         )?;
         self.named = one_more(self.named)?;
         self.fired = count_if(self.fired, fired)?;

@@ -18,7 +18,8 @@ use Rattle.rv_core.specs.Setup.{judges_of}
 use Rattle.rv_feed.specs.Lane.{LaneValue}
 use Rattle.rv_feed.specs.inner.Lane.{AddsRecords}
 use Rattle.rv_feed.specs.Players.{LooksAt, Halts, Serves}
-use Rattle.rv_feed.specs.inner.Turns.{Did, PartDone, PlaysTurn}
+use Rattle.rv_feed.specs.Turns.{Did}
+use Rattle.rv_feed.specs.inner.Turns.{PartDone, PlaysTurn}
 use Rattle.rv_feed.specs.inner.Composing.{did-composes}
 use Rattle.rv_feed.proofs.PlaceLemmas.{AtPlace, record-for}
 use Rattle.rv_feed.proofs.TurnLemmas.{turn-start, turn-off, turn-all, turn-hidden, turn-shown, turn-last}

@@ -1,7 +1,7 @@
 -- What is observed of one entry, and of several parts of a run.
-use Rattle.std.proofs.Common.{◌≡◌, ℕ, ◌+◌, Bool, true, false, inl, inr, List, [], ◌∷◌, ◌++◌, reverse, sym, ap, ◌∙◌, subst, append_assoc, append-nil, get_or}
+use Rattle.std.proofs.Common.{◌≡◌, ℕ, ◌+◌, Bool, true, false, inl, inr, List, [], ◌∷◌, ◌++◌, reverse, sym, ap, ◌∙◌, subst, append_assoc, append-nil, get_or, arith}
 use Rattle.std.specs.Bool.{if◌then◌else◌}
-use Rattle.std.specs.Prelude.{◌<◌, All, length, slice_index}
+use Rattle.std.specs.Prelude.{◌<◌, ◌≤◌, All, length, slice_index}
 use Rattle.std.proofs.lemmas.List.{append_cancel_left, reverse-append}
 use Rattle.rv_model.specs.declared.entry.Act.{Act}
 use Rattle.rv_model.specs.declared.entry.Act.TheVariants.{Deliver, End}
@@ -22,26 +22,55 @@ use Rattle.rv_model.specs.Setups.{Setup, judge_of, monitor_of, slot_of}
 use Rattle.rv_model.specs.SharedWords.{answer_at}
 use Rattle.rv_model.proofs.ScriptLemmas.{played-own}
 use Rattle.rv_core.specs.declared.phase.RowPhase.{RowPhase}
+use Rattle.rv_core.specs.Advance.{FitsHit}
 use Rattle.rv_core.specs.Core.{CoreValue}
 use Rattle.rv_core.specs.Deliveries.{FitsDelivery}
 use Rattle.rv_core.specs.RowPhases.{phase_at, row_phase}
-use Rattle.rv_core.specs.Setup.{judges_of, word_index}
+use Rattle.rv_core.specs.Setup.{judges_of, table_at, word_index}
+use Rattle.rv_feed.specs.Kept.{record_on}
 use Rattle.rv_feed.specs.Players.{Halts, LooksAt, Serves}
-use Rattle.rv_feed.specs.inner.Turns.{Did}
+use Rattle.rv_feed.specs.Turns.{Did}
 use Rattle.rv_route.specs.Listing.{ListedDelivery}
 use Rattle.rv_replay.specs.Observing.{MakesRecord, ObservesMore, IgnoresSwitches}
 
 -- ---- a delivery of a list
 
 -- it fits the machine, which keeps its setup
-pub fits-at : (s now : Setup) (list : List ListedDelivery) (at : ℕ) (d : Delivery) → now ≡ s → All (λ x. FitsDelivery s x.delivery) list → at < length list → ((x : ListedDelivery) → d ≡ (get_or list at x).delivery) → FitsDelivery now d
-fits-at s now list at d same fit within is =
+pub fits-at : {s now : Setup} (list : List ListedDelivery) {at to : ℕ} {d : Delivery} → now ≡ s → All (λ x. FitsDelivery s x.delivery) list → at < to → to ≤ length list
+    → ((x : ListedDelivery) → d ≡ (get_or list at x).delivery) → FitsDelivery now d
+fits-at {s} {now} list {at} {to} {d} same fit before inside is =
     let x : ListedDelivery = record { line = 0; cpu = 0; delivery = d } in
-    subst (λ (v : Setup). FitsDelivery v d) (sym same) (subst (FitsDelivery s) (sym (is x)) (fit at x within))
+    subst (λ (v : Setup). FitsDelivery v d) (sym same) (subst (FitsDelivery s) (sym (is x)) (fit at x (omega arith)))
 
 -- so its monitor and its instance are of the shape
-pub fits-shape : (now : Setup) (shape : List ℕ) (d : Delivery) → shape ≡ now.shape → FitsDelivery now d → (d.monitor < length shape) × (d.instance < slice_index shape d.monitor)
-fits-shape now shape d is fits = subst (λ (z : List ℕ). (d.monitor < length z) × (d.instance < slice_index z d.monitor)) (sym is) (fits.monitor, fits.instance_fits)
+pub fits-shape : {now : Setup} {shape : List ℕ} {d : Delivery} → FitsDelivery now d → shape ≡ now.shape → (d.monitor < length shape) × (d.instance < slice_index shape d.monitor)
+fits-shape {now} {shape} {d} fits is = subst (λ (z : List ℕ). (d.monitor < length z) × (d.instance < slice_index z d.monitor)) (sym is) (fits.monitor, fits.instance_fits)
+
+-- what is hit by it is what the list says at its place
+hit-of : (list : List ListedDelivery) (at : ℕ) (d : Delivery) (hit : Hit) → ((x : ListedDelivery) → d ≡ (get_or list at x).delivery) → ((x : ListedDelivery) → hit ≡ (get_or list at x).delivery.hit) → hit ≡ d.hit
+hit-of list at d hit is hits =
+    let x : ListedDelivery = record { line = 0; cpu = 0; delivery = d } in
+    hits x ∙ ap (λ (e : Delivery). e.hit) (sym (is x))
+
+-- so that hit fits
+pub fits-hit : {s : Setup} (list : List ListedDelivery) (at : ℕ) {d : Delivery} {hit : Hit} → FitsDelivery s d
+    → ((x : ListedDelivery) → d ≡ (get_or list at x).delivery) → ((x : ListedDelivery) → hit ≡ (get_or list at x).delivery.hit) → FitsHit (table_at s (slot_of s.shape d.monitor d.instance)) hit
+fits-hit {s} list at {d} {hit} fits is hits = subst (FitsHit (table_at s (slot_of s.shape d.monitor d.instance))) (sym (hit-of list at d hit is hits)) fits.hit
+
+-- and serving it serves the delivery
+pub serves-hit : {seat : ℕ} {s : Setup} {old new : CoreValue} {outcome : Delivered} (list : List ListedDelivery) (at : ℕ) {d : Delivery} {hit : Hit}
+    → ((x : ListedDelivery) → d ≡ (get_or list at x).delivery) → ((x : ListedDelivery) → hit ≡ (get_or list at x).delivery.hit)
+    → ((order : ℕ) → Serves (Did seat) s old new (record { order = order; monitor = d.monitor; instance = d.instance; hit = hit }) outcome) → Serves (Did seat) s old new d outcome
+serves-hit {seat} {s} {old} {new} {outcome} list at {d} {hit} is hits serves =
+    subst (λ (h : Hit). Serves (Did seat) s old new (record { order = d.order; monitor = d.monitor; instance = d.instance; hit = h }) outcome) (hit-of list at d hit is hits) (serves d.order)
+
+-- read again the delivery is the same, and so is its record
+pub record-again : {r : Record} {line n : ℕ} {outcome : Delivered} {reacting b : Bool} (list : List ListedDelivery) (at : ℕ) {d e : Delivery}
+    → ((x : ListedDelivery) → d ≡ (get_or list at x).delivery) → ((x : ListedDelivery) → e ≡ (get_or list at x).delivery)
+    → line ≡ n → reacting ≡ b → r ≡ record_on line outcome reacting e → r ≡ record_on n outcome b d
+record-again {r} {line} {n} {outcome} {reacting} {b} list at {d} {e} is too line_is reacting_is made =
+    let x : ListedDelivery = record { line = 0; cpu = 0; delivery = d } in
+    made ∙ (λ i. record_on (line_is i) outcome (reacting_is i) ((too x ∙ sym (is x)) i))
 
 -- ---- an answer
 

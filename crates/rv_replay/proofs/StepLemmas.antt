@@ -11,7 +11,8 @@ use Rattle.rv_model.proofs.SeatLemmas.{line-index}
 use Rattle.rv_core.specs.Core.{CoreValue}
 use Rattle.rv_feed.specs.Lane.{LaneValue}
 use Rattle.rv_feed.specs.inner.SoFar.{IsPending, PlaysNext, next_line, next_turn_of}
-use Rattle.rv_feed.specs.inner.Turns.{Did, PlaysTurn}
+use Rattle.rv_feed.specs.Turns.{Did}
+use Rattle.rv_feed.specs.inner.Turns.{PlaysTurn}
 use Rattle.rv_feed.proofs.LaneLemmas.{pairs-from, pairs-to}
 use Rattle.rv_feed.proofs.RunLemmas.{run-played}
 use Rattle.rv_route.specs.Listing.{ListedDelivery, works_listed}

@@ -7,8 +7,7 @@ ghost use Rattle.rv_replay.specs.inner.Turns.{PlaysListed};
 
 use crate::observer::Observer;
 use rv_core::Core;
-use rv_feed::{Player, ends_script, record_on};
-use rv_io::OpenGate;
+use rv_feed::{Player, ends_script, record_on, serve_hit};
 use rv_model::{HALTED, REACTING, Reactor, has_bit, is_enabled_by};
 use rv_route::DeliveryList;
 use std::alloc::AllocError;
@@ -39,8 +38,16 @@ pub(crate) fn play_turn<O: Observer>(
         if is_enabled_by(word, &delivery) {
             let slot = core.shape().slot(delivery.monitor, delivery.instance);
             let before = core.phase(slot);
-            let outcome = core.serve(&(), cpu, &delivery, &mut OpenGate);
-            let record = record_on(&delivery, line, outcome, has_bit(word, REACTING));
+            let outcome = serve_hit(
+                core,
+                cpu,
+                delivery.monitor,
+                delivery.instance,
+                list.hit(place),
+            );
+            // Read again: kept over the step, its hit would be copied.
+            let again = list.delivery(place);
+            let record = record_on(&again, line, outcome, has_bit(word, REACTING));
             observer.observe(context, core, slot, before, &record)?;
             if ends_script(reactors, word, delivery.monitor, outcome) {
                 core.halt(&(), cpu);

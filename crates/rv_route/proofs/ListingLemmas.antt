@@ -1,11 +1,12 @@
 -- Deliveries as one list: one more of them, and the one that stands at a place.
 use Rattle.std.proofs.Common.{◌≡◌, ℕ, Bool, true, false, map, subst, zero, suc, ◌+◌, ◌<◌, ◌≤◌, List, [], ◌∷◌, ◌++◌, length, get_or, set, refl, sym, ap, ◌∙◌, arith, replicate, length-append}
 use Rattle.std.specs.Prelude.{All, fold, if◌then◌else◌}
-use Rattle.std.proofs.lemmas.List.{get_or-map, length-map}
+use Rattle.std.proofs.lemmas.List.{get_or-map, get_or_default, length-map}
 use Rattle.std.proofs.lemmas.List.Elements.{All-nil, All-push, All-head, All-tail, All-weaker, All-replicate}
 use Rattle.std.proofs.lemmas.List.Quantifiers.{all_pairs_push}
 use Rattle.std.proofs.lemmas.List.Sums.{fold-append}
 use Rattle.rv_model.specs.declared.record.Task.{Task}
+use Rattle.rv_model.specs.declared.work.Delivery.{Delivery}
 use Rattle.rv_trace.specs.declared.line.TraceLine.{TraceLine}
 use Rattle.rv_bind.specs.RuleValues.{OnValue}
 use Rattle.rv_route.specs.declared.listing.Listed.{Listed}
@@ -55,6 +56,17 @@ module _ (targets : List Target) (items : List Listed) (list : List ListedDelive
   listed-here d x at =
       let none : 0 + place ≡ place = omega arith in
       ap (λ (l : List ListedDelivery). get_or l place d) (sym is) ∙ listed_at targets 0 items place d x listed-within ∙ ap (λ (n : ℕ). listed_as targets n (get_or items place x)) none ∙ ap (listed_as targets place) (sym at)
+
+  -- its rule is within the targets
+  pub listed-rule : (x : Listed) → x ≡ get_or items place x → All (λ (i : Listed). i.rule < length targets) items → x.rule < length targets
+  listed-rule x at rules = subst (λ (i : Listed). i.rule < length targets) (sym at) (rules place x listed-within)
+
+  -- and with the target there it makes the delivery
+  pub listed-delivery : (d : ListedDelivery) (x : Listed) (t : Target) → x ≡ get_or items place x → All (λ (i : Listed). i.rule < length targets) items → t ≡ get_or targets x.rule t
+      → record { order = place; monitor = t.monitor; instance = x.instance; hit = t.hit } ≡ (get_or list place d).delivery
+  listed-delivery d x t at rules there =
+      ap (λ (u : Target). let made : Delivery = record { order = place; monitor = u.monitor; instance = x.instance; hit = u.hit } in made) (there ∙ get_or_default targets x.rule t no_target (listed-rule x at rules))
+      ∙ ap (λ (l : ListedDelivery). l.delivery) (sym (listed-here d x at))
 
 -- each goes last on its CPU
 lanes_listed-push : (list : List ListedDelivery) (d : ListedDelivery) → lanes_listed (list ++ d ∷ []) ≡ with_listed (lanes_listed list) d

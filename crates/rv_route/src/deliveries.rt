@@ -33,6 +33,7 @@ pub(crate) struct Deliveries {
 
 impl Model for Deliveries {
     ghost use Rattle.std.specs.Prelude.{◌≡◌, ◌<◌, ◌≤◌, true, length, All, if◌then◌else◌};
+    ghost use Rattle.rv_bind.specs.declared.limits.TheConstants.{MAX_RULES};
     ghost use Rattle.rv_route.specs.Listing.{lanes_listed, listed_from};
     ghost use Rattle.rv_route.specs.inner.Gathering.{Gathered};
 
@@ -40,7 +41,7 @@ impl Model for Deliveries {
 
     ghost view = { λ r. record { routes = record { tasks = r.tasks; lanes = if r.listed then lanes_listed (listed_from r.targets.items 0 r.items.items) else r.lanes.items; count = r.count }; targets = r.targets.items; listed = r.listed; list = listed_from r.targets.items 0 r.items.items } };
 
-    ghost invariant = { λ r. (length r.lanes.items ≡ 64) × (r.count ≤ 4000000) × All (λ lane. length lane.deliveries ≤ r.count) r.lanes.items × (length r.targets.items ≤ 256) × (r.listed ≡ true → length r.items.items ≡ r.count) × All (λ item. item.rule < length r.targets.items) r.items.items };
+    ghost invariant = { λ r. (length r.lanes.items ≡ 64) × (r.count ≤ 4000000) × All (λ lane. length lane.deliveries ≤ r.count) r.lanes.items × (length r.targets.items ≤ MAX_RULES) × (r.listed ≡ true → length r.items.items ≡ r.count) × All (λ item. item.rule < length r.targets.items) r.items.items };
 }
 
 impl Deliveries {

@@ -1,5 +1,5 @@
 //! What a line's fields have that the rules of its event name: few names are looked up one by one, and many in one walk.
-ghost use Rattle.std.specs.Prelude.{◌≡◌, ◌≤◌, length, All, [], OnOk};
+ghost use Rattle.std.specs.Prelude.{◌≤◌, length, All, IfOk};
 ghost use Rattle.rv_trace.specs.FoundFields.{AreFound, IsInside};
 
 use crate::asking::look_up;
@@ -10,61 +10,44 @@ use std::marker::Model;
 /// From so many names on one walk over a line's words takes less time than a search for each name.
 const MANY_FIELDS: usize = 16;
 
-/// For each name's place what was found on a line.
+/// Room for what is found on a line, for each name's place. What stands there between two lines tells nothing.
 #[derive(Drop)]
 pub struct Finds {
     few: Vec<Option<Span>>,
     many: FoundFields,
-    /// Where the last line's are.
-    is_many: bool,
 }
 
 impl Model for Finds {
-    ghost use Rattle.std.specs.Prelude.{List, Option, if◌then◌else◌};
-    ghost use Rattle.rv_trace.specs.declared.line.Span.{Span};
+    ghost Value = { Unit {0} };
 
-    ghost Value = { List (Option Span) };
-
-    ghost view = { λ f. if f.is_many then f.many else f.few.items };
+    ghost view = { λ f. tt };
 }
 
 impl Finds {
-    /// Nothing was found.
-    pub fn new(alloc: Global) -> Finds
-        ensures { result ≡ [] }
-    {
+    /// Room for nothing yet.
+    pub fn new(alloc: Global) -> Finds {
         Finds {
             few: Vec::new(alloc),
             many: FoundFields::new(alloc),
-            is_many: false,
         }
     }
 
     /// Looks the names up on a line.
     #[inline(always)]
-    pub fn look_up(&mut self, fields: &[u8], names: &FieldNames) -> Result<(), AllocError>
+    pub fn look_up(
+        &mut self,
+        fields: &[u8],
+        names: &FieldNames,
+    ) -> Result<&[Option<Span>], AllocError>
         requires { length fields.now ≤ 4294967295 }
-        ensures found { OnOk result (AreFound fields.now names.now self.new) }
-        ensures inside { OnOk result (All (IsInside fields.now) self.new) }
+        ensures found { IfOk result (λ found. AreFound fields.now names.now found.now) }
+        ensures inside { IfOk result (λ found. All (IsInside fields.now) found.now) }
     {
-        self.is_many = names.names().len() >= MANY_FIELDS;
-        if self.is_many {
+        if names.names().len() >= MANY_FIELDS {
             names.find(fields, &mut self.many)?;
-        } else {
-            look_up(fields, names.names(), &mut self.few)?;
+            return Ok(self.many.spans());
         }
-        Ok(())
-    }
-
-    /// What was found.
-    #[inline(always)]
-    pub fn spans(&self) -> &[Option<Span>]
-        ensures { result.now ≡ self.now }
-    {
-        if self.is_many {
-            self.many.spans()
-        } else {
-            self.few.as_slice()
-        }
+        look_up(fields, names.names(), &mut self.few)?;
+        Ok(self.few.as_slice())
     }
 }

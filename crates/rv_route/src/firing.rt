@@ -54,8 +54,7 @@ fn fire(
     ensures kept { GathersLine line.now.number deliveries.old deliveries.new }
 {
     let fields = &text[line.fields.from as usize..line.fields.to as usize];
-    finds.look_up(fields, &event.fields)?;
-    let found = finds.spans();
+    let found = finds.look_up(fields, &event.fields)?;
     for asked in &event.rules {
         let rule = &bindings.rules[asked.rule];
         let ask = ask_for(&bindings.monitors, rule, asked, line, fields, found);

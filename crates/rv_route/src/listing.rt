@@ -2,7 +2,7 @@
 ghost use Rattle.std.specs.Prelude.{◌≡◌, ◌<◌, ◌≤◌, map, length, slice_index_or, IfOk};
 ghost use Rattle.rv_route.specs.Listing.{ListedDelivery, target_of};
 
-use rv_bind::On;
+use rv_bind::{MAX_RULES, On};
 use rv_model::{Delivery, Hit};
 use rv_slots::Tasks;
 use std::alloc::{AllocError, Global};
@@ -52,9 +52,9 @@ pub struct RoutedList {
 /// What each rule hits.
 pub(crate) fn targets_of(alloc: Global, rules: &[On]) -> Result<Vec<Target>, AllocError>
     ensures targets { IfOk result (λ targets. targets.items ≡ map target_of rules.now) }
-    ensures few { IfOk result (λ targets. length targets.items ≤ 256) }
+    ensures few { IfOk result (λ targets. length targets.items ≤ MAX_RULES) }
 {
-    if rules.len() > 256 {
+    if rules.len() > MAX_RULES {
         return Err(AllocError);
     }
     let mut targets = Vec::with_capacity(alloc, rules.len())?;
@@ -108,5 +108,15 @@ impl DeliveryList {
             instance: item.instance as u32,
             hit: target.hit,
         }
+    }
+
+    /// What the delivery at this place hits.
+    #[inline(always)]
+    pub fn hit(&self, place: usize) -> &Hit
+        requires { place < length self.now }
+        ensures { (d : ListedDelivery) → result.now ≡ (slice_index_or self.now place d).delivery.hit }
+    {
+        let item = self.items[place];
+        &self.targets[item.rule as usize].hit
     }
 }

@@ -8,9 +8,8 @@ use Rattle.rv_core.specs.Setup.{judges_of}
 use Rattle.rv_board.specs.Seats.{SeatGrows}
 use Rattle.rv_board.proofs.GrowLemmas.{grows_then}
 use Rattle.rv_feed.specs.Feeding.{played_by, Adds}
-use Rattle.rv_feed.specs.Turns.{entries_played}
+use Rattle.rv_feed.specs.Turns.{entries_played, AllBy, Did}
 use Rattle.rv_feed.specs.Players.{Composes}
-use Rattle.rv_feed.specs.inner.Turns.{AllBy, Did}
 
 -- entries of both
 pub entries_played-append : (ps qs : List Played) → entries_played (ps ++ qs) ≡ entries_played ps ++ entries_played qs

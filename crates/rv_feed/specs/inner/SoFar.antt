@@ -14,7 +14,8 @@ use Rattle.rv_core.specs.Setup.{judges_of}
 use Rattle.rv_feed.specs.declared.order.NextTurn.{NextTurn}
 use Rattle.rv_core.specs.Deliveries.{FitsDelivery}
 use Rattle.rv_feed.specs.Lane.{LaneValue, works_of}
-use Rattle.rv_feed.specs.inner.Turns.{Did, PlaysTurn}
+use Rattle.rv_feed.specs.Turns.{Did}
+use Rattle.rv_feed.specs.inner.Turns.{PlaysTurn}
 
 -- the index of a lane's next turn; `places` has one for each CPU
 abbrev pub next_turn_of : List ℕ → LaneValue → ℕ

@@ -1,32 +1,16 @@
--- What a CPU does in one delivery and in one turn, on any machine.
-use Rattle.std.specs.Prelude.{◌≡◌, ℕ, ◌-◌, Bool, List, [], ◌∷◌, ◌++◌, ◌≤◌, filter, length, reverse, slice_range}
+-- What a CPU does in one turn, on any machine.
+use Rattle.std.specs.Prelude.{◌≡◌, ℕ, ◌-◌, Bool, List, [], ◌∷◌, ◌≤◌, filter, length, slice_range}
 use Rattle.rv_model.specs.declared.entry.Act.TheVariants.{Look}
 use Rattle.rv_model.specs.declared.entry.Answer.TheVariants.{Looked}
 use Rattle.rv_model.specs.declared.entry.Entry.{Entry}
 use Rattle.rv_model.specs.declared.record.Record.{Record}
 use Rattle.rv_model.specs.declared.work.Turn.{Turn}
-use Rattle.rv_model.specs.Histories.{IsNoStop, IsPermittedTo, look_count}
+use Rattle.rv_model.specs.Histories.{look_count}
 use Rattle.rv_model.specs.inner.ScriptParts.{TurnPart, ScriptOr}
-use Rattle.rv_model.specs.Scripts.{Played, played, is_enabled_by}
+use Rattle.rv_model.specs.Scripts.{Played, is_enabled_by}
 use Rattle.rv_model.specs.Setups.{Setup}
-use Rattle.rv_core.specs.Core.{CoreValue}
-use Rattle.rv_core.specs.Setup.{judges_of}
 use Rattle.rv_feed.specs.Lane.{LaneValue}
 use Rattle.rv_feed.specs.inner.Lane.{AddsRecords}
-use Rattle.rv_feed.specs.Turns.{entries_played}
-
--- ---- entries of one seat
-
--- all that was played is by the seat, which may do it, and none of it is a stop
-abbrev pub AllBy : ℕ → List Played → Type 0
-AllBy seat [] = Unit {0}
-AllBy seat (p ∷ ps) = ((p.0.seat ≡ seat) × IsNoStop p.0.act × IsPermittedTo p.0.act seat) × AllBy seat ps
-
--- the history grows by the entries of `ps`, all the seat's and no stops, and each has the answer that `ps` gives it
-pub record Did (seat : ℕ) (old new : CoreValue) (ps : List Played) : Type 0 where
-  pub grows : new ≡ record old { history = old.history ++ entries_played ps }
-  pub played_is : played old.setup (judges_of old.setup) seat (reverse (old.history ++ entries_played ps)) ≡ played old.setup (judges_of old.setup) seat (reverse old.history) ++ ps
-  pub by : AllBy seat ps
 
 -- none of what was played is a look
 abbrev pub NoLooks : List Played → Type 0

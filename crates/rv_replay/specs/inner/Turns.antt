@@ -6,7 +6,8 @@ use Rattle.rv_model.specs.declared.work.Delivery.{Delivery}
 use Rattle.rv_model.specs.declared.work.Turn.{Turn}
 use Rattle.rv_core.specs.Core.{CoreValue}
 use Rattle.rv_feed.specs.Lane.{LaneValue}
-use Rattle.rv_feed.specs.inner.Turns.{Did, PartDone, PlaysTurn}
+use Rattle.rv_feed.specs.Turns.{Did}
+use Rattle.rv_feed.specs.inner.Turns.{PartDone, PlaysTurn}
 use Rattle.rv_route.specs.Listing.{ListedDelivery}
 use Rattle.rv_replay.specs.Observing.{ObservesMore}
 

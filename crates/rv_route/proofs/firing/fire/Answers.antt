@@ -1,12 +1,10 @@
-use Rattle.std.proofs.Common.{◌≡◌, ◌+◌, ◌<◌, List, length, drop, Option, Result, sym, ap, ◌∙◌, subst, arith, rules}
+use Rattle.std.proofs.Common.{◌≡◌, ◌+◌, ◌<◌, List, length, drop, Result, sym, ap, ◌∙◌, subst, arith, rules}
 use Rattle.std.specs.Prelude.{filter}
 use Rattle.std.specs.List.{AllZip}
 use Rattle.std.specs.Vec.{vec_len}
 use Rattle.std.proofs.lemmas.Option.{slice_get_within, get_or_from_slice_get}
 use Rattle.std.proofs.lemmas.Result.{err_from_is_err_and}
 use Rattle.rv_text.specs.declared.refusals.Refusal.{Refusal}
-use Rattle.rv_trace.specs.declared.line.Span.{Span}
-use Rattle.rv_trace.specs.FoundFields.{AreFound}
 use Rattle.rv_route.specs.declared.event.Asked.{Asked}
 use Rattle.rv_route.specs.Asking.{text_at}
 use Rattle.rv_route.specs.inner.Asking.{ask_on}
@@ -41,8 +39,7 @@ ask_for-ask-requires-clause-found c =
     let at = asked_at all event.fields c.deref-asked-items.result.now those c.loop-asked.asked-index c.asked-item.result are (omega arith) c.asked-item.is in
     let rule : c.index-rule.result.now ≡ at.rule = c.index-rule.ensures ∙ get_or_from_slice_get all c.asked-item.result.rule at.rule _ at.asks.there in
     let fields = text_at c.args.text.now c.args.line.now.fields in
-    subst (HasFound fields c.spans-found.result.now c.asked-item.result) (sym rule) (has_found fields event.fields c.spans-found.result.now
-    (subst (λ (f : List (Option Span)). AreFound fields event.fields f) (sym c.spans-found.ensures) c.in_ok-look_up.ensures.found) c.asked-item.result at.rule at.asks.fields)
+    subst (HasFound fields c.in_ok-found.found.now c.asked-item.result) (sym rule) (has_found fields event.fields c.in_ok-found.found.now c.in_ok-found.ensures.found c.asked-item.result at.rule at.asks.fields)
 
 pub answer-requires-clause-target : goal.answer-requires-clause-target
 answer-requires-clause-target c =
