@@ -313,12 +313,13 @@ def cells_of(row):
 
 
 def tables_of(document):
-    """The tables of a page: the heading above, the lower-case words of the head, and the rows."""
-    heading, table = "", None
+    """The tables of a page: the heading above, the lower-case words of the head, and the rows. Blocks of code have none of these."""
+    heading, table, is_code = "", None, False
     for line in document.splitlines():
-        if line.startswith("#"):
+        is_code ^= line.startswith("```")
+        if line.startswith("#") and not is_code:
             heading = line.lstrip("# ")
-        if not line.startswith("|"):
+        if not line.startswith("|") or is_code:
             if table:
                 yield table
             table = None
