@@ -79,6 +79,9 @@ VIOLATION = re.compile(
 SUMMARY = re.compile(r"(?P<monitor>[a-z0-9_:]+): instances (?P<instances>[0-9]+), deliveries (?P<deliveries>[0-9]+), failures (?P<failures>[0-9]+), stopped (?P<stopped>[0-9]+)")
 REFUSAL = re.compile(r"rv: refused ([0-9]+)(?: in (.*?)(?: line ([0-9]+))?)?")
 UNREAD = re.compile(r"rv: cannot read (.*)")
+# what rv-coverage prints besides summaries, as docs/COVERAGE.md has it
+FACT = re.compile(r"(?:the trace|the run|all monitors): .*|[a-z0-9_:]+: (?:instances: started|answers: passed|on [0-9]+|state|edge|row|atom) .*")
+FINDING = re.compile(r".*:[0-9]+: [a-z]+(?:-[a-z]+)+: .*")
 
 
 def is_of_report(line):
