@@ -79,6 +79,9 @@ VIOLATION = re.compile(
 SUMMARY = re.compile(r"(?P<monitor>[a-z0-9_:]+): instances (?P<instances>[0-9]+), deliveries (?P<deliveries>[0-9]+), failures (?P<failures>[0-9]+), stopped (?P<stopped>[0-9]+)")
 REFUSAL = re.compile(r"rv: refused ([0-9]+)(?: in (.*?)(?: line ([0-9]+))?)?")
 UNREAD = re.compile(r"rv: cannot read (.*)")
+# what rv-coverage prints besides summaries, as docs/COVERAGE.md has it
+FACT = re.compile(r"(?:the trace|the run|all monitors): .*|[a-z0-9_:]+: (?:instances: started|answers: passed|on [0-9]+|state|edge|row|atom) .*")
+FINDING = re.compile(r".*:[0-9]+: [a-z]+(?:-[a-z]+)+: .*")
 
 
 def is_of_report(line):
@@ -313,12 +316,13 @@ def cells_of(row):
 
 
 def tables_of(document):
-    """The tables of a page: the heading above, the lower-case words of the head, and the rows."""
-    heading, table = "", None
+    """The tables of a page: the heading above, the lower-case words of the head, and the rows. Blocks of code have none of these."""
+    heading, table, is_code = "", None, False
     for line in document.splitlines():
-        if line.startswith("#"):
+        is_code ^= line.startswith("```")
+        if line.startswith("#") and not is_code:
             heading = line.lstrip("# ")
-        if not line.startswith("|"):
+        if not line.startswith("|") or is_code:
             if table:
                 yield table
             table = None

@@ -13,6 +13,10 @@ class Finding:
         self.cause, self.mend, self.line, self.start, self.end = cause, mend, line, start, end
 
 
+# The cause and the mend of a line whose last word would be right without its carriage return.
+CARRIAGE_RETURN = "the line ends in a carriage return, as Windows writes it, and it belongs to the last word", "take them out of the whole file: `tr -d '\\r' < FILE > MENDED`"
+
+
 def nearest(word, known):
     """The known word that is spelled most like this one, or None."""
     lower = {it.lower(): it for it in reversed(list(known))}

@@ -51,7 +51,7 @@ class Edge:
         return self.source.text.startswith("__init_")
 
     def events(self):
-        return [piece.strip(" \t\r") for piece in (self.label or "").split("\\n")]
+        return [piece.strip(" \t") for piece in (self.label or "").split("\\n")]
 
 
 class Reader:

@@ -4,7 +4,7 @@ import re
 
 import rv_texts
 
-from . import Finding, automata, did_you_mean, foreign, nearest, rules
+from . import CARRIAGE_RETURN, Finding, automata, did_you_mean, foreign, nearest, rules
 
 LONGEST_LINE, LONGEST_NAME = 1048576, 32
 FORMS = {
@@ -44,7 +44,8 @@ class Context:
 
 
 def joined(words):
-    return " ".join(text for _, _, text in words)
+    """The words as one writes them, without a carriage return behind the last."""
+    return " ".join(text for _, _, text in words).rstrip("\r")
 
 
 def behind(line):
@@ -63,7 +64,7 @@ def reject_comment(words, at):
 def reject_carriage_return(words):
     start, end, text = words[-1]
     if text.endswith("\r"):
-        raise Wrong((end - 1, end, ""), "the line ends in a carriage return, as Windows writes it, and it belongs to the last word", "take them out of the whole file: `tr -d '\\r' < FILE > MENDED`")
+        raise Wrong((end - 1, end, ""), *CARRIAGE_RETURN)
 
 
 def check_name(word, what):
@@ -310,6 +311,8 @@ def syntax(line, context):
     if not words:
         raise Wrong((0, 1, ""), "the line has no word", "it is skipped")
     kind = words[0][2]
+    if kind.rstrip("\r") in ("", *LINES) and (kind != "on" or words[-1][2].rstrip("\r") in (*MODES, ":")):  # (what is delivered may be any word)
+        reject_carriage_return(words)
     if kind not in LINES:
         if kind.rstrip(":").lower() in LINES:
             raise Wrong(words[0], f"`{kind}` is no first word of a line", f"write `{kind.rstrip(':').lower()}`")
@@ -321,8 +324,6 @@ def syntax(line, context):
         if not likely and ":" in [word[2] for word in words] and words[0][2] in context.before.monitors:
             raise Wrong(words[0], "the line does not begin with `on`", f"write `on {joined(words)}`")
         raise Wrong(words[0], f"`{kind}` is no first word of a line", f"write `{likely}`: the form is `{FORMS[likely]}`" if likely else f"the first words are {', '.join(KEYWORDS)}; a comment begins with `#`")
-    if kind != "on" or words[-1][2].rstrip("\r") in MODES or not words[-1][2].endswith("\r"):
-        reject_carriage_return(words)
     LINES[kind](words, line, context)
     raise Wrong(words[0], "this look finds no fault in the words of the line", "compare it with the form")
 
@@ -381,7 +382,7 @@ def unknown_name(number, line_number, words, context):
             continue
         what = "event" if number == 20 else "atom"
         if name.endswith("\r"):
-            return Finding("the line ends in a carriage return, as Windows writes it, and it belongs to the last word", "take them out of the whole file: `tr -d '\\r' < FILE > MENDED`", line_number, end - 1, end)
+            return Finding(*CARRIAGE_RETURN, line_number, end - 1, end)
         more = "" if number == 20 else "; an atom that is never set need not be named"
         return Finding(f"{monitor.file} has no {what} `{name}`", did_you_mean(name, known, f"its {what}s") + more, line_number, start, end)
     return None

@@ -3,7 +3,7 @@ import re
 
 import rv_texts
 
-from . import Finding, did_you_mean, foreign, nearest
+from . import CARRIAGE_RETURN, Finding, did_you_mean, foreign, nearest
 
 COMMANDS = ("read", "write", "append")
 TOP = ("available_monitors", "available_reactors", "enabled_monitors", "monitoring_on", "reacting_on")
@@ -32,6 +32,9 @@ def finding_of(number, path, text, line_number, bindings, is_beside):
     words = rv_texts.places_of(lines[line_number - 1])
     if not words:
         return None
+    _, end, word = words[min(number - 31, len(words) - 1)]  # the command, the path or the text
+    if word.endswith("\r"):
+        return Finding(*CARRIAGE_RETURN, line_number, end - 1, end)
     if number == 31:
         return no_command(words, line_number)
     if number == 32:

@@ -3,7 +3,7 @@ import re
 
 import rv_texts
 
-from . import Finding, did_you_mean, foreign, nearest, size_of
+from . import CARRIAGE_RETURN, Finding, did_you_mean, foreign, nearest, size_of
 
 WITHOUT_HEAD = "`trace-cmd report -N trace.dat | grep -vE '^(cpus=|CPU [0-9]+ is empty)' > trace.txt`"
 RECORD_AGAIN = "turn it off (`echo 0 > options/{}` in /sys/kernel/tracing) and record again"
@@ -11,7 +11,7 @@ RECORD_AGAIN = "turn it off (`echo 0 > options/{}` in /sys/kernel/tracing) and r
 LOOKED_AT = 1000
 # What a line is that has not the form of an event: its form, the cause and the mend.
 LINES = [
-    (r"(version = [0-9]+|CPU [0-9]+ is empty|cpus=[0-9]+)\r?$", "it is a line of the head of trace-cmd, and no event", f"leave these lines out: {WITHOUT_HEAD}"),
+    (r"(version = [0-9]+|CPU [0-9]+ is empty|cpus=[0-9]+)$", "it is a line of the head of trace-cmd, and no event", f"leave these lines out: {WITHOUT_HEAD}"),
     (r"CPU:[0-9]+ \[([0-9]+ )?EVENTS DROPPED\]", "trace-cmd tells that events were lost before this line", "never cut this line out, since what follows may be judged wrongly: record again with a larger buffer (`trace-cmd record -b 65536`), with fewer events, or for a shorter time"),
     (r"[ \t]*=> .*|(.*[: ])?<(user )?stack trace>[ \t]*$", "it is a line of a call stack, which the option `stacktrace` (or `trace-cmd record -T`) records behind each event", "the stacks are recorded with the events: " + RECORD_AGAIN.format("stacktrace") + ", or leave out `-T`"),
     (r"[ \t]*[0-9]+\)[ \t]+[^|]*\|", "it is a line of the tracer `function_graph`", "turn the tracer off and record again: `echo nop > current_tracer`"),
@@ -66,12 +66,20 @@ def finding_of(number, path, text, line_number, bindings):
     return None
 
 
+def carriage_return(line, line_number, before=""):
+    """The finding of a line that would be read without the carriage return at its end."""
+    cause, mend = CARRIAGE_RETURN
+    return Finding(before + cause, mend, line_number, len(line) - 1, len(line))
+
+
 def no_event(lines, line_number, line, text):
-    is_last = line_number == len(lines)
+    is_last, plain = line_number == len(lines), line.rstrip("\r")
     if rv_texts.re.search(rb"^\xef\xbb\xbf".decode("utf-8"), line) and line_number == 1 and rv_texts.event_of(line.lstrip("\ufeff")) is None:
         return Finding("three invisible bytes, a byte order mark, stand before the first letter", "take them out: `sed -i '1s/^\\xef\\xbb\\xbf//' FILE`", 1, 0, 1)
+    if plain != line and (rv_texts.is_skipped(plain) or rv_texts.is_lost_note(plain)):
+        return carriage_return(line, line_number)
     for form, cause, mend in LINES:
-        if re.match(form, line[:LOOKED_AT]):
+        if re.match(form, plain[:LOOKED_AT]):
             return Finding(cause, mend, line_number, 0, len(line))
     head = rv_texts.HEAD.search(line)
     if head is None:
@@ -86,6 +94,8 @@ def no_event(lines, line_number, line, text):
     if name is None:
         return Finding("the line ends behind its timestamp: no event follows", "the text was cut in the middle of a line: take that line out at the trace's end, or copy the trace again", line_number, len(line) - 1, len(line))
     start, end = head.end() + name[0], head.end() + name[1]
+    if end == len(line) and re.fullmatch(".+:\r+", name[2]):
+        return carriage_return(line, line_number)
     return Finding(f"`{name[2]}` stands where the event is wanted, a name and `:`", "it is a line of another tracer: turn it off and record again (`echo nop > current_tracer`); or the text was cut", line_number, start, end)
 
 
@@ -127,6 +137,11 @@ def no_pid(line, line_number, bindings):
             rule = it
             break
     by = rule.by if rule else None
+    likely = by or (fields[-1] if fields and fields[-1].endswith("pid") else None)
+    value = event.value(likely) if likely else None
+    if value and value.endswith("\r") and line.endswith(value) and rv_texts.decimal_pid(value.rstrip("\r")) is not None:
+        told = f"line {rule.line} of the bindings takes the task from `{by}`, whose value is `{value}`" if rule else "a `by` field of the bindings has no decimal number on this line"
+        return carriage_return(line, line_number, f"{told}: ")
     who = f"line {rule.line} of the bindings takes the task from `{by}`, and " if rule else ""
     start = line.find(f"{event.name}:")
     if re.search(r"(?:^|[ \t])[A-Za-z0-9_]+=0x[0-9a-f]+ \(", event.fields):
@@ -134,10 +149,9 @@ def no_pid(line, line_number, bindings):
     if event.name.startswith("sched_") and re.match(r"[ \t]+.*:[0-9]+ \[[0-9]+\]", event.fields) or not fields and event.fields.strip():
         return Finding(f"{who}the line has no fields `NAME=VALUE`: `trace-cmd report` printed the event in words of its own", "print it again with `-N`: " + WITHOUT_HEAD, line_number, start, len(line))
     if by and by in fields:
-        value = event.value(by)
         place = re.search(rf"(?:^|[ \t]){by}=", event.fields)
         at = len(line) - len(event.fields) + place.end()
-        return Finding(f"{who}its value `{value}` is no decimal of at most {rv_texts.HIGHEST_PID}", "name a field that holds a pid" if value else "the text was cut, or the field is empty: name another field", line_number, at, at + max(1, len(value)))
+        return Finding(f"{who}its value `{value}` is no decimal of at most {rv_texts.HIGHEST_PID}", "name a field that holds a pid" if value.rstrip("\r") else "the text was cut, or the field is empty: name another field", line_number, at, at + max(1, len(value)))
     mend = did_you_mean(by, fields, "the fields of this line") if by and fields else f"the fields of this line are {', '.join(fields) or 'none'}; compare them with `by` in the bindings, and with the event's `format` file in tracefs"
     pids = [field for field in fields if field.endswith("pid")]
     if by and pids and not nearest(by, fields):

@@ -1,11 +1,14 @@
 """Refusal 1 of the command line, 34 and 37 of a run's words, and files that cannot be read."""
+import contextlib
 import os
 import re
 
 import rv_texts
 
-from . import Finding, did_you_mean, nearest
+from . import Finding, did_you_mean, nearest, one_of
 
+RV, COVERAGE = "rv", "rv-coverage"
+RUNS = ("replay", "feed", "watch", "journal", "check", "control")  # the commands of rv whose first file are bindings
 MOST_BLOCKS = 15625
 OTHERS = {
     "run": "replay", "mon": "replay", "monitor": "replay", "report": "replay", "verify": "replay", "list": "control", "dot": "table", "show": "table",
@@ -13,50 +16,77 @@ OTHERS = {
 }
 
 
+class Command:
+    """What was called: the program, None where the words do not begin with its name, and its words, None where none are known."""
+
+    def __init__(self, given):
+        name = os.path.basename(given[0]) if given else None
+        self.program = name if name in (RV, COVERAGE) else None
+        self.words = given[1:] if self.program else given or None
+        words = self.words or []
+        files = words if self.program == COVERAGE else words[1:] if words and words[0] in RUNS else []
+        self.bindings_path, self.trace_path = [*files, None, None][:2]
+        self.bindings = None
+        if files:
+            with contextlib.suppress(OSError):
+                self.bindings = rv_texts.Bindings(rv_texts.read_text(self.bindings_path))
+
+    def shown(self):
+        """The command as it is shown."""
+        return " ".join([self.program or RV, *(word or "''" for word in self.words or [])])
+
+
 def forms_of(tables):
-    """The command forms of docs/FORMATS.md: the words of each, and what it prints."""
+    """The command forms of docs/FORMATS.md: the program, its words, and what it prints."""
     forms = []
     for _, head, rows in tables:
-        if head[:1] == ["words"] and head[-1] == "prints":
+        words = re.fullmatch("words(?: of `(.+)`)?", head[0])
+        if words and head[-1] == "prints":
             for row in rows:
-                forms += [(form.split(), row[-1]) for form in re.findall("`([^`]+)`", row[0])]
+                forms += [(words[1] or RV, form.split(), row[-1]) for form in re.findall("`([^`]+)`", row[0])]
     return forms
 
 
-def usage(words, forms):
-    """What is wrong with words that are no command, as a finding whose place is in the words."""
+def usage(command, forms):
+    """What is wrong with words that are none of the program's forms, as a finding whose place is in the words."""
+    program, words = command.program or RV, command.words
     line, places = "", []
-    for word in ["rv", *words]:
+    for word in [program, *words]:
         places.append((len(line), len(line) + max(1, len(word))))
         line += (word or "''") + " "
 
     def at(place, cause, mend):
         return Finding(cause, mend, 0, *(places[place] if place < len(places) else (len(line.rstrip()), len(line.rstrip()) + 1)))
 
+    is_coverage = program == COVERAGE
     if not words:
-        return at(1, "no words were given", "for a verdict on a trace: `rv replay BINDINGS TRACE`")
+        return at(1, "no words were given", "for what a run has watched: `rv-coverage BINDINGS TRACE`" if is_coverage else "for a verdict on a trace: `rv replay BINDINGS TRACE`")
     name = words[0]
-    commands = list(dict.fromkeys(form[0] for form, _ in forms))
+    commands = list(dict.fromkeys(form[0] for of, form, _ in forms if of == RV))
     if name in ("--version", "-V", "version"):
         return at(1, "the program prints no version", "`git log -1` in its checkout tells which it is")
     if name in ("--help", "-h", "help", "-?"):
-        return at(1, "the program prints no help", "the forms are these; README.md says which to take (\"Which command\")")
+        return at(1, "the program prints no help", "the forms are these; " + ("docs/COVERAGE.md says what is printed" if is_coverage else "README.md says which to take (\"Which command\")"))
+    mine = [form for of, form, _ in forms if of == program]
+    if is_coverage:
+        return coverage_usage(words, mine, commands, at)
     if name.startswith("-"):
         return at(1, f"there are no options, and `{name}` is read as a command", "leave it out; what is printed of a failure stands in the bindings (`react`)")
     if name not in commands:
         if len(words) == 2 and name.endswith(".rv"):
             return at(1, "the command is missing", f"write `rv replay {' '.join(words)}`")
         likely = nearest(name, commands) or OTHERS.get(name.lower())
-        return at(1, f"`{name}` is no command", f"write `{likely}`: `rv {' '.join(next(form for form, _ in forms if form[0] == likely))}`" if likely else f"the commands are {', '.join(commands)}")
-    mine = [form for form, _ in forms if form[0] == name]
-    shown = " or ".join(f"`rv {' '.join(form)}`" for form in mine)
-    option = next((place for place, word in enumerate(words[1:], 2) if re.fullmatch("--?[a-z].*", word)), None)
+        mend = f"write `{likely}`: `rv {' '.join(next(form for form in mine if form[0] == likely))}`" if likely else f"the commands are {', '.join(commands)}"
+        return at(1, f"`{name}` is no command of rv", mend + ("" if likely or command.program else "; if rv-coverage was called, give its name before its words: `rv-explain rv-coverage WORD ..`"))
+    mine = [form for form in mine if form[0] == name]
+    option = next((place for place, word in enumerate(words, 1) if re.fullmatch("--?[a-z].*", word)), None)
     if option:
-        return at(option, f"there are no options, and `{words[option - 1]}` is read as a file", f"leave it out: {shown}")
+        return at(option, f"there are no options, and `{words[option - 1]}` is read as a file", f"leave it out: {one_of_forms(RV, mine)}")
     if name == "load" and len(words) == 2:
         if not re.fullmatch("[0-9]+", words[1]):
             return at(2, f"`{words[1]}` is no decimal", f"N is a number of blocks of 64 lines, from 1 to {MOST_BLOCKS}")
-        return at(2, f"{int(words[1])} blocks are not in 1 to {MOST_BLOCKS}", f"{MOST_BLOCKS} blocks are 1,000,000 lines, the most that a trace has")
+        if not 1 <= int(words[1]) <= MOST_BLOCKS:
+            return at(2, f"{int(words[1])} blocks are not in 1 to {MOST_BLOCKS}", f"{MOST_BLOCKS} blocks are 1,000,000 lines, the most that a trace has")
     if name == "table" and len(words) > 1 and words[1] not in ("da", "ltl"):
         kind = {".dot": "da", ".ltl": "ltl"}.get(os.path.splitext(words[-1])[1])
         if len(words) == 2:
@@ -71,10 +101,36 @@ def usage(words, forms):
         if re.search("[./]", words[1]):
             return at(2, f"`{words[1]}` is no NAME", f"write `rv header {re.sub('[^a-z0-9_]', '_', os.path.splitext(os.path.basename(words[1]))[0].lower())} {words[2]}`")
         return at(2, f"`{words[1]}` is no NAME, which has 1 to 32 lower-case letters, digits and `_`", f"write `{re.sub('[^a-z0-9_]', '_', words[1].lower())[:32]}`")
-    most = max(len(form) for form in mine)
+    return miscounted(RV, words, mine, at)
+
+
+def coverage_usage(words, forms, commands, at):
+    """The same of `rv-coverage`, whose words are two files, and `edges` behind them."""
+    if words[0] in commands:
+        return at(1, f"`{words[0]}` is a command of rv, and rv-coverage has none: it is read as a file", f"leave it out: {one_of_forms(COVERAGE, forms)}")
+    for place, word in enumerate(words, 1):
+        if re.fullmatch("--?[a-z].*", word):
+            return at(place, f"there are no options, and `{word}` is a word like any other", f"leave it out: {one_of_forms(COVERAGE, forms)}")
+    if len(words) == 3 and words[2] != "edges":
+        return at(3, f"`{words[2]}` stands where `edges` alone may stand", one_of_forms(COVERAGE, forms))
+    return miscounted(COVERAGE, words, forms, at)
+
+
+def one_of_forms(program, forms):
+    return one_of([f"{program} {' '.join(form)}" for form in forms])
+
+
+def miscounted(program, words, forms, at):
+    """The finding of words that are too many or too few, or that are no text."""
+    most, shown = max(map(len, forms)), one_of_forms(program, forms)
+    strange = next((place for place, word in enumerate(words, 1) if re.search("[\ud800-\udfff]", word)), None)
+    if strange:
+        return at(strange, f"`{words[strange - 1]}` is no text in UTF-8", "give the file another name")
     if len(words) > most:
         return at(most + 1, f"`{words[most]}` is a word too many", f"{shown}; where a file's name has blanks, put it in quotes")
-    form = next(form for form in mine if len(form) > len(words)) if any(len(form) > len(words) for form in mine) else mine[-1]
+    if any(len(form) == len(words) for form in forms):
+        return at(len(words) + 1, "these words are one of the forms", "give the words that were refused")
+    form = next(form for form in forms if len(form) > len(words))
     return at(len(words) + 1, f"the {' and the '.join(form[len(words):])} {'is' if len(form) - len(words) == 1 else 'are'} missing", shown)
 
 
