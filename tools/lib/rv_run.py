@@ -6,7 +6,6 @@ differ from it.
 """
 import collections
 import gc
-import os
 import re
 from operator import attrgetter
 
@@ -170,8 +169,7 @@ class Run:
         gc.disable()  # what is made is kept to the end, and looking through it again and again takes half of the time
         self.program, self.bindings, self.trace = program, bindings, trace
         for path in (bindings, trace):
-            if os.path.exists(path) and not os.path.isfile(path):
-                raise Trouble(UNREADABLE, f"{path} is no regular file, and is read more than once: save it first")
+            rv_texts.check_kept(path)
         self.report = program.text("replay", bindings, trace, statuses=(0, 1))
         if most is not None:
             counted = filter(None, map(rv_texts.SUMMARY.fullmatch, rv_texts.lines_of(self.report)))

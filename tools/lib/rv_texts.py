@@ -5,6 +5,7 @@ What rv refuses has no form here: a line of no form is left out, or none.
 """
 import collections
 import functools
+import os
 import re
 import sys
 
@@ -16,6 +17,12 @@ MOST_BYTES, MOST_LINES = 134217728, 1000000
 
 
 # ---- files
+
+
+def check_kept(path):
+    """Trouble where a file that is read more than once does not keep its text, as a pipe does not."""
+    if os.path.exists(path) and not os.path.isfile(path) and not os.path.isdir(path):
+        raise Trouble(UNREADABLE, f"{path} is no regular file, and is read more than once: save it first")
 
 
 def read_text(path):
