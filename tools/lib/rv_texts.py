@@ -19,6 +19,11 @@ MOST_BYTES, MOST_LINES = 134217728, 1000000
 # ---- files
 
 
+def is_standard_input(path):
+    """Whether a path names the standard input of whoever opens it."""
+    return os.path.abspath(path) in ("/dev/stdin", "/dev/fd/0", "/proc/self/fd/0")
+
+
 def check_kept(path):
     """Trouble where a file that is read more than once does not keep its text, as a pipe does not."""
     if os.path.exists(path) and not os.path.isfile(path) and not os.path.isdir(path):

@@ -57,6 +57,13 @@ SHOWN = {
 }
 
 
+def read_again(path):
+    """The text of a file that rv read; an OSError where it cannot be read here, as the standard input of rv, which is another one than this tool's."""
+    if rv_texts.is_standard_input(path):
+        raise OSError("it was the standard input of rv")
+    return rv_texts.read_text(path)
+
+
 def kind_by_bytes(path):
     """What the first bytes of a file that is no plain text tell, or None."""
     with open(path, "rb") as file:
