@@ -85,6 +85,8 @@ class Test:
             ([trace, wip, *rest], 3),
             ([wip, wip, *rest], 3),
             (["--rv", "/no/such/program", wip, trace, *rest], 3),
+            (["--rv", "true", wip, trace, *rest], 3),
+            (["--rv", "echo", wip, trace, *rest], 3),
         ]:
             came, out, err = self.run(*words)
             self.case(f"{' '.join(words)}", came == status and not out and err and "Traceback" not in err, f"status {came}, output {out[:80]!r}, errors {err[-300:]!r}")
