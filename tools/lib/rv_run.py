@@ -274,13 +274,16 @@ class Run:
     def journal_steps(self, entries):
         """The steps that a journal of `rv journal` has, in the order of the trace."""
         looks, left, steps = collections.Counter(), {}, []
-        for entry in entries:
-            if entry.act == "look":
-                _, turn = self.turns[entry.seat - 2][looks[entry.seat]]
-                looks[entry.seat] += 1
-                left[entry.seat] = iter([it for it in turn if it.monitor.is_on])
-            else:
-                steps.append(Step(next(left[entry.seat]), entry.before, entry.after))
+        try:
+            for entry in entries:
+                if entry.act == "look":
+                    _, turn = self.turns[entry.seat - 2][looks[entry.seat]]
+                    looks[entry.seat] += 1
+                    left[entry.seat] = iter([it for it in turn if it.monitor.is_on])
+                else:
+                    steps.append(Step(next(left[entry.seat]), entry.before, entry.after))
+        except (LookupError, StopIteration) as error:
+            raise Trouble(FINDINGS, f"the journal of rv is not of the files that were read here: {self.trace} or {self.bindings} was changed meanwhile") from error
         steps.sort(key=attrgetter("delivery.order"))
         return steps
 
