@@ -4,8 +4,9 @@ use strict;
 use warnings;
 use Errno qw(EPIPE);
 use Exporter 'import';
+use File::Spec;
 use Getopt::Long qw(:config posix_default bundling);
-our @EXPORT_OK = qw($EVENT_LINE MAX_LINES MAX_BYTES MAX_PID CPUS take_words put end stop read_bindings decimal field is_note is_sound open_output);
+our @EXPORT_OK = qw($EVENT_LINE MAX_LINES MAX_BYTES MAX_PID CPUS take_words put end stop refuse_input read_bindings decimal field is_note is_sound open_output);
 
 use constant MAX_LINES => 1_000_000;
 use constant MAX_BYTES => 134_217_728;
@@ -64,6 +65,12 @@ sub take_words {
     local $SIG{__WARN__} = $wrong;
     GetOptions(@options, 'help|h' => sub { put($usage); end() });
     $wrong->(@ARGV < $least ? 'a word is missing' : "a word too many: $ARGV[$most]") if @ARGV < $least || @ARGV > $most;
+}
+
+# Ends a tool with 2 where a path names its standard input, which is another file already.
+sub refuse_input {
+    my ($path, $taken) = @_;
+    stop(2, "$path is standard input, which is $taken already") if File::Spec->rel2abs($path) =~ m{^(?:/dev/stdin|/dev/fd/0|/proc/self/fd/0)\z};
 }
 
 # A bindings file: its lines, its monitors by name and in order, and its rules in order. Lines of no

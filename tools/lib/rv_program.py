@@ -2,6 +2,7 @@
 import os
 import shutil
 import subprocess
+import sys
 
 from rv_tool import UNREADABLE, Trouble
 
@@ -20,9 +21,13 @@ class Program:
         raise Trouble(UNREADABLE, f"no program {given or 'rv: build it by ./rv, or name it by --rv'}")
 
     def run(self, *words, folder=None):
-        """The status and the text of a command. What is said on standard error, as where a script builds it first, goes to the user."""
+        """The status and the text of a command. What is said on standard error, as where a script builds it first, goes to the user.
+
+        It has the standard input of the tool where that is a regular file, so that /dev/stdin is the same text to both, and else none.
+        """
+        given = None if sys.stdin is not None and os.path.isfile("/dev/stdin") else subprocess.DEVNULL
         try:
-            done = subprocess.run([self.path, *words], cwd=folder, stdin=subprocess.DEVNULL, stdout=subprocess.PIPE, check=False)
+            done = subprocess.run([self.path, *words], cwd=folder, stdin=given, stdout=subprocess.PIPE, check=False)
         except OSError as error:
             raise Trouble(UNREADABLE, f"cannot run {self.path}: {error.strerror}") from error
         return done.returncode, done.stdout.decode("utf-8", "surrogateescape")

@@ -6,7 +6,6 @@ differ from it.
 """
 import collections
 import gc
-import os
 import re
 from operator import attrgetter
 
@@ -170,8 +169,7 @@ class Run:
         gc.disable()  # what is made is kept to the end, and looking through it again and again takes half of the time
         self.program, self.bindings, self.trace = program, bindings, trace
         for path in (bindings, trace):
-            if os.path.exists(path) and not os.path.isfile(path):
-                raise Trouble(UNREADABLE, f"{path} is no regular file, and is read more than once: save it first")
+            rv_texts.check_kept(path)
         self.report = program.text("replay", bindings, trace, statuses=(0, 1))
         if most is not None:
             counted = filter(None, map(rv_texts.SUMMARY.fullmatch, rv_texts.lines_of(self.report)))
@@ -276,13 +274,16 @@ class Run:
     def journal_steps(self, entries):
         """The steps that a journal of `rv journal` has, in the order of the trace."""
         looks, left, steps = collections.Counter(), {}, []
-        for entry in entries:
-            if entry.act == "look":
-                _, turn = self.turns[entry.seat - 2][looks[entry.seat]]
-                looks[entry.seat] += 1
-                left[entry.seat] = iter([it for it in turn if it.monitor.is_on])
-            else:
-                steps.append(Step(next(left[entry.seat]), entry.before, entry.after))
+        try:
+            for entry in entries:
+                if entry.act == "look":
+                    _, turn = self.turns[entry.seat - 2][looks[entry.seat]]
+                    looks[entry.seat] += 1
+                    left[entry.seat] = iter([it for it in turn if it.monitor.is_on])
+                else:
+                    steps.append(Step(next(left[entry.seat]), entry.before, entry.after))
+        except (LookupError, StopIteration) as error:
+            raise Trouble(FINDINGS, f"the journal of rv is not of the files that were read here: {self.trace} or {self.bindings} was changed meanwhile") from error
         steps.sort(key=attrgetter("delivery.order"))
         return steps
 

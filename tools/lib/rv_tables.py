@@ -2,17 +2,30 @@
 import re
 
 from rv_explain import rules
-from rv_texts import read_text
+from rv_texts import check_kept, lines_of, text_of
 from rv_tool import UNREADABLE, Trouble
+
+STATE = re.compile("([0-9]+) ([^ ]+)( marked)?")
+EDGE = re.compile("  ([^ ]+) ([0-9]+)")
+ROW = re.compile(r"([0-9]+)(?: \[(.*)\])? ->((?: [0-9]+)*)")
+
+
+class Misread(Exception):
+    """What no table has: its line, or what is wrong."""
 
 
 def table_of(program, kind, file):
     """The table of an automaton file (`da`) or of a rule file (`ltl`)."""
+    check_kept(file)
     try:
         text = program.text("table", kind, file)
     except Trouble as trouble:
         raise Trouble(trouble.status, str(trouble).removeprefix("rv: ")) from trouble
-    return AutomatonTable(text) if kind == "da" else RuleTable(text, file)
+    try:
+        return AutomatonTable(text) if kind == "da" else RuleTable(text, rules.atoms_of(text_of(file)))
+    except Misread as misread:
+        told = str(misread) if text else "it is empty"
+        raise Trouble(UNREADABLE, f"the table that {program.path} prints of {file} is not understood: {told}") from misread
 
 
 def bits_of(number):
@@ -26,20 +39,21 @@ class AutomatonTable:
     start = 1 << 1
 
     def __init__(self, text):
-        head, *lines = text.splitlines()
-        edges, self.states, self.marked, row = [], [], [], 0
+        head, *lines = lines_of(text) or [""]
+        edges, self.states, self.marked = [], [], []
         for line in lines:
-            if line.startswith("  "):
-                event, target = line.split()
-                edges.append((row, event, int(target)))
+            if found := EDGE.fullmatch(line):
+                edges.append((len(self.states), found[1], int(found[2])))
+            elif (found := STATE.fullmatch(line)) and int(found[1]) == len(self.states) + 1:
+                self.states.append(found[2])
+                self.marked.append(found[3] is not None)
             else:
-                number, state, *marked = line.split(" ")
-                row = int(number)
-                self.states.append(state)
-                self.marked.append(marked == ["marked"])
+                raise Misread(line)
         self.events = sorted({event for _, event, _ in edges})
-        if head != f"states {len(self.states)}, events {len(self.events)}":
-            raise Trouble(UNREADABLE, f"a table that is not understood: {head}")
+        if not self.states or head != f"states {len(self.states)}, events {len(self.events)}":
+            raise Misread(head)
+        if not all(1 <= target <= len(self.states) for *_, target in edges):
+            raise Misread("an edge leads to a state that is not there")
         number = {event: place for place, event in enumerate(self.events)}
         self._next = {(1 << row, number[event]): 1 << target for row, event, target in edges}
 
@@ -55,28 +69,29 @@ class AutomatonTable:
 
 
 class RuleTable:
-    """The table of a rule: its rows from 0 on, each with its labels and the rows that may come next. The atoms are those of the rule file.
+    """The table of a rule: its rows from 0 on, each with its labels and the rows that may come next.
 
-    A set of rows and a letter, the atoms that hold, are numbers with a bit for each.
+    The atoms are those of the rule file, None where it is none. A set of rows and a letter, the atoms that hold, are numbers with a bit for each.
     """
 
     start = 1 << 0
 
-    def __init__(self, text, file):
-        head, *lines = text.splitlines()
-        try:
-            self.atoms = rules.atoms_of(read_text(file))
-        except OSError as error:
-            raise Trouble(UNREADABLE, f"cannot read {file}: {error.strerror}") from error
-        if self.atoms is None or head != f"nodes {len(lines) - 1}, atoms {len(self.atoms)}":
-            raise Trouble(UNREADABLE, f"a table that is not understood: {head}")
-        self.nodes = len(lines) - 1
-        self.labels, self.nexts, self._steps = [], [], {}
-        for line in lines:
-            labels, nexts = re.fullmatch(r"\d+(?: \[(.*)\])? ->(.*)", line).groups()
-            self.labels.append(labels.split("; ") if labels else [])
-            self.nexts.append([int(row) for row in nexts.split()])
-        self._formulas = [[rules.read(f"RULE = {label}")[0][0][2] for label in labels] for labels in self.labels]
+    def __init__(self, text, atoms):
+        head, *lines = lines_of(text) or [""]
+        if not lines or atoms is None or head != f"nodes {len(lines) - 1}, atoms {len(atoms)}":
+            raise Misread(head)
+        self.atoms, self.nodes = atoms, len(lines) - 1
+        self.labels, self.nexts, self._formulas, self._steps = [], [], [], {}
+        for row, line in enumerate(lines):
+            found = ROW.fullmatch(line)
+            nexts = [int(it) for it in found[3].split()] if found else []
+            labels = found[2].split("; ") if found and found[2] else []
+            formulas = [formula_of(label) for label in labels]
+            if not found or int(found[1]) != row or None in formulas or not all(it < len(lines) for it in nexts):
+                raise Misread(line)
+            self.labels.append(labels)
+            self.nexts.append(nexts)
+            self._formulas.append(formulas)
 
     def step(self, rows, letter):
         """The rows after a letter; none where it is not allowed."""
@@ -95,6 +110,12 @@ class RuleTable:
 
     def atom_names(self, atoms):
         return [self.atoms[place] for place in bits_of(atoms)]
+
+
+def formula_of(label):
+    """The formula that a label is, or None where it is none."""
+    definitions, _ = rules.read(f"RULE = {label}")
+    return definitions and definitions[0][2]
 
 
 def holds(formula, atoms):

@@ -5,10 +5,11 @@ What rv refuses has no form here: a line of no form is left out, or none.
 """
 import collections
 import functools
+import os
 import re
 import sys
 
-from rv_tool import FINDINGS, UNREADABLE, Trouble
+from rv_tool import FINDINGS, UNREADABLE, WRONG_USE, Trouble
 
 HIGHEST_PID = 4294967295
 CPUS = 64
@@ -16,6 +17,27 @@ MOST_BYTES, MOST_LINES = 134217728, 1000000
 
 
 # ---- files
+
+
+def is_standard_input(path):
+    """Whether a path names the standard input of whoever opens it."""
+    return os.path.abspath(path) in ("/dev/stdin", "/dev/fd/0", "/proc/self/fd/0")
+
+
+def check_inputs(files):
+    """Wrong use where standard input is two of the files, which stand here by what they are; one that is not given is None."""
+    taken = None
+    for what, path in files.items():
+        if path is not None and is_standard_input(path):
+            if taken:
+                raise Trouble(WRONG_USE, f"{path} is standard input, which is {taken} already")
+            taken = what
+
+
+def check_kept(path):
+    """Trouble where a file that is read more than once does not keep its text, as a pipe does not."""
+    if os.path.exists(path) and not os.path.isfile(path) and not os.path.isdir(path):
+        raise Trouble(UNREADABLE, f"{path} is no regular file, and is read more than once: save it first")
 
 
 def read_text(path):

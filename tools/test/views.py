@@ -40,9 +40,9 @@ class Test:
             print(f"{tool}: {given.rv} is not the built program; ./rv builds it")
             sys.exit(3)
 
-    def run(self, *words, folder=ROOT):
+    def run(self, *words, folder=ROOT, given=subprocess.DEVNULL):
         """The status, output and errors of the tool."""
-        done = subprocess.run([self.tool, "--rv", self.rv, *words], cwd=folder, stdin=subprocess.DEVNULL, capture_output=True, check=False)
+        done = subprocess.run([self.tool, "--rv", self.rv, *words], cwd=folder, stdin=given, capture_output=True, check=False)
         return done.returncode, done.stdout.decode("utf-8", "surrogateescape"), done.stderr.decode("utf-8", "surrogateescape")
 
     def program(self, *words, folder=ROOT):
@@ -85,9 +85,24 @@ class Test:
             ([trace, wip, *rest], 3),
             ([wip, wip, *rest], 3),
             (["--rv", "/no/such/program", wip, trace, *rest], 3),
+            (["--rv", "true", wip, trace, *rest], 3),
+            (["--rv", "echo", wip, trace, *rest], 3),
         ]:
             came, out, err = self.run(*words)
             self.case(f"{' '.join(words)}", came == status and not out and err and "Traceback" not in err, f"status {came}, output {out[:80]!r}, errors {err[-300:]!r}")
+
+    def standard_input(self, *files, shown=str):
+        """Standard input in place of each file: a file of the shell's is read as by its name, and a pipe is refused."""
+        wanted = self.run(*files)
+        for place, file in enumerate(files):
+            for name in ("/dev/stdin", "/dev/fd/0", "/proc/self/fd/0"):
+                words = [*files[:place], name, *files[place + 1:]]
+                with open(os.path.join(ROOT, file), "rb") as given:
+                    status, out, err = self.run(*words, given=given)
+                self.case(f"{' '.join(words)} < {file}", (status, shown(out.replace(name, file)), err) == (wanted[0], shown(wanted[1]), wanted[2]), (status, out[:80], err))
+                with subprocess.Popen(["cat", file], cwd=ROOT, stdout=subprocess.PIPE) as pipe:
+                    refused = self.run(*words, given=pipe.stdout)
+                self.same(f"cat {file} | {' '.join(words)}", (3, "", f"{self.name}: {name} is no regular file, and is read more than once: save it first\n"), refused)
 
     def end(self):
         print(f"{self.name}: {self.agree} of {self.agree + self.differ} cases agree")

@@ -61,10 +61,16 @@ SHOWN = {
 }
 
 
-def kind_by_bytes(path):
+def read_again(path):
+    """The text of a file that rv read; an OSError where it cannot be read here, as the standard input of rv, which is another one than this tool's."""
+    if rv_texts.is_standard_input(path):
+        raise OSError("it was the standard input of rv")
+    return rv_texts.read_text(path)
+
+
+def kind_by_bytes(text):
     """What the first bytes of a file that is no plain text tell, or None."""
-    with open(path, "rb") as file:
-        front = file.read(512)
+    front = text[:512].encode("utf-8", "surrogateescape")[:512]
     for bytes_, kind in FIRST_BYTES:
         if front.startswith(bytes_):
             return kind
@@ -87,7 +93,7 @@ def kind_by_text(text):
 
 def foreign(path, text, wanted):
     """The finding of a file that is none of the wanted kind at all, or None."""
-    kind = kind_by_bytes(path)
+    kind = kind_by_bytes(text)
     name = os.path.basename(path)
     if kind in ENGLISH:
         trace = f"rv replay BINDINGS <({ENGLISH[kind]} {name})" if wanted == "trace" else f"{ENGLISH[kind]} {name} > plain"

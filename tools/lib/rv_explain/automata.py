@@ -117,6 +117,8 @@ class Reader:
             raise Stop(token, "`strict` is not read", "leave the word out: begin with `digraph NAME {`")
         if token.is_word("graph"):
             raise Stop(token, "an undirected graph is no automaton", "begin with `digraph NAME {`, and write edges with `->`")
+        if token.kind == "end":
+            raise Stop(token, "the file has no graph", "begin with `digraph NAME {`")
         if not token.is_word("digraph"):
             raise Stop(token, f"the file begins with {token.shown()}", "begin with `digraph NAME {`")
         self.next()

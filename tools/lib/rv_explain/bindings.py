@@ -4,7 +4,7 @@ import re
 
 import rv_texts
 
-from . import CARRIAGE_RETURN, Finding, automata, did_you_mean, foreign, nearest, rules
+from . import CARRIAGE_RETURN, Finding, automata, did_you_mean, foreign, nearest, read_again, rules
 
 LONGEST_LINE, LONGEST_NAME = 1048576, 32
 FORMS = {
@@ -367,7 +367,7 @@ def unknown_name(number, line_number, words, context):
     if monitor is None:
         return None
     try:
-        text = rv_texts.read_text(monitor.file)
+        text = read_again(monitor.file)
     except OSError:
         return Finding(f"the file {monitor.file} of `{monitor.name}` could not be read here", "run rv-explain where rv was run", line_number)
     known = (automata.events_of if number == 20 else rules.atoms_of)(text) or []

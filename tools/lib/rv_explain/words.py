@@ -5,7 +5,7 @@ import re
 
 import rv_texts
 
-from . import Finding, did_you_mean, nearest, one_of
+from . import Finding, did_you_mean, nearest, one_of, read_again
 
 RV, COVERAGE = "rv", "rv-coverage"
 RUNS = ("replay", "feed", "watch", "journal", "check", "control")  # the commands of rv whose first file are bindings
@@ -29,7 +29,7 @@ class Command:
         self.bindings = None
         if files:
             with contextlib.suppress(OSError):
-                self.bindings = rv_texts.Bindings(rv_texts.read_text(self.bindings_path))
+                self.bindings = rv_texts.Bindings(read_again(self.bindings_path))
 
     def shown(self):
         """The command as it is shown."""
@@ -180,6 +180,8 @@ def unread(path, bindings_path):
         return Finding(f"the name ends in a carriage return, which is not seen: the bindings have Windows line ends{' (the file ' + plain + ' is there)' if os.path.exists(plain) else ''}", mend)
     if path == "-":
         return Finding("`-` is no name of standard input: rv looks for a file that is called so", "write `/dev/stdin`, or `<(COMMAND)` in bash")
+    if rv_texts.is_standard_input(path):
+        return Finding("rv could not open its standard input: it was closed, or is a socket, or a file that you may not open", "send the text through a pipe: `cat FILE | rv ..`")
     if path == "":
         return Finding("the name is empty: a variable of the shell was not set, or quotes stand round nothing", "give the name of a file")
     if path[0] in "\"'" or path[-1] in "\"'":
