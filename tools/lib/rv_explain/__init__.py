@@ -13,7 +13,7 @@ class Finding:
         self.cause, self.mend, self.line, self.start, self.end = cause, mend, line, start, end
 
 
-# The cause and the mend of a line whose last word would be right without its carriage return.
+# The cause and the mend of a line whose last word has a carriage return, which is to go first, whatever else is wrong.
 CARRIAGE_RETURN = "the line ends in a carriage return, as Windows writes it, and it belongs to the last word", "take them out of the whole file: `tr -d '\\r' < FILE > MENDED`"
 
 

@@ -58,7 +58,7 @@ class Reader:
     """Reads the statements of a file up to the first that is not of the grammar."""
 
     def __init__(self, text):
-        self.text, self.at, self.behind, self.declared, self.edges = text, 0, 0, [], []
+        self.text, self.at, self.behind, self.declared, self.edges, self.is_empty = text, 0, 0, [], [], True
         self.token = None
         self.next()
 
@@ -145,7 +145,9 @@ class Reader:
             if self.token.is_mark("=") and name.kind == "word":
                 self.next()
                 self.value()
-            elif self.token.is_mark("->"):
+                return self.drop(";")
+            self.is_empty = False
+            if self.token.is_mark("->"):
                 self.edge(name)
             elif self.token.is_mark("["):
                 self.attributes()
@@ -182,6 +184,7 @@ class Reader:
         while self.token.kind in ("word", "string"):
             names.append(self.name(what[0]))
             self.drop(";")
+            self.is_empty = False
         return names
 
     def value(self):
@@ -236,6 +239,7 @@ def check_event(event, edge):
     if re.fullmatch("[A-Za-z0-9_]{1,64}", event):
         return
     token = edge.label_token
+    check_carriage_return(token, event)
     if not event:
         raise Stop(token, "an event of this label has no name", 'name the event: `label = "event"`, several split by `\\n`')
     if len(event) > LONGEST_NAME:
@@ -253,9 +257,15 @@ def check_event(event, edge):
     raise Stop(token, f"`{event}` is no name of an event", f"a name has letters, digits and `_` alone: write `{re.sub('[^A-Za-z0-9_]', '_', event)}`")
 
 
+def check_carriage_return(token, name):
+    if "\r" in name:
+        raise Stop(token, "a carriage return, which is not seen, stands in this name", "take it out, between the quotes: `tr -d '\\r' < FILE > MENDED`")
+
+
 def check_state(token):
     if re.fullmatch("[A-Za-z0-9_.]{1,64}", token.text):
         return
+    check_carriage_return(token, token.text)
     if len(token.text) > LONGEST_NAME:
         raise Stop(token, f"the name of this state has {len(token.text)} bytes, and at most {LONGEST_NAME} are read", "shorten it")
     if not token.text:

@@ -1,5 +1,6 @@
 """Refusal 1 of the command line, 34 and 37 of a run's words, and files that cannot be read."""
 import contextlib
+import functools
 import os
 import re
 
@@ -26,10 +27,12 @@ class Command:
         words = self.words or []
         files = words if self.program == COVERAGE else words[1:] if words and words[0] in RUNS else []
         self.bindings_path, self.trace_path = [*files, None, None][:2]
-        self.bindings = None
-        if files:
-            with contextlib.suppress(OSError):
-                self.bindings = rv_texts.Bindings(read_again(self.bindings_path))
+
+    @functools.cached_property
+    def bindings(self):
+        """The bindings that were named, or None where none were or they cannot be read."""
+        with contextlib.suppress(OSError):
+            return self.bindings_path and rv_texts.Bindings(read_again(self.bindings_path))
 
     def shown(self):
         """The command as it is shown."""
