@@ -62,13 +62,24 @@ pub enum Item {
 }
 
 /// All that a bindings file says. Each list is in the order of its lines.
-#[derive(Drop)]
 pub struct Bindings {
     pub containers: Names,
     pub monitors: Vec<Monitor>,
     pub rules: Vec<On>,
     /// The containers and the monitors outside containers, in the order of their lines.
     pub items: Vec<Item>,
+}
+
+/// Taken apart once, here, so that what drops one has nothing to prove of its parts.
+impl Drop for Bindings {
+    fn drop(self) {
+        let Bindings {
+            containers: _,
+            monitors: _,
+            rules: _,
+            items: _,
+        } = self;
+    }
 }
 
 /// Accepted bindings, and a table for each monitor, which means the monitor's specification.

@@ -8,7 +8,6 @@ use std::alloc::{AllocError, Global};
 use std::marker::Model;
 
 /// Contracts see it as plain data, without the boxes.
-#[derive(Drop)]
 pub enum Formula {
     True,
     False,
@@ -27,6 +26,21 @@ pub enum Formula {
     Release(Box<Formula>, Box<Formula>),
     /// An until whose right operand need not come.
     WeakUntil(Box<Formula>, Box<Formula>),
+}
+
+/// Taken apart once, here, so that what drops one has nothing to prove of its parts.
+impl Drop for Formula {
+    fn drop(self) {
+        match self {
+            Formula::True | Formula::False | Formula::Atom(_) => {}
+            Formula::Not(_) | Formula::Next(_) | Formula::Always(_) | Formula::Eventually(_) => {}
+            Formula::And(_, _)
+            | Formula::Or(_, _)
+            | Formula::Imply(_, _)
+            | Formula::Equivalent(_, _) => {}
+            Formula::Until(_, _) | Formula::Release(_, _) | Formula::WeakUntil(_, _) => {}
+        }
+    }
 }
 
 /// A formula and the names of its atoms: at most 32, ascending by bytes.
@@ -60,43 +74,30 @@ impl Formula {
     pub fn copy(&self, alloc: Global) -> Result<Formula, AllocError>
         ensures { IfOk result (λ copy. ltl copy ≡ ltl self.now) }
     {
-        match self {
-            Formula::True => Ok(Formula::True),
-            Formula::False => Ok(Formula::False),
-            Formula::Atom(a) => Ok(Formula::Atom(*a)),
-            Formula::Not(f) => Ok(Formula::Not(Box::new(alloc, f.copy(alloc)?)?)),
-            Formula::Next(f) => Ok(Formula::Next(Box::new(alloc, f.copy(alloc)?)?)),
-            Formula::Always(f) => Ok(Formula::Always(Box::new(alloc, f.copy(alloc)?)?)),
-            Formula::Eventually(f) => Ok(Formula::Eventually(Box::new(alloc, f.copy(alloc)?)?)),
-            Formula::And(f, g) => {
-                let left = Box::new(alloc, f.copy(alloc)?)?;
-                Ok(Formula::And(left, Box::new(alloc, g.copy(alloc)?)?))
-            }
-            Formula::Or(f, g) => {
-                let left = Box::new(alloc, f.copy(alloc)?)?;
-                Ok(Formula::Or(left, Box::new(alloc, g.copy(alloc)?)?))
-            }
-            Formula::Imply(f, g) => {
-                let left = Box::new(alloc, f.copy(alloc)?)?;
-                Ok(Formula::Imply(left, Box::new(alloc, g.copy(alloc)?)?))
-            }
-            Formula::Equivalent(f, g) => {
-                let left = Box::new(alloc, f.copy(alloc)?)?;
-                Ok(Formula::Equivalent(left, Box::new(alloc, g.copy(alloc)?)?))
-            }
-            Formula::Until(f, g) => {
-                let left = Box::new(alloc, f.copy(alloc)?)?;
-                Ok(Formula::Until(left, Box::new(alloc, g.copy(alloc)?)?))
-            }
-            Formula::Release(f, g) => {
-                let left = Box::new(alloc, f.copy(alloc)?)?;
-                Ok(Formula::Release(left, Box::new(alloc, g.copy(alloc)?)?))
-            }
-            Formula::WeakUntil(f, g) => {
-                let left = Box::new(alloc, f.copy(alloc)?)?;
-                Ok(Formula::WeakUntil(left, Box::new(alloc, g.copy(alloc)?)?))
-            }
-        }
+        Ok(Box::into_inner(self.boxed(alloc)?))
+    }
+
+    /// An equal formula in a box, as an operator holds its operands.
+    fn boxed(&self, alloc: Global) -> Result<Box<Formula>, AllocError>
+        ensures { IfOk result (λ copy. ltl copy.value ≡ ltl self.now) }
+    {
+        let copy = match self {
+            Formula::True => Formula::True,
+            Formula::False => Formula::False,
+            Formula::Atom(a) => Formula::Atom(*a),
+            Formula::Not(f) => Formula::Not(f.boxed(alloc)?),
+            Formula::Next(f) => Formula::Next(f.boxed(alloc)?),
+            Formula::Always(f) => Formula::Always(f.boxed(alloc)?),
+            Formula::Eventually(f) => Formula::Eventually(f.boxed(alloc)?),
+            Formula::And(f, g) => Formula::And(f.boxed(alloc)?, g.boxed(alloc)?),
+            Formula::Or(f, g) => Formula::Or(f.boxed(alloc)?, g.boxed(alloc)?),
+            Formula::Imply(f, g) => Formula::Imply(f.boxed(alloc)?, g.boxed(alloc)?),
+            Formula::Equivalent(f, g) => Formula::Equivalent(f.boxed(alloc)?, g.boxed(alloc)?),
+            Formula::Until(f, g) => Formula::Until(f.boxed(alloc)?, g.boxed(alloc)?),
+            Formula::Release(f, g) => Formula::Release(f.boxed(alloc)?, g.boxed(alloc)?),
+            Formula::WeakUntil(f, g) => Formula::WeakUntil(f.boxed(alloc)?, g.boxed(alloc)?),
+        };
+        Ok(Box::new(alloc, copy)?)
     }
 
     /// Whether the two are the same formula.

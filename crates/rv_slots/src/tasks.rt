@@ -26,12 +26,22 @@ pub enum TaskFault {
 }
 
 /// Tasks without repeats. A task's number is its place.
-#[derive(Drop)]
 pub struct Tasks {
     list: Vec<Task>,
     numbers: BTreeMap<u64, u32>,
     /// By the last bits of a pid, the number of the last task that had them. It is tried first, and may be another's.
     guesses: Vec<u32>,
+}
+
+/// Taken apart once, here, so that what drops one has nothing to prove of its parts.
+impl Drop for Tasks {
+    fn drop(self) {
+        let Tasks {
+            list: _,
+            numbers: _,
+            guesses: _,
+        } = self;
+    }
 }
 
 impl Model for Tasks {

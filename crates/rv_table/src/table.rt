@@ -26,9 +26,15 @@ enum TableRows {
 }
 
 /// At most 31 rows, and row 0.
-#[derive(Drop)]
 pub struct Table {
     kind: TableRows,
+}
+
+/// Taken apart once, here, so that what drops one has nothing to prove of its parts.
+impl Drop for Table {
+    fn drop(self) {
+        let Table { kind: _ } = self;
+    }
 }
 
 impl Model for Table {
