@@ -22,7 +22,7 @@ pub enum BindFault {
 }
 
 /// Why a line is not bound.
-#[derive(Clone, Copy, Debug, Drop)]
+#[derive(Clone, Copy, Drop)]
 pub(crate) enum LineFault {
     /// The number of the refusal, one of those of `rv_text`.
     Number(u8),

@@ -10,7 +10,7 @@ use rv_bind::Item;
 use rv_model::Change;
 
 /// What is asked of the monitors.
-#[derive(Clone, Copy, Debug, Drop, PartialEq, Eq)]
+#[derive(Clone, Copy, Drop)]
 pub(crate) enum Order {
     /// No more than the file asks by itself.
     Nothing,

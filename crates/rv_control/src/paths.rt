@@ -10,7 +10,7 @@ use rv_model::Name;
 use rv_text::Pieces;
 
 /// A control file.
-#[derive(Clone, Copy, Debug, Drop, PartialEq, Eq)]
+#[derive(Clone, Copy, Drop)]
 pub(crate) enum Path {
     AvailableMonitors,
     AvailableReactors,

@@ -6,7 +6,7 @@ use crate::control::Control;
 use rv_bind::Item;
 
 /// Which of some monitors are meant.
-#[derive(Clone, Copy, Debug, Drop, PartialEq, Eq)]
+#[derive(Clone, Copy, Drop)]
 pub(crate) enum Those {
     All,
     Enabled,

@@ -11,23 +11,12 @@ use std::marker::Model;
 
 /// A table and a starting value for each monitor of the shape, and the opening switches: bits 0 to 31 enable the
 /// monitors, bit 32 is monitoring, 33 reacting and 34 halted, and all other bits are 0.
+#[derive(Drop)]
 pub struct Setup {
     pub shape: Shape,
     pub tables: Vec<Table>,
     pub starts: Vec<u32>,
     pub switches: u64,
-}
-
-/// Taken apart once, here, so that what drops one has nothing to prove of its parts.
-impl Drop for Setup {
-    fn drop(self) {
-        let Setup {
-            shape: _,
-            tables: _,
-            starts: _,
-            switches: _,
-        } = self;
-    }
 }
 
 impl Model for Setup {

@@ -13,7 +13,7 @@ use crate::saying::Saying;
 use std::alloc::{AllocError, Global};
 
 /// From one state to another by an event, each by its name.
-#[derive(Clone, Copy, Debug)]
+#[derive(Clone, Copy)]
 pub struct Arc<'s> {
     pub from: &'s [u8],
     pub event: &'s [u8],
@@ -53,7 +53,7 @@ fn target_in<'s, 'a>(saying: &'s Saying<'a>) -> Option<&'s [u8]>
 }
 
 /// Which names are gathered.
-#[derive(Clone, Copy, Debug)]
+#[derive(Clone, Copy)]
 pub enum Gathers {
     /// Those of the declared states.
     States,

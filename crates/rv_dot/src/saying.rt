@@ -9,7 +9,7 @@ use crate::names::{content, name};
 use crate::token::DotToken;
 use std::alloc::{AllocError, Global};
 
-#[derive(Debug, Drop)]
+#[derive(Drop)]
 pub enum Saying<'a> {
     /// A name, with the shape that its declaration gives.
     Declares {

@@ -10,7 +10,7 @@ use rv_text::Unread;
 use std::alloc::Global;
 
 /// The marks.
-#[derive(Clone, Copy, Debug, PartialEq, Eq)]
+#[derive(Clone, Copy)]
 pub enum Mark {
     OpenBrace,
     CloseBrace,
@@ -23,7 +23,7 @@ pub enum Mark {
 }
 
 /// A token, which borrows the text.
-#[derive(Clone, Copy, Debug)]
+#[derive(Clone, Copy)]
 pub enum DotToken<'a> {
     Sign(Mark),
     Word(&'a [u8]),

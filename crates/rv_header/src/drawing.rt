@@ -16,7 +16,7 @@ use std::alloc::{AllocError, Global};
 use std::marker::Model;
 
 /// What a text says, by names: the rows are not yet taken apart.
-#[derive(Debug, Drop)]
+#[derive(Drop)]
 pub(crate) struct Drawing<'s, 'a> {
     /// The name that the C names end with.
     pub name: &'a [u8],

@@ -5,7 +5,7 @@ ghost use Rattle.rv_journal.specs.inner.PieceReadings.{mode_in, kind_in, verb_in
 use rv_model::Mode;
 
 /// An act by its name alone, without its numbers.
-#[derive(Clone, Copy, Debug, Drop, PartialEq, Eq)]
+#[derive(Clone, Copy, Drop)]
 pub(crate) enum ActVerb {
     Deliver,
     Stop,
@@ -17,7 +17,7 @@ pub(crate) enum ActVerb {
 }
 
 /// What kind of letter is delivered: an automaton's event, or a rule's atoms.
-#[derive(Clone, Copy, Debug, Drop, PartialEq, Eq)]
+#[derive(Clone, Copy, Drop)]
 pub(crate) enum LetterKind {
     Da,
     Ltl,

@@ -10,7 +10,7 @@ use crate::observed::{item_at, item_count};
 use rv_model::{Act, Entry};
 
 /// One step of a lane: what it puts into the merged history at once.
-#[derive(Clone, Copy, Debug, Drop, PartialEq, Eq)]
+#[derive(Clone, Copy, Drop)]
 pub enum MergeStep {
     /// The look with which a turn opens.
     TurnLook,
@@ -19,7 +19,7 @@ pub enum MergeStep {
 }
 
 /// How far a lane has come in a merge.
-#[derive(Clone, Copy, Debug, Drop, PartialEq, Eq)]
+#[derive(Clone, Copy, Drop)]
 pub struct LaneProgress {
     /// How many of its turns are open.
     pub turns: usize,
@@ -28,14 +28,14 @@ pub struct LaneProgress {
 }
 
 /// A lane's next step, and how far the lane has come with it.
-#[derive(Clone, Copy, Debug, Drop, PartialEq, Eq)]
+#[derive(Clone, Copy, Drop)]
 pub struct NextStep {
     pub step: MergeStep,
     pub cursor: LaneProgress,
 }
 
 /// A stretch of a slot's history, in which the slot has one version.
-#[derive(Clone, Copy, Debug, Drop, PartialEq, Eq, Hash)]
+#[derive(Clone, Copy, Drop, PartialEq, Eq, Hash)]
 pub struct VersionInterval {
     pub slot: u32,
     /// How many entries changed the slot's word before.

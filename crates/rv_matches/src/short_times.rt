@@ -14,7 +14,7 @@ use rv_text::ByteClass;
 pub(crate) const SHORT: usize = 19;
 
 /// A timestamp that can be compared, as a number.
-#[derive(Clone, Copy, Debug, Drop, PartialEq, Eq)]
+#[derive(Clone, Copy, Drop)]
 pub(crate) struct ShortTime {
     /// What its digits spell without the point.
     number: u64,
@@ -23,7 +23,7 @@ pub(crate) struct ShortTime {
 }
 
 /// Digits of a timestamp: where they end, and the number that they spell with those before them.
-#[derive(Clone, Copy, Debug, Drop, PartialEq, Eq)]
+#[derive(Clone, Copy, Drop)]
 struct SpelledDigits {
     end: usize,
     number: u64,

@@ -11,21 +11,21 @@ use crate::runs::{WIDTH, blanks_end, byte_at, digits_end, lowest, other_bits, wo
 use rv_text::ByteClass;
 
 /// A piece of the line, by its places.
-#[derive(Clone, Copy, Debug, Drop, PartialEq, Eq)]
+#[derive(Clone, Copy, Drop)]
 pub struct LinePart {
     pub from: usize,
     pub to: usize,
 }
 
 /// What a line that can be read has: a head and the name of an event.
-#[derive(Clone, Copy, Debug, Drop, PartialEq, Eq)]
+#[derive(Clone, Copy, Drop)]
 pub struct Parts {
     pub head: Head,
     pub name: LinePart,
 }
 
 /// The parts of a line, with the numbers of its head.
-#[derive(Clone, Copy, Debug, Drop, PartialEq, Eq)]
+#[derive(Clone, Copy, Drop)]
 pub struct ReadParts {
     pub parts: Parts,
     /// The PID, where it is one.

@@ -18,7 +18,7 @@ const LAST_TENTH: u64 = 429_496_729;
 const TOO_LARGE: u64 = 4_294_967_296;
 
 /// A run of digits.
-#[derive(Clone, Copy, Debug, Drop, PartialEq, Eq)]
+#[derive(Clone, Copy, Drop)]
 pub(crate) struct Digits {
     /// Where it ends.
     pub end: usize,

@@ -10,7 +10,7 @@ use crate::trace::{MAX_BYTES, reading_of};
 use rv_text::{Refusal, TextLine, line_end, next_number, past_line_end};
 
 /// Where the next line is looked for.
-#[derive(Clone, Copy, Debug, Drop, PartialEq, Eq)]
+#[derive(Clone, Copy, Drop)]
 pub struct At {
     /// Where it begins.
     pub from: usize,
@@ -21,7 +21,7 @@ pub struct At {
 }
 
 /// What was found, and where to look on.
-#[derive(Clone, Copy, Debug, Drop, PartialEq, Eq)]
+#[derive(Clone, Copy, Drop)]
 pub struct Sought {
     pub at: At,
     /// Where the line stands that was found.

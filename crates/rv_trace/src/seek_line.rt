@@ -10,7 +10,7 @@ use crate::trace::MAX_BYTES;
 use rv_text::{Refusal, line_end, next_number, past_line_end};
 
 /// The line that was found, and where to look on.
-#[derive(Clone, Copy, Debug, Drop, PartialEq, Eq)]
+#[derive(Clone, Copy, Drop)]
 pub struct SoughtLine {
     pub at: At,
     /// Where the line stands that was found.
