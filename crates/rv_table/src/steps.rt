@@ -77,6 +77,7 @@ fn next_of(nodes: &Nodes, set: u32) -> u32
 }
 
 /// The rows that follow a row of the set by the letter, in a formula's table.
+#[inline(never)]
 pub fn follow_labels(nodes: &Nodes, set: u32, letter: u32) -> u32
     requires { IsLabelRows nodes.now }
     ensures { (x : Letter) → atoms_in x ≡ letter → result ≡ step_set (of_labels nodes.now) set x }
