@@ -1,12 +1,12 @@
--- How many operators and operands a formula has, by which its numbering ends.
+-- How many operators a formula has, by which its numbering ends.
 use Rattle.std.specs.Prelude.{ℕ, ◌+◌}
 use Rattle.rv_model.specs.Ltl.{Ltl, True, False, Atom, Not, Next, Always, Eventually, And, Or, Imply, Equivalent, Until, Release, WeakUntil}
 
--- how many operators and operands there are
+-- how many operators there are
 abbrev pub extent : Ltl → ℕ
-extent True = 1
-extent False = 1
-extent (Atom a) = 1
+extent True = 0
+extent False = 0
+extent (Atom a) = 0
 extent (Not f) = extent f + 1
 extent (Next f) = extent f + 1
 extent (Always f) = extent f + 1

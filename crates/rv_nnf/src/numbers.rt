@@ -5,7 +5,7 @@ ghost use Rattle.rv_model.specs.Formulas.{ltl, HasAtomsBelow};
 ghost use Rattle.rv_model.specs.Ltl.{Or};
 ghost use Rattle.rv_model.specs.Truth.{View, Satisfies};
 ghost use Rattle.rv_model.specs.Weights.{weight};
-ghost use Rattle.rv_nnf.specs.inner.Entering.{numbers, and_or_of, until_release_of, constant_of};
+ghost use Rattle.rv_nnf.specs.inner.Entering.{numbers, and_or_of, until_release_of, part_of, tree_joined};
 ghost use Rattle.rv_nnf.specs.NormalForm.{normal_of};
 ghost use Rattle.rv_nnf.specs.Parts.{part_meaning};
 ghost use Rattle.rv_nnf.specs.Tree.{tree_of};
@@ -18,33 +18,65 @@ use rv_model::Formula;
 use rv_text::Refused;
 use std::alloc::Global;
 
+/// What joins two operands.
+#[derive(Clone, Copy)]
+enum Joint {
+    And,
+    Or,
+    Until,
+    Release,
+}
+
 /// An `and` or an `or`.
-fn and_or(and: bool, i: u8, j: u8) -> Part
-    ensures { part_value result ≡ and_or_of and i j }
+fn and_or(and: bool) -> Joint
+    ensures { result ≡ and_or_of and }
 {
-    if and { Part::And(i, j) } else { Part::Or(i, j) }
+    if and { Joint::And } else { Joint::Or }
 }
 
 /// An until or a release.
-fn until_release(until: bool, i: u8, j: u8) -> Part
-    ensures { part_value result ≡ until_release_of until i j }
+fn until_release(until: bool) -> Joint
+    ensures { result ≡ until_release_of until }
 {
-    if until {
-        Part::Until(i, j)
-    } else {
-        Part::Release(i, j)
+    if until { Joint::Until } else { Joint::Release }
+}
+
+/// The part that joins the operands of these numbers.
+fn part(joint: Joint, i: u8, j: u8) -> Part
+    ensures { part_value result ≡ part_of joint i j }
+{
+    match joint {
+        Joint::And => Part::And(i, j),
+        Joint::Or => Part::Or(i, j),
+        Joint::Until => Part::Until(i, j),
+        Joint::Release => Part::Release(i, j),
     }
 }
 
-/// The label `true` or `false`.
-fn constant(value: bool) -> Part
-    ensures { part_value result ≡ constant_of value }
+/// The number of two normal forms joined, each that of a formula or of its negation.
+#[cycle(number)]
+#[tactic(auto, using(crate::proofs::Polarities::joined_numbers))]
+fn joined(
+    alloc: Global,
+    parts: &mut Vec<Part>,
+    joint: Joint,
+    f: &Formula,
+    f_positive: bool,
+    g: &Formula,
+    g_positive: bool,
+) -> Result<u8, Refused>
+    requires { vec_len parts.old ≤ 64 }
+    ensures gives { Gives (λ number. (part_values parts.new.items, number)) result (numbers (part_values parts.old.items) (tree_joined joint (tree_of (ltl f.now) f_positive) (tree_of (ltl g.now) g_positive))) }
+    ensures few { OnOk result (vec_len parts.new ≤ 64) }
 {
-    Part::Label(if value { Formula::True } else { Formula::False })
+    let i = number(alloc, parts, f, f_positive)?;
+    let j = number(alloc, parts, g, g_positive)?;
+    enter(parts, part(joint, i, j))
 }
 
 /// The number of the normal form of `f or g`, or of its negation.
 #[cycle(number)]
+#[tactic(auto, using(crate::proofs::Polarities::or_joined))]
 fn either(
     alloc: Global,
     parts: &mut Vec<Part>,
@@ -59,14 +91,12 @@ fn either(
     if is_propositional(f) && is_propositional(g) {
         return enter(parts, Part::Label(or_label(alloc, f, g, positive)?));
     }
-    let i = number(alloc, parts, f, positive)?;
-    let j = number(alloc, parts, g, positive)?;
-    enter(parts, and_or(!positive, i, j))
+    joined(alloc, parts, and_or(!positive), f, positive, g, positive)
 }
 
 /// The number of the normal form of a formula or of its negation, whose parts are entered by first use.
 #[cycle(number)]
-#[tactic(auto, using(crate::proofs::Polarities::always_numbers, crate::proofs::Polarities::eventually_numbers))]
+#[tactic(auto, using(crate::proofs::Polarities::polarities))]
 fn number(
     alloc: Global,
     parts: &mut Vec<Part>,
@@ -87,49 +117,59 @@ fn number(
             enter(parts, Part::Next(i))
         }
         Formula::Always(f) => {
-            let i = enter(parts, constant(!positive))?;
-            let j = number(alloc, parts, f, positive)?;
-            enter(parts, until_release(!positive, i, j))
+            let never = Formula::False;
+            joined(
+                alloc,
+                parts,
+                until_release(!positive),
+                &never,
+                positive,
+                f,
+                positive,
+            )
         }
         Formula::Eventually(f) => {
-            let i = enter(parts, constant(positive))?;
-            let j = number(alloc, parts, f, positive)?;
-            enter(parts, until_release(positive, i, j))
+            let ever = Formula::True;
+            joined(
+                alloc,
+                parts,
+                until_release(positive),
+                &ever,
+                positive,
+                f,
+                positive,
+            )
         }
-        Formula::And(f, g) => {
-            let i = number(alloc, parts, f, positive)?;
-            let j = number(alloc, parts, g, positive)?;
-            enter(parts, and_or(positive, i, j))
-        }
+        Formula::And(f, g) => joined(alloc, parts, and_or(positive), f, positive, g, positive),
         Formula::Or(f, g) => either(alloc, parts, f, g, positive),
-        Formula::Imply(f, g) => {
-            let i = number(alloc, parts, f, !positive)?;
-            let j = number(alloc, parts, g, positive)?;
-            enter(parts, and_or(!positive, i, j))
-        }
+        Formula::Imply(f, g) => joined(alloc, parts, and_or(!positive), f, !positive, g, positive),
         Formula::Equivalent(f, g) => {
-            let i = number(alloc, parts, f, true)?;
-            let j = number(alloc, parts, g, positive)?;
-            let left = enter(parts, Part::And(i, j))?;
-            let k = number(alloc, parts, f, false)?;
-            let l = number(alloc, parts, g, !positive)?;
-            let right = enter(parts, Part::And(k, l))?;
+            let left = joined(alloc, parts, Joint::And, f, true, g, positive)?;
+            let right = joined(alloc, parts, Joint::And, f, false, g, !positive)?;
             enter(parts, Part::Or(left, right))
         }
-        Formula::Until(f, g) => {
-            let i = number(alloc, parts, f, positive)?;
-            let j = number(alloc, parts, g, positive)?;
-            enter(parts, until_release(positive, i, j))
-        }
-        Formula::Release(f, g) => {
-            let left = number(alloc, parts, f, positive)?;
-            let right = number(alloc, parts, g, positive)?;
-            enter(parts, until_release(!positive, left, right))
-        }
+        Formula::Until(f, g) => joined(
+            alloc,
+            parts,
+            until_release(positive),
+            f,
+            positive,
+            g,
+            positive,
+        ),
+        Formula::Release(f, g) => joined(
+            alloc,
+            parts,
+            until_release(!positive),
+            f,
+            positive,
+            g,
+            positive,
+        ),
         Formula::WeakUntil(f, g) => {
             let right = number(alloc, parts, g, positive)?;
             let both = either(alloc, parts, f, g, positive)?;
-            enter(parts, until_release(!positive, right, both))
+            enter(parts, part(until_release(!positive), right, both))
         }
         Formula::True | Formula::False | Formula::Atom(_) => unreachable!(),
     }

@@ -4,7 +4,9 @@ use native.Mathlib.Decide.{ℕ_discrete}
 use Rattle.rv_text.specs.declared.refusals.Refusal.{Refusal}
 use Rattle.rv_text.specs.declared.numbers.TheConstants.{TOO_MANY_PARTS}
 use Rattle.rv_text.specs.Readings.{refused_with, and_then}
-use Rattle.rv_model.specs.Ltl.{Ltl, Ltl-discrete}
+use Rattle.rv_model.specs.Ltl.{Ltl-discrete}
+use Rattle.rv_nnf.specs.declared.numbers.Joint.{Joint}
+use Rattle.rv_nnf.specs.declared.numbers.Joint.TheVariants as joints
 use Rattle.rv_nnf.specs.Lists.{decided, place, with_new}
 use Rattle.rv_nnf.specs.Parts.{PartValue, PartValue-discrete}
 use Rattle.rv_nnf.specs.Tree.{Tree, Label, Next, And, Or, Until, Release}
@@ -35,16 +37,25 @@ numbers ps (Until a b) = and_then (numbers ps a) (λ r. and_then (numbers r.0 b)
 numbers ps (Release a b) = and_then (numbers ps a) (λ r. and_then (numbers r.0 b) (λ q. try_enter q.0 (PartValue.Release r.1 q.1)))
 
 -- an `and` at true, and an `or` at false
-abbrev pub and_or_of : Bool → ℕ → ℕ → PartValue
-and_or_of true i j = PartValue.And i j
-and_or_of false i j = PartValue.Or i j
+abbrev pub and_or_of : Bool → Joint
+and_or_of true = joints.And
+and_or_of false = joints.Or
 
 -- an until at true, and a release at false
-abbrev pub until_release_of : Bool → ℕ → ℕ → PartValue
-until_release_of true i j = PartValue.Until i j
-until_release_of false i j = PartValue.Release i j
+abbrev pub until_release_of : Bool → Joint
+until_release_of true = joints.Until
+until_release_of false = joints.Release
 
--- the label of a truth value
-abbrev pub constant_of : Bool → PartValue
-constant_of true = PartValue.Label Ltl.True
-constant_of false = PartValue.Label Ltl.False
+-- the part that joins its operands so
+abbrev pub part_of : Joint → ℕ → ℕ → PartValue
+part_of joints.And i j = PartValue.And i j
+part_of joints.Or i j = PartValue.Or i j
+part_of joints.Until i j = PartValue.Until i j
+part_of joints.Release i j = PartValue.Release i j
+
+-- the tree that joins its operands so
+abbrev pub tree_joined : Joint → Tree → Tree → Tree
+tree_joined joints.And a b = And a b
+tree_joined joints.Or a b = Or a b
+tree_joined joints.Until a b = Until a b
+tree_joined joints.Release a b = Release a b
