@@ -117,28 +117,12 @@ fn number(
             enter(parts, Part::Next(i))
         }
         Formula::Always(f) => {
-            let never = Formula::False;
-            joined(
-                alloc,
-                parts,
-                until_release(!positive),
-                &never,
-                positive,
-                f,
-                positive,
-            )
+            let joint = until_release(!positive);
+            joined(alloc, parts, joint, &Formula::False, positive, f, positive)
         }
         Formula::Eventually(f) => {
-            let ever = Formula::True;
-            joined(
-                alloc,
-                parts,
-                until_release(positive),
-                &ever,
-                positive,
-                f,
-                positive,
-            )
+            let joint = until_release(positive);
+            joined(alloc, parts, joint, &Formula::True, positive, f, positive)
         }
         Formula::And(f, g) => joined(alloc, parts, and_or(positive), f, positive, g, positive),
         Formula::Or(f, g) => either(alloc, parts, f, g, positive),
@@ -148,24 +132,14 @@ fn number(
             let right = joined(alloc, parts, Joint::And, f, false, g, !positive)?;
             enter(parts, Part::Or(left, right))
         }
-        Formula::Until(f, g) => joined(
-            alloc,
-            parts,
-            until_release(positive),
-            f,
-            positive,
-            g,
-            positive,
-        ),
-        Formula::Release(f, g) => joined(
-            alloc,
-            parts,
-            until_release(!positive),
-            f,
-            positive,
-            g,
-            positive,
-        ),
+        Formula::Until(f, g) => {
+            let joint = until_release(positive);
+            joined(alloc, parts, joint, f, positive, g, positive)
+        }
+        Formula::Release(f, g) => {
+            let joint = until_release(!positive);
+            joined(alloc, parts, joint, f, positive, g, positive)
+        }
         Formula::WeakUntil(f, g) => {
             let right = number(alloc, parts, g, positive)?;
             let both = either(alloc, parts, f, g, positive)?;
