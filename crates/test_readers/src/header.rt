@@ -1,10 +1,10 @@
 //! Whole texts: the tables of wip were given, and the others were worked out by hand.
-use crate::drawing::redrawn;
 use crate::numbers::refusal_of;
 use rv_dot::{read_dot, write_dot};
 use rv_header::{is_header_name, read_header, write_header};
+use rv_model::Automaton;
 use rv_text::Refused;
-use std::alloc::Global;
+use std::alloc::{AllocError, Global};
 use std::process::Abort;
 use std::test::Fail;
 
@@ -86,13 +86,19 @@ static const struct automaton_1 automaton_1 = {
 };
 ";
 
-/// The canonical automaton file of the tables' text, behind the name and a colon.
-fn read_again(alloc: Global, text: &[u8]) -> Result<Vec<u8>, Refused> {
-    let header = read_header(alloc, text)?;
-    let mut found = Vec::from_slice(alloc, header.name.bytes())?;
-    found.push(b':')?;
-    found.extend_from_slice(write_dot(alloc, &header.automaton)?.as_slice())?;
-    Ok(found)
+/// The canonical file of an automaton behind its name and a colon.
+fn named(alloc: Global, name: &[u8], automaton: &Automaton) -> Result<Vec<u8>, Refused> {
+    let drawing = write_dot(alloc, automaton)?;
+    let mut text = Vec::from_slice(alloc, name)?;
+    text.push(b':')?;
+    text.extend_from_slice(drawing.as_slice())?;
+    Ok(text)
+}
+
+/// The same of the name and the automaton of tables.
+fn read_again(alloc: Global, tables: &[u8]) -> Result<Vec<u8>, Refused> {
+    let header = read_header(alloc, tables)?;
+    named(alloc, header.name.bytes(), &header.automaton)
 }
 
 /// Whether the automaton's tables are this text, and are read back as the name and the automaton.
@@ -106,9 +112,7 @@ fn agrees(
     assert!(rt; is_header_name(name.as_bytes()));
     let automaton = read_dot(alloc, dot)?;
     let text = write_header(alloc, name.as_bytes(), &automaton)?;
-    let mut wanted = Vec::from_slice(alloc, name.as_bytes())?;
-    wanted.push(b':')?;
-    wanted.extend_from_slice(redrawn(alloc, dot)?.as_slice())?;
+    let wanted = named(alloc, name.as_bytes(), &automaton)?;
     let found = read_again(alloc, tables)?;
     Ok(text.as_slice() == tables && found.as_slice() == wanted.as_slice())
 }
@@ -121,12 +125,18 @@ fn tables_are_printed_and_read_again(rt: HostRuntime) -> Result<(), Fail> {
     Ok(())
 }
 
-/// The tables of one state with one event.
-fn written(alloc: Global, state: &str, event: &str) -> Result<Vec<u8>, Refused> {
+/// The file of one state with one event.
+fn drawn(alloc: Global, state: &str, event: &str) -> Result<Vec<u8>, AllocError> {
     let text = format!(in alloc;
         "digraph state_automaton {{\n\t\"__init_{state}\" -> \"{state}\";\n\t{{node [shape = circle] \"{state}\"}};\n\t\"{state}\" -> \"{state}\" [ label = \"{event}\" ];\n}}\n"
     )?;
-    write_header(alloc, b"m", &read_dot(alloc, text.as_bytes())?)
+    Ok(text.into_bytes())
+}
+
+/// The tables of a file's automaton.
+fn written(alloc: Global, dot: &[u8]) -> Result<Vec<u8>, Refused> {
+    let automaton = read_dot(alloc, dot)?;
+    write_header(alloc, b"m", &automaton)
 }
 
 #[test]
@@ -152,7 +162,8 @@ fn names_are_refused(rt: HostRuntime) -> Result<(), Fail> {
         ("INVALID_STATE", "automata", 0),
     ];
     for (state, event, wanted) in cases {
-        let number = refusal_of(written(rt.alloc(), state, event));
+        let dot = drawn(rt.alloc(), state, event)?;
+        let number = refusal_of(written(rt.alloc(), dot.as_slice()));
         assert!(rt; number == wanted, "at {state}, {event}");
     }
     Ok(())
