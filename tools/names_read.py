@@ -174,6 +174,11 @@ class AnttFile:
             item.chunks.append(tokens)
             self.items.append(item)
             return item, None
+        if words[0] == "ruleset" and len(words) > 2 and words[2] == "=":
+            item = Item("lemma", words[1], self.crate, self.module, self.path, number, public="pub" in marks)
+            item.chunks.append(tokens)
+            self.items.append(item)
+            return item, None
         if current is not None and current.kind in ("definition", "lemma"):
             current.chunks.append(tokens)
             return current, None
