@@ -113,9 +113,11 @@ def is_of_report(line):
 
 def failures_of(path):
     """The violations of a report, in its order, and how many failures its summaries count, None where it has none; `-` is standard input."""
-    lines = list(input_lines() if path == "-" else read_lines(path))
+    lines, shown = list(input_lines() if path == "-" else read_lines(path)), "standard input" if path == "-" else path
     if not any(map(is_of_report, lines)):
-        raise Trouble(UNREADABLE, f"no line of {'standard input' if path == '-' else path} is one of a report: rv did not run, or it is another text")
+        raise Trouble(UNREADABLE, f"no line of {shown} is one of a report: rv did not run, or it is another text")
+    if any(map(FACT.fullmatch, lines)):
+        raise Trouble(UNREADABLE, f"{shown} is what rv-coverage prints, and no report: give what replay or feed printed")
     summaries = [found for found in map(SUMMARY.fullmatch, lines) if found]
     return [found for found in map(VIOLATION.fullmatch, lines) if found], sum(int(it["failures"]) for it in summaries) if summaries else None
 
