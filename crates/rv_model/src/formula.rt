@@ -104,54 +104,21 @@ impl Formula {
     pub fn equals(&self, other: &Formula) -> bool
         ensures { IsTrue result ↔ ltl self.now ≡ ltl other.now }
     {
-        match self {
-            Formula::True => matches!(other, Formula::True),
-            Formula::False => matches!(other, Formula::False),
-            Formula::Atom(a) => matches!(other, Formula::Atom(b) if *a == *b),
-            Formula::Not(f) => match other {
-                Formula::Not(g) => f.equals(g),
-                _ => false,
-            },
-            Formula::Next(f) => match other {
-                Formula::Next(g) => f.equals(g),
-                _ => false,
-            },
-            Formula::Always(f) => match other {
-                Formula::Always(g) => f.equals(g),
-                _ => false,
-            },
-            Formula::Eventually(f) => match other {
-                Formula::Eventually(g) => f.equals(g),
-                _ => false,
-            },
-            Formula::And(f, h) => match other {
-                Formula::And(g, k) => f.equals(g) && h.equals(k),
-                _ => false,
-            },
-            Formula::Or(f, h) => match other {
-                Formula::Or(g, k) => f.equals(g) && h.equals(k),
-                _ => false,
-            },
-            Formula::Imply(f, h) => match other {
-                Formula::Imply(g, k) => f.equals(g) && h.equals(k),
-                _ => false,
-            },
-            Formula::Equivalent(f, h) => match other {
-                Formula::Equivalent(g, k) => f.equals(g) && h.equals(k),
-                _ => false,
-            },
-            Formula::Until(f, h) => match other {
-                Formula::Until(g, k) => f.equals(g) && h.equals(k),
-                _ => false,
-            },
-            Formula::Release(f, h) => match other {
-                Formula::Release(g, k) => f.equals(g) && h.equals(k),
-                _ => false,
-            },
-            Formula::WeakUntil(f, h) => match other {
-                Formula::WeakUntil(g, k) => f.equals(g) && h.equals(k),
-                _ => false,
-            },
+        match (self, other) {
+            (Formula::True, Formula::True) | (Formula::False, Formula::False) => true,
+            (Formula::Atom(a), Formula::Atom(b)) => *a == *b,
+            (Formula::Not(f), Formula::Not(g))
+            | (Formula::Next(f), Formula::Next(g))
+            | (Formula::Always(f), Formula::Always(g))
+            | (Formula::Eventually(f), Formula::Eventually(g)) => f.equals(g),
+            (Formula::And(f, h), Formula::And(g, k))
+            | (Formula::Or(f, h), Formula::Or(g, k))
+            | (Formula::Imply(f, h), Formula::Imply(g, k))
+            | (Formula::Equivalent(f, h), Formula::Equivalent(g, k))
+            | (Formula::Until(f, h), Formula::Until(g, k))
+            | (Formula::Release(f, h), Formula::Release(g, k))
+            | (Formula::WeakUntil(f, h), Formula::WeakUntil(g, k)) => f.equals(g) && h.equals(k),
+            _ => false,
         }
     }
 }

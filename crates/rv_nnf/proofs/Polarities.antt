@@ -1,4 +1,5 @@
--- The normal form of each operator at either sign, as its operands joined.
+-- The normal form of each operator of two operands at either sign, and of `always` and `eventually`,
+-- as two operands joined.
 use Rattle.std.proofs.Common.{◌≡◌, Bool, true, false, not, cond, List, refl, ap}
 use Rattle.rv_text.specs.Readings.{and_then}
 use Rattle.rv_model.specs.Labels.{is_propositional}
@@ -39,7 +40,7 @@ pub weak_until_joined : (f g : Ltl) (s : Bool) → tree_of (WeakUntil f g) s ≡
 weak_until_joined f g true = refl
 weak_until_joined f g false = refl
 
--- what is no label
+-- a formula with an operator of time in it is no label
 no_label : (f : Ltl) (s : Bool) (t : Tree) → is_propositional f ≡ false → cond (is_propositional f) (Label (with_polarity s f)) t ≡ t
 no_label f s t h = ap (λ b. cond b (Label (with_polarity s f)) t) h
 
@@ -60,4 +61,5 @@ pub equivalent_joined : (f g : Ltl) (s : Bool) → is_propositional (Equivalent 
 equivalent_joined f g true h = no_label (Equivalent f g) true _ h
 equivalent_joined f g false h = no_label (Equivalent f g) false _ h
 
+-- what the walk's arms are rewritten by
 pub ruleset polarities = (always_joined, eventually_joined, until_joined, release_joined, weak_until_joined, and_joined, imply_joined, equivalent_joined, joined_numbers)

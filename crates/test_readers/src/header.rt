@@ -95,7 +95,7 @@ fn named(alloc: Global, name: &[u8], automaton: &Automaton) -> Result<Vec<u8>, R
     Ok(text)
 }
 
-/// The same of the name and the automaton of tables.
+/// The name and the automaton of tables that are read back, as `named` gives them.
 fn read_again(alloc: Global, tables: &[u8]) -> Result<Vec<u8>, Refused> {
     let header = read_header(alloc, tables)?;
     named(alloc, header.name.bytes(), &header.automaton)
