@@ -6,6 +6,7 @@ ghost use Rattle.rv_gen.specs.Generated.{wip, wwnr, bindings_text, trace_text};
 use crate::automata::{wip, wwnr};
 use crate::trace::put_trace;
 use rv_dot::write_dot;
+use rv_model::Automaton;
 use rv_text::Line;
 use std::alloc::{AllocError, Global};
 
@@ -43,6 +44,13 @@ fn trace_of(alloc: Global, blocks: u32) -> Result<Vec<u8>, AllocError>
     Ok(out.into_bytes())
 }
 
+/// The text of an automaton's file.
+fn drawn(alloc: Global, automaton: Automaton) -> Result<Vec<u8>, AllocError>
+    ensures { IfOk result (λ text. text.items ≡ dot_text automaton) }
+{
+    write_dot(alloc, &automaton)
+}
+
 /// The input of so many blocks, each of 64 trace lines.
 pub fn generate(alloc: Global, blocks: u32) -> Result<Generated, AllocError>
     ensures bindings { IfOk result (λ files. files.bindings.items ≡ bindings_text) }
@@ -52,8 +60,8 @@ pub fn generate(alloc: Global, blocks: u32) -> Result<Generated, AllocError>
 {
     Ok(Generated {
         bindings: Vec::from_slice(alloc, BINDINGS)?,
-        wip: write_dot(alloc, &wip(alloc)?)?,
-        wwnr: write_dot(alloc, &wwnr(alloc)?)?,
+        wip: drawn(alloc, wip(alloc)?)?,
+        wwnr: drawn(alloc, wwnr(alloc)?)?,
         trace: trace_of(alloc, blocks)?,
     })
 }
