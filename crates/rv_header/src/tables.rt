@@ -1,13 +1,14 @@
 //! The C tables of an automaton.
-ghost use Rattle.std.specs.Prelude.{◌≡◌, ◌++◌, IsTrue, OnOk, IfOk};
+ghost use Rattle.std.specs.Prelude.{◌≡◌, ◌++◌, IsTrue, OnOk, IfOk, map};
 ghost use Rattle.rv_text.specs.Readings.{Gives};
+ghost use Rattle.rv_dot.specs.Canonical.{quoted};
 ghost use Rattle.rv_header.specs.Naming.{is_header_name};
-ghost use Rattle.rv_header.specs.HeaderText.{tagged, struct_text, declarations, tables, header_text, header_of};
+ghost use Rattle.rv_header.specs.HeaderText.{tagged, list_text, struct_text, declarations, marks, tables, header_text, header_of};
 
 use crate::members::{marks, name_at, put_enum, put_list, put_tagged, quoted};
 use crate::naming::has_no_tables;
 use crate::rows::put_rows;
-use rv_model::Automaton;
+use rv_model::{Automaton, Names};
 use rv_text::{Line, NO_HEADER, Refusal, Refused};
 use std::alloc::{AllocError, Global};
 
@@ -50,6 +51,22 @@ fn put_declarations(out: &mut Line, name: &[u8], automaton: &Automaton) -> Resul
     Ok(())
 }
 
+/// Appends a list of names, in quotes.
+fn put_names(alloc: Global, out: &mut Line, names: &Names) -> Result<(), AllocError>
+    ensures { OnOk result (out.new ≡ out.old ++ list_text (map quoted names.now)) }
+{
+    let members = quoted(alloc, names)?;
+    put_list(out, &members)
+}
+
+/// Appends which states are marked.
+fn put_marks(alloc: Global, out: &mut Line, automaton: &Automaton) -> Result<(), AllocError>
+    ensures { OnOk result (out.new ≡ out.old ++ list_text (marks automaton.now)) }
+{
+    let members = marks(alloc, &automaton.states, automaton.marked)?;
+    put_list(out, &members)
+}
+
 /// Appends the tables.
 fn put_tables(
     alloc: Global,
@@ -59,15 +76,12 @@ fn put_tables(
 ) -> Result<(), AllocError>
     ensures { OnOk result (out.new ≡ out.old ++ tables name.now automaton.now) }
 {
-    let states = quoted(alloc, &automaton.states)?;
-    let events = quoted(alloc, &automaton.events)?;
-    let marks = marks(alloc, &automaton.states, automaton.marked)?;
     put_behind(out, b"static const struct ", name, b"automaton")?;
     put_behind(out, b" ", name, b"automaton")?;
     out.text(b" = {\n\t.state_names = ")?;
-    put_list(out, &states)?;
+    put_names(alloc, out, &automaton.states)?;
     out.text(b",\n\t.event_names = ")?;
-    put_list(out, &events)?;
+    put_names(alloc, out, &automaton.events)?;
     out.text(b",\n\t.function = {\n")?;
     put_rows(alloc, out, name, automaton)?;
     put_behind(
@@ -77,7 +91,7 @@ fn put_tables(
         name_at(&automaton.states, 0),
     )?;
     out.text(b",\n\t.final_states = ")?;
-    put_list(out, &marks)?;
+    put_marks(alloc, out, automaton)?;
     out.text(b",\n};\n")?;
     Ok(())
 }
