@@ -17,7 +17,7 @@ use crate::fault::LineFault;
 use crate::forms::{MonitorForm, OnForm};
 use crate::limits::{MAX_CONTAINERS, MAX_MONITORS, MAX_RULES};
 use crate::words::SYNTAX;
-use rv_model::{Hit, Name, Names, Reactor, Scope, Spec};
+use rv_model::{Hit, Name, Names, Reactor, Scope, Spec, What};
 use rv_text::{NAME_TWICE, TOO_MANY_MONITORS, TOO_MANY_RULES};
 use std::alloc::{AllocError, Global};
 
@@ -113,6 +113,24 @@ fn new_monitor(
         starting: 0,
         reactor: Reactor::Nop,
         enabled: true,
+    })
+}
+
+/// The rule of a line, of the monitor at an index.
+fn new_rule(alloc: Global, monitor: u8, on: OnForm<'_>, what: What) -> Result<On, AllocError>
+    ensures { IfOk result (λ rule. rule ≡ record { monitor = monitor; event = on.entry.event.now; by = option_copied on.entry.by; tests = on.entry.tests.items; hit = record { mode = on.entry.mode; what = what } }) }
+{
+    let by = owned(alloc, on.by)?;
+    let event = Name::new(alloc, on.event)?;
+    Ok(On {
+        monitor,
+        event,
+        by,
+        tests: on.tests,
+        hit: Hit {
+            mode: on.mode,
+            what,
+        },
     })
 }
 
@@ -225,9 +243,9 @@ impl Bound {
         let index = self.bindings.monitors.len() as u8;
         let Compiled { spec, table } = compiled;
         let monitor = new_monitor(alloc, form, container, spec)?;
+        self.bindings.monitors.push(monitor)?;
         self.tables.push(table)?;
         add_item(&mut self.bindings.items, container, index)?;
-        self.bindings.monitors.push(monitor)?;
         Ok(())
     }
 
@@ -253,18 +271,8 @@ impl Bound {
             return Err(LineFault::Number(TOO_MANY_RULES));
         }
         let what = brought(&monitor.spec, on.mode, words)?;
-        let by = owned(alloc, on.by)?;
-        let name = Name::new(alloc, on.event)?;
-        self.bindings.rules.push(On {
-            monitor: place as u8,
-            event: name,
-            by,
-            tests: on.tests,
-            hit: Hit {
-                mode: on.mode,
-                what,
-            },
-        })?;
+        let rule = new_rule(alloc, place as u8, on, what)?;
+        self.bindings.rules.push(rule)?;
         Ok(())
     }
 
