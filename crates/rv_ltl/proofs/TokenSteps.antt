@@ -1,6 +1,6 @@
 -- A loop over the pieces, from each to its token.
-use Rattle.std.proofs.Common.{◌≡◌, ℕ, ◌+◌, ◌<◌, List, [], ◌∷◌, ◌++◌, length, drop, get_or, Option, Some, None, refl, sym, ap, ◌∙◌, append_assoc, add-one, drop-cons, Bor}
-use Rattle.std.proofs.lemmas.List.{append-nil}
+use Rattle.std.proofs.Common.{◌≡◌, ℕ, ◌+◌, ◌<◌, ◌≤◌, List, [], ◌∷◌, ◌++◌, length, drop, get_or, Option, Some, None, refl, sym, ap, ◌∙◌, append_assoc, add-one, drop-cons, Bor}
+use Rattle.std.proofs.lemmas.List.{append-nil, drop_all}
 use Rattle.rv_ltl.specs.declared.token.Token.{Token}
 use Rattle.rv_ltl.specs.inner.Texts.{texts}
 use Rattle.rv_ltl.specs.Parse.{◌>>=◌}
@@ -42,5 +42,6 @@ begins None = refl
 begins (Some marks) = refl
 
 -- with no pieces left the tokens before are all
-pub ends : (names : List (List ℕ)) (front : List Token) → before front (tokens_of names []) ≡ Some front
-ends names front = ap (λ (x : List Token). Some x) (append-nil front)
+pub ends : (names : List (List ℕ)) (pieces : List (Bor (List ℕ))) (i : ℕ) (front : List Token) (total : Option (List Token)) → length pieces ≤ i
+    → before front (tokens_of names (texts (drop i pieces))) ≡ total → total ≡ Some front
+ends names pieces i front total le h = sym h ∙ ap (λ (ps : List (Bor (List ℕ))). before front (tokens_of names (texts ps))) (drop_all i pieces le) ∙ ap (λ (x : List Token). Some x) (append-nil front)
