@@ -1,16 +1,22 @@
 -- A slot's monitor is found again, and found by the first slots of all.
-use Rattle.std.proofs.Common.{◌≡◌, ℕ, zero, suc, ◌+◌, ◌-◌, ◌<◌, ◌≤◌, Bool, List, [], ◌∷◌, true, false, sum, take, length, slice_index, nat_lt, leb, refl, sym, ap, ◌∙◌, arith}
+use Rattle.std.proofs.Common.{◌≡◌, ℕ, zero, suc, ◌+◌, ◌-◌, ◌<◌, ◌≤◌, Bool, List, [], ◌∷◌, ◌++◌, true, false, sum, take, length, slice_index, nat_lt, leb, refl, sym, ap, ◌∙◌, arith}
 use Rattle.std.specs.List.Sorted.{IsNonDecreasingBy, IsPartitionedBy, IsPartitionPoint}
 use Rattle.std.proofs.lemmas.Bool.{leb-true, leb-false}
-use Rattle.std.proofs.lemmas.List.{take_all, get_or_default}
+use Rattle.std.proofs.lemmas.List.{take_all, take-append-le, get_or_default, get_or_append_left, get_or_push, length_push}
 use Rattle.std.proofs.lemmas.List.Sorted.{IsNonDecreasingBy-from_all_adjacent, IsPartitionedBy-leb}
-use Rattle.std.proofs.lemmas.List.Sums.{sum_by-take-drop, sum_by_more}
+use Rattle.std.proofs.lemmas.List.Sums.{sum_by-append, sum_by-take-drop, sum_by_more}
 use Rattle.rv_model.specs.Setups.{monitor_of, slot_of}
-use Rattle.rv_slots.specs.Shapes.{AreBases}
+use Rattle.rv_model.specs.declared.work.Scope.{Scope}
+use Rattle.rv_model.specs.declared.work.Scope.TheVariants.{Global, Cpu, Task}
+use Rattle.rv_slots.specs.Shapes.{AreBases, count_of}
 
 -- a sum by its first number
 pub sum-cons : (count : ℕ) (shape : List ℕ) → sum (count ∷ shape) ≡ count + sum shape
 sum-cons count shape = let parts = sum_by-take-drop (λ (x : ℕ). x) (count ∷ shape) 1 in omega arith
+
+-- a sum by its last number
+pub sum-push : (shape : List ℕ) (count : ℕ) → sum (shape ++ count ∷ []) ≡ sum shape + count
+sum-push shape count = let parts = sum_by-append (λ (x : ℕ). x) shape (count ∷ []) in omega arith
 
 -- the monitor of a slot that the first monitor does not have
 monitor-past : (count : ℕ) (shape : List ℕ) (slot : ℕ) → monitor_of (count ∷ shape) (count + slot) ≡ 1 + monitor_of shape slot
@@ -91,3 +97,26 @@ module _ (shape bases : List ℕ) (are : AreBases shape bases) (slot : ℕ) wher
           let high = leb-false (slice_index bases k) slot (point.1 k 0 (omega arith) (omega (arith, not-behind, are.0))) in
           let base = are.1 k not-behind in
           omega (arith, high, base)
+
+-- with no monitor all slots begin at 0
+pub first-base : AreBases [] (0 ∷ [])
+first-base = (refl, λ monitor within. let none : monitor ≡ 0 = omega arith in rw none refl)
+
+-- one monitor more begins behind the others
+pub base-more : (shape bases : List ℕ) (slots : ℕ) (count : ℕ) → slots ≡ sum shape → AreBases shape bases → AreBases (shape ++ count ∷ []) (bases ++ (slots + count) ∷ [])
+base-more shape bases slots count all are = (omega (arith, length_push bases (slots + count), length_push shape count, are.0), λ monitor within. at monitor within (leb monitor (length shape)) refl)
+  where
+    at : (monitor : ℕ) → monitor ≤ length (shape ++ count ∷ []) → (b : Bool) → leb monitor (length shape) ≡ b → slice_index (bases ++ (slots + count) ∷ []) monitor ≡ sum (take monitor (shape ++ count ∷ []))
+    at monitor within true is =
+        let low = leb-true monitor (length shape) is in
+        get_or_append_left bases ((slots + count) ∷ []) 0 monitor (omega (arith, are.0)) ∙ are.1 monitor low ∙ ap sum (sym (take-append-le monitor shape (count ∷ []) low))
+    at monitor within false is =
+        let high = leb-false monitor (length shape) is in
+        let last : length bases ≡ monitor = omega (arith, high, within, length_push shape count, are.0) in
+        get_or_push bases (slots + count) 0 monitor last ∙ ap (λ n. n + count) all ∙ sym (sum-push shape count) ∙ ap sum (sym (take_all monitor (shape ++ count ∷ []) (omega (arith, high, length_push shape count))))
+
+-- a monitor has at most as many slots as there may be tasks
+pub few-slots : (tasks : ℕ) (scope : Scope) → tasks ≤ 65536 → count_of tasks scope ≤ 65536
+few-slots tasks Global few = omega arith
+few-slots tasks Cpu few = omega arith
+few-slots tasks Task few = few
