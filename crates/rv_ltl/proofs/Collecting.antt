@@ -1,5 +1,6 @@
 -- The names of formulas, ascending: those of one formula, of its code, and of the flagged definitions.
 use Rattle.std.proofs.Common.{◌≡◌, ℕ, zero, suc, ◌+◌, ◌-◌, ◌<◌, ◌≤◌, Bool, true, false, cond, List, [], ◌∷◌, ◌++◌, ◌⊎◌, length, get_or, drop, refl, sym, ap, subst, ◌∙◌, inl, inr, arith, add-one, drop-cons}
+use Rattle.std.proofs.lemmas.List.{drop_all}
 use Rattle.rv_ltl.specs.declared.token.CodeStep.{CodeStep}
 use Rattle.rv_ltl.specs.declared.token.CodeStep.TheVariants as steps
 use Rattle.rv_ltl.specs.declared.definitions.Definition.{Definition}
@@ -198,3 +199,22 @@ atoms_fail test ds fs i n out new fits lt f p e =
     let here : length (def_into test ds fs i out) ≡ length (atoms_from test ds fs (suc i)) = ap (λ (xs : List ℕ). length (def_into test ds fs i xs)) e in
     let more : length (atoms_from test ds fs (suc i)) ≤ length (atoms_from test ds fs n) = subst (λ (m : ℕ). length (atoms_from test ds fs (suc i)) ≤ length (atoms_from test ds fs m)) k (atoms_more test ds fs (suc i) (n - suc i)) in
     omega (arith, puts_false (def_into test ds fs i out) new fits f p, here, more)
+
+-- the loop over the definitions goes one on
+pub atoms_fit : (test : ℕ → Bool) (ds : List Def) (fs : List Bool) (i : ℕ) (out new : List ℕ) (fits : Bool) → fits ≡ true → Puts (def_into test ds fs i out) new fits → out ≡ atoms_from test ds fs i → (length new ≤ 32) × (new ≡ atoms_from test ds fs (i + 1))
+atoms_fit test ds fs i out new fits t p e =
+    let q = puts_true (def_into test ds fs i out) new fits t p in
+    (omega (arith, ap length q.0, q.1), rw add-one (q.0 ∙ ap (λ (xs : List ℕ). def_into test ds fs i xs) e))
+
+-- where a step has room, the loop over a code goes on
+pub code_fits : (test : ℕ → Bool) (steps : List CodeStep) (i : ℕ) (d : CodeStep) (xs new total : List ℕ) (fits : Bool) → i < length steps → fits ≡ true → Puts (step_into test (get_or steps i d) xs) new fits → code_into test (drop i steps) xs ≡ total
+    → (length new ≤ 32) × (code_into test (drop (i + 1) steps) new ≡ total)
+code_fits test steps i d xs new total fits lt t p h =
+    let q = puts_true (step_into test (get_or steps i d) xs) new fits t p in
+    (omega (arith, ap length q.0, q.1), ap (λ (ys : List ℕ). code_into test (drop (i + 1) steps) ys) q.0 ∙ sym (code_here test steps i d xs lt) ∙ h)
+
+-- all steps are done
+pub code_done : (test : ℕ → Bool) (steps : List CodeStep) (i : ℕ) (xs total : List ℕ) → length steps ≤ i → length xs ≤ 32 → code_into test (drop i steps) xs ≡ total → (xs ≡ total) × (length total ≤ 32)
+code_done test steps i xs total le few h =
+    let e : xs ≡ total = ap (λ (s : List CodeStep). code_into test s xs) (sym (drop_all i steps le)) ∙ h in
+    (e, omega (arith, few, ap length e))

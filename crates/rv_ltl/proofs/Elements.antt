@@ -1,5 +1,5 @@
 -- A definition at its place in the program's list.
-use Rattle.std.proofs.Common.{◌≡◌, ◌≢◌, ℕ, zero, suc, ◌<◌, Bool, true, false, cond, eqb, List, [], ◌∷◌, length, get_or, Some, None, refl, sym, ap, ◌∙◌, arith}
+use Rattle.std.proofs.Common.{◌≡◌, ◌≢◌, ℕ, zero, suc, ◌<◌, Bool, true, false, cond, eqb, List, [], ◌∷◌, ◌++◌, length, get_or, Some, None, refl, sym, ap, ◌∙◌, arith}
 use Rattle.std.proofs.lemmas.Bool.{eqb-true, eqb-false}
 use Rattle.rv_ltl.specs.declared.token.CodeStep.{CodeStep}
 use Rattle.rv_ltl.specs.declared.definitions.Definition.{Definition}
@@ -64,3 +64,10 @@ pub any_default : {A : Type 0} (xs : List A) (i : ℕ) (a b : A) → i < length 
 any_default [] i a b lt = absurd (omega arith)
 any_default (x ∷ xs) zero a b lt = refl
 any_default (x ∷ xs) (suc i) a b lt = any_default xs i a b (omega arith)
+
+-- one more default changes no element
+pub push-default : {A : Type 0} (xs : List A) (d : A) (k : ℕ) → get_or (xs ++ d ∷ []) k d ≡ get_or xs k d
+push-default [] d zero = refl
+push-default [] d (suc k) = refl
+push-default (x ∷ xs) d zero = refl
+push-default (x ∷ xs) d (suc k) = push-default xs d k

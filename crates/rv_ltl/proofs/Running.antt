@@ -1,6 +1,7 @@
 -- Postfix code computes the value of its formula.
-use Rattle.std.proofs.Common.{◌≡◌, ℕ, true, List, [], ◌∷◌, ◌++◌, refl, sym, ap, ◌∙◌}
-use Rattle.std.specs.Prelude.{map}
+use Rattle.std.proofs.Common.{◌≡◌, ℕ, suc, ◌+◌, ◌<◌, ◌≤◌, true, List, [], ◌∷◌, ◌++◌, length, get_or, drop, drop-cons, add-one, refl, sym, ap, ◌∙◌, arith}
+use Rattle.std.specs.Prelude.{map, reverse}
+use Rattle.std.proofs.lemmas.List.{reverse-append, drop_all}
 use Rattle.rv_ltl.specs.declared.token.CodeStep.{CodeStep}
 use Rattle.rv_ltl.specs.declared.token.CodeStep.TheVariants as steps
 use Rattle.rv_ltl.specs.declared.definitions.Definition.{Definition}
@@ -84,3 +85,21 @@ all_coded (d ∷ ds) (x ∷ xs) e =
     let head : seen x ≡ coded_def d = cc in
     let tail : map seen xs ≡ map coded_def ds = cc in
     (one_coded d x head, all_coded ds xs tail)
+
+-- ---- a loop over code, with the stack's last value in front
+
+-- one step more
+pub run_more : {A : Type 0} (v : Values A) (steps : List CodeStep) (i : ℕ) (d : CodeStep) (stack new total : List A) → i < length steps → new ≡ stepped v (get_or steps i d) stack → run v (drop i steps) stack ≡ total → run v (drop (i + 1) steps) new ≡ total
+run_more v steps i d stack new total lt e h = rw add-one (ap (λ s. run v (drop (suc i) steps) s) e ∙ sym (ap (λ (s : List CodeStep). run v s stack) (drop-cons steps i d lt)) ∙ h)
+
+-- all steps are done, and the last value is the code's
+pub last_value : {A : Type 0} (v : Values A) (steps : List CodeStep) (i : ℕ) (items new : List A) (x : A) → length steps ≤ i → items ≡ new ++ x ∷ [] → run v (drop i steps) (reverse items) ≡ run v steps [] → x ≡ computed v steps
+last_value v steps i items new x le pushed h =
+    let done : reverse items ≡ run v steps [] = ap (λ (s : List CodeStep). run v s (reverse items)) (sym (drop_all i steps le)) ∙ h in
+    let top : reverse items ≡ x ∷ reverse new = ap reverse pushed ∙ reverse-append new (x ∷ []) in
+    ap (λ s. last_or (v.constant true) s) (sym top ∙ done)
+
+-- all steps are done, and there is no value
+pub no_value : {A : Type 0} (v : Values A) (steps : List CodeStep) (i : ℕ) (items : List A) → length steps ≤ i → length items ≡ 0 → run v (drop i steps) (reverse items) ≡ run v steps [] → v.constant true ≡ computed v steps
+no_value v steps i [] le none h = ap (λ s. last_or (v.constant true) s) (ap (λ (s : List CodeStep). run v s []) (sym (drop_all i steps le)) ∙ h)
+no_value v steps i (x ∷ items) le none h = absurd (omega arith)

@@ -1,6 +1,6 @@
-use Rattle.std.proofs.Common.{Bool, true, false, subst, arith}
+use Rattle.std.proofs.Common.{◌≡◌, ℕ, Bool, true, false, length, sym, subst, ◌∙◌, arith}
 use Rattle.rv_ltl.specs.inner.Machine.{defs}
-use Rattle.rv_ltl.specs.inner.Weights.{Learns}
+use Rattle.rv_ltl.specs.inner.Weights.{Learns, Passes}
 use Rattle.rv_ltl.proofs.Elements.{length-defs}
 use Rattle.rv_ltl.proofs.Learning.{learnt, nothing_learnt}
 use Rattle.rv_ltl.proofs.settle.pass.Goals as goal
@@ -18,3 +18,18 @@ loop-i-preserved c =
           let l : P false = subst P w.if-learnt.false c.in_ok-learnt.ensures in
           rw w.more-is (nothing_learnt ds c.args.weights.now.items c.loop-i.weights.items c.learn.new.weights.items c.loop-i.more c.loop-i.i c.loop-i.invariant l)
     ]
+
+pub loop-i-init : goal.loop-i-init
+loop-i-init c = record {
+  each = c.requires.each ∙ sym (length-defs c.args.definitions.now);
+  sure = c.requires.sure;
+  fewer = omega arith;
+  stuck = λ no i below. absurd (omega (arith, below));
+}
+
+pub returns : goal.returns
+returns c =
+    let ds = c.args.definitions.now in
+    let P : ℕ → Type 0 = λ n. Passes (defs ds) c.args.weights.now.items c.loop-i.weights.items c.loop-i.more n in
+    let all : c.loop-i.i ≡ length ds = omega arith in
+    subst P all c.loop-i.invariant
