@@ -1,6 +1,7 @@
 //! Pieces of a text as tokens.
 
 ghost use Rattle.std.specs.Prelude.{◌≡◌};
+ghost use Rattle.std.specs.Str.{bytes_eq};
 ghost use Rattle.std.specs.Cmp.Lexicographic.{slice_cmp};
 ghost use Rattle.std.specs.Ordering.{nat_cmp};
 ghost use Rattle.rv_ltl.specs.inner.Texts.{texts};
@@ -13,18 +14,25 @@ use crate::token::{Binary, Token, Unary};
 use rv_text::Unread;
 use std::alloc::Global;
 
+/// Whether the piece is this text.
+fn is_text(piece: &[u8], text: &[u8]) -> bool
+    ensures { result ≡ bytes_eq piece.now text.now }
+{
+    piece == text
+}
+
 fn plain(piece: &[u8]) -> Option<Token>
     ensures { result ≡ plain_of piece.now }
 {
-    if piece == b"(".as_slice() {
+    if is_text(piece, b"(".as_slice()) {
         Some(Token::Open)
-    } else if piece == b")".as_slice() {
+    } else if is_text(piece, b")".as_slice()) {
         Some(Token::Close)
-    } else if piece == b"=".as_slice() {
+    } else if is_text(piece, b"=".as_slice()) {
         Some(Token::Equals)
-    } else if piece == b"true".as_slice() {
+    } else if is_text(piece, b"true".as_slice()) {
         Some(Token::True)
-    } else if piece == b"false".as_slice() {
+    } else if is_text(piece, b"false".as_slice()) {
         Some(Token::False)
     } else {
         None
@@ -34,13 +42,13 @@ fn plain(piece: &[u8]) -> Option<Token>
 fn unary(piece: &[u8]) -> Option<Unary>
     ensures { result ≡ unary_of piece.now }
 {
-    if piece == b"always".as_slice() {
+    if is_text(piece, b"always".as_slice()) {
         Some(Unary::Always)
-    } else if piece == b"eventually".as_slice() {
+    } else if is_text(piece, b"eventually".as_slice()) {
         Some(Unary::Eventually)
-    } else if piece == b"next".as_slice() {
+    } else if is_text(piece, b"next".as_slice()) {
         Some(Unary::Next)
-    } else if piece == b"not".as_slice() {
+    } else if is_text(piece, b"not".as_slice()) {
         Some(Unary::Not)
     } else {
         None
@@ -50,19 +58,19 @@ fn unary(piece: &[u8]) -> Option<Unary>
 fn binary(piece: &[u8]) -> Option<Binary>
     ensures { result ≡ binary_of piece.now }
 {
-    if piece == b"and".as_slice() {
+    if is_text(piece, b"and".as_slice()) {
         Some(Binary::And)
-    } else if piece == b"or".as_slice() {
+    } else if is_text(piece, b"or".as_slice()) {
         Some(Binary::Or)
-    } else if piece == b"until".as_slice() {
+    } else if is_text(piece, b"until".as_slice()) {
         Some(Binary::Until)
-    } else if piece == b"release".as_slice() {
+    } else if is_text(piece, b"release".as_slice()) {
         Some(Binary::Release)
-    } else if piece == b"weak_until".as_slice() {
+    } else if is_text(piece, b"weak_until".as_slice()) {
         Some(Binary::WeakUntil)
-    } else if piece == b"imply".as_slice() {
+    } else if is_text(piece, b"imply".as_slice()) {
         Some(Binary::Imply)
-    } else if piece == b"equivalent".as_slice() {
+    } else if is_text(piece, b"equivalent".as_slice()) {
         Some(Binary::Equivalent)
     } else {
         None
