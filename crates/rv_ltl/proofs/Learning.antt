@@ -1,12 +1,13 @@
 -- A pass over the definitions, and what settling ends with.
-use Rattle.std.proofs.Common.{◌≡◌, ◌≢◌, ℕ, zero, suc, ◌+◌, ◌<◌, ◌≤◌, Bool, true, false, List, [], ◌∷◌, length, refl, sym, ap, subst, ◌∙◌, inl, inr, arith}
+use Rattle.std.proofs.Common.{◌≡◌, ◌≢◌, ℕ, zero, suc, ◌+◌, ◌<◌, ◌≤◌, Bool, true, false, List, [], ◌∷◌, length, Option, Some, None, refl, sym, ap, subst, ◌∙◌, inl, inr, arith}
+use Rattle.std.specs.Prelude.{IfSome, IfNone}
 use Rattle.std.proofs.Math.ListN.{set, length-set}
 use Rattle.std.proofs.lemmas.Bool.{cases_lt}
 use Rattle.rv_ltl.specs.declared.weight.Weight.{Weight}
 use Rattle.rv_ltl.specs.declared.weight.Weight.TheVariants.{Open, Large, Is}
 use Rattle.rv_model.specs.Numbers.{one_if}
 use Rattle.rv_ltl.specs.File.{Def}
-use Rattle.rv_ltl.specs.Replace.{value_of, any_endless}
+use Rattle.rv_ltl.specs.Replace.{value_of, any_endless, is_none}
 use Rattle.rv_ltl.specs.inner.Machine.{value}
 use Rattle.rv_ltl.specs.inner.Weights.{def_at, known_at, weight_at, weights_by, weighed, IsDistinct, IsSure, IsStuck, IsSettled, open_count, known_count, Learns, Passes}
 use Rattle.rv_ltl.proofs.Settling.{set_sure, sure_after, never, endless_at, none_endless}
@@ -102,3 +103,15 @@ pub settled_endless : (ds : List Def) (ws seen : List Weight) (i : ℕ) → IsSe
 settled_endless ds ws seen i s same lt o =
     let below : i < length ds = omega (arith, s.each, lt, ap (λ (x : List Weight). length x) same) in
     endless_at ds ds i below (weighed_none (value_of ds (length ds) (def_at ds i).name) (sym (s.known i below) ∙ ap (λ (x : List Weight). known_at x i) (sym same) ∙ o))
+
+-- the weights are all known, or one reaches itself
+pub settled_answer : (ds : List Def) (ws seen : List Weight) (answer : Option Weight) → IsSettled ds ws → seen ≡ ws → IfSome answer (λ weight. (i : ℕ) → i < length seen → known_at seen i ≢ Open) → IfNone answer ((i : ℕ) × (i < length seen) × (known_at seen i ≡ Open))
+    → any_endless ds ds ≡ is_none answer
+settled_answer ds ws seen (Some weight) s same all unknown = settled_ends ds ws seen s same all
+settled_answer ds ws seen None s same all unknown = settled_endless ds ws seen unknown.0 s same unknown.1 unknown.2
+
+-- what is known at a place is the weight
+pub settled_value : (ds : List Def) (ws seen : List Weight) (place : ℕ) (answer : Option Weight) → IsSettled ds ws → seen ≡ ws → place < length ds → IfSome answer (λ weight. weight ≡ known_at seen place)
+    → IfSome answer (λ weight. weight ≡ weighed (value_of ds (length ds) (def_at ds place).name))
+settled_value ds ws seen place (Some weight) s same below is = is ∙ ap (λ (known : List Weight). known_at known place) same ∙ s.known place below
+settled_value ds ws seen place None s same below is = tt

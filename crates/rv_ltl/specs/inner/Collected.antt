@@ -9,7 +9,7 @@ use Rattle.rv_ltl.specs.Replace.{is_none}
 use Rattle.rv_ltl.specs.Atoms.{inserted, names_into, place_of, one_of, two_of}
 use Rattle.rv_ltl.specs.inner.Machine.{Values, value}
 use Rattle.rv_ltl.specs.inner.Weights.{index_of, def_at}
-use Rattle.rv_ltl.specs.inner.Reached.{flag_at}
+use Rattle.rv_ltl.specs.inner.Reached.{flag_at, AreReachFlags}
 
 -- how many numbers in front are below another
 abbrev pub count_below : ℕ → List ℕ → ℕ
@@ -56,6 +56,10 @@ Puts wanted new false = 32 < length wanted
 abbrev pub Collects : List ℕ → Option (Vec ℕ Global) → Type 0
 Collects wanted (Some v) = (v.items ≡ wanted) × (length wanted ≤ 32)
 Collects wanted None = 32 < length wanted
+
+-- the names that the first n definitions leave undefined, of those that the definition at the root reaches
+abbrev pub CollectsReached : List Def → List (Vec Bool Global) → ℕ → ℕ → Option (Vec ℕ Global) → Type 0
+CollectsReached ds rows root n atoms = (fs : List Bool) × AreReachFlags rows root fs × Collects (atoms_from (is_free ds) ds fs n) atoms
 
 -- formulas of the rule as values
 abbrev pub ltls : (ℕ → Ltl) → Values Ltl
