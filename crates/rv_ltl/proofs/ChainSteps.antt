@@ -111,3 +111,20 @@ closed_yes e marks h = rw h refl
 -- an expression without a closing parenthesis after it is not closed
 pub closed_no : (e : Expr) (marks : List Token) → is_close marks ≡ false → closed e marks ≡ None
 closed_no e marks h = rw h refl
+
+-- a constant or a name in front is a term
+pub term_true : (depth : ℕ) (rest : List Token) → term_at depth (token.True ∷ rest) ≡ Some (Expr.True, rest)
+unfolding term_at
+term_true depth rest = refl
+
+pub term_false : (depth : ℕ) (rest : List Token) → term_at depth (token.False ∷ rest) ≡ Some (Expr.False, rest)
+unfolding term_at
+term_false depth rest = refl
+
+pub term_name : (depth name : ℕ) (rest : List Token) → term_at depth (token.Name name ∷ rest) ≡ Some (Expr.Name name, rest)
+unfolding term_at
+term_name depth name rest = refl
+
+-- a token that is a term by itself
+pub leaf_at : (depth : ℕ) (mark : Token) (e : Expr) (marks rest : List Token) → ((after : List Token) → term_at depth (mark ∷ after) ≡ Some (e, after)) → front marks ≡ Some mark → rest ≡ drop 1 marks → term_at depth marks ≡ Some (e, rest)
+leaf_at depth mark e marks rest alone f d = ap (λ (m : List Token). term_at depth m) (front_is marks mark f ∙ ap (λ (m : List Token). mark ∷ m) (sym d)) ∙ alone rest

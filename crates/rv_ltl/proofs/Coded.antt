@@ -10,12 +10,15 @@ use Rattle.rv_ltl.specs.Grammar.{Expr, Paren, One, Two}
 use Rattle.rv_ltl.specs.Parse.{operator, is_close, chain_at, term_at, expr_by}
 use Rattle.rv_ltl.specs.inner.Fronts.{front}
 use Rattle.rv_ltl.specs.Operators.{is_same_operator}
-use Rattle.std.specs.Prelude.{map}
+use Rattle.std.specs.Prelude.{map, Result, Ok, Err}
+use Rattle.std.specs.Borrow.{Bor}
+use Rattle.rv_text.specs.declared.unread.Unread.{Unread}
+use Rattle.rv_text.specs.declared.unread.Unread.TheVariants.{Memory, Syntax}
 use Rattle.std.proofs.lemmas.List.{map_push}
 use Rattle.rv_ltl.specs.declared.definitions.Definition.{Definition}
 use Rattle.rv_ltl.specs.File.{Def}
-use Rattle.rv_ltl.specs.inner.Postfix.{code, coded, Coded, coded_def, seen, AreCodes}
-use Rattle.rv_ltl.proofs.ChainSteps.{chain_step, paren_at, unary_at, closed_yes, closed_no}
+use Rattle.rv_ltl.specs.inner.Postfix.{code, coded, Appends, PutsStep, Coded, coded_def, seen, AreCodes}
+use Rattle.rv_ltl.proofs.ChainSteps.{chain_step, paren_at, unary_at, leaf_at, closed_yes, closed_no}
 
 -- a tree was read up to the rest, and its code stands behind the old code
 pub record Read (old new : List CodeStep) (read : Option (Expr × List Token)) (rest : List Token) : Type 0 where
@@ -52,12 +55,23 @@ post_open depth old new marks rest after f d lt h c =
     let r = coded_some old new (expr_by (term_at (depth - 1)) rest) after h in
     paren_at depth r.tree marks rest after f d lt r.is ∙ closed_no r.tree after c
 
+-- a step went behind the code of a term, so that a term was read whose code ends with it
+put_step : (old new last : List CodeStep) (step : CodeStep) (read : Option (Expr × List Token)) (e : Expr) (after : List Token) (result : Result (Bor (List Token)) Unread) → read ≡ Some (e, after) → old ++ code e ≡ new ++ step ∷ [] → PutsStep new last step after result → Appends old last read result
+put_step old new last step read e after (Ok rest) r text p = some_coded old last read e rest.now (r ∙ ap (λ (m : List Token). Some (e, m)) (sym p.1)) (p.0 ∙ sym text)
+put_step old new last step read e after (Err Memory) r text p = tt
+put_step old new last step read e after (Err Syntax) r text p = absurd cc
+
+-- the code of a token that is a term by itself
+pub put_leaf : (depth : ℕ) (mark : Token) (e : Expr) (step : CodeStep) (old last : List CodeStep) (marks rest : List Token) (result : Result (Bor (List Token)) Unread) → ((after : List Token) → term_at depth (mark ∷ after) ≡ Some (e, after)) → code e ≡ step ∷ [] → front marks ≡ Some mark → rest ≡ drop 1 marks
+    → PutsStep old last step rest result → Appends old last (term_at depth marks) result
+put_leaf depth mark e step old last marks rest result alone text f d p = put_step old old last step (term_at depth marks) e rest result (leaf_at depth mark e marks rest alone f d) (ap (λ (x : List CodeStep). old ++ x) text) p
+
 -- a unary operator goes behind the code of the term that it stands before
-pub post_unary : (depth : ℕ) (u : Unary) (old new last : List CodeStep) (marks rest after : List Token) → front marks ≡ Some (token.Unary u) → rest ≡ drop 1 marks → 0 < depth → coded old (term_at (depth - 1) rest) ≡ pair new after → last ≡ new ++ steps.Unary u ∷ []
-    → coded old (term_at depth marks) ≡ pair last after
-post_unary depth u old new last marks rest after f d lt h l =
+pub put_unary : (depth : ℕ) (u : Unary) (old new last : List CodeStep) (marks rest after : List Token) (result : Result (Bor (List Token)) Unread) → front marks ≡ Some (token.Unary u) → rest ≡ drop 1 marks → 0 < depth → coded old (term_at (depth - 1) rest) ≡ pair new after
+    → PutsStep new last (steps.Unary u) after result → Appends old last (term_at depth marks) result
+put_unary depth u old new last marks rest after result f d lt h p =
     let r = coded_some old new (term_at (depth - 1) rest) after h in
-    some_coded old last (term_at depth marks) (One u r.tree) after (unary_at depth u r.tree marks rest after f d lt r.is) (l ∙ ap (λ (x : List CodeStep). x ++ steps.Unary u ∷ []) r.text ∙ append_assoc old (code r.tree) (steps.Unary u ∷ []))
+    put_step old new last (steps.Unary u) (term_at depth marks) (One u r.tree) after result (unary_at depth u r.tree marks rest after f d lt r.is) (sym (ap (λ (x : List CodeStep). x ++ steps.Unary u ∷ []) r.text ∙ append_assoc old (code r.tree) (steps.Unary u ∷ []))) p
 
 -- the code of one more operand goes behind what was read, and the operator behind that
 pub post_more : (depth more : ℕ) (b other : Binary) (e : Expr) (old here new last : List CodeStep) (marks rest after : List Token) (total : Option (Expr × List Token)) → operator marks ≡ Some other → is_same_operator b other ≡ true → 0 < more → rest ≡ drop 1 marks

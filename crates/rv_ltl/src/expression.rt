@@ -2,12 +2,24 @@
 
 ghost use Rattle.std.specs.Prelude.{◌≡◌, ◌++◌, ◌∷◌, [], OnOk};
 ghost use Rattle.rv_ltl.specs.Parse.{term_at, expr_by};
-ghost use Rattle.rv_ltl.specs.inner.Postfix.{Appends};
+ghost use Rattle.rv_ltl.specs.inner.Postfix.{Appends, PutsStep};
 
 use crate::marks::{after, front, is_close, operator};
 use crate::operators::{is_same_operator, joins};
 use crate::token::{CodeStep, Token};
 use rv_text::Unread;
+
+/// Puts down one step, and passes the tokens on.
+fn put<'t>(
+    out: &mut Vec<CodeStep>,
+    step: CodeStep,
+    tokens: &'t [Token],
+) -> Result<&'t [Token], Unread>
+    ensures { PutsStep out.old.items out.new.items step tokens.now result }
+{
+    out.push(step)?;
+    Ok(tokens)
+}
 
 /// Puts down the code of the term in front, and gives the tokens after it.
 #[cycle(expression)]
@@ -24,18 +36,9 @@ pub fn term<'t>(
     };
     let rest = after(tokens);
     match token {
-        Token::True => {
-            out.push(CodeStep::True)?;
-            Ok(rest)
-        }
-        Token::False => {
-            out.push(CodeStep::False)?;
-            Ok(rest)
-        }
-        Token::Name(name) => {
-            out.push(CodeStep::Name(name))?;
-            Ok(rest)
-        }
+        Token::True => put(out, CodeStep::True, rest),
+        Token::False => put(out, CodeStep::False, rest),
+        Token::Name(name) => put(out, CodeStep::Name(name), rest),
         Token::Open => {
             if depth == 0 {
                 return Err(Unread::Syntax);
@@ -51,8 +54,7 @@ pub fn term<'t>(
                 return Err(Unread::Syntax);
             }
             let rest = term(out, depth - 1, rest)?;
-            out.push(CodeStep::Unary(op))?;
-            Ok(rest)
+            put(out, CodeStep::Unary(op), rest)
         }
         _ => Err(Unread::Syntax),
     }

@@ -3,6 +3,7 @@ use Rattle.std.specs.Prelude.{◌≡◌, ℕ, List, [], ◌∷◌, ◌++◌, map
 use Rattle.std.specs.Borrow.{Bor}
 use Rattle.std.specs.declared.alloc.Global.{Global}
 use Rattle.rv_text.specs.declared.unread.Unread.{Unread}
+use Rattle.rv_text.specs.declared.unread.Unread.TheVariants.{Memory}
 use Rattle.rv_ltl.specs.declared.token.Token.{Token}
 use Rattle.rv_ltl.specs.declared.token.CodeStep.{CodeStep}
 use Rattle.rv_ltl.specs.declared.token.CodeStep.TheVariants as step
@@ -29,6 +30,11 @@ coded old read = read >>= λ x. Some (old ++ code x.0, x.1)
 abbrev pub Appends : List CodeStep → List CodeStep → Option (Expr × List Token) → Result (Bor (List Token)) Unread → Type 0
 Appends old new read (Ok rest) = coded old read ≡ Some (new, rest.now)
 Appends old new read (Err unread) = Fails unread read
+
+-- the step went behind the code, and the tokens are left
+abbrev pub PutsStep : List CodeStep → List CodeStep → CodeStep → List Token → Result (Bor (List Token)) Unread → Type 0
+PutsStep old new step marks (Ok rest) = (new ≡ old ++ step ∷ []) × (rest.now ≡ marks)
+PutsStep old new step marks (Err unread) = unread ≡ Memory
 
 -- a name and the code of its formula
 pub record Coded : Type 0 where

@@ -1,8 +1,11 @@
-use Rattle.std.proofs.Common.{ℕ, sym, ap, ◌∙◌, arith}
+use Rattle.std.proofs.Common.{ℕ, refl, sym, ap, ◌∙◌, arith}
 use Rattle.std.proofs.lemmas.Result.{err_from_is_err_and}
+use Rattle.rv_ltl.specs.declared.token.Token.TheVariants as token
+use Rattle.rv_ltl.specs.declared.token.CodeStep.TheVariants as steps
+use Rattle.rv_ltl.specs.Grammar.{Expr}
 use Rattle.rv_ltl.specs.Parse.{chain_at, term_at}
-use Rattle.rv_ltl.proofs.ChainSteps.{chain_full, chain_other, chain_ends, chain_end}
-use Rattle.rv_ltl.proofs.Coded.{some_coded, post_paren, post_open, post_unary, post_more}
+use Rattle.rv_ltl.proofs.ChainSteps.{chain_full, chain_other, chain_ends, chain_end, term_true, term_false, term_name}
+use Rattle.rv_ltl.proofs.Coded.{some_coded, post_paren, post_open, put_leaf, put_unary, post_more}
 use Rattle.rv_ltl.proofs.expression.+expression.Goals as goal
 
 pub expression-returns-then-more-eq0 : goal.expression-returns-then-more-eq0
@@ -39,6 +42,18 @@ pub term-returns-else-not-is_close : goal.term-returns-else-not-is_close
 term-returns-else-not-is_close t c =
     post_paren c.args.depth c.args.out.now.items c.expression.new.out.items c.args.tokens.now c.after-rest.result.now c.in_ok-rest-in-Open.rest.now c.after.result.now (cc) c.after-rest.ensures (omega arith) c.in_ok-rest-in-Open.ensures (sym c.if-not-is_close.ensures) c.after.ensures
 
-pub term-returns-in_ok-push-in-Unary : goal.term-returns-in_ok-push-in-Unary
-term-returns-in_ok-push-in-Unary t c =
-    post_unary c.args.depth c.in-Unary.op c.args.out.now.items c.term.new.out.items c.push-in-Unary.new.self.items c.args.tokens.now c.after-rest.result.now c.in_ok-rest-in-Unary.rest.now (cc) c.after-rest.ensures (omega arith) c.in_ok-rest-in-Unary.ensures c.in_ok-push-in-Unary.ensures.items
+pub term-returns-in-True : goal.term-returns-in-True
+term-returns-in-True t c =
+    put_leaf c.args.depth token.True Expr.True steps.True c.args.out.now.items c.put.new.out.items c.args.tokens.now c.after-rest.result.now c.put.result (term_true c.args.depth) refl (cc) c.after-rest.ensures c.put.ensures
+
+pub term-returns-in-False : goal.term-returns-in-False
+term-returns-in-False t c =
+    put_leaf c.args.depth token.False Expr.False steps.False c.args.out.now.items c.put-in-False.new.out.items c.args.tokens.now c.after-rest.result.now c.put-in-False.result (term_false c.args.depth) refl (cc) c.after-rest.ensures c.put-in-False.ensures
+
+pub term-returns-in-Name : goal.term-returns-in-Name
+term-returns-in-Name t c =
+    put_leaf c.args.depth (token.Name c.in-Name.name) (Expr.Name c.in-Name.name) (steps.Name c.in-Name.name) c.args.out.now.items c.put-in-Name.new.out.items c.args.tokens.now c.after-rest.result.now c.put-in-Name.result (term_name c.args.depth c.in-Name.name) refl (cc) c.after-rest.ensures c.put-in-Name.ensures
+
+pub term-returns-in_ok-rest-in-Unary : goal.term-returns-in_ok-rest-in-Unary
+term-returns-in_ok-rest-in-Unary t c =
+    put_unary c.args.depth c.in-Unary.op c.args.out.now.items c.term.new.out.items c.put-in-Unary.new.out.items c.args.tokens.now c.after-rest.result.now c.in_ok-rest-in-Unary.rest.now c.put-in-Unary.result (cc) c.after-rest.ensures (omega arith) c.in_ok-rest-in-Unary.ensures c.put-in-Unary.ensures
