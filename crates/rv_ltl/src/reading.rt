@@ -11,6 +11,7 @@ ghost use Rattle.rv_text.specs.inner.Ascending.{Ascends};
 ghost use Rattle.rv_ltl.specs.Names.{names_of};
 ghost use Rattle.rv_ltl.specs.inner.Machine.{defs, AllCoded};
 ghost use Rattle.rv_ltl.specs.Atoms.{name_at};
+ghost use Rattle.rv_ltl.specs.inner.Collected.{rule_over};
 ghost use Rattle.rv_ltl.specs.RuleFile.{rule_in, ltl_of};
 ghost use Rattle.rv_ltl.specs.inner.Rules.{AllNamed, ReadsDefinitions, of_unread};
 
@@ -67,6 +68,24 @@ fn assembled(atoms: Names, formula: Formula) -> Rule
     Rule { atoms, formula }
 }
 
+/// The rule of these atoms, with the formula that the name root stands for.
+fn rule_over(
+    alloc: Global,
+    names: &[&[u8]],
+    definitions: &[Definition],
+    root: usize,
+    atoms: &[usize],
+) -> Result<Rule, AllocError>
+    requires few { length atoms.now ≤ 32 }
+    requires coded { AllCoded definitions.now }
+    requires rule { IsRule (rule_over (texts names.now) (defs definitions.now) root atoms.now) }
+    ensures { IfOk result (λ rule. rule ≡ rule_over (texts names.now) (defs definitions.now) root atoms.now) }
+{
+    let formula = build(alloc, definitions, atoms, definitions.len(), root)?;
+    let list = names_at(alloc, names, atoms)?;
+    Ok(assembled(list, formula))
+}
+
 /// The rule of the definitions.
 fn rule_in(alloc: Global, names: &[&[u8]], definitions: &[Definition]) -> Result<Rule, Refused>
     requires ascending { Ascends (slice_cmp nat_cmp) (texts names.now) }
@@ -78,9 +97,8 @@ fn rule_in(alloc: Global, names: &[&[u8]], definitions: &[Definition]) -> Result
         return Err(refused(NO_RULE));
     };
     let atoms = limited_atoms(alloc, definitions, root)?;
-    let formula = build(alloc, definitions, &atoms, definitions.len(), root)?;
-    let list = names_at(alloc, names, &atoms)?;
-    Ok(assembled(list, formula))
+    let rule = rule_over(alloc, names, definitions, root, &atoms)?;
+    Ok(rule)
 }
 
 /// The definitions that the pieces spell.

@@ -1,12 +1,13 @@
 -- The atoms of the flagged definitions, and the formula that is built from code.
-use Rattle.std.specs.Prelude.{◌≡◌, ℕ, zero, suc, ◌≤◌, ◌<◌, Bool, true, false, if◌then◌else◌, List, [], ◌∷◌, length, Option, Some, None, Vec, nat_eq, nat_lt}
+use Rattle.std.specs.Prelude.{◌≡◌, ℕ, zero, suc, ◌≤◌, ◌<◌, Bool, true, false, if◌then◌else◌, List, [], ◌∷◌, length, map, Option, Some, None, Vec, nat_eq, nat_lt}
 use Rattle.std.specs.declared.alloc.Global.{Global}
 use Rattle.rv_model.specs.Ltl.{Ltl}
+use Rattle.rv_model.specs.Formulas.{RuleValue}
 use Rattle.rv_ltl.specs.declared.token.CodeStep.{CodeStep}
 use Rattle.rv_ltl.specs.declared.token.CodeStep.TheVariants as steps
 use Rattle.rv_ltl.specs.File.{Def}
 use Rattle.rv_ltl.specs.Replace.{is_none}
-use Rattle.rv_ltl.specs.Atoms.{inserted, names_into, place_of, one_of, two_of}
+use Rattle.rv_ltl.specs.Atoms.{inserted, name_at, names_into, place_of, one_of, two_of}
 use Rattle.rv_ltl.specs.inner.Machine.{Values, value}
 use Rattle.rv_ltl.specs.inner.Weights.{index_of, def_at}
 use Rattle.rv_ltl.specs.inner.Reached.{flag_at, AreReachFlags}
@@ -69,3 +70,7 @@ ltls names = record { constant = λ b. elim b [ true ↦ Ltl.True | false ↦ Lt
 unfoldable pub built : List Def → List ℕ → ℕ → ℕ → Ltl
 built ds atoms zero x = elim (index_of ds x) [ None ↦ Ltl.Atom (place_of atoms x) | Some i ↦ Ltl.True ]
 built ds atoms (suc n) x = elim (index_of ds x) [ None ↦ Ltl.Atom (place_of atoms x) | Some i ↦ value (ltls (built ds atoms n)) (def_at ds i).body ]
+
+-- the rule of these atoms, with the formula that the root stands for
+abbrev pub rule_over : List (List ℕ) → List Def → ℕ → List ℕ → RuleValue
+rule_over names ds root atoms = record { atoms = map (name_at names) atoms; formula = built ds atoms (length ds) root }
