@@ -28,7 +28,7 @@ fn add_label(alloc: Global, out: &mut Vec<Formula>, part: &Part) -> Result<(), A
 }
 
 /// The labels of a set of parts, in their order.
-#[tactic(auto, using(crate::proofs::RowsMade::labels_next, crate::proofs::RowsMade::part_value_read))]
+#[tactic(auto, using(crate::proofs::RowsMade::labels_next, crate::proofs::RowsMade::labels_same))]
 fn labels_of(alloc: Global, parts: &[Part], set: u64) -> Result<Vec<Formula>, AllocError>
     requires { length parts.now ≤ 64 }
     ensures { IfOk result (λ v. map ltl v.items ≡ labels_below (part_values parts.now) set (length parts.now)) }
