@@ -60,6 +60,3 @@ imply_joined f g false h = no_label (Imply f g) false _ h
 pub equivalent_joined : (f g : Ltl) (s : Bool) → is_propositional (Equivalent f g) ≡ false → tree_of (Equivalent f g) s ≡ tree_joined joints.Or (tree_joined joints.And (tree_of f true) (tree_of g s)) (tree_joined joints.And (tree_of f false) (tree_of g (not s)))
 equivalent_joined f g true h = no_label (Equivalent f g) true _ h
 equivalent_joined f g false h = no_label (Equivalent f g) false _ h
-
--- what the walk's arms are rewritten by
-pub ruleset polarities = (always_joined, eventually_joined, until_joined, release_joined, weak_until_joined, and_joined, imply_joined, equivalent_joined, joined_numbers)

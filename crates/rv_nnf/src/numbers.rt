@@ -96,7 +96,6 @@ fn either(
 
 /// The number of the normal form of a formula or of its negation, whose parts are entered by first use.
 #[cycle(number)]
-#[tactic(auto, using(crate::proofs::Polarities::polarities))]
 fn number(
     alloc: Global,
     parts: &mut Vec<Part>,
