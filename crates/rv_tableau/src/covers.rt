@@ -157,7 +157,6 @@ fn part_covers(
 }
 
 /// The cover of a set of parts.
-#[tactic(auto, using(crate::proofs::CoverSet::cover_next))]
 pub fn set_cover(
     alloc: Global,
     parts: &[Part],
