@@ -41,7 +41,6 @@ fn label_branches(label: &Formula) -> u32
 }
 
 /// The branch number of a part, from those of the parts before it.
-#[tactic(auto, using(crate::proofs::Capped::capped_product, crate::proofs::Capped::capped_sum))]
 fn of_part(below: &[u32], part: &Part) -> u32
     requires small { EachIndex below.now (λ k. slice_index below.now k ≤ 4097) }
     requires operands { OperandsBelow (length below.now) (part_value part.now) }
