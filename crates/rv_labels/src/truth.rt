@@ -8,7 +8,6 @@ use crate::cube::of_atom;
 use rv_model::Formula;
 
 /// Whether a formula with no temporal operator is true on the letter.
-#[tactic(auto, using(crate::proofs::MeetLemmas::meets_need))]
 pub fn is_true(formula: &Formula, letter: u32) -> bool
     requires { IsLabel (ltl formula.now) }
     ensures { result ≡ true_on letter (ltl formula.now) }
