@@ -20,6 +20,21 @@ pub returns-then-i-len : goal.returns-then-i-len
 returns-then-i-len c =
     sym c.loop-i.invariant ∙ at_end (part_values c.args.parts.now) c.loop-i.i c.loop-i.sets.items c.loop-i.nodes.items c.loop-i-test.true (omega arith)
 
+pub branch_number-requires-clause-few : goal.branch_number-requires-clause-few
+branch_number-requires-clause-few c = rw (length-map c.args.parts.now part_value) at c.requires.normal.few
+
+pub branch_number-requires-clause-numbers : goal.branch_number-requires-clause-numbers
+branch_number-requires-clause-numbers c = c.requires.numbers
+
+pub set_cover-requires-clause-few : goal.set_cover-requires-clause-few
+set_cover-requires-clause-few c = rw (length-map c.args.parts.now part_value) at c.requires.normal.few
+
+pub set_cover-requires-clause-below : goal.set_cover-requires-clause-below
+set_cover-requires-clause-below c = c.requires.normal.below
+
+pub set_cover-requires-clause-numbers : goal.set_cover-requires-clause-numbers
+set_cover-requires-clause-numbers c = c.requires.numbers
+
 pub returns-then-branch_number-gt-MOST_BRANCHES : goal.returns-then-branch_number-gt-MOST_BRANCHES
 returns-then-branch_number-gt-MOST_BRANCHES c =
     let more : c.loop-i.i < length c.loop-i.sets.items = omega arith in
