@@ -52,8 +52,12 @@ fn declared<'t, 'a>(alloc: Global, tokens: &'t [DotToken<'a>]) -> Said<'t, 'a>
     ensures value { IsReadAs (λ x. (claims x.0.items, lexemes x.1.now)) result (declared_at (lexemes tokens.now)) }
     ensures within { IfOk result (λ x. length x.1.now ≤ length tokens.now) }
 {
-    let rest = expect(tokens, Mark::OpenBracket).ok_or(Unread::Syntax)?;
-    let (shape, rest) = bracket(rest, b"shape").ok_or(Unread::Syntax)?;
+    let Some(rest) = expect(tokens, Mark::OpenBracket) else {
+        return Err(Unread::Syntax);
+    };
+    let Some((shape, rest)) = bracket(rest, b"shape") else {
+        return Err(Unread::Syntax);
+    };
     let (names, rest) = names(alloc, rest)?;
     if names.is_empty() {
         return Err(Unread::Syntax);
@@ -67,7 +71,9 @@ fn ranked<'t, 'a>(alloc: Global, tokens: &'t [DotToken<'a>]) -> Said<'t, 'a>
     ensures value { IsReadAs (λ x. (claims x.0.items, lexemes x.1.now)) result (ranked_at (lexemes tokens.now)) }
     ensures within { IfOk result (λ x. length x.1.now ≤ length tokens.now) }
 {
-    let (_, rest) = value_at(tokens).ok_or(Unread::Syntax)?;
+    let Some((_, rest)) = value_at(tokens) else {
+        return Err(Unread::Syntax);
+    };
     let (_, rest) = names(alloc, past_mark(rest, Mark::Semicolon))?;
     Ok((Vec::new(alloc), rest))
 }
@@ -78,7 +84,9 @@ fn group<'t, 'a>(alloc: Global, tokens: &'t [DotToken<'a>]) -> Said<'t, 'a>
     ensures value { IsReadAs (λ x. (claims x.0.items, lexemes x.1.now)) result (group_at (lexemes tokens.now)) }
     ensures within { IfOk result (λ x. length x.1.now < length tokens.now) }
 {
-    let (head, rest) = front_word(tokens).ok_or(Unread::Syntax)?;
+    let Some((head, rest)) = front_word(tokens) else {
+        return Err(Unread::Syntax);
+    };
     if begins(rest, Mark::Equals) {
         ranked(alloc, past_mark(rest, Mark::Equals))
     } else if head == b"node".as_slice() {
@@ -94,7 +102,9 @@ fn assignment<'t, 'a>(alloc: Global, tokens: &'t [DotToken<'a>]) -> Said<'t, 'a>
     ensures value { IsReadAs (λ x. (claims x.0.items, lexemes x.1.now)) result (assignment_at (lexemes tokens.now)) }
     ensures within { IfOk result (λ x. length x.1.now < length tokens.now) }
 {
-    let (_, rest) = attribute_at(tokens).ok_or(Unread::Syntax)?;
+    let Some((_, rest)) = attribute_at(tokens) else {
+        return Err(Unread::Syntax);
+    };
     Ok((Vec::new(alloc), rest))
 }
 
@@ -104,8 +114,12 @@ fn edge<'t, 'a>(alloc: Global, from: DotToken<'a>, tokens: &'t [DotToken<'a>]) -
     ensures value { IsReadAs (λ x. (claims x.0.items, lexemes x.1.now)) result (edge_at (lexeme from.entry) (lexemes tokens.now)) }
     ensures within { IfOk result (λ x. length x.1.now < length tokens.now) }
 {
-    let (to, rest) = name_at(tokens).ok_or(Unread::Syntax)?;
-    let (label, rest) = optional_bracket(rest, b"label").ok_or(Unread::Syntax)?;
+    let Some((to, rest)) = name_at(tokens) else {
+        return Err(Unread::Syntax);
+    };
+    let Some((label, rest)) = optional_bracket(rest, b"label") else {
+        return Err(Unread::Syntax);
+    };
     let mut facts = Vec::new(alloc);
     facts.push(Fact::Leads { from, to, label })?;
     Ok((facts, rest))
@@ -117,11 +131,15 @@ fn named<'t, 'a>(alloc: Global, tokens: &'t [DotToken<'a>]) -> Said<'t, 'a>
     ensures value { IsReadAs (λ x. (claims x.0.items, lexemes x.1.now)) result (named_at (lexemes tokens.now)) }
     ensures within { IfOk result (λ x. length x.1.now < length tokens.now) }
 {
-    let (from, rest) = name_at(tokens).ok_or(Unread::Syntax)?;
+    let Some((from, rest)) = name_at(tokens) else {
+        return Err(Unread::Syntax);
+    };
     if begins(rest, Mark::Arrow) {
         edge(alloc, from, past_mark(rest, Mark::Arrow))
     } else {
-        let (_, rest) = optional_bracket(rest, b"").ok_or(Unread::Syntax)?;
+        let Some((_, rest)) = optional_bracket(rest, b"") else {
+            return Err(Unread::Syntax);
+        };
         Ok((Vec::new(alloc), rest))
     }
 }
@@ -160,9 +178,15 @@ fn statements<'t, 'a>(alloc: Global, tokens: &'t [DotToken<'a>]) -> Said<'t, 'a>
 fn all<'a>(alloc: Global, tokens: &[DotToken<'a>]) -> Result<Vec<Fact<'a>>, Unread>
     ensures { IsReadAs (λ v. claims v.items) result (claims_of (lexemes tokens.now)) }
 {
-    let (head, rest) = front_word(tokens).ok_or(Unread::Syntax)?;
-    let (_, rest) = front_word(rest).ok_or(Unread::Syntax)?;
-    let rest = expect(rest, Mark::OpenBrace).ok_or(Unread::Syntax)?;
+    let Some((head, rest)) = front_word(tokens) else {
+        return Err(Unread::Syntax);
+    };
+    let Some((_, rest)) = front_word(rest) else {
+        return Err(Unread::Syntax);
+    };
+    let Some(rest) = expect(rest, Mark::OpenBrace) else {
+        return Err(Unread::Syntax);
+    };
     let (facts, rest) = statements(alloc, rest)?;
     if head == b"digraph".as_slice() && rest.is_empty() {
         Ok(facts)
