@@ -3,7 +3,7 @@ use Rattle.std.proofs.Common.{◌≡◌, ℕ, ◌+◌, ◌<◌, List, [], ◌∷
 use Rattle.std.specs.Prelude.{map}
 use Rattle.std.specs.List.{filter_map, flat_map, cons_option}
 use Rattle.std.specs.Option.{option_map, option_to_list}
-use Rattle.std.proofs.lemmas.List.{map_more, map-append}
+use Rattle.std.proofs.lemmas.List.{map_more, map_push, map-append}
 use Rattle.std.proofs.lemmas.List.Elements.{filter_map-append}
 use Rattle.std.proofs.lemmas.List.Concat.{flat_map-append}
 use Rattle.rv_dot.specs.declared.saying.Saying.{Saying}
@@ -43,3 +43,11 @@ arcs_more sayings i d found found' more lt so_far is grown =
     append_nil : (xs : List Arc) → xs ++ [] ≡ xs
     append_nil [] = refl
     append_nil (x ∷ xs) = ap (λ (as' : List Arc). x ∷ as') (append_nil xs)
+
+-- the event of one arc more
+pub event_more : (arcs : List Held) (i : ℕ) (d : Held) (found found' : List (Bor (List ℕ))) → i < length arcs
+    → map bytes_of found ≡ map (λ a. a.event) (map arc (take i arcs)) → found' ≡ found ++ (get_or arcs i d).event ∷ []
+    → map bytes_of found' ≡ map (λ a. a.event) (map arc (take (i + 1) arcs))
+event_more arcs i d found found' lt so_far grown =
+    ap (map bytes_of) grown ∙ map_push bytes_of found (get_or arcs i d).event ∙ ap (λ (ns : List (List ℕ)). ns ++ (get_or arcs i d).event.now ∷ []) so_far
+    ∙ sym (map_push (λ (a : Arc). a.event) (map arc (take i arcs)) (arc (get_or arcs i d))) ∙ ap (map (λ a. a.event)) (sym (map_more arc arcs i d lt))

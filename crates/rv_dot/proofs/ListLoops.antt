@@ -27,11 +27,6 @@ regroup : {A : Type 0} (front first : List A) (read : Option (List A × List Lex
 regroup {A = A} front first None = refl
 regroup {A = A} front first (Some others) = ap (λ (all : List A). Some (all, others.1)) (sym (append_assoc front first others.0))
 
--- where the definition reads nothing, any failure is right
-pub none_fails : {Y : Type 0} (unread : Unread) (read : Option Y) → read ≡ None → Fails unread read
-none_fails Memory read none = tt
-none_fails Syntax read none = none
-
 module _ {A : Type 0} (close : Mark) (item_at : List Lexeme → Option (List A × List Lexeme)) (past : List Lexeme → List Lexeme) where
   -- what was found, with what the tokens that are left give, is all that the tokens give
   abbrev pub IsUnderWay : List A → List DotToken → List DotToken → Type 0

@@ -70,7 +70,9 @@ pub fn names<'t, 'a>(
     let mut found = Vec::new(alloc);
     let mut rest = tokens;
     'names: while !begins(rest, Mark::CloseBrace) {
-        let (name, after) = name_at(rest).ok_or(Unread::Syntax)?;
+        let Some((name, after)) = name_at(rest) else {
+            return Err(Unread::Syntax);
+        };
         found.push(name)?;
         rest = past_mark(after, Mark::Semicolon);
     }
