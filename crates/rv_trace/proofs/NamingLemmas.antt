@@ -1,5 +1,5 @@
 -- Names of fields and their places, as one more comes in.
-use Rattle.std.proofs.Common.{◌≡◌, ℕ, zero, suc, Bool, true, false, ◌&&◌, cond, List, [], ◌∷◌, ◌++◌, length, Some, None, refl, sym, ap, ◌∙◌, subst}
+use Rattle.std.proofs.Common.{◌≡◌, ◌≢◌, ℕ, zero, suc, Bool, true, false, ◌&&◌, cond, List, [], ◌∷◌, ◌++◌, length, Option, Some, None, refl, sym, ap, ◌∙◌, subst}
 use Rattle.std.specs.Prelude.{bytes_eq, slice_get, Vec, All}
 use Rattle.std.specs.List.{list_all}
 use Rattle.std.specs.BTreeMap.{BTreeMap}
@@ -25,6 +25,14 @@ from-front P [] y old last zero x is = let same : y ≡ x = cc in subst (P 0) sa
 from-front P [] y old last (suc i) x is = cc
 from-front P (z ∷ xs) y old last zero x is = old zero x is
 from-front P (z ∷ xs) y old last (suc i) x is = from-front (λ j w. P (suc j) w) xs y (λ j w e. old (suc j) w e) last i x is
+
+-- a name that is none of the names has no place
+pub not-placed : (names : List (List ℕ)) (name : List ℕ) (places : BTreeMap (Vec ℕ Global) ℕ) → ArePlaces names places → ((place : ℕ) → slice_get names place ≢ Some name) → place_in places name ≡ None
+not-placed names name places are absent = go (place_in places name) refl
+  where
+    go : (found : Option ℕ) → place_in places name ≡ found → found ≡ None
+    go None is = refl
+    go (Some place) is = absurd (absent place (are.each place name is))
 
 module _ (names : List (List ℕ)) (name : List ℕ) (places more : BTreeMap (Vec ℕ Global) ℕ) (are : ArePlaces names places) (new : place_in places name ≡ None)
     (put : (other : List ℕ) → place_in more other ≡ cond (bytes_eq name other) (Some (length names)) (place_in places other)) where

@@ -98,16 +98,27 @@ impl FieldNames {
         if let Some(place) = self.places.get(name) {
             return Ok(*place);
         }
+        self.add(alloc, name)
+    }
+
+    /// Appends a new name, and tells its place.
+    fn add(&mut self, alloc: Global, name: &[u8]) -> Result<usize, AllocError>
+        requires { (place : ℕ) → slice_get self.old place ≢ Some name.now }
+        ensures place { IfOk result (λ place. slice_get self.new place ≡ Some name.now) }
+        ensures grown { OnOk result (Extends self.old self.new) }
+        ensures appended { OnOk result (self.new ≡ self.old ++ name.now ∷ []) }
+        ensures err { OnErr result (self.new ≡ self.old) }
+    {
         let place = self.names.len();
-        let plain = self.plain && is_plain(name);
+        self.names.reserve(1)?;
         let key = Vec::from_slice(alloc, name)?;
         let owned = HeldWord::new(alloc, name)?;
-        self.names.reserve(1)?;
         self.places.insert(key, place)?;
         match self.names.push(owned) {
             Ok(()) => {}
             Err(_) => unreachable!(),
         }
+        let plain = self.plain && is_plain(name);
         self.plain = plain;
         Ok(place)
     }
