@@ -1,8 +1,8 @@
 -- What is made of pieces is read so.
-use Rattle.std.proofs.Common.{◌≡◌, ℕ, zero, suc, ◌+◌, ◌<◌, ◌≤◌, Bool, true, false, eqb, List, [], ◌∷◌, ◌++◌, length, length-append, Some, refl, sym, ap, ◌∙◌, append_assoc, arith, take, drop}
+use Rattle.std.proofs.Common.{◌≡◌, ℕ, zero, suc, ◌+◌, ◌<◌, ◌≤◌, Bool, true, false, eqb, List, [], ◌∷◌, ◌++◌, length, length-append, Some, refl, sym, ap, ◌∙◌, append_assoc, arith, take, drop, get_or, ◌-◌, ap₂}
 use Rattle.std.specs.Prelude.{not}
 use Rattle.std.specs.List.{AllByRecursion}
-use Rattle.std.proofs.lemmas.List.{drop_at, take_at}
+use Rattle.std.proofs.lemmas.List.{drop_at, take_at, take_all}
 use Rattle.rv_dot.specs.declared.token.Mark.TheVariants.{OpenBrace, CloseBrace, OpenBracket, CloseBracket, Equals, Semicolon, Comma, Arrow}
 use Rattle.rv_dot.specs.Runs.{is_word_byte, line_len, word_len, block_len, string_len}
 use Rattle.rv_dot.specs.Tokens.{sign, word, text, gap, comment_of, string_of, front_of, tokens_within}
@@ -35,6 +35,11 @@ not_word (b ∷ rest) h = rw h refl
 pub no_stops : (w : List ℕ) → AllByRecursion (λ b. is_word_byte b ≡ true) w → AllByRecursion (λ b. not (is_word_byte b) ≡ false) w
 no_stops [] h = tt
 no_stops (b ∷ w) h = (rw h.0 refl, no_stops w h.1)
+
+-- what stands at the front of a text is told by its first byte and the bytes behind it
+pub front-at : (starts : Bool) (bytes : List ℕ) (b : ℕ) → 1 ≤ length bytes → get_or bytes 0 0 ≡ b → front_of starts (b ∷ take (length bytes - 1) (drop 1 bytes)) ≡ front_of starts bytes
+front-at starts [] b long is = absurd (omega (arith, long))
+front-at starts (x ∷ xs) b long is = ap₂ (λ (y : ℕ) (ys : List ℕ). front_of starts (y ∷ ys)) (sym is) (take_all (length (x ∷ xs) - 1) xs (omega arith))
 
 -- a piece is read off the front
 pub front_again : (starts : Bool) (p : Piece) (rest : List ℕ) → IsPieceAt starts p rest → front_of starts (piece_bytes p ++ rest) ≡ Some (token_in p, rest)

@@ -1,10 +1,10 @@
 -- What is gathered from one saying more.
-use Rattle.std.proofs.Common.{◌≡◌, ℕ, ◌+◌, ◌<◌, List, [], ◌∷◌, ◌++◌, length, take, get_or, Option, Some, None, refl, sym, ap, ◌∙◌, Bor}
+use Rattle.std.proofs.Common.{◌≡◌, ℕ, ◌+◌, ◌<◌, Bool, true, false, List, [], ◌∷◌, ◌++◌, length, take, get_or, Option, Some, None, refl, sym, ap, ◌∙◌, Bor}
 use Rattle.std.specs.Prelude.{map}
-use Rattle.std.specs.List.{filter_map, flat_map, cons_option}
+use Rattle.std.specs.List.{filter, filter_map, flat_map, cons_option}
 use Rattle.std.specs.Option.{option_map, option_to_list}
-use Rattle.std.proofs.lemmas.List.{map_more, map_push, map-append}
-use Rattle.std.proofs.lemmas.List.Elements.{filter_map-append}
+use Rattle.std.proofs.lemmas.List.{append-nil, map_more, map_push, map-append}
+use Rattle.std.proofs.lemmas.List.Elements.{filter-append, filter_map-append}
 use Rattle.std.proofs.lemmas.List.Concat.{flat_map-append}
 use Rattle.rv_dot.specs.declared.saying.Saying.{Saying}
 use Rattle.rv_dot.specs.declared.gather.Arc.{Arc as Held}
@@ -51,3 +51,27 @@ pub event_more : (arcs : List Held) (i : ℕ) (d : Held) (found found' : List (B
 event_more arcs i d found found' lt so_far grown =
     ap (map bytes_of) grown ∙ map_push bytes_of found (get_or arcs i d).event ∙ ap (λ (ns : List (List ℕ)). ns ++ (get_or arcs i d).event.now ∷ []) so_far
     ∙ sym (map_push (λ (a : Arc). a.event) (map arc (take i arcs)) (arc (get_or arcs i d))) ∙ ap (map (λ a. a.event)) (sym (map_more arc arcs i d lt))
+
+module _ (p : List ℕ → Bool) (names : List (Bor (List ℕ))) (i : ℕ) (d : Bor (List ℕ)) (found : List (Bor (List ℕ))) (lt : i < length names)
+    (so_far : map bytes_of found ≡ filter p (map bytes_of (take i names))) where
+  abbrev before : List (List ℕ)
+  before = map bytes_of (take i names)
+
+  abbrev here : Bor (List ℕ)
+  here = get_or names i d
+
+  -- what passes of one name more
+  one_passed : filter p before ++ filter p (here.now ∷ []) ≡ filter p (map bytes_of (take (i + 1) names))
+  one_passed = sym (filter-append p before (here.now ∷ [])) ∙ ap (filter p) (sym (map_more bytes_of names i d lt))
+
+  -- the name passes
+  pub passed_more : (found' : List (Bor (List ℕ))) → p here.now ≡ true → found' ≡ found ++ here ∷ [] → map bytes_of found' ≡ filter p (map bytes_of (take (i + 1) names))
+  passed_more found' passes grown =
+      let one : here.now ∷ [] ≡ filter p (here.now ∷ []) = rw passes refl in
+      ap (map bytes_of) grown ∙ map_push bytes_of found here ∙ ap (λ (ns : List (List ℕ)). ns ++ here.now ∷ []) so_far ∙ ap (λ (ns : List (List ℕ)). filter p before ++ ns) one ∙ one_passed
+
+  -- the name does not
+  pub stopped_more : p here.now ≡ false → map bytes_of found ≡ filter p (map bytes_of (take (i + 1) names))
+  stopped_more stops =
+      let none : [] ≡ filter p (here.now ∷ []) = rw stops refl in
+      so_far ∙ sym (append-nil (filter p before)) ∙ ap (λ (ns : List (List ℕ)). filter p before ++ ns) none ∙ one_passed
