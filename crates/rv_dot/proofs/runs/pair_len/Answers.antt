@@ -1,5 +1,5 @@
 use Rattle.std.proofs.Common.{sym, ◌∙◌, inl, inr, arith}
-use Rattle.rv_dot.proofs.Scans.{pair_later, tail_shorter}
+use Rattle.rv_dot.proofs.Scans.{pair_here, pair_later, pair_nowhere, tail_shorter}
 use Rattle.rv_dot.proofs.runs.pair_len.Goals as goal
 use Rattle.rv_dot.proofs.runs.pair_len.Goals.{else-first-one-via-then-first-one+else-begins_with, else-first-one-via-else-first-one}
 
@@ -13,3 +13,10 @@ loop-rest-preserved c = record {
       c.loop-rest.invariant.value;
   left = omega (arith, c.loop-rest.invariant.left, tail_shorter c.loop-rest.rest.now c.in-len1-up.len_at_least);
 }
+
+pub returns-then-begins_with-clause-value : goal.returns-then-begins_with-clause-value
+returns-then-begins_with-clause-value c =
+    pair_here c.args.one c.args.other c.loop-rest.rest.now 0 c.loop-rest.len _ c.in-len1-up.len_at_least c.if-first-one.true (sym c.begins_with.ensures ∙ c.if-begins_with.true) c.loop-rest.invariant.value
+
+pub returns-clause-value : goal.returns-clause-value
+returns-clause-value c = pair_nowhere c.args.one c.args.other c.loop-rest.rest.now c.loop-rest.len _ c.in_default.len_below c.loop-rest.invariant.value
