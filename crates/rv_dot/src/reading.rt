@@ -5,8 +5,9 @@ ghost use Rattle.std.specs.Str.{bytes_eq};
 ghost use Rattle.rv_text.specs.Readings.{Gives, refused_with};
 ghost use Rattle.rv_text.specs.inner.Unreads.{IsReadAs};
 ghost use Rattle.rv_dot.specs.Text.{said_by};
-ghost use Rattle.rv_dot.specs.inner.Held.{sayings_claims, arc, bytes_of};
-ghost use Rattle.rv_dot.specs.Gathered.{states_in, arcs_in, all_fit};
+ghost use Rattle.rv_dot.specs.inner.Held.{lexemes, sayings_claims, arc, bytes_of};
+ghost use Rattle.rv_dot.specs.Statements.{claims_of};
+ghost use Rattle.rv_dot.specs.Gathered.{states_in, targets_in, arcs_in, all_fit};
 ghost use Rattle.rv_dot.specs.Sets.{ascending, stands_in};
 ghost use Rattle.rv_dot.specs.inner.Numberings.{IsNumbering, states_by, events_by};
 ghost use Rattle.rv_model.specs.Machine.{Machine};
@@ -19,7 +20,7 @@ use crate::moves::clash;
 use crate::numbering::{Numbering, ascending, place_among};
 use crate::saying::{Saying, sayings};
 use crate::statement::facts;
-use crate::token::tokens;
+use crate::token::{DotToken, tokens};
 use rv_model::Automaton;
 use rv_text::{
     DOT_SYNTAX, NO_INITIAL, NOT_DETERMINISTIC, Refusal, Refused, TOO_MANY_EVENTS, TOO_MANY_STATES,
@@ -41,13 +42,20 @@ fn refused(number: u8) -> Refused
     Refused::Because(Refusal { number, line: 0 })
 }
 
+/// What the tokens say, with names as they read.
+fn said_in<'a>(alloc: Global, tokens: &[DotToken<'a>]) -> Result<Vec<Saying<'a>>, Unread>
+    ensures { IsReadAs (λ v. sayings_claims v.items) result (claims_of (lexemes tokens.now)) }
+{
+    let facts = facts(alloc, tokens)?;
+    Ok(sayings(alloc, &facts)?)
+}
+
 /// What the text's statements say.
 fn said_by(alloc: Global, bytes: &[u8]) -> Result<Vec<Saying<'_>>, Unread>
     ensures { IsReadAs (λ v. sayings_claims v.items) result (said_by bytes.now) }
 {
     let tokens = tokens(alloc, bytes)?;
-    let facts = facts(alloc, &tokens)?;
-    Ok(sayings(alloc, &facts)?)
+    said_in(alloc, &tokens)
 }
 
 /// Whether each of the names is this one.
@@ -75,6 +83,14 @@ fn initial<'s>(targets: &[&'s [u8]]) -> Result<&'s [u8], Refused>
         return Err(refused(TWO_INITIALS));
     }
     Ok(*first)
+}
+
+/// The one target of the edges that leave markers, in the statements.
+fn initial_in<'s, 'a>(alloc: Global, said: &'s [Saying<'a>]) -> Result<&'s [u8], Refused>
+    ensures { Gives bytes_of result (initial_of (targets_in (sayings_claims said.now))) }
+{
+    let targets = targets_in(alloc, said)?;
+    initial(&targets)
 }
 
 /// The names that are not this one.
@@ -174,8 +190,7 @@ fn automaton(alloc: Global, said: &[Saying<'_>]) -> Result<Automaton, Refused>
     if !all_fit(said) || !events_fit(&arcs) {
         return Err(refused(DOT_SYNTAX));
     }
-    let targets = targets_in(alloc, said)?;
-    let first = initial(&targets)?;
+    let first = initial_in(alloc, said)?;
     with_initial(alloc, said, &arcs, first)
 }
 
