@@ -1,7 +1,7 @@
 -- The formula that code builds is that of what the name stands for.
 use Rattle.std.proofs.Common.{◌≡◌, ◌≢◌, ℕ, zero, suc, ◌-◌, ◌<◌, ◌≤◌, true, List, [], ◌∷◌, ◌++◌, length, get_or, drop, Some, None, refl, sym, ap, ◌∙◌, arith}
 use Rattle.std.specs.Prelude.{map, reverse}
-use Rattle.std.proofs.lemmas.List.{reverse-append, drop_all, map_push}
+use Rattle.std.proofs.lemmas.List.{length-map, map_push}
 use Rattle.rv_model.specs.Ltl.{Ltl}
 use Rattle.rv_model.specs.Formulas.{ltl}
 use Rattle.rv_model.specs.declared.formula.Formula.{Formula}
@@ -12,10 +12,11 @@ use Rattle.rv_ltl.specs.Parse.{◌>>=◌}
 use Rattle.rv_ltl.specs.File.{Def}
 use Rattle.rv_ltl.specs.Replace.{replaced, value_of}
 use Rattle.rv_ltl.specs.Atoms.{place_of, one_of, two_of, formula_over}
-use Rattle.rv_ltl.specs.inner.Machine.{Values, value, run, last_or, computed, defs, AllCoded}
+use Rattle.rv_ltl.specs.inner.Machine.{Values, value, run, computed, defs, AllCoded}
 use Rattle.rv_ltl.specs.inner.Weights.{index_of, def_at}
 use Rattle.rv_ltl.specs.inner.Collected.{ltls, built}
 use Rattle.rv_ltl.proofs.OperatorLaws.{bind_some}
+use Rattle.rv_ltl.proofs.Running.{last_value, no_value}
 use Rattle.rv_ltl.proofs.Elements.{value_at}
 use Rattle.rv_ltl.proofs.Settling.{Found, Free, Held, found, value_free, value_defined, value_zero}
 
@@ -23,15 +24,11 @@ use Rattle.rv_ltl.proofs.Settling.{Found, Free, Held, found, value_free, value_d
 
 -- all steps are done, and the last formula is the value
 pub last_formula : (v : Values Ltl) (steps : List CodeStep) (i : ℕ) (items new : List Formula) (f : Formula) → length steps ≤ i → items ≡ new ++ f ∷ [] → run v (drop i steps) (reverse (map ltl items)) ≡ run v steps [] → ltl f ≡ computed v steps
-last_formula v steps i items new f le pushed h =
-    let done : reverse (map ltl items) ≡ run v steps [] = ap (λ (s : List CodeStep). run v s (reverse (map ltl items))) (sym (drop_all i steps le)) ∙ h in
-    let top : reverse (map ltl items) ≡ ltl f ∷ reverse (map ltl new) = ap (λ (xs : List Formula). reverse (map ltl xs)) pushed ∙ ap reverse (map_push ltl new f) ∙ reverse-append (map ltl new) (ltl f ∷ []) in
-    ap (λ (s : List Ltl). last_or (v.constant true) s) (sym top ∙ done)
+last_formula v steps i items new f le pushed h = last_value v steps i (map ltl items) (map ltl new) (ltl f) le (ap (map ltl) pushed ∙ map_push ltl new f) h
 
 -- all steps are done, and there is no formula
 pub no_formula : (v : Values Ltl) (steps : List CodeStep) (i : ℕ) (items : List Formula) → length steps ≤ i → length items ≡ 0 → run v (drop i steps) (reverse (map ltl items)) ≡ run v steps [] → v.constant true ≡ computed v steps
-no_formula v steps i [] le none h = ap (λ (s : List Ltl). last_or (v.constant true) s) (ap (λ (s : List CodeStep). run v s []) (sym (drop_all i steps le)) ∙ h)
-no_formula v steps i (x ∷ items) le none h = absurd (omega arith)
+no_formula v steps i items le none h = no_value v steps i (map ltl items) le (length-map items ltl ∙ none) h
 
 -- what is built for a defined name is the value of its formula, with definitions one less deep
 built_some : (ds : List Def) (atoms : List ℕ) (n x i : ℕ) → index_of ds x ≡ Some i → built ds atoms (suc n) x ≡ value (ltls (built ds atoms n)) (def_at ds i).body

@@ -49,14 +49,22 @@ fn name_of<'a>(names: &[&'a [u8]], number: usize) -> &'a [u8]
     }
 }
 
+/// Puts a copy of the name behind the others.
+fn put_name(alloc: Global, list: &mut Names, name: &[u8]) -> Result<(), AllocError>
+    ensures { IfOk result (λ _. list.new ≡ list.old ++ name.now ∷ []) }
+{
+    let name = Name::new(alloc, name)?;
+    list.push(name)?;
+    Ok(())
+}
+
 /// The names of these numbers.
 fn names_at(alloc: Global, names: &[&[u8]], numbers: &[usize]) -> Result<Names, AllocError>
     ensures { IfOk result (λ list. list ≡ map (name_at (texts names.now)) numbers.now) }
 {
     let mut list = Names::new(alloc);
     'numbers: for number in numbers {
-        let name = Name::new(alloc, name_of(names, *number))?;
-        list.push(name)?;
+        put_name(alloc, &mut list, name_of(names, *number))?;
     }
     Ok(list)
 }
