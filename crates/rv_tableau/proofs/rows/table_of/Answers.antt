@@ -5,6 +5,24 @@ use Rattle.rv_tableau.specs.Rows.{node_row}
 use Rattle.rv_tableau.proofs.TableMeans.{few_given, fit_given, made_given, first_given}
 use Rattle.rv_tableau.proofs.rows.table_of.Goals as goal
 
+pub branch_numbers-requires : goal.branch_numbers-requires
+branch_numbers-requires c = c.requires.below
+
+pub nodes-requires-clause-normal : goal.nodes-requires-clause-normal
+nodes-requires-clause-normal c = c.requires
+
+pub set_cover-requires-clause-few : goal.set_cover-requires-clause-few
+set_cover-requires-clause-few c = rw (length-map c.args.parts.now part_value) at c.requires.few
+
+pub set_cover-requires-clause-below : goal.set_cover-requires-clause-below
+set_cover-requires-clause-below c = c.requires.below
+
+pub node_rows-requires-clause-few : goal.node_rows-requires-clause-few
+node_rows-requires-clause-few c = rw (length-map c.args.parts.now part_value) at c.requires.few
+
+pub node_rows-requires-clause-below : goal.node_rows-requires-clause-below
+node_rows-requires-clause-below c = c.requires.below
+
 pub next_rows-first-requires : goal.next_rows-first-requires
 next_rows-first-requires c =
     let f = few_given (part_values c.args.parts.now) c.in_ok-nodes.nodes.items c.in_ok-nodes.ensures in
