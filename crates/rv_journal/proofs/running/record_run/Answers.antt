@@ -11,15 +11,25 @@ use Rattle.rv_journal.specs.CountedFeeders.{FitsCountedFeeder, RunsCounted}
 use Rattle.rv_journal.specs.CountedLanes.{CountedLaneValue}
 use Rattle.rv_journal.specs.EntryTexts.{IsNoEnd, IsEntry}
 use Rattle.rv_journal.specs.Merging.{CanMerge}
+use Rattle.rv_journal.specs.Running.{FitsCountedWork}
 use Rattle.rv_journal.proofs.NoEndLemmas.{no-ends}
 use Rattle.rv_journal.proofs.RecordedLemmas.{all-fit, all-on, recorded-from, recorded-can-merge, whole-run}
 use Rattle.rv_journal.proofs.running.record_run.Goals as goal
+
+pub seat_works-requires-clause-seat : goal.seat_works-requires-clause-seat
+seat_works-requires-clause-seat g c = c.in_ok-board.ensures.seat
+
+pub seat_works-requires-clause-fit : goal.seat_works-requires-clause-fit
+seat_works-requires-clause-fit g c = subst (λ (s : Setup). All (FitsCountedWork s) c.args.works.items) (sym c.in_ok-board.ensures.board) c.requires.fit
 
 pub run_counted-requires : goal.run_counted-requires
 run_counted-requires g c =
     let board = c.in_ok-board.field-0.board in
     let fs : List (CountedFeeder g.row.G.Denot) = c.in_ok-feeders.feeders.items in
     (c.type_bounds.send-G, (c.type_bounds.sync-R, subst (All (FitsCountedFeeder board)) (sym c.as_mut_slice.ensures.value) (all-fit board fs c.in_ok-feeders.ensures.seated)))
+
+pub join_all-requires-clause-into : goal.join_all-requires-clause-into
+join_all-requires-clause-into g c = c.in_ok-feeders.ensures.is_first.board_is
 
 pub join_all-requires-clause-seats : goal.join_all-requires-clause-seats
 join_all-requires-clause-seats g c =
@@ -41,6 +51,9 @@ merge-requires g c =
     let setup_is : board.setup ≡ c.args.setup = c.in_ok-board.ensures.board in
     let can = recorded-can-merge board last.part.seen first c.args.works.items fs fs' are c.requires.ascend (subst (λ (s : Setup). has_bit s.switches 34 ≡ false) (sym setup_is) c.requires.running) in
     subst (λ (z : Setup × List CountedLaneValue). CanMerge z.0 last.part.seen z.1) (λ i. (sym c.setup.ensures i, (sym joined.lanes_are ∙ sym c.as_slice.ensures.value) i)) can
+
+pub close-requires : goal.close-requires
+close-requires g c = c.in_ok-lanes.ensures.board_is
 
 pub closed_of-closed-requires : goal.closed_of-closed-requires
 closed_of-closed-requires g c =
