@@ -6,8 +6,20 @@ use Rattle.rv_model.specs.declared.entry.Act.{Act}
 use Rattle.rv_model.specs.declared.work.Change.{Change}
 use Rattle.rv_model.specs.Scripts.{change_acts, control_acts}
 use Rattle.rv_feed.specs.Changes.{DoesAll}
-use Rattle.rv_feed.proofs.ChangeLemmas.{does-then}
+use Rattle.rv_feed.proofs.ChangeLemmas.{does-none, does-then}
 use Rattle.rv_feed.proofs.changer.make_all.Goals as goal
+
+pub loop-place-init : goal.loop-place-init
+loop-place-init g c = does-none c.args.seat.now c.number.ensures.sound
+
+pub make-requires-clause-seat : goal.make-requires-clause-seat
+make-requires-clause-seat g c = record {
+  board_is = c.loop-place.invariant.grows.board ∙ c.requires.seat.board_is;
+  actor = c.loop-place.invariant.grows.grows.number ∙ c.requires.seat.actor;
+}
+
+pub make-requires-clause-bits : goal.make-requires-clause-bits
+make-requires-clause-bits g c = c.requires.bits c.loop-place.place (record { lower = 0; clear = 0; raise = 0 }) c.loop-place-test.true
 
 pub loop-place-preserved : goal.loop-place-preserved
 loop-place-preserved g c =
