@@ -3,8 +3,8 @@ ghost use Rattle.std.specs.Prelude.{◌≡◌, ◌∷◌, option_copied, IfOk};
 ghost use Rattle.rv_ltl.specs.inner.Texts.{texts};
 ghost use Rattle.rv_text.specs.Words.{words_of};
 ghost use Rattle.rv_bind.specs.inner.LineReads.{ReadsValue, ReadsOn};
-ghost use Rattle.rv_bind.specs.Forms.{container_form, monitor_form, holder_at, react_form, off_form, begin_form, by_at, tests_at, form_of};
-ghost use Rattle.rv_bind.specs.inner.FormsAhead.{on_read, with_next, test_next};
+ghost use Rattle.rv_bind.specs.Forms.{container_form, monitor_form, holder_at, react_form, off_form, begin_form, by_at, tests_at, on, form_of};
+ghost use Rattle.rv_bind.specs.inner.FormsAhead.{form_behind, change_form, hit_at, hit_read, on_read, with_next, test_next};
 ghost use Rattle.rv_bind.specs.inner.FormViews.{form_value};
 
 use crate::bindings::Test;
@@ -53,7 +53,6 @@ pub(crate) struct OnForm<'a> {
 }
 
 /// The form of a line, or the refusal of one that has none.
-#[tactic(auto, using(crate::proofs::FormLemmas::on_read_is_form))]
 pub(crate) fn read_form<'a>(alloc: Global, line: &'a [u8]) -> Result<Form<'a>, LineFault>
     ensures { ReadsValue form_value result (form_of (words_of line.now)) }
 {
@@ -62,19 +61,40 @@ pub(crate) fn read_form<'a>(alloc: Global, line: &'a [u8]) -> Result<Form<'a>, L
         return Ok(Form::Skipped);
     };
     if first.starts_with("#".as_bytes()) {
-        Ok(Form::Skipped)
-    } else if is(first, "container") {
-        container_line(&mut words)
+        return Ok(Form::Skipped);
+    }
+    form_behind(alloc, first, &mut words)
+}
+
+/// The form of a line that begins with the word, which is no comment's.
+fn form_behind<'a>(
+    alloc: Global,
+    first: &[u8],
+    words: &mut Words<'a>,
+) -> Result<Form<'a>, LineFault>
+    ensures { ReadsValue form_value result (form_behind first.now words.old) }
+{
+    if is(first, "container") {
+        container_line(words)
     } else if is(first, "monitor") {
-        monitor_line(&mut words)
+        monitor_line(words)
     } else if is(first, "on") {
-        on_line(alloc, &mut words)
-    } else if is(first, "react") {
-        react_line(&mut words)
+        on_line(alloc, words)
+    } else {
+        change_line(first, words)
+    }
+}
+
+/// The form of a line that begins with the word and changes a monitor.
+fn change_line<'a>(first: &[u8], words: &mut Words<'a>) -> Result<Form<'a>, LineFault>
+    ensures { ReadsValue form_value result (change_form first.now words.old) }
+{
+    if is(first, "react") {
+        react_line(words)
     } else if is(first, "off") {
-        off_line(&mut words)
+        off_line(words)
     } else if is(first, "begin") {
-        begin_line(&mut words)
+        begin_line(words)
     } else {
         Err(SYNTAX)
     }
@@ -124,9 +144,12 @@ fn monitor_line<'a>(words: &mut Words<'a>) -> Result<Form<'a>, LineFault>
 {
     let name = word(words)?;
     let name = allowed(name, is_name(name))?;
-    let scope = scope(word(words)?)?;
-    let kind = kind(word(words)?)?;
-    let file = text(word(words)?)?;
+    let said = word(words)?;
+    let scope = scope(said)?;
+    let said = word(words)?;
+    let kind = kind(said)?;
+    let said = word(words)?;
+    let file = text(said)?;
     let holder = holder(words)?;
     Ok(Form::Monitor(MonitorForm {
         name,
@@ -141,7 +164,8 @@ fn react_line<'a>(words: &mut Words<'a>) -> Result<Form<'a>, LineFault>
     ensures { ReadsValue form_value result (react_form words.old) }
 {
     let monitor = word(words)?;
-    let reactor = reactor(word(words)?)?;
+    let said = word(words)?;
+    let reactor = reactor(said)?;
     end(words)?;
     Ok(Form::React { monitor, reactor })
 }
@@ -153,10 +177,22 @@ fn on_line<'a>(alloc: Global, words: &mut Words<'a>) -> Result<Form<'a>, LineFau
     let event = word(words)?;
     let event = allowed(event, !is(event, ":"))?;
     let (by, next) = by_field(words)?;
+    on_behind(alloc, words, monitor, event, by, next)
+}
+
+/// The form of a rule's line whose tests, or else its `:`, begin with `next`.
+fn on_behind<'a>(
+    alloc: Global,
+    words: &mut Words<'a>,
+    monitor: &'a [u8],
+    event: &'a [u8],
+    by: Option<&'a [u8]>,
+    next: &'a [u8],
+) -> Result<Form<'a>, LineFault>
+    ensures { ReadsValue form_value result (hit_read (on monitor.now event.now (option_copied by.entry)) (next.now ∷ words.old)) }
+{
     let (tests, colon) = tests(alloc, words, next)?;
-    let _sign = allowed(colon, is(colon, ":"))?;
-    let mode = mode(word(words)?)?;
-    let words = rest(alloc, words)?;
+    let (mode, words) = hit(alloc, words, colon)?;
     Ok(Form::On(OnForm {
         monitor,
         event,
@@ -165,6 +201,21 @@ fn on_line<'a>(alloc: Global, words: &mut Words<'a>) -> Result<Form<'a>, LineFau
         mode,
         words,
     }))
+}
+
+/// The mode and what is brought, behind the word that has to be `:`.
+fn hit<'a>(
+    alloc: Global,
+    words: &mut Words<'a>,
+    colon: &[u8],
+) -> Result<(Mode, Vec<&'a [u8]>), LineFault>
+    ensures { ReadsValue (λ hit. (hit.0, texts hit.1.items)) result (hit_at colon.now words.old) }
+{
+    let _sign = allowed(colon, is(colon, ":"))?;
+    let said = word(words)?;
+    let mode = mode(said)?;
+    let words = rest(alloc, words)?;
+    Ok((mode, words))
 }
 
 #[tactic(auto, using(crate::proofs::FormLemmas::all_taken, crate::proofs::FormLemmas::one_taken))]
@@ -188,15 +239,18 @@ fn by_field<'a>(words: &mut Words<'a>) -> Result<(Option<&'a [u8]>, &'a [u8]), L
     }
     let field = word(words)?;
     let field = allowed(field, is_field(field))?;
-    Ok((Some(field), word(words)?))
+    let next = word(words)?;
+    Ok((Some(field), next))
 }
 
 /// A test, and the word after it.
 fn one_test<'a>(alloc: Global, words: &mut Words<'a>) -> Result<(Test, &'a [u8]), LineFault>
     ensures { ReadsOn (λ test. (test.0, test.1.now)) result words.new (test_next words.old) }
 {
-    let made = test(alloc, word(words)?)?;
-    Ok((made, word(words)?))
+    let said = word(words)?;
+    let made = test(alloc, said)?;
+    let next = word(words)?;
+    Ok((made, next))
 }
 
 /// The tests of a line whose next word is `next`, and the word after them.
