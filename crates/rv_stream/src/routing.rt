@@ -91,7 +91,6 @@ fn route_rest<O: LineObserver>(
 }
 
 /// No line was taken. Deliveries go to one list, or to the scripts of their CPUs.
-#[tactic(auto, using(crate::proofs::PiecesLemmas::none_routed))]
 fn new_collector(alloc: Global, bindings: &Bindings, listed: bool) -> Result<Collector, AllocError>
     requires { All (FitsKind (kinds_of bindings.now.monitors.items)) bindings.now.rules.items }
     ensures routed { IfOk result (λ collector. IsRouted bindings.now [] collector None) }

@@ -30,7 +30,6 @@ use std::alloc::Global;
 const PIECE: usize = 65_536;
 
 /// Routes the next piece of the trace, and answers how many bytes it has.
-#[tactic(auto, using(crate::proofs::PossibleLemmas::trace_unread, crate::proofs::PossibleLemmas::trace_refused))]
 fn take_next<S: Store, O: LineObserver>(
     alloc: Global,
     store: &mut S,

@@ -1,4 +1,4 @@
-use Rattle.std.proofs.Common.{◌≡◌, refl, ◌∙◌, sym, ap, subst}
+use Rattle.std.proofs.Common.{◌≡◌, ℕ, List, refl, ◌∙◌, sym, ap, subst, arith}
 use Rattle.std.specs.Prelude.{Option, Some, Ok, IfSome}
 use Rattle.std.proofs.lemmas.Result.{err_from_is_err_and}
 use Rattle.rv_text.specs.TextLines.{lines_of}
@@ -9,7 +9,7 @@ use Rattle.rv_trace.specs.Traces.{trace_of}
 use Rattle.rv_trace.specs.declared.line.TraceLine.{TraceLine}
 use Rattle.rv_trace.specs.declared.taken.TakenLine.{TakenLine}
 use Rattle.rv_route.specs.Routers.{refusal_of}
-use Rattle.rv_stream.specs.inner.Pieces.{passed_text}
+use Rattle.rv_stream.specs.inner.Pieces.{passed_text, IsRouted}
 use Rattle.rv_stream.proofs.PiecesLemmas.{taken-ascends, taken-routed, late-stays}
 use Rattle.rv_stream.proofs.ToldLemmas.{taken-next, told-more, skip-routed, refused-taken}
 use Rattle.rv_stream.proofs.routing.route_taken.Goals as goal
@@ -77,3 +77,35 @@ loop-taken-preserved g c =
 
 pub observe-requires-clause-so_far : goal.observe-requires-clause-so_far
 observe-requires-clause-so_far g c = (lines_of (passed_text c.loop-taken.lines), c.loop-taken.invariant.4)
+
+pub loop-taken-init : goal.loop-taken-init
+loop-taken-init g c = (refl, refl, c.requires.routed, refl, c.requires.told)
+
+pub line-requires-clause-made : goal.line-requires-clause-made
+line-requires-clause-made g c = c.loop-taken.invariant.2.made
+
+pub observe-requires-clause-read : goal.observe-requires-clause-read
+observe-requires-clause-read g c =
+    subst (λ (text : List ℕ). IsReadOn text c.in-Some.taken) (sym c.text-text.ensures)
+    (subst (λ (found : Option TakenLine). IfSome found (IsReadOn c.take_any.new.self.text)) c.in-Some.is c.in_ok-taken.ensures.read)
+
+pub observe-requires-clause-small : goal.observe-requires-clause-small
+observe-requires-clause-small g c = rw c.text-text.ensures c.take_any.ensures.small
+
+pub line-requires-clause-line : goal.line-requires-clause-line
+line-requires-clause-line g c =
+    let new = c.take_any.new.self in
+    let read : IsReadOn new.text c.in-Some.taken = subst (λ (found : Option TakenLine). IfSome found (IsReadOn new.text)) c.in-Some.is c.in_ok-taken.ensures.read in
+    let lies : LiesIn new.text c.in-Some-found.line = subst (λ (found : Option TraceLine). IfSome found (LiesIn new.text)) c.in-Some-found.is read.lies in
+    let small = c.take_any.ensures.small in
+    record { size = rw c.text-text.ensures (omega arith); lies = rw c.text-text.ensures lies }
+
+pub returns-clause-routed : goal.returns-clause-routed
+returns-clause-routed g c =
+    let t = subst (λ (found : Option TakenLine). TakesNextAny c.loop-taken.lines c.take_any.new.self (Ok found)) c.in_default.is c.in_ok-taken.ensures.takes in
+    subst (λ (text : List ℕ). IsRouted c.args.bindings.now text c.loop-taken.collector c.loop-taken.late) (sym t.answers.0) c.loop-taken.invariant.2
+
+pub returns-clause-told : goal.returns-clause-told
+returns-clause-told g c =
+    let t = subst (λ (found : Option TakenLine). TakesNextAny c.loop-taken.lines c.take_any.new.self (Ok found)) c.in_default.is c.in_ok-taken.ensures.takes in
+    subst (λ (text : List ℕ). g.O.LineObserver.observed c.args.context.now (lines_of text) c.loop-taken.observer) (sym t.answers.0) c.loop-taken.invariant.4

@@ -1,4 +1,5 @@
-use Rattle.std.proofs.Common.{◌≡◌, ◌≤◌, ◌+◌, List, ℕ, arith, sym, subst}
+use Rattle.std.proofs.Common.{◌≡◌, ◌≤◌, ◌+◌, ◌++◌, List, ℕ, take, arith, sym, subst}
+use Rattle.std.proofs.lemmas.Result.{err_from_is_err_and}
 use Rattle.rv_io.specs.declared.store.TheConstants.{READ_LIMIT}
 use Rattle.rv_bind.specs.BoundViews.{bound_value}
 use Rattle.rv_bind.specs.Outcomes.{of_name, accepted}
@@ -7,6 +8,7 @@ use Rattle.rv_route.specs.Routing.{RoutedValue}
 use Rattle.rv_stream.specs.inner.Feeding.{FedOf}
 use Rattle.rv_stream.specs.RoutedTraces.{routed_in}
 use Rattle.rv_stream.proofs.FeedingLemmas.{fed-more, fed-end, refused-comes}
+use Rattle.rv_stream.proofs.PossibleLemmas.{trace_unread, trace_refused}
 use Rattle.rv_stream.proofs.trace_text.take_next.Goals as goal
 
 pub returns-in-Ok-clause-fed : goal.returns-in-Ok-clause-fed
@@ -36,3 +38,20 @@ returns-in-Err-clause-fails g c =
           c.requires.fed c.in_ok-count.ensures.piece c.in-Err.ensures.refused c.refused.ensures;
       named = file_named told RoutedValue trace c.in-Err.fault c.refused.result (λ files. routed_in files trace bound) c.refused.ensures;
     }
+
+pub returns-in_err-count-clause-some : goal.returns-in_err-count-clause-some
+returns-in_err-count-clause-some g c =
+    let given = err_from_is_err_and c.from_residual.result c.from_residual.ensures.1 in
+    rw (given.1, given.2) (trace_unread c.args.trace.now (bound_value c.args.bound.now) c.in_err-count.field-0.0 c.in_err-count.ensures.unread)
+
+pub returns-in-Ok-clause-fails : goal.returns-in-Ok-clause-fails
+returns-in-Ok-clause-fails g c = record {
+  kept = c.in_ok-count.ensures.fails.kept;
+  later = c.in_ok-count.ensures.fails.later;
+  fault = tt;
+  named = tt;
+}
+
+pub returns-in-Err-clause-some : goal.returns-in-Err-clause-some
+returns-in-Err-clause-some g c =
+    trace_refused c.args.trace.now (bound_value c.args.bound.now) (c.args.routing.now.lines.fed ++ take c.in_ok-count.count c.fetch.new.buffer) c.in-Err.fault c.refused.result c.in-Err.ensures.refused c.refused.ensures
