@@ -9,6 +9,7 @@ pub mod IndexLemmas
 pub mod LaneLemmas
 pub mod LineTurnLemmas
 pub mod ListingLemmas
+pub mod MappedLemmas
 pub mod MoveLemmas
 pub mod NotedLemmas
 pub mod RoutedLemmas
