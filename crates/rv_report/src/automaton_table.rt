@@ -3,6 +3,7 @@ ghost use Rattle.std.specs.Prelude.{◌≡◌, ◌++◌, ◌<◌, length, IfOk, 
 ghost use Rattle.rv_report.specs.AutomatonTexts.{counts_text, state_mark, state_heading, edge_line, leaving_line, state_block, automaton_text};
 
 use crate::names::put_name;
+use crate::numbers::put_text_number;
 use rv_model::{Automaton, Edge, Names, has_bit};
 use rv_text::Line;
 use std::alloc::{AllocError, Global};
@@ -11,10 +12,8 @@ use std::alloc::{AllocError, Global};
 fn put_counts(out: &mut Line, states: usize, events: usize) -> Result<(), AllocError>
     ensures { OnOk result (out.new ≡ out.old ++ counts_text states events) }
 {
-    out.text(b"states ")?;
-    out.number(states as u64)?;
-    out.text(b", events ")?;
-    out.number(events as u64)?;
+    put_text_number(out, b"states ", states as u64)?;
+    put_text_number(out, b", events ", events as u64)?;
     out.text(b"\n")
 }
 
@@ -47,8 +46,7 @@ fn put_edge_line(out: &mut Line, events: &Names, edge: Edge) -> Result<(), Alloc
 {
     out.text(b"  ")?;
     put_name(out, events, edge.event as usize)?;
-    out.text(b" ")?;
-    out.number(edge.to as u64 + 1)?;
+    put_text_number(out, b" ", edge.to as u64 + 1)?;
     out.text(b"\n")
 }
 

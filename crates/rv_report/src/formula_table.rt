@@ -5,6 +5,7 @@ ghost use Rattle.rv_table.specs.Rows.{HasNode, node_in};
 ghost use Rattle.rv_report.specs.FormulaTexts.{is_single, parenthesis, operator_text, formula_text, labels_text, further_text, member_text, rows_text, row_labels, formula_row_text, sizes_text, nodes_text, IsFormulaTable};
 
 use crate::names::put_name;
+use crate::numbers::put_text_number;
 use rv_model::{Formula, Names, has_bit};
 use rv_table::Table;
 use rv_text::Line;
@@ -158,10 +159,8 @@ fn put_row(out: &mut Line, atoms: &Names, table: &Table, row: u32) -> Result<(),
 fn put_sizes(out: &mut Line, nodes: u32, atoms: usize) -> Result<(), AllocError>
     ensures { OnOk result (out.new ≡ out.old ++ sizes_text nodes atoms) }
 {
-    out.text(b"nodes ")?;
-    out.number(nodes as u64)?;
-    out.text(b", atoms ")?;
-    out.number(atoms as u64)?;
+    put_text_number(out, b"nodes ", nodes as u64)?;
+    put_text_number(out, b", atoms ", atoms as u64)?;
     out.text(b"\n")
 }
 

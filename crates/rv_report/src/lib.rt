@@ -10,6 +10,7 @@ mod halt;
 mod instances;
 mod lines;
 mod names;
+mod numbers;
 mod reactions;
 mod summary;
 mod tally;

@@ -8,6 +8,7 @@ ghost use Rattle.rv_report.specs.Tallies.{AreTallies};
 ghost use Rattle.rv_report.specs.inner.Tallies.{count_line};
 
 use crate::instances::display_name;
+use crate::numbers::put_text_number;
 use crate::tally::Tally;
 use rv_bind::{Bindings, Monitor};
 use rv_model::{Names, Scope};
@@ -46,14 +47,10 @@ fn count_line(
     ensures { OnOk result (out.new ≡ out.old ++ count_line (reported containers.now monitor.now).display_name summary.now) }
 {
     display_name(out, containers, monitor.container, &monitor.name)?;
-    out.text(b": instances ")?;
-    out.number(summary.instances)?;
-    out.text(b", deliveries ")?;
-    out.number(summary.deliveries)?;
-    out.text(b", failures ")?;
-    out.number(summary.failures)?;
-    out.text(b", stopped ")?;
-    out.number(summary.stopped)?;
+    put_text_number(out, b": instances ", summary.instances)?;
+    put_text_number(out, b", deliveries ", summary.deliveries)?;
+    put_text_number(out, b", failures ", summary.failures)?;
+    put_text_number(out, b", stopped ", summary.stopped)?;
     out.text(b"\n")
 }
 
