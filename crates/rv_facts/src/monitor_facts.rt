@@ -1,12 +1,13 @@
 //! The facts of a monitor besides its rules.
-ghost use Rattle.std.specs.Prelude.{◌≡◌, ◌++◌, ◌+◌, ◌<◌, ◌^◌, OnOk, length};
-ghost use Rattle.rv_model.specs.Reports.{count_text};
+ghost use Rattle.std.specs.Prelude.{◌≡◌, ◌++◌, ◌+◌, ◌<◌, ◌^◌, OnOk, length, slice_index};
+ghost use Rattle.rv_model.specs.Reports.{count_text, line_end};
 ghost use Rattle.rv_report.specs.FormulaTexts.{labels_text};
 ghost use Rattle.rv_table.specs.Rows.{node_in};
+ghost use Rattle.rv_facts.specs.Shown.{numbered};
 ghost use Rattle.rv_facts.specs.MonitorFacts.{answers_fact, atom_fact, edge_fact, edge_text, instances_fact, reached_facts, row_fact, row_front, share_fact, share_facts, share_size, state_fact, summary_fact};
 
 use crate::counts::MonitorCounts;
-use crate::pieces::{number_at, put_number};
+use crate::pieces::{number_at, put_number, put_number_end};
 use rv_model::{Automaton, Edge, Names, Spec};
 use rv_report::{put_labels, put_name};
 use rv_table::Table;
@@ -70,6 +71,18 @@ pub(crate) fn put_answers(out: &mut Line, name: &[u8], c: &MonitorCounts) -> Res
     out.text(b"\n")
 }
 
+/// The number at this place behind its name, and the end of a line.
+fn put_place_end(
+    out: &mut Line,
+    name: &[u8],
+    numbers: &[u64],
+    place: usize,
+) -> Result<(), AllocError>
+    ensures { OnOk result (out.new ≡ out.old ++ numbered name.now (slice_index numbers.now place) ++ line_end) }
+{
+    put_number_end(out, name, number_at(numbers, place))
+}
+
 /// A state of an automaton.
 fn put_state(
     out: &mut Line,
@@ -83,8 +96,7 @@ fn put_state(
     out.text(name)?;
     out.text(b": state ")?;
     put_name(out, states, state)?;
-    put_number(out, b": reached", number_at(&c.rows, state))?;
-    out.text(b"\n")
+    put_place_end(out, b": reached", &c.rows, state)
 }
 
 /// An edge by its names.
@@ -112,8 +124,7 @@ fn put_edge(
     out.text(name)?;
     out.text(b": edge ")?;
     put_edge_names(out, automaton, automaton.edges[place])?;
-    put_number(out, b": taken", number_at(&c.edges, place))?;
-    out.text(b"\n")
+    put_place_end(out, b": taken", &c.edges, place)
 }
 
 /// The labels of a row, where the table is a formula's and has the row.
@@ -156,8 +167,7 @@ fn put_row(
 {
     put_row_front(out, name, row)?;
     put_row_labels(out, atoms, table, row + 1)?;
-    put_number(out, b"]: reached", number_at(&c.rows, row))?;
-    out.text(b"\n")
+    put_place_end(out, b"]: reached", &c.rows, row)
 }
 
 /// An atom of a rule.
@@ -174,8 +184,7 @@ fn put_atom(
     out.text(b": atom ")?;
     put_name(out, atoms, atom)?;
     put_number(out, b": letters", c.letters)?;
-    put_number(out, b", true", number_at(&c.atoms, atom))?;
-    out.text(b"\n")
+    put_place_end(out, b", true", &c.atoms, atom)
 }
 
 /// How many there are of it.

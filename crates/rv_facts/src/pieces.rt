@@ -1,5 +1,6 @@
 //! The pieces of which facts and findings are made.
 ghost use Rattle.std.specs.Prelude.{◌≡◌, ◌++◌, ◌<◌, ◌/◌, ◌%◌, flat_map, OnOk, slice_index};
+ghost use Rattle.rv_model.specs.Reports.{line_end};
 ghost use Rattle.rv_facts.specs.Shown.{counted_fact, hex_digit, in_brackets, is_plain, lines_text, numbered, shown, shown_byte, worded};
 
 use crate::counts::Counted;
@@ -69,12 +70,19 @@ pub fn put_brackets(out: &mut Line, n: u64) -> Result<(), AllocError>
     out.text(b")")
 }
 
+/// Appends a number behind its name, and the end of a line.
+pub(crate) fn put_number_end(out: &mut Line, name: &[u8], n: u64) -> Result<(), AllocError>
+    ensures { OnOk result (out.new ≡ out.old ++ numbered name.now n ++ line_end) }
+{
+    put_number(out, name, n)?;
+    out.text(b"\n")
+}
+
 /// Appends a number of lines, and the end of a line.
 pub(crate) fn put_lines(out: &mut Line, n: u64) -> Result<(), AllocError>
     ensures { OnOk result (out.new ≡ out.old ++ lines_text n) }
 {
-    put_number(out, b": lines", n)?;
-    out.text(b"\n")
+    put_number_end(out, b": lines", n)
 }
 
 /// Appends a word that was counted, as a fact that begins so.

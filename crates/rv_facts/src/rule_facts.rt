@@ -2,12 +2,12 @@
 ghost use Rattle.std.specs.Prelude.{◌≡◌, ◌++◌, IfOk, OnOk, codes, flat_map};
 ghost use Rattle.rv_facts.specs.Orders.{most_first};
 ghost use Rattle.rv_facts.specs.Pairs.{of_pairs};
-ghost use Rattle.rv_facts.specs.Shown.{counted_fact};
+ghost use Rattle.rv_facts.specs.Shown.{counted_fact, lines_text};
 ghost use Rattle.rv_facts.specs.RuleFacts.{field_facts, near_fact, other_fact, own_rule_facts, rule_fact, rule_facts, rule_front, test_fact, test_text, why_facts};
 
-use crate::counts::{FieldCounts, Near, RuleCounts};
+use crate::counts::{Counted, FieldCounts, Near, RuleCounts};
 use crate::orders::{copied, sort_most_first};
-use crate::pieces::{line_at, put_all_counted, put_lines, put_number, put_shown};
+use crate::pieces::{line_at, put_all_counted, put_lines, put_number, put_number_end, put_shown};
 use rv_bind::{On, Test};
 use rv_text::Line;
 use std::alloc::{AllocError, Global};
@@ -28,8 +28,7 @@ fn put_rule(out: &mut Line, front: &[u8], rule: &On, c: &RuleCounts) -> Result<(
     out.text(front)?;
     put_shown(out, rule.event.bytes())?;
     put_number(out, b": lines", c.lines)?;
-    put_number(out, b", fires", c.fires)?;
-    out.text(b"\n")
+    put_number_end(out, b", fires", c.fires)
 }
 
 /// A name of the trace that comes near to its event.
@@ -40,8 +39,7 @@ fn put_near(out: &mut Line, front: &[u8], near: &Near) -> Result<(), AllocError>
     out.text(b"near ")?;
     put_shown(out, near.name.bytes())?;
     put_number(out, b": lines", near.lines)?;
-    put_number(out, b", distance", near.distance)?;
-    out.text(b"\n")
+    put_number_end(out, b", distance", near.distance)
 }
 
 /// All that come near.
@@ -89,8 +87,7 @@ fn put_test(
     out.text(front)?;
     out.text(b"if ")?;
     put_test_text(out, test)?;
-    put_number(out, b": holds", holds)?;
-    out.text(b"\n")
+    put_number_end(out, b": holds", holds)
 }
 
 /// The tests, each with the number of the lines on which it holds.
@@ -133,6 +130,29 @@ fn begun(alloc: Global, front: &[u8], text: &[u8], field: &[u8]) -> Result<Line,
     Ok(line)
 }
 
+/// How each fact of a value begins.
+fn value_front(alloc: Global, front: &[u8], field: &[u8]) -> Result<Line, AllocError>
+    ensures { IfOk result (λ line. line ≡ front.now ++ codes "has " ++ field.now ++ codes "=") }
+{
+    let mut line = begun(alloc, front, b"has ", field)?;
+    line.text(b"=")?;
+    Ok(line)
+}
+
+/// A fact of each of the words, the most frequent first.
+fn put_most_first(
+    alloc: Global,
+    out: &mut Line,
+    front: &[u8],
+    words: &[Counted],
+) -> Result<(), AllocError>
+    ensures { OnOk result (out.new ≡ out.old ++ flat_map (counted_fact front.now) (most_first words.now)) }
+{
+    let mut sorted = copied(alloc, words)?;
+    sort_most_first(&mut sorted)?;
+    put_all_counted(out, front, &sorted)
+}
+
 /// The values of a field that were kept, the most frequent first.
 fn put_values(
     alloc: Global,
@@ -142,11 +162,31 @@ fn put_values(
 ) -> Result<(), AllocError>
     ensures { OnOk result (out.new ≡ out.old ++ flat_map (counted_fact (front.now ++ codes "has " ++ field.now.field ++ codes "=")) (most_first field.now.values.items)) }
 {
-    let mut values = copied(alloc, &field.values)?;
-    sort_most_first(&mut values)?;
-    let mut has = begun(alloc, front, b"has ", field.field.bytes())?;
-    has.text(b"=")?;
-    put_all_counted(out, has.bytes(), &values)
+    let has = value_front(alloc, front, field.field.bytes())?;
+    put_most_first(alloc, out, has.bytes(), &field.values)
+}
+
+/// How often a field has other values, where it has some.
+fn put_other_values(
+    alloc: Global,
+    out: &mut Line,
+    front: &[u8],
+    field: &FieldCounts,
+) -> Result<(), AllocError>
+    ensures { OnOk result (out.new ≡ out.old ++ other_fact (front.now ++ codes "has other " ++ field.now.field) field.now.other) }
+{
+    let other = begun(alloc, front, b"has other ", field.field.bytes())?;
+    put_other(out, other.bytes(), field.other)
+}
+
+/// How often the field is missing.
+fn put_missing(out: &mut Line, front: &[u8], field: &FieldCounts) -> Result<(), AllocError>
+    ensures { OnOk result (out.new ≡ out.old ++ front.now ++ codes "has no " ++ field.now.field ++ lines_text field.now.missing) }
+{
+    out.text(front)?;
+    out.text(b"has no ")?;
+    out.text(field.field.bytes())?;
+    put_lines(out, field.missing)
 }
 
 /// The values of a field, and how often it has others, and none.
@@ -159,11 +199,8 @@ fn put_field(
     ensures { OnOk result (out.new ≡ out.old ++ field_facts front.now field.now) }
 {
     put_values(alloc, out, front, field)?;
-    let other = begun(alloc, front, b"has other ", field.field.bytes())?;
-    put_other(out, other.bytes(), field.other)?;
-    let none = begun(alloc, front, b"has no ", field.field.bytes())?;
-    out.text(none.bytes())?;
-    put_lines(out, field.missing)
+    put_other_values(alloc, out, front, field)?;
+    put_missing(out, front, field)
 }
 
 /// All fields.
