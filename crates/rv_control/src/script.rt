@@ -1,5 +1,5 @@
 //! Scripts of control commands, a line each.
-ghost use Rattle.std.specs.Prelude.{◌≡◌, ◌∷◌, Option, List, option_copied, option_to_list, IfOk};
+ghost use Rattle.std.specs.Prelude.{◌≡◌, ◌∷◌, Option, List, option_to_list, IfOk};
 ghost use Rattle.rv_text.specs.Readings.{Gives};
 ghost use Rattle.rv_text.specs.TextLines.{line_text};
 ghost use Rattle.rv_control.specs.Scripts.{script_command_with, script_command_of, line_said, commands_of_line, script_of};
@@ -48,24 +48,44 @@ fn write(
     Ok(Some(Command::Write { path, text, append }))
 }
 
-/// The command of a verb, a path, and a text where one is written.
-fn spelled(
+/// A read.
+fn read(alloc: Global, path: &[u8]) -> Result<Option<Command>, AllocError>
+    ensures { IfOk result (λ command. command ≡ Some (Command.Read path.now)) }
+{
+    let path = Name::new(alloc, path)?;
+    Ok(Some(Command::Read { path }))
+}
+
+/// The command of a verb and a path.
+fn without_text(alloc: Global, verb: &[u8], path: &[u8]) -> Result<Option<Command>, AllocError>
+    ensures { IfOk result (λ command. command ≡ script_command_with verb.now path.now None) }
+{
+    if verb == b"read".as_slice() {
+        read(alloc, path)
+    } else if verb == b"write".as_slice() {
+        write(alloc, path, b"", false)
+    } else if verb == b"append".as_slice() {
+        write(alloc, path, b"", true)
+    } else {
+        Ok(None)
+    }
+}
+
+/// The command of a verb, a path, and the text that is written.
+fn with_text(
     alloc: Global,
     verb: &[u8],
     path: &[u8],
-    text: Option<&[u8]>,
+    text: &[u8],
 ) -> Result<Option<Command>, AllocError>
-    ensures { IfOk result (λ command. command ≡ script_command_with verb.now path.now (option_copied text.entry)) }
+    ensures { IfOk result (λ command. command ≡ script_command_with verb.now path.now (Some text.now)) }
 {
-    match text {
-        None if verb == b"read".as_slice() => Ok(Some(Command::Read {
-            path: Name::new(alloc, path)?,
-        })),
-        None if verb == b"write".as_slice() => write(alloc, path, b"", false),
-        None if verb == b"append".as_slice() => write(alloc, path, b"", true),
-        Some(text) if verb == b"write".as_slice() => write(alloc, path, text, false),
-        Some(text) if verb == b"append".as_slice() => write(alloc, path, text, true),
-        _ => Ok(None),
+    if verb == b"write".as_slice() {
+        write(alloc, path, text, false)
+    } else if verb == b"append".as_slice() {
+        write(alloc, path, text, true)
+    } else {
+        Ok(None)
     }
 }
 
@@ -81,11 +101,11 @@ fn read_command(
         return Ok(None);
     };
     let Some(text) = words.next_word() else {
-        return spelled(alloc, verb, path, None);
+        return without_text(alloc, verb, path);
     };
     match words.next_word() {
         Some(_) => Ok(None),
-        None => spelled(alloc, verb, path, Some(text)),
+        None => with_text(alloc, verb, path, text),
     }
 }
 
