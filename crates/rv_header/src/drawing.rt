@@ -132,25 +132,33 @@ fn put_nodes(out: &mut Line, states: &[&[u8]], marks: &[&[u8]]) -> Result<(), Al
     Ok(())
 }
 
-/// The text of an automaton file.
-pub(crate) fn drawn(alloc: Global, drawing: Drawing<'_, '_>) -> Result<Line, AllocError>
-    ensures { IfOk result (λ text. text ≡ drawing_text drawing.entry) }
+/// Appends the text of an automaton file.
+fn put_drawing(alloc: Global, out: &mut Line, drawing: Drawing<'_, '_>) -> Result<(), AllocError>
+    ensures { OnOk result (out.new ≡ out.old ++ drawing_text drawing.entry) }
 {
-    let mut out = Line::new(alloc);
     let initial = text_at(drawing.states, 0);
-    put_head(&mut out)?;
-    put_marker_line(&mut out, initial)?;
-    put_states(&mut out, drawing.states, drawing.marks)?;
-    put_initial_line(&mut out, initial)?;
-    put_nodes(&mut out, drawing.states, drawing.marks)?;
+    put_head(out)?;
+    put_marker_line(out, initial)?;
+    put_states(out, drawing.states, drawing.marks)?;
+    put_initial_line(out, initial)?;
+    put_nodes(out, drawing.states, drawing.marks)?;
     put_rows(
         alloc,
-        &mut out,
+        out,
         drawing.name,
         drawing.events,
         drawing.states,
         drawing.rows,
     )?;
-    put_last(&mut out)?;
+    put_last(out)?;
+    Ok(())
+}
+
+/// The text of an automaton file.
+pub(crate) fn drawn(alloc: Global, drawing: Drawing<'_, '_>) -> Result<Line, AllocError>
+    ensures { IfOk result (λ text. text ≡ drawing_text drawing.entry) }
+{
+    let mut out = Line::new(alloc);
+    put_drawing(alloc, &mut out, drawing)?;
     Ok(out)
 }

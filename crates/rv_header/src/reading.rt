@@ -1,8 +1,11 @@
 //! From a header's text to its name and automaton.
-ghost use Rattle.std.specs.Prelude.{◌≡◌, List, ℕ, IfOk, Ok, map};
+ghost use Rattle.std.specs.Prelude.{◌≡◌, List, ℕ, IfOk, Ok, map, drop};
+ghost use Rattle.std.specs.Str.{bytes_eq};
 ghost use Rattle.rv_text.specs.Readings.{Gives};
 ghost use Rattle.rv_dot.specs.inner.Held.{bytes_of};
-ghost use Rattle.rv_header.specs.inner.Taking.{name_in, are_few, file_in};
+ghost use Rattle.rv_header.specs.inner.Taking.{name_in, are_few, file_in, pieces, piece_from, members_in, drawing_by};
+ghost use Rattle.rv_header.specs.HeaderText.{header_text};
+ghost use Rattle.rv_dot.specs.Canonical.{drawing_text};
 ghost use Rattle.rv_header.specs.declared.reading.Header.{Header as HeaderValue};
 ghost use Rattle.rv_header.specs.Headers.{IsHeaderOf, Finds};
 
@@ -51,6 +54,29 @@ fn are_few(names: &[&[u8]], most: usize) -> bool
     names.len() <= most && are_short(names)
 }
 
+/// The text of an automaton file that draws the tables whose rows and marks stand in these texts.
+fn drawn_by(
+    alloc: Global,
+    name: &[u8],
+    states: &[&[u8]],
+    events: &[&[u8]],
+    rows: &[u8],
+    marks: &[u8],
+) -> Result<Line, AllocError>
+    ensures { IfOk result (λ text. text ≡ drawing_text (drawing_by name.now (map bytes_of states.now) (map bytes_of events.now) (drop 2 (pieces 123 rows.now)) (members_in (piece_from 123 1 marks.now)))) }
+{
+    let lines = pieces(alloc, rows, b'{')?;
+    let marks = members_in(alloc, piece_from(alloc, marks, b'{', 1)?)?;
+    let drawing = Drawing {
+        name,
+        states,
+        events,
+        rows: behind_two(&lines),
+        marks: &marks,
+    };
+    drawn(alloc, drawing)
+}
+
 /// The text of an automaton file that draws the same, where it is no longer than such a text may be.
 #[tactic(auto, unfolding(crate::specs::inner::Taking::piece_from))]
 fn file_in(alloc: Global, bytes: &[u8], name: &[u8]) -> Result<Option<Line>, AllocError>
@@ -63,16 +89,9 @@ fn file_in(alloc: Global, bytes: &[u8], name: &[u8]) -> Result<Option<Line>, All
     if !are_few(&states, MOST_STATES) || !are_few(&events, MOST_EVENTS) {
         return Ok(None);
     }
-    let lines = pieces(alloc, text_at(&texts, 3), b'{')?;
-    let marks = members_in(alloc, piece_from(alloc, text_at(&texts, 5), b'{', 1)?)?;
-    let drawing = Drawing {
-        name,
-        states: &states,
-        events: &events,
-        rows: behind_two(&lines),
-        marks: &marks,
-    };
-    Ok(Some(drawn(alloc, drawing)?))
+    let rows = text_at(&texts, 3);
+    let marks = text_at(&texts, 5);
+    Ok(Some(drawn_by(alloc, name, &states, &events, rows, marks)?))
 }
 
 /// The automaton, where the text is a header's.
@@ -84,6 +103,19 @@ fn automaton_in(alloc: Global, bytes: &[u8], name: &[u8]) -> Result<Automaton, R
         return Err(refused());
     };
     read_dot(alloc, text.bytes())
+}
+
+/// Whether the text is what is written of the automaton.
+fn is_written(
+    alloc: Global,
+    bytes: &[u8],
+    name: &[u8],
+    automaton: &Automaton,
+) -> Result<bool, AllocError>
+    ensures { IfOk result (λ same. same ≡ bytes_eq (header_text name.now automaton.now) bytes.now) }
+{
+    let text = written(alloc, name, automaton)?;
+    Ok(text.as_slice() == bytes)
 }
 
 /// The name and the automaton of a text, or its refusal.
@@ -102,8 +134,7 @@ pub fn read_header(alloc: Global, bytes: &[u8]) -> Result<Header, Refused>
     if has_no_tables(&automaton) {
         return Err(refused());
     }
-    let text = written(alloc, name, &automaton)?;
-    if text.as_slice() != bytes {
+    if !is_written(alloc, bytes, name, &automaton)? {
         return Err(refused());
     }
     let name = Name::new(alloc, name)?;

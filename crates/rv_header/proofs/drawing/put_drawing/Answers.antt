@@ -5,11 +5,11 @@ use Rattle.rv_dot.specs.Gathered.{Arc}
 use Rattle.rv_dot.specs.Canonical.{State, Drawing, head_lines, marker_line, initial_line, arc_line, state_line, node_line, last_line, drawing_text}
 use Rattle.rv_header.specs.inner.Taking.{marked_by, rows_arcs}
 use Rattle.rv_header.proofs.Written.{grown}
-use Rattle.rv_header.proofs.drawing.drawn.Goals as goal
+use Rattle.rv_header.proofs.drawing.put_drawing.Goals as goal
 
 pub returns : goal.returns
 returns c =
-    let o = c.new-out.result in
+    let o = c.args.out.now in
     let d = c.drawing.inside in
     let initial : List ℕ = get_or (map bytes_of d.states.now) 0 [] in
     let at : c.text_at-initial.result.now ≡ initial = c.text_at-initial.ensures in
@@ -22,4 +22,4 @@ returns c =
     let fifth = grown o _ (flat_map arc_line arcs) _ _ fourth c.in_ok-put_rows.ensures in
     let sixth = grown o _ last_line _ _ fifth c.in_ok-put_last.ensures in
     let drawing : Drawing = record { initial = initial; states = states; arcs = arcs } in
-    sixth ∙ ap (λ (z : List ℕ). z ++ drawing_text drawing) c.new-out.ensures ∙ ap drawing_text c.drawing.view_is
+    sixth ∙ ap (λ (d : Drawing). o ++ drawing_text d) c.drawing.view_is

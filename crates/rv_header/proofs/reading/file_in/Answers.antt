@@ -24,14 +24,11 @@ returns c =
     let at : ℕ → List (List ℕ) → List ℕ = λ k ps. get_or ps k [] in
     let states : map bytes_of c.in_ok-states.states.items ≡ state_names_in c.args.bytes.now = c.in_ok-states.ensures ∙ ap quoted_in (c.text_at.ensures ∙ ap (at 1) (ap (map bytes_of) c.deref.ensures.value ∙ c.in_ok-texts.ensures)) in
     let events : map bytes_of c.in_ok-events.events.items ≡ events_in c.args.bytes.now = c.in_ok-events.ensures ∙ ap quoted_in (c.text_at-2.ensures ∙ ap (at 2) (ap (map bytes_of) c.deref-2.ensures.value ∙ c.in_ok-texts.ensures)) in
-    let lines : map bytes_of c.in_ok-lines.lines.items ≡ pieces 123 (piece_from 46 3 c.args.bytes.now) = c.in_ok-lines.ensures ∙ ap (pieces 123) (c.text_at-3.ensures ∙ ap (at 3) (ap (map bytes_of) c.deref-4.ensures.value ∙ c.in_ok-texts.ensures)) in
-    let rows : map bytes_of c.behind_two.result.now ≡ rows_in c.args.bytes.now = c.behind_two.ensures ∙ ap (drop 2) (ap (map bytes_of) c.deref-8.ensures.value ∙ lines) in
-    let last : c.in_ok-piece_from.field-0.now ≡ piece_from 123 1 (piece_from 46 5 c.args.bytes.now) = c.in_ok-piece_from.ensures ∙ ap (piece_from 123 1) (c.text_at-4.ensures ∙ ap (at 5) (ap (map bytes_of) c.deref-5.ensures.value ∙ c.in_ok-texts.ensures)) in
-    let marks : map bytes_of c.in_ok-marks.marks.items ≡ marks_in c.args.bytes.now = c.in_ok-marks.ensures ∙ ap members_in last in
+    let rows : drop 2 (pieces 123 c.text_at-rows.result.now) ≡ rows_in c.args.bytes.now = ap (λ (text : List ℕ). drop 2 (pieces 123 text)) (c.text_at-rows.ensures ∙ ap (at 3) (ap (map bytes_of) c.deref-4.ensures.value ∙ c.in_ok-texts.ensures)) in
+    let marks : members_in (piece_from 123 1 c.text_at-marks.result.now) ≡ marks_in c.args.bytes.now = ap (λ (text : List ℕ). members_in (piece_from 123 1 text)) (c.text_at-marks.ensures ∙ ap (at 5) (ap (map bytes_of) c.deref-5.ensures.value ∙ c.in_ok-texts.ensures)) in
     let few : are_few 31 (map bytes_of c.in_ok-states.states.items) ≡ true = sym (c.are_few.ensures ∙ ap (are_few 31) (ap (map bytes_of) c.deref-3.ensures.value)) ∙ c.if-not-are_few.false in
     let few' : are_few 64 (map bytes_of c.in_ok-events.events.items) ≡ true = sym (c.are_few-else-not-are_few.ensures ∙ ap (are_few 64) (ap (map bytes_of) c.deref-else-not-are_few.ensures.value)) ∙ c.if-not-are_few-2.false in
     let s = ap (map bytes_of) c.deref-6.ensures.value in
     let e = ap (map bytes_of) c.deref-7.ensures.value in
-    let m = ap (map bytes_of) c.deref-9.ensures.value in
-    file_is c.args.bytes.now c.args.name.now (map bytes_of c.deref-6.result.now) (map bytes_of c.deref-7.result.now) (map bytes_of c.behind_two.result.now) (map bytes_of c.deref-9.result.now) c.in_ok-drawn.field-0
-    c.requires (s ∙ states) (e ∙ events) rows (m ∙ marks) (ap (are_few 31) s ∙ few) (ap (are_few 64) e ∙ few') c.in_ok-drawn.ensures
+    file_is c.args.bytes.now c.args.name.now (map bytes_of c.deref-6.result.now) (map bytes_of c.deref-7.result.now) _ _ c.in_ok-drawn_by.field-0
+    c.requires (s ∙ states) (e ∙ events) rows marks (ap (are_few 31) s ∙ few) (ap (are_few 64) e ∙ few') c.in_ok-drawn_by.ensures
