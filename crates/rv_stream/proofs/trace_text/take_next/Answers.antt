@@ -3,12 +3,13 @@ use Rattle.std.proofs.lemmas.Result.{err_from_is_err_and}
 use Rattle.rv_io.specs.declared.store.TheConstants.{READ_LIMIT}
 use Rattle.rv_bind.specs.BoundViews.{bound_value}
 use Rattle.rv_bind.specs.Outcomes.{of_name, accepted}
-use Rattle.rv_bind.proofs.ReachedLemmas.{file_named}
+use Rattle.rv_bind.proofs.ReachedLemmas.{unread_named, file_named}
 use Rattle.rv_route.specs.Routing.{RoutedValue}
 use Rattle.rv_stream.specs.inner.Feeding.{FedOf}
-use Rattle.rv_stream.specs.RoutedTraces.{routed_in}
+use Rattle.rv_stream.specs.RoutedTraces.{routed_text, routed_in}
 use Rattle.rv_stream.proofs.FeedingLemmas.{fed-more, fed-end, refused-comes}
 use Rattle.rv_stream.proofs.PossibleLemmas.{trace_unread, trace_refused}
+use Rattle.rv_stream.proofs.RefinesLemmas.{unread_comes}
 use Rattle.rv_stream.proofs.trace_text.take_next.Goals as goal
 
 pub returns-in-Ok-clause-fed : goal.returns-in-Ok-clause-fed
@@ -55,3 +56,23 @@ returns-in-Ok-clause-fails g c = record {
 pub returns-in-Err-clause-some : goal.returns-in-Err-clause-some
 returns-in-Err-clause-some g c =
     trace_refused c.args.trace.now (bound_value c.args.bound.now) (c.args.routing.now.lines.fed ++ take c.in_ok-count.count c.fetch.new.buffer) c.in-Err.fault c.refused.result c.in-Err.ensures.refused c.refused.ensures
+
+pub returns-in_err-count-clause-fails : goal.returns-in_err-count-clause-fails
+returns-in_err-count-clause-fails g c =
+    let given = err_from_is_err_and c.from_residual.result c.from_residual.ensures.1 in
+    let told = g.S.Store.files c.args.store.now in
+    let trace = c.args.trace.now in
+    let read = routed_text trace (bound_value c.args.bound.now) in
+    let count = c.in_err-count in
+    rw (given.1, given.2) record {
+      kept = count.ensures.fails.kept;
+      later = count.ensures.fails.later;
+      fault = unread_comes told trace read (g.S.Store.faults c.args.store.now) (g.S.Store.faults c.fetch.new.store) count.field-0.0 count.ensures.unread count.ensures.fails.fault;
+      named = unread_named told ℕ trace read count.field-0.0 count.ensures.unread;
+    }
+
+pub take_piece-requires-clause-open : goal.take_piece-requires-clause-open
+take_piece-requires-clause-open g c = c.requires.open
+
+pub take_piece-requires-clause-told : goal.take_piece-requires-clause-told
+take_piece-requires-clause-told g c = c.requires.told
