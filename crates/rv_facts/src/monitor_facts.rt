@@ -1,5 +1,5 @@
 //! The facts of a monitor besides its rules.
-ghost use Rattle.std.specs.Prelude.{◌≡◌, ◌++◌, ◌+◌, ◌<◌, ◌^◌, OnOk, length, slice_index};
+ghost use Rattle.std.specs.Prelude.{◌≡◌, ◌++◌, ◌+◌, ◌<◌, ◌^◌, [], OnOk, codes, length, slice_index, slice_index_or};
 ghost use Rattle.rv_model.specs.Reports.{count_text, line_end};
 ghost use Rattle.rv_report.specs.FormulaTexts.{labels_text};
 ghost use Rattle.rv_table.specs.Rows.{node_in};
@@ -67,8 +67,7 @@ pub(crate) fn put_answers(out: &mut Line, name: &[u8], c: &MonitorCounts) -> Res
     put_number(out, b", started", c.started)?;
     put_number(out, b", kept", c.kept)?;
     put_number(out, b", failed", c.failed)?;
-    put_number(out, b", ended", c.ended)?;
-    out.text(b"\n")
+    put_number_end(out, b", ended", c.ended)
 }
 
 /// The number at this place behind its name, and the end of a line.
@@ -99,14 +98,20 @@ fn put_state(
     put_place_end(out, b": reached", &c.rows, state)
 }
 
+/// A name, and a blank.
+fn put_name_blank(out: &mut Line, names: &Names, place: usize) -> Result<(), AllocError>
+    ensures { OnOk result (out.new ≡ out.old ++ slice_index_or names.now place [] ++ codes " ") }
+{
+    put_name(out, names, place)?;
+    out.text(b" ")
+}
+
 /// An edge by its names.
 pub fn put_edge_names(out: &mut Line, automaton: &Automaton, edge: Edge) -> Result<(), AllocError>
     ensures { OnOk result (out.new ≡ out.old ++ edge_text automaton.now edge) }
 {
-    put_name(out, &automaton.states, edge.from as usize)?;
-    out.text(b" ")?;
-    put_name(out, &automaton.events, edge.event as usize)?;
-    out.text(b" ")?;
+    put_name_blank(out, &automaton.states, edge.from as usize)?;
+    put_name_blank(out, &automaton.events, edge.event as usize)?;
     put_name(out, &automaton.states, edge.to as usize)
 }
 

@@ -2,7 +2,7 @@
 ghost use Rattle.std.specs.Prelude.{◌≡◌, ◌++◌, IfOk, OnOk, codes, flat_map};
 ghost use Rattle.rv_facts.specs.Orders.{most_first};
 ghost use Rattle.rv_facts.specs.Pairs.{of_pairs};
-ghost use Rattle.rv_facts.specs.Shown.{counted_fact, lines_text};
+ghost use Rattle.rv_facts.specs.Shown.{counted_fact, lines_text, shown};
 ghost use Rattle.rv_facts.specs.RuleFacts.{field_facts, near_fact, other_fact, own_rule_facts, rule_fact, rule_facts, rule_front, test_fact, test_text, why_facts};
 
 use crate::counts::{Counted, FieldCounts, Near, RuleCounts};
@@ -52,21 +52,22 @@ fn put_all_near(out: &mut Line, front: &[u8], names: &[Near]) -> Result<(), Allo
     Ok(())
 }
 
+/// Two words of the bindings, and a mark between them.
+fn put_between(out: &mut Line, left: &[u8], mark: &[u8], right: &[u8]) -> Result<(), AllocError>
+    ensures { OnOk result (out.new ≡ out.old ++ shown left.now ++ mark.now ++ shown right.now) }
+{
+    put_shown(out, left)?;
+    out.text(mark)?;
+    put_shown(out, right)
+}
+
 /// A test as the bindings have it.
 pub fn put_test_text(out: &mut Line, test: &Test) -> Result<(), AllocError>
     ensures { OnOk result (out.new ≡ out.old ++ test_text test.now) }
 {
     match test {
-        Test::Is { field, value } => {
-            put_shown(out, field.bytes())?;
-            out.text(b"=")?;
-            put_shown(out, value.bytes())
-        }
-        Test::IsNot { field, value } => {
-            put_shown(out, field.bytes())?;
-            out.text(b"!=")?;
-            put_shown(out, value.bytes())
-        }
+        Test::Is { field, value } => put_between(out, field.bytes(), b"=", value.bytes()),
+        Test::IsNot { field, value } => put_between(out, field.bytes(), b"!=", value.bytes()),
     }
 }
 
