@@ -75,8 +75,8 @@ fn filled(
 
 #[test]
 fn texts_have_the_first_refusal_that_applies(rt: HostRuntime) -> Result<(), Fail> {
-    let cases = [
-        (b"".as_slice(), 2),
+    const CASES: &[(&[u8], u8)] = &[
+        (b"", 2),
         (b"digraph g {", 2),
         (b"digraph \"g\" { }", 2),
         (b"digraph g { };", 2),
@@ -157,7 +157,7 @@ fn texts_have_the_first_refusal_that_applies(rt: HostRuntime) -> Result<(), Fail
         (b"digraph g { {node [] a} __init_ -> a \0 }", 2),
         (b"digraph g { {node [] a} __init_ - > a }", 2),
     ];
-    for (text, wanted) in cases {
+    for &(text, wanted) in CASES {
         assert!(rt;
             refusal_of(read_dot(rt.alloc(), text)) == wanted,
             "at {text:?}"
@@ -200,21 +200,21 @@ fn grown(alloc: Global, grows: DotGrowth, count: usize) -> Result<Vec<u8>, Alloc
 #[test]
 fn the_limits_of_states_events_and_bytes_are_exact(rt: HostRuntime) -> Result<(), Fail> {
     // the front has 37 bytes
-    let blanks = DotGrowth::Byte(b' ', b"digraph g { {node [] a} __init_ -> a ", b"}");
-    let braces = DotGrowth::Byte(b'{', b"digraph g { {node [] a} __init_ -> a ", b"}");
-    let names = DotGrowth::Byte(b'n', b"digraph g { {node [] ", b"} }");
-    let cases = [
+    const BLANKS: DotGrowth = DotGrowth::Byte(b' ', b"digraph g { {node [] a} __init_ -> a ", b"}");
+    const BRACES: DotGrowth = DotGrowth::Byte(b'{', b"digraph g { {node [] a} __init_ -> a ", b"}");
+    const NAMES: DotGrowth = DotGrowth::Byte(b'n', b"digraph g { {node [] ", b"} }");
+    const CASES: &[(DotGrowth, usize, u8)] = &[
         (DotGrowth::States, 31, 0),
         (DotGrowth::States, 32, 7),
         (DotGrowth::Events, 64, 0),
         (DotGrowth::Events, 65, 8),
-        (blanks, 1_048_538, 0),
-        (blanks, 1_048_539, 2),
-        (braces, 100_000, 2),
-        (names, 64, 3),
-        (names, 65, 2),
+        (BLANKS, 1_048_538, 0),
+        (BLANKS, 1_048_539, 2),
+        (BRACES, 100_000, 2),
+        (NAMES, 64, 3),
+        (NAMES, 65, 2),
     ];
-    for (grows, count, wanted) in cases {
+    for &(grows, count, wanted) in CASES {
         let text = grown(rt.alloc(), grows, count)?;
         assert!(rt;
             refusal_of(read_dot(rt.alloc(), &text)) == wanted,

@@ -6,7 +6,7 @@ use std::test::Fail;
 fn a_block_has_eight_events_of_each_cpu(rt: HostRuntime) -> Result<(), Fail> {
     let files = generate(rt.alloc(), 2)?;
     let text = files.trace.as_slice();
-    let cases = [
+    const CASES: &[(usize, &str)] = &[
         (
             0,
             "t-100 [000] 100.000000: preempt_enable: caller=a parent=b",
@@ -34,7 +34,7 @@ fn a_block_has_eight_events_of_each_cpu(rt: HostRuntime) -> Result<(), Fail> {
     ];
     let mut number: usize = 0;
     for line in text.split(|byte| *byte == b'\n') {
-        for (at, wanted) in cases {
+        for &(at, wanted) in CASES {
             if at == number {
                 assert!(rt; line == wanted.as_bytes(), "at line {at}");
             }

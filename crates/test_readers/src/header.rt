@@ -141,7 +141,7 @@ fn written(alloc: Global, dot: &[u8]) -> Result<Vec<u8>, Refused> {
 
 #[test]
 fn names_are_refused(rt: HostRuntime) -> Result<(), Fail> {
-    let cases = [
+    const CASES: &[(&str, &str, u8)] = &[
         ("a.b", "e", 35),
         ("1a", "e", 35),
         ("a", "1e", 35),
@@ -161,7 +161,7 @@ fn names_are_refused(rt: HostRuntime) -> Result<(), Fail> {
         ("event", "max", 0),
         ("INVALID_STATE", "automata", 0),
     ];
-    for (state, event, wanted) in cases {
+    for &(state, event, wanted) in CASES {
         let dot = drawn(rt.alloc(), state, event)?;
         let number = refusal_of(written(rt.alloc(), dot.as_slice()));
         assert!(rt; number == wanted, "at {state}, {event}");

@@ -20,13 +20,13 @@ fn listed_reads_fail_and_others_give_the_newest_file(rt: HostRuntime) -> Result<
     store.add("b", b"other")?;
     store.add("a", b"new")?;
     store.fail_at(2)?;
-    let cases = [
+    const CASES: &[(&str, Result<&str, ReadError>)] = &[
         ("a", Ok("new")),
         ("a", Err(ReadError::Failed)),
         ("c", Err(ReadError::NoFile)),
         ("b", Ok("other")),
     ];
-    for (name, wanted) in cases {
+    for &(name, wanted) in CASES {
         assert!(rt; reads(store.read(rt.alloc(), name), wanted), "at {name}");
     }
     Ok(())
@@ -34,14 +34,14 @@ fn listed_reads_fail_and_others_give_the_newest_file(rt: HostRuntime) -> Result<
 
 #[test]
 fn listed_puts_fail_and_others_take_what_fits(rt: HostRuntime) -> Result<(), Fail> {
-    let cases = [
+    const CASES: &[(usize, usize, u64, &str, bool, &str)] = &[
         (4, 10, 9, "abcdefgh", true, "abcdefgh"),
         (4, 10, 2, "abcdefgh", false, "abcd"),
         (4, 6, 9, "abcdefgh", false, "abcdef"),
         (16, 8, 1, "abcdefgh", false, ""),
         (1, 0, 9, "", true, ""),
     ];
-    for (most, room, listed, text, is_whole, taken) in cases {
+    for &(most, room, listed, text, is_whole, taken) in CASES {
         let mut sink = MemSink::new(rt.alloc(), most, room)?;
         sink.fail_at(listed)?;
         let whole = put_all(&mut sink, text.as_bytes()).is_ok();
@@ -103,7 +103,7 @@ fn pieces_are_cut_and_listed_ones_fail(rt: HostRuntime) -> Result<(), Fail> {
     store.add("a", b"abcdefgh")?;
     store.cut(3);
     store.fail_at(4)?;
-    let cases = [
+    const CASES: &[(&str, u64, usize, Result<&str, ReadError>)] = &[
         ("a", 0, 5, Ok("abc")),
         ("a", 6, 5, Ok("gh")),
         ("a", 3, 2, Ok("de")),
@@ -113,7 +113,7 @@ fn pieces_are_cut_and_listed_ones_fail(rt: HostRuntime) -> Result<(), Fail> {
         ("a", 0, 0, Ok("")),
         ("b", 0, 5, Err(ReadError::NoFile)),
     ];
-    for (name, from, room, wanted) in cases {
+    for &(name, from, room, wanted) in CASES {
         let mut into = [b'-'; 5];
         let piece = store.piece(rt.alloc(), name, from, &mut into[..room]);
         assert!(rt; is_piece(piece, &into, wanted), "at {name} {from}");
@@ -126,7 +126,7 @@ fn a_file_is_read_forward_and_opened_anew_for_what_was_passed(rt: HostRuntime) -
     let name = "rv_io_piece_test.txt";
     fs::write(&rt, name, "0123456789")?;
     let mut disk = Disk::new(&rt);
-    let cases = [
+    const CASES: &[(u64, &str)] = &[
         (0, "0123"),
         (4, "4567"),
         (9, "9"),
@@ -134,7 +134,7 @@ fn a_file_is_read_forward_and_opened_anew_for_what_was_passed(rt: HostRuntime) -
         (2, "2345"),
         (20, ""),
     ];
-    for (from, wanted) in cases {
+    for &(from, wanted) in CASES {
         let mut into = [b'-'; 4];
         let piece = disk.piece(rt.alloc(), name, from, &mut into);
         assert!(rt; is_piece(piece, &into, Ok(wanted)), "at {from}");

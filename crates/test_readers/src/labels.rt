@@ -50,31 +50,35 @@ fn cube(need: u32, forbid: u32) -> Cube {
 
 #[test]
 fn small_labels_have_these_cubes(rt: HostRuntime) -> Result<(), Fail> {
-    let cases: [(&str, &[Cube], [bool; 4]); 6] = [
-        ("RULE = true", &[cube(0, 0)], [true, true, true, true]),
+    const CASES: &[(&str, &[Cube], [bool; 4])] = &[
+        (
+            "RULE = true",
+            &[Cube { need: 0, forbid: 0 }],
+            [true, true, true, true],
+        ),
         ("RULE = false", &[], [false, false, false, false]),
         (
             "RULE = A imply not B",
-            &[cube(0, 1), cube(0, 2)],
+            &[Cube { need: 0, forbid: 1 }, Cube { need: 0, forbid: 2 }],
             [true, true, true, false],
         ),
         (
             "RULE = (A or B) and not A",
-            &[cube(2, 1)],
+            &[Cube { need: 2, forbid: 1 }],
             [false, false, true, false],
         ),
         (
             "RULE = A equivalent B",
-            &[cube(3, 0), cube(0, 3)],
+            &[Cube { need: 3, forbid: 0 }, Cube { need: 0, forbid: 3 }],
             [true, false, false, true],
         ),
         (
             "RULE = not (A equivalent B)",
-            &[cube(1, 2), cube(2, 1)],
+            &[Cube { need: 1, forbid: 2 }, Cube { need: 2, forbid: 1 }],
             [false, true, true, false],
         ),
     ];
-    for (text, cubes, letters) in cases {
+    for &(text, cubes, letters) in CASES {
         let masks = masks_of(&rt, rt.alloc(), text.as_bytes())?;
         assert!(rt;
             masks.cubes() == Some(cubes) && holds_on(&masks, letters),
@@ -108,10 +112,10 @@ fn count_of(masks: &Masks) -> Option<usize> {
 
 #[test]
 fn what_is_joined_to_nothing_is_never_made(rt: HostRuntime) -> Result<(), Fail> {
-    let some = [false, true, true, true];
-    let cases: [(&[u8], usize, &[u8], Option<usize>, [bool; 4]); 4] = [
-        (b"RULE = ", 6, b"", Some(64), some),
-        (b"RULE = ", 7, b"", None, some),
+    const SOME_ATOM: [bool; 4] = [false, true, true, true];
+    const CASES: &[(&[u8], usize, &[u8], Option<usize>, [bool; 4])] = &[
+        (b"RULE = ", 6, b"", Some(64), SOME_ATOM),
+        (b"RULE = ", 7, b"", None, SOME_ATOM),
         (b"RULE = ", 200, b" and false", Some(0), [false; 4]),
         (
             b"RULE = (not (",
@@ -121,7 +125,7 @@ fn what_is_joined_to_nothing_is_never_made(rt: HostRuntime) -> Result<(), Fail> 
             [true, false, false, false],
         ),
     ];
-    for (front, times, back, count, letters) in cases {
+    for &(front, times, back, count, letters) in CASES {
         let text = disjunctions(rt.alloc(), front, times, back)?;
         let masks = masks_of(&rt, rt.alloc(), &text)?;
         assert!(rt;

@@ -93,7 +93,7 @@ fn padded(alloc: Global, bytes: usize) -> Result<Vec<u8>, AllocError> {
 
 #[test]
 fn the_first_fault_of_a_text_is_its_refusal(rt: HostRuntime) -> Result<(), Fail> {
-    let cases = [
+    const CASES: &[(&str, u8)] = &[
         ("RULE = A", 0),
         ("# a comment\nRULE\t=\r\nnot(A)or_", 9),
         ("RULE = not not A and B and always C", 0),
@@ -122,7 +122,7 @@ fn the_first_fault_of_a_text_is_its_refusal(rt: HostRuntime) -> Result<(), Fail>
         ("RULE = A\nB = not C\nC = B", 12),
         ("RULE = RULE", 12),
     ];
-    for (text, number) in cases {
+    for &(text, number) in CASES {
         assert!(rt;
             refusal_of(read_ltl(rt.alloc(), text.as_bytes())) == number,
             "at {text}"
@@ -162,7 +162,7 @@ fn grown(alloc: Global, grows: RuleGrowth, count: usize) -> Result<Vec<u8>, Allo
 
 #[test]
 fn each_limit_is_the_last_that_is_accepted(rt: HostRuntime) -> Result<(), Fail> {
-    let cases = [
+    const CASES: &[(RuleGrowth, usize, u8)] = &[
         (RuleGrowth::Chain, 256, 0),
         (RuleGrowth::Chain, 257, 9),
         (RuleGrowth::Parentheses, 256, 0),
@@ -180,7 +180,7 @@ fn each_limit_is_the_last_that_is_accepted(rt: HostRuntime) -> Result<(), Fail> 
         (RuleGrowth::Bytes, 1_048_576, 0),
         (RuleGrowth::Bytes, 1_048_577, 9),
     ];
-    for (grows, count, number) in cases {
+    for &(grows, count, number) in CASES {
         let text = grown(rt.alloc(), grows, count)?;
         assert!(rt;
             refusal_of(read_ltl(rt.alloc(), &text)) == number,

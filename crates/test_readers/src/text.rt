@@ -15,7 +15,7 @@ fn a_text_grows_by_bytes_and_digits(rt: HostRuntime) -> Result<(), Fail> {
 
 #[test]
 fn a_number_is_digits_that_fit(rt: HostRuntime) {
-    let cases = [
+    const CASES: &[(&str, Option<u64>)] = &[
         ("0", Some(0)),
         ("007", Some(7)),
         ("18446744073709551615", Some(u64::MAX)),
@@ -27,21 +27,21 @@ fn a_number_is_digits_that_fit(rt: HostRuntime) {
         ("1 ", None),
         ("0x1", None),
     ];
-    for (text, value) in cases {
+    for &(text, value) in CASES {
         assert!(rt; decimal(text.as_bytes()) == value, "at {text}");
     }
 }
 
 #[test]
 fn a_text_is_its_lines_one_after_the_other(rt: HostRuntime) {
-    let wanted: [(u32, usize, &[u8], usize); 4] = [
+    const WANTED: &[(u32, usize, &[u8], usize)] = &[
         (1, 0, b"a b", 4),
         (2, 4, b"", 5),
         (3, 5, b"c\r", 8),
         (4, 8, b"d", 9),
     ];
     let mut cursor = Cursor::new(b"a b\n\nc\r\nd");
-    for (number, from, bytes, end) in wanted {
+    for &(number, from, bytes, end) in WANTED {
         let line = cursor.next_line().expect(&rt, "a line");
         assert!(rt;
             line.number == number && line.from == from && line.bytes == bytes && line.end == end

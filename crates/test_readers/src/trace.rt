@@ -43,7 +43,7 @@ fn told(
 #[test]
 fn a_line_says_its_task_its_cpu_and_its_event(rt: HostRuntime) -> Result<(), Fail> {
     // text, PID, CPU, where the event's name stands
-    let cases = [
+    const CASES: &[(&str, u32, u8, u32, u32)] = &[
         (
             "            init-1       [002] d....    17.052831: page_fault_user: address=0x7fff15920168 ip=0x460c48 error_code=0x7",
             1,
@@ -158,7 +158,7 @@ fn a_line_says_its_task_its_cpu_and_its_event(rt: HostRuntime) -> Result<(), Fai
             33,
         ),
     ];
-    for (text, pid, cpu, from, to) in cases {
+    for &(text, pid, cpu, from, to) in CASES {
         let wanted = Some((pid, cpu, from, to));
         assert!(rt; told(&rt, rt.alloc(), text)? == wanted, "at {text}");
     }
@@ -167,7 +167,7 @@ fn a_line_says_its_task_its_cpu_and_its_event(rt: HostRuntime) -> Result<(), Fai
 
 #[test]
 fn the_first_fault_of_a_line_is_its_refusal(rt: HostRuntime) {
-    let cases = [
+    const CASES: &[(&str, u8, u32)] = &[
         ("t-1 [1] x-2 [2] 1.5: tick:", 24, 1),
         ("CPU:0 [LOST 3 EVENTS]", 25, 1),
         ("CPU:EVENTS]", 25, 1),
@@ -205,7 +205,7 @@ fn the_first_fault_of_a_line_is_its_refusal(rt: HostRuntime) {
             3,
         ),
     ];
-    for (text, number, line) in cases {
+    for &(text, number, line) in CASES {
         assert!(rt;
             is_refused(&rt, rt.alloc(), text.as_bytes(), number, line),
             "at {text}"
@@ -254,7 +254,7 @@ fn found(rt: &impl Abort, alloc: Global, fields: &str, name: &str) -> Option<(u3
 
 #[test]
 fn a_field_is_found_at_the_beginning_or_behind_a_blank(rt: HostRuntime) {
-    let cases = [
+    const CASES: &[(&str, &str, Option<(u32, u32)>)] = &[
         (
             " prev_comm=a prev_pid=10 ==> next_pid=7",
             "prev_pid",
@@ -279,7 +279,7 @@ fn a_field_is_found_at_the_beginning_or_behind_a_blank(rt: HostRuntime) {
         ("", "pid", None),
         ("a b=3", "a b", Some((4, 5))),
     ];
-    for (fields, name, want) in cases {
+    for &(fields, name, want) in CASES {
         assert!(rt;
             found(&rt, rt.alloc(), fields, name) == want,
             "at {fields}, {name}"
@@ -381,7 +381,7 @@ fn streamed(
 
 #[test]
 fn a_stream_gives_the_lines_of_its_text_however_it_is_cut(rt: HostRuntime) -> Result<(), Fail> {
-    let cases: [(&str, &[WantedLine<'_>], Option<Refusal>); 9] = [
+    const CASES: &[(&str, &[WantedLine<'_>], Option<Refusal>)] = &[
         ("", &[], None),
         ("# tracer: nop\n\n \t\n", &[], None),
         (
@@ -398,21 +398,37 @@ fn a_stream_gives_the_lines_of_its_text_however_it_is_cut(rt: HostRuntime) -> Re
         (
             "#\nt-1 [000] 1.5: tick:\ncpus=4\nt-1 [000] 1.5: tock:\n",
             &[(2, "tick", "")],
-            Some(Refusal::at(24, 3)),
+            Some(Refusal {
+                number: 24,
+                line: 3,
+            }),
         ),
         (
             "t-1 [000] 1.5: tick:\n\nCPU:0 [LOST 3 EVENTS]",
             &[(1, "tick", "")],
-            Some(Refusal::at(25, 3)),
+            Some(Refusal {
+                number: 25,
+                line: 3,
+            }),
         ),
         (
             "t-1 [063] 1.5: tick:\nt-1 [064] 1.5: tick:",
             &[(1, "tick", "")],
-            Some(Refusal::at(26, 2)),
+            Some(Refusal {
+                number: 26,
+                line: 2,
+            }),
         ),
-        ("t-1 [000] 1.5:", &[], Some(Refusal::at(24, 1))),
+        (
+            "t-1 [000] 1.5:",
+            &[],
+            Some(Refusal {
+                number: 24,
+                line: 1,
+            }),
+        ),
     ];
-    for (text, wanted, end) in cases {
+    for &(text, wanted, end) in CASES {
         let whole = (
             wanted.len(),
             end.map_or(Took::All, |refusal| Took::Refused(refusal)),
