@@ -38,7 +38,7 @@ fn changes(control: &mut Control, path: &str, text: &str, append: bool) -> Optio
 
 #[test]
 fn a_write_changes_what_is_not_so_yet(rt: HostRuntime) -> Result<(), Fail> {
-    let cases = [
+    const CASES: &[(&str, &str, bool, Option<(u64, u32, u64)>)] = &[
         ("enabled_monitors", "sched", false, Some((5, 3, 3))),
         ("enabled_monitors", "bare", true, Some((0, 0, 0))),
         ("enabled_monitors", "wip", true, Some((0, 4, 4))),
@@ -63,7 +63,7 @@ fn a_write_changes_what_is_not_so_yet(rt: HostRuntime) -> Result<(), Fail> {
         ("reacting_on", "0", true, Some((8_589_934_592, 0, 0))),
     ];
     let mut control = control(rt.alloc())?;
-    for (path, text, append, wanted) in cases {
+    for &(path, text, append, wanted) in CASES {
         assert!(rt;
             changes(&mut control, path, text, append) == wanted,
             "at {path} {text}"

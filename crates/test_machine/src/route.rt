@@ -116,15 +116,27 @@ fn told(rt: &impl Abort, alloc: Global, rules: &[u8], text: &[u8]) -> Result<Lin
     Ok(out)
 }
 
+/// This comes of the trace under the rules.
+fn check(rt: &impl Abort, alloc: Global, rules: &[u8], text: &str, want: &str) -> Result<(), Fail> {
+    let answer = told(rt, alloc, rules, text.as_bytes())?;
+    assert!(rt; answer.bytes() == want.as_bytes(), "at {text}");
+    Ok(())
+}
+
+/// A rule with 50,000 tests.
+fn many_tests(alloc: Global) -> Result<Line, AllocError> {
+    let mut many = repeated(alloc, b"on t x by f", 1)?;
+    many.text(repeated(alloc, b" if f!=1", 50_000)?.bytes())?;
+    many.text(b" : event x")?;
+    Ok(many)
+}
+
 #[test]
 fn a_rule_fires_where_all_its_tests_hold_for_an_instance_of_its_scope(
     rt: HostRuntime,
 ) -> Result<(), Fail> {
-    let mut many = repeated(rt.alloc(), b"on t x by f", 1)?;
-    many.text(repeated(rt.alloc(), b" if f!=1", 50_000)?.bytes())?;
-    many.text(b" : event x")?;
     // the rules, the trace, the deliveries or the refusal
-    let cases: [(&[u8], &str, &str); 28] = [
+    const CASES: &[(&[u8], &str, &str)] = &[
         (b"on g x : event x", "t-1 [000] 1.5: x: f=1", " 0:1>0.0"),
         (b"on g x : event x", "t-1 [000] 1.5: xx: f=1", ""),
         (b"on g xx : event x", "t-1 [000] 1.5: x: f=1", ""),
@@ -220,17 +232,18 @@ fn a_rule_fires_where_all_its_tests_hold_for_an_instance_of_its_scope(
             "t-1 [000] 1.5: x: f=-1",
             "29 at 1",
         ),
-        (
-            many.bytes(),
-            "t-1 [000] 1.5: x: f=1\nt-1 [000] 1.5: x: f=2\nt-1 [000] 1.5: x:\n",
-            " 0:2>2.0",
-        ),
     ];
-    for (rules, text, want) in cases {
-        let answer = told(&rt, rt.alloc(), rules, text.as_bytes())?;
-        assert!(rt; answer.bytes() == want.as_bytes(), "at {text}");
+    for &(rules, text, want) in CASES {
+        check(&rt, rt.alloc(), rules, text, want)?;
     }
-    Ok(())
+    let many = many_tests(rt.alloc())?;
+    check(
+        &rt,
+        rt.alloc(),
+        many.bytes(),
+        "t-1 [000] 1.5: x: f=1\nt-1 [000] 1.5: x: f=2\nt-1 [000] 1.5: x:\n",
+        " 0:2>2.0",
+    )
 }
 
 /// So many times the same.

@@ -12,7 +12,7 @@ use std::alloc::Global;
 use std::test::Fail;
 
 /// Over the atoms A and B.
-const RULES: [&str; 37] = [
+const RULES: &[&str] = &[
     "RULE = A imply B",
     "RULE = not next A",
     "RULE = A and next B",
@@ -70,7 +70,7 @@ fn agrees(table: &Table, formula: &Formula, letters: &[Letter]) -> bool {
 
 #[test]
 fn tables_of_rules_agree_with_the_plain_evaluator(rt: HostRuntime) -> Result<(), Fail> {
-    for text in RULES {
+    for &text in RULES {
         let rule = read_ltl(rt.alloc(), text.as_bytes())?;
         let table = table_of(rt.alloc(), &rule)?;
         for word in 0..256u32 {

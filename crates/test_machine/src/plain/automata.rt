@@ -8,7 +8,7 @@ use std::test::Fail;
 #[test]
 fn runs_begin_go_on_and_fail(rt: HostRuntime) -> Result<(), Fail> {
     let plan = two_automata(rt.alloc())?;
-    let cases: [(&str, &[GivenStep]); 8] = [
+    const CASES: &[(&str, &[GivenStep])] = &[
         (
             "the worked trace",
             &[
@@ -69,14 +69,14 @@ fn runs_begin_go_on_and_fail(rt: HostRuntime) -> Result<(), Fail> {
             ],
         ),
     ];
-    check_all(&rt, rt.alloc(), &plan, &cases)?;
+    check_all(&rt, rt.alloc(), &plan, CASES)?;
     Ok(())
 }
 
 #[test]
 fn a_failure_leaves_the_instance_waiting(rt: HostRuntime) -> Result<(), Fail> {
     let plan = two_automata(rt.alloc())?;
-    let cases: [(&str, &[GivenStep]); 5] = [
+    const CASES: &[(&str, &[GivenStep])] = &[
         (
             "a failure in the second row",
             &[
@@ -120,14 +120,14 @@ fn a_failure_leaves_the_instance_waiting(rt: HostRuntime) -> Result<(), Fail> {
             ],
         ),
     ];
-    check_all(&rt, rt.alloc(), &plan, &cases)?;
+    check_all(&rt, rt.alloc(), &plan, CASES)?;
     Ok(())
 }
 
 #[test]
 fn a_stopped_instance_passes_all_until_it_is_cleared(rt: HostRuntime) -> Result<(), Fail> {
     let plan = two_automata(rt.alloc())?;
-    let cases: [(&str, &[GivenStep]); 6] = [
+    const CASES: &[(&str, &[GivenStep])] = &[
         (
             "a stop, passed events, a clear, a start",
             &[
@@ -175,14 +175,14 @@ fn a_stopped_instance_passes_all_until_it_is_cleared(rt: HostRuntime) -> Result<
             ],
         ),
     ];
-    check_all(&rt, rt.alloc(), &plan, &cases)?;
+    check_all(&rt, rt.alloc(), &plan, CASES)?;
     Ok(())
 }
 
 #[test]
 fn an_ended_instance_waits_again(rt: HostRuntime) -> Result<(), Fail> {
     let plan = two_automata(rt.alloc())?;
-    let cases: [(&str, &[GivenStep]); 5] = [
+    const CASES: &[(&str, &[GivenStep])] = &[
         (
             "a stop, passed events, an end, a start",
             &[
@@ -226,14 +226,14 @@ fn an_ended_instance_waits_again(rt: HostRuntime) -> Result<(), Fail> {
             ],
         ),
     ];
-    check_all(&rt, rt.alloc(), &plan, &cases)?;
+    check_all(&rt, rt.alloc(), &plan, CASES)?;
     Ok(())
 }
 
 #[test]
 fn instances_and_monitors_are_apart(rt: HostRuntime) -> Result<(), Fail> {
     let plan = two_automata(rt.alloc())?;
-    let cases: [(&str, &[GivenStep]); 4] = [
+    const CASES: &[(&str, &[GivenStep])] = &[
         (
             "two instances",
             &[
@@ -275,6 +275,6 @@ fn instances_and_monitors_are_apart(rt: HostRuntime) -> Result<(), Fail> {
             ],
         ),
     ];
-    check_all(&rt, rt.alloc(), &plan, &cases)?;
+    check_all(&rt, rt.alloc(), &plan, CASES)?;
     Ok(())
 }

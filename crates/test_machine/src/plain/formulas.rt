@@ -19,7 +19,7 @@ fn letters(rt: &impl Abort, alloc: Global, text: &str) -> Result<Vec<Letter>, Al
 #[test]
 fn formulas_hold_weakly_and_strongly_as_they_read(rt: HostRuntime) -> Result<(), Fail> {
     // the formula, the letters (A is 1, B is 2), whether it holds weakly and strongly
-    let cases = [
+    const CASES: &[(&str, &str, bool, bool)] = &[
         ("0", "", true, false),
         ("1", "", true, false),
         ("A!", "", true, false),
@@ -77,7 +77,7 @@ fn formulas_hold_weakly_and_strongly_as_they_read(rt: HostRuntime) -> Result<(),
         ("ABe>a", "1", true, false),
         ("ABe>a", "12", true, false),
     ];
-    for (text, word, weakly, strongly) in cases {
+    for &(text, word, weakly, strongly) in CASES {
         let formula = formula(&rt, rt.alloc(), text)?;
         let word = letters(&rt, rt.alloc(), word)?;
         let holds = (
@@ -93,7 +93,7 @@ fn formulas_hold_weakly_and_strongly_as_they_read(rt: HostRuntime) -> Result<(),
 fn the_sleep_rule_fails_where_its_rows_end(rt: HostRuntime) -> Result<(), Fail> {
     // A: RT and SLEEP. B: a valid reason or a kernel thread. C: WAKE. D: a friendly wake. E: an allowed block.
     // The rule is always (A imply ((B and (not C until D)) or E)), whose nine rows stand here.
-    let labels: [&[&str]; 10] = [
+    const LABELS: &[&[&str]] = &[
         &[],
         &["A!"],
         &["B", "C!"],
@@ -111,14 +111,14 @@ fn the_sleep_rule_fails_where_its_rows_end(rt: HostRuntime) -> Result<(), Fail> 
         again, again, pending, again, again, pending, again, pending, pending, again,
     ];
     let mut list: Vec<(&[&str], u32)> = Vec::new(rt.alloc());
-    for (texts, next) in labels.iter().zip(nexts.iter()) {
+    for (texts, next) in LABELS.iter().zip(nexts.iter()) {
         list.push((*texts, *next))?;
     }
     let nodes = rows(&rt, rt.alloc(), list.as_slice())?;
     let plan = one_rule(&rt, rt.alloc(), "ABC!Du&E|>a", nodes, 0)?;
     assert!(rt; plan.monitors.len() == 1);
     // the letters, and the rows that they reach; A is 1, B 2, C 4, D 8, E 16
-    let cases: [(&[u32], u32); 9] = [
+    const CASES: &[(&[u32], u32)] = &[
         (&[], 1),
         (&[0], 2),
         (&[1], 0),
@@ -129,7 +129,7 @@ fn the_sleep_rule_fails_where_its_rows_end(rt: HostRuntime) -> Result<(), Fail> 
         (&[17, 0], 2),
         (&[3, 0, 0, 4], 0),
     ];
-    for (sets, wanted) in cases {
+    for &(sets, wanted) in CASES {
         let mut word = Vec::new(rt.alloc());
         for set in sets {
             word.push(Letter::Atoms(*set))?;

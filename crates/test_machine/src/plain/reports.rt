@@ -198,7 +198,7 @@ fn turns_may_be_cut_and_instances_stopped(rt: HostRuntime) -> Result<(), Fail> {
         ),
         (1, &[(2, 0, 1)], &[(2, Start(1, 1))]),
     ];
-    let cases: [Case; 5] = [
+    const CASES: &[Case] = &[
         (
             "a panic that cuts a turn short",
             &[
@@ -275,7 +275,7 @@ fn turns_may_be_cut_and_instances_stopped(rt: HostRuntime) -> Result<(), Fail> {
             0,
         ),
     ];
-    check_all(&rt, rt.alloc(), &parts, &cases)?;
+    check_all(&rt, rt.alloc(), &parts, CASES)?;
     Ok(())
 }
 

@@ -16,7 +16,7 @@ fn page_fault(rt: &impl Abort, alloc: Global, start: u32) -> Result<Plan, AllocE
 #[test]
 fn a_level_stays_and_a_pulse_does_not(rt: HostRuntime) -> Result<(), Fail> {
     let plan = page_fault(&rt, rt.alloc(), 0)?;
-    let cases: [(&str, &[GivenStep]); 8] = [
+    const CASES: &[(&str, &[GivenStep])] = &[
         (
             "the worked trace",
             &[
@@ -81,7 +81,7 @@ fn a_level_stays_and_a_pulse_does_not(rt: HostRuntime) -> Result<(), Fail> {
             ],
         ),
     ];
-    check_all(&rt, rt.alloc(), &plan, &cases)?;
+    check_all(&rt, rt.alloc(), &plan, CASES)?;
     Ok(())
 }
 
@@ -194,7 +194,7 @@ fn runs_of_small_rules(rt: HostRuntime) -> Result<(), Fail> {
         &[(&[], 6), (&["A"], 6), (&["B"], 8), (&[], 8)],
     )?;
     let plan = one_rule(&rt, rt.alloc(), "ABu", nodes, 0)?;
-    let cases: [(&str, &[GivenStep]); 4] = [
+    const CASES: &[(&str, &[GivenStep])] = &[
         (
             "a start_run whose letter fails",
             &[
@@ -226,6 +226,6 @@ fn runs_of_small_rules(rt: HostRuntime) -> Result<(), Fail> {
             ],
         ),
     ];
-    check_all(&rt, rt.alloc(), &plan, &cases)?;
+    check_all(&rt, rt.alloc(), &plan, CASES)?;
     Ok(())
 }

@@ -13,7 +13,7 @@ const HALTED: u64 = 1 << 34;
 #[test]
 fn the_newest_change_of_a_switch_counts(rt: HostRuntime) -> Result<(), Fail> {
     let plan = two_automata(rt.alloc())?;
-    let cases: [(&str, &[GivenStep]); 5] = [
+    const CASES: &[(&str, &[GivenStep])] = &[
         (
             "the opening switches",
             &[(2, Look, OPENING, Answer::Looked(OPENING))],
@@ -52,7 +52,7 @@ fn the_newest_change_of_a_switch_counts(rt: HostRuntime) -> Result<(), Fail> {
             ],
         ),
     ];
-    check_all(&rt, rt.alloc(), &plan, &cases)?;
+    check_all(&rt, rt.alloc(), &plan, CASES)?;
     Ok(())
 }
 
