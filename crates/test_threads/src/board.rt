@@ -174,7 +174,7 @@ fn run_race(rt: &impl Abort, alloc: Global, race: Race) -> Result<Raced, AllocEr
 #[test]
 fn three_lost_tries_stop_an_instance_until_it_is_woken(rt: HostRuntime) -> Result<(), Fail> {
     // two deliveries bring the word back, which is no lost try; one loses the first try; and one before each loses all
-    let cases = [
+    const CASES: &[(bool, bool, bool, Delivered, u64, u32, Delivered)] = &[
         (
             true,
             false,
@@ -212,7 +212,7 @@ fn three_lost_tries_stop_an_instance_until_it_is_woken(rt: HostRuntime) -> Resul
             Delivered::Done(Answer::Passed),
         ),
     ];
-    for (twice, again, ends, outcome, word, tries, next) in cases {
+    for &(twice, again, ends, outcome, word, tries, next) in CASES {
         let wanted = Raced {
             outcome,
             word,

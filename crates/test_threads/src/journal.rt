@@ -13,67 +13,83 @@ fn entry(act: Act, before: u64, after: u64) -> Entry {
     }
 }
 
-/// A delivery on slot 7.
-fn delivery(mode: Mode, what: What) -> Act {
-    Act::Deliver {
-        slot: 7,
-        hit: Hit { mode, what },
-    }
-}
-
 #[test]
 fn each_act_has_its_line(rt: HostRuntime) -> Result<(), Fail> {
-    let cases = [
+    const CASES: &[(Act, u64, u64, &str)] = &[
         (
-            entry(Act::Look, 12_884_901_889, 12_884_901_889),
+            Act::Look,
+            12_884_901_889,
+            12_884_901_889,
             "2 look 12884901889 12884901889\n",
         ),
         (
-            entry(Act::Raise { bits: u64::MAX }, 0, u64::MAX),
+            Act::Raise { bits: u64::MAX },
+            0,
+            u64::MAX,
             "2 raise 18446744073709551615 0 18446744073709551615\n",
         ),
-        (entry(Act::Lower { bits: 4 }, 5, 1), "2 lower 4 5 1\n"),
+        (Act::Lower { bits: 4 }, 5, 1, "2 lower 4 5 1\n"),
         (
-            entry(Act::Clear { slot: 0 }, 0, 4_294_967_296),
+            Act::Clear { slot: 0 },
+            0,
+            4_294_967_296,
             "2 clear 0 0 4294967296\n",
         ),
         (
-            entry(Act::End { slot: 3 }, 0, 4_294_967_296),
+            Act::End { slot: 3 },
+            0,
+            4_294_967_296,
             "2 end 3 0 4294967296\n",
         ),
         (
-            entry(Act::Stop { slot: 262_143 }, 4_294_967_296, 0),
+            Act::Stop { slot: 262_143 },
+            4_294_967_296,
+            0,
             "2 stop 262143 4294967296 0\n",
         ),
         (
-            entry(
-                delivery(Mode::Start, What::Da { event: 63 }),
-                4_294_967_296,
-                8_589_934_592,
-            ),
+            Act::Deliver {
+                slot: 7,
+                hit: Hit {
+                    mode: Mode::Start,
+                    what: What::Da { event: 63 },
+                },
+            },
+            4_294_967_296,
+            8_589_934_592,
             "2 deliver 7 start da 63 4294967296 8589934592\n",
         ),
         (
-            entry(delivery(Mode::Event, What::Da { event: 0 }), 0, 0),
+            Act::Deliver {
+                slot: 7,
+                hit: Hit {
+                    mode: Mode::Event,
+                    what: What::Da { event: 0 },
+                },
+            },
+            0,
+            0,
             "2 deliver 7 event da 0 0 0\n",
         ),
         (
-            entry(
-                delivery(
-                    Mode::StartRun,
-                    What::Ltl {
+            Act::Deliver {
+                slot: 7,
+                hit: Hit {
+                    mode: Mode::StartRun,
+                    what: What::Ltl {
                         on: 1,
                         off: 2,
                         pulse: u32::MAX,
                     },
-                ),
-                4_294_967_296,
-                8_589_934_593,
-            ),
+                },
+            },
+            4_294_967_296,
+            8_589_934_593,
             "2 deliver 7 start_run ltl 1 2 4294967295 4294967296 8589934593\n",
         ),
     ];
-    for (told, line) in cases {
+    for &(act, before, after, line) in CASES {
+        let told = entry(act, before, after);
         let text = journal_text(rt.alloc(), &[told])?;
         let read = line
             .as_bytes()
@@ -99,7 +115,7 @@ fn a_history_has_its_lines_in_order(rt: HostRuntime) -> Result<(), Fail> {
 
 #[test]
 fn no_other_line_is_read(rt: HostRuntime) {
-    let lines = [
+    const LINES: &[&str] = &[
         "",
         " ",
         "2",
@@ -135,7 +151,7 @@ fn no_other_line_is_read(rt: HostRuntime) {
         "2 deliver 7 end da 1 1 1",
         "2 deliver 7 event 1 1",
     ];
-    for line in lines {
+    for &line in LINES {
         assert!(rt; read_entry(line.as_bytes()).is_none(), "at {line}");
     }
 }
