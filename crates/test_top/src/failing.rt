@@ -19,20 +19,20 @@ fn put_before(text: &str, put: usize) -> &[u8] {
 
 #[test]
 fn a_failed_call_ends_the_run(rt: HostRuntime) -> Result<(), Fail> {
-    let unread = "rv: cannot read wip.txt\n";
+    const UNREAD_TRACE: &str = "rv: cannot read wip.txt\n";
     // The read or the piece that fails, the most bytes of a piece, the put that fails, the status and the text. No
     // limit, and no call, are 0. A whole read is one call.
-    let cases = [
+    const CASES: &[(u64, usize, usize, u8, &str)] = &[
         (1, 0, 0, 3, "rv: cannot read wip.rv\n"),
         (2, 0, 0, 3, "rv: cannot read wip.dot\n"),
-        (3, 0, 0, 3, unread),
+        (3, 0, 0, 3, UNREAD_TRACE),
         // the piece that shows the end of the trace
-        (4, 0, 0, 3, unread),
+        (4, 0, 0, 3, UNREAD_TRACE),
         (5, 0, 0, 1, REPORT),
         (0, 1, 0, 1, REPORT),
         (0, 7, 0, 1, REPORT),
         (0, 4096, 0, 1, REPORT),
-        (4, 7, 0, 3, unread),
+        (4, 7, 0, 3, UNREAD_TRACE),
         (0, 0, 1, 4, REPORT),
         (0, 0, 2, 4, REPORT),
         (0, 0, 3, 4, REPORT),
@@ -44,7 +44,7 @@ fn a_failed_call_ends_the_run(rt: HostRuntime) -> Result<(), Fail> {
         (0, 0, 9, 4, REPORT),
         (0, 0, 10, 1, REPORT),
     ];
-    for (read, most, put, status, text) in cases {
+    for &(read, most, put, status, text) in CASES {
         let mut store = store_of(rt.alloc(), BINDINGS, TRACE)?;
         store.fail_at(read)?;
         if most > 0 {
