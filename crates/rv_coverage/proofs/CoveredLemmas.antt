@@ -1,12 +1,10 @@
--- A run that was prepared, walked and counted: by the tables its history is the one history of the input, and the counts are those of it.
+-- A run that was prepared, walked and counted: by the tables its history is the one history of the input, the counts are those of it, and what is told of them is its report.
 use Rattle.std.proofs.Common.{◌≡◌, ℕ, List, [], map, length, refl, sym, ap, ◌∙◌, subst}
 use Rattle.std.proofs.lemmas.List.{length-map}
-use Rattle.std.specs.Prelude.{Vec}
-use Rattle.std.specs.declared.alloc.Global.{Global}
+use Rattle.std.specs.Prelude.{Result, Ok, Err, IfOk}
 use Rattle.rv_text.specs.TextLines.{LineText, lines_of}
 use Rattle.rv_model.specs.declared.entry.Entry.{Entry}
 use Rattle.rv_model.specs.declared.formula.Spec.{Spec}
-use Rattle.rv_model.specs.declared.reactor.Reactor.{Reactor}
 use Rattle.rv_model.specs.declared.record.Record.{Record}
 use Rattle.rv_model.specs.declared.work.Scope.{Scope}
 use Rattle.rv_model.specs.Cuts.{AtEach}
@@ -14,10 +12,10 @@ use Rattle.rv_model.specs.Histories.{AreJudges, Input, IsNoStop, IsOneHistory, L
 use Rattle.rv_model.specs.Judging.{Judge}
 use Rattle.rv_model.specs.Records.{records_of}
 use Rattle.rv_model.specs.Setups.{Setup}
-use Rattle.rv_model.specs.Table.{Table}
 use Rattle.rv_model.proofs.UniqueLemmas.{one_has_no_stop, one_is_unique}
 use Rattle.rv_slots.specs.Shapes.{count_of}
 use Rattle.rv_bind.specs.declared.bindings.Bindings.{Bindings}
+use Rattle.rv_bind.specs.declared.bindings.Bound.{Bound}
 use Rattle.rv_bind.specs.declared.bindings.Monitor.{Monitor}
 use Rattle.rv_bind.specs.BoundViews.{bound_value}
 use Rattle.rv_bind.specs.Values.{OnValue}
@@ -31,6 +29,7 @@ use Rattle.rv_report.specs.Tallies.{IsFound}
 use Rattle.rv_matches.specs.RuleLines.{AreRuleLines, IsForRules}
 use Rattle.rv_reach.specs.declared.run.ReachedRun.{ReachedRun}
 use Rattle.rv_reach.specs.Reaching.{HaveReached, ReachesList}
+use Rattle.rv_findings.specs.declared.coverage.CoverageReport.{CoverageReport}
 use Rattle.rv_findings.specs.declared.coverage.Told.{Told}
 use Rattle.rv_findings.specs.Whole.{coverage_status, coverage_text}
 use Rattle.rv_counts.specs.Counts.{JudgedRun}
@@ -44,6 +43,7 @@ use Rattle.rv_tool.proofs.ReportedLemmas.{input_is}
 use Rattle.rv_coverage.specs.Headline.{IsCoverage, IsToldOf, judged_run}
 use Rattle.rv_coverage.specs.Texts.{RunTexts}
 use Rattle.rv_coverage.specs.Words.{CoverageCommandValue}
+use Rattle.rv_coverage.specs.inner.Covering.{IsReportOf}
 
 -- what is kept of lines under bindings is kept under others with the same rules
 pub watch-rules : (one other : Bindings) (lines : List LineText) (w : TraceWatch) → one.rules.items ≡ other.rules.items → IsWatch one lines w → IsWatch other lines w
@@ -54,13 +54,29 @@ watch-rules one other lines w same is = record {
   made = subst (λ (rules : List OnValue). IsForRules rules w.rules) same is.made;
 }
 
+-- the text and the status of what is told are a report of its lines, bindings and counts
+pub told-report : {E : Type 0} (command : CoverageCommandValue) (told : Told) (r : Result CoverageReport E) → told.bindings.now ≡ command.bindings → told.trace.now ≡ command.trace
+    → IfOk r (λ report. report.text.items ≡ coverage_text command.edges told) → IfOk r (λ report. report.status ≡ coverage_status command.edges told)
+    → IfOk r (IsReportOf command told.lines.now (bound_value told.bound.now) told.counts.now)
+told-report command told (Ok report) bindings trace text status = record {
+  told = told;
+  bindings = bindings;
+  trace = trace;
+  lines_are = refl;
+  bound_is = refl;
+  counts_are = refl;
+  text = text;
+  status = status;
+}
+told-report command told (Err e) bindings trace text status = tt
+
 -- a setup that is prepared has a count of instances for each monitor
 pub prepared_shape : (ready : PreparedList) → IsPreparedList ready → length ready.bindings.monitors.items ≡ length ready.setup.shape
 prepared_shape ready is =
     let scopes : List Scope = map (λ (m : Monitor). m.scope) ready.bindings.monitors.items in
     sym (ap (λ (s : Setup). length s.shape) is.setup ∙ length-map scopes (count_of (length ready.tasks)) ∙ length-map ready.bindings.monitors.items (λ (m : Monitor). m.scope))
 
-module _ (ready : PreparedList) (is : IsPreparedList ready) (reactors : List Reactor) (reactors_are : reactors ≡ ready.reactors.items) (run : ReachedRun) (reaches : ReachesList ready.bindings ready.tasks ready.setup (panics_of reactors) ready.list run) where
+module _ (ready : PreparedList) (is : IsPreparedList ready) (run : ReachedRun) (reaches : ReachesList ready.bindings ready.tasks ready.setup (panics_of ready.reactors.items) ready.list run) where
   -- the input that is run
   abbrev input : InputValue
   input = listed_value ready
@@ -74,11 +90,11 @@ module _ (ready : PreparedList) (is : IsPreparedList ready) (reactors : List Rea
   judged = judged_run input (judges_of ready.setup) run.closed
 
   -- what was walked is the run of the input
-  walked_is : input_with ready.setup specs (panics_of reactors) (works_listed ready.list) [] ≡ run_of input
-  walked_is = input_is IsOneHistory input ready.setup reactors (works_listed ready.list) [] is.setup (reactors_are ∙ is.reactors) refl refl
+  walked_is : input_with ready.setup specs (panics_of ready.reactors.items) (works_listed ready.list) [] ≡ run_of input
+  walked_is = input_is IsOneHistory input ready.setup ready.reactors.items (works_listed ready.list) [] is.setup is.reactors refl refl
 
   -- as the tables judge it
-  by_tables : IsRunByTables ready.setup (panics_of reactors) (works_listed ready.list) specs reaches.rs run.closed
+  by_tables : IsRunByTables ready.setup (panics_of ready.reactors.items) (works_listed ready.list) specs reaches.rs run.closed
   by_tables = reaches.by_tables specs is.mean
 
   -- its history is the one history of the input
@@ -106,13 +122,13 @@ module _ (ready : PreparedList) (is : IsPreparedList ready) (reactors : List Rea
   counted_alike = reaches.have_reached.many ∙ sym (reaches.is_found.tallies.many ∙ length-map ready.bindings.monitors.items (reported ready.bindings.containers))
 
   -- the bindings with the tables of its setup are those of the input
-  pub bound_again : (tables : Vec Table Global) → tables.items ≡ run.setup.tables → bound_value (record { bindings = ready.bindings; tables = tables }) ≡ input.bound
-  bound_again tables same = λ j. record {
-    containers = ready.bindings.containers;
-    monitors = ready.bindings.monitors.items;
-    rules = ready.bindings.rules.items;
-    items = ready.bindings.items.items;
-    tables = (same ∙ ap (λ (s : Setup). s.tables) reaches.setup_is) j;
+  pub bound_again : (bound : Bound) → bound.bindings ≡ ready.bindings → bound.tables.items ≡ run.setup.tables → bound_value bound ≡ input.bound
+  bound_again bound bindings tables = λ j. record {
+    containers = ap (λ (b : Bindings). b.containers) bindings j;
+    monitors = ap (λ (b : Bindings). b.monitors.items) bindings j;
+    rules = ap (λ (b : Bindings). b.rules.items) bindings j;
+    items = ap (λ (b : Bindings). b.items.items) bindings j;
+    tables = (tables ∙ ap (λ (s : Setup). s.tables) reaches.setup_is) j;
   }
 
   -- what was watched is kept of it

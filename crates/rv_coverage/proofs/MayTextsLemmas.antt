@@ -1,5 +1,5 @@
 -- What was read of the two files may come of some texts.
-use Rattle.std.proofs.Common.{◌≡◌, ℕ, List, [], refl, sym, ap, ◌∙◌, subst}
+use Rattle.std.proofs.Common.{◌≡◌, ℕ, List, [], refl, sym, ap, ◌∙◌}
 use Rattle.std.specs.Prelude.{Option, Some}
 use Rattle.rv_io.specs.Files.{Files}
 use Rattle.rv_bind.specs.declared.bindings.Bound.{Bound}
@@ -51,18 +51,18 @@ module _ (bindings trace : List ℕ) where
 
 -- ---- both were read
 
-module _ (told mid : Option Files) (bindings trace text slice : List ℕ) (bound : Bound) (lines : BindingLines) (routed : RoutedList) (watch : TraceWatch) where
+module _ (told mid : Option Files) (bindings trace text : List ℕ) (bound : Bound) (lines : BindingLines) (routed : RoutedList) (watch : TraceWatch) where
   -- the pair that was read of the bindings
   abbrev pair : BoundTextValue
   pair = record { text = text; bound = bound_value bound }
 
   -- what was read is that of texts to which the names may come, and come where the store tells its files
-  pub texts_read : ((files : Files) → told ≡ Some files → bound_text_of files bindings ≡ accepted pair) → MayBoundText bindings (accepted pair) → IsWellFormed (bound_value bound) → slice ≡ text → AreLinesOf slice lines
+  pub texts_read : ((files : Files) → told ≡ Some files → bound_text_of files bindings ≡ accepted pair) → MayBoundText bindings (accepted pair) → IsWellFormed (bound_value bound) → AreLinesOf text lines
       → mid ≡ told → IsListed bound.bindings routed → ObservesTrace (IsWatch bound.bindings) mid trace (bound_value bound) (list_value routed) watch
       → ReadsTexts told bindings trace (record { lines = lines; bound = bound; watch = watch; routed = routed })
-  texts_read known may formed same are same_files listed seen = record {
+  texts_read known may formed are same_files listed seen = record {
     texts = texts;
-    are = record { input = refl; lines = subst (λ (t : List ℕ). AreLinesOf t lines) same are; watch = seen.lines };
+    are = record { input = refl; lines = are; watch = seen.lines };
     may = (accepted pair, (may, formed), ((Some seen.text, sym routes), record { fit = listed.fit; rules = listed.rules }));
     whole = λ files is. ap (λ o. reading o (λ b. of_name files trace (texts_by trace b))) (known files is) ∙ of_name-reading files trace (texts_by trace pair) ∙ ap (λ o. reading o (texts_by trace pair)) (seen.whole files (same_files ∙ is)) ∙ routes;
   }

@@ -34,5 +34,5 @@ pub returns-clause-texts : goal.returns-clause-texts
 returns-clause-texts g c =
     let words = c.args.command in
     let first = c.in_ok-text.ensures in
-    texts_read (g.S.Store.files c.args.store.now) (g.S.Store.files c.read_bindings_with_text.new.store) words.bindings.now words.trace.now c.in_ok-text.field-0.text.items c.as_slice.result.now c.in_ok-text.field-0.bound c.in-Ok.lines c.in_ok-routed.routed c.read_list_observed.new.observer
-    first.reads.value first.some first.formed c.as_slice.ensures.value c.in-Ok.ensures first.reads.kept c.in_ok-routed.ensures.listed c.in_ok-routed.ensures.observed
+    texts_read (g.S.Store.files c.args.store.now) (g.S.Store.files c.read_bindings_with_text.new.store) words.bindings.now words.trace.now c.in_ok-text.field-0.text.items c.in_ok-text.field-0.bound c.in_ok-lines.lines c.in_ok-routed.routed c.read_list_observed.new.observer
+    first.reads.value first.some first.formed c.in_ok-lines.ensures.lines first.reads.kept c.in_ok-routed.ensures.listed c.in_ok-routed.ensures.observed
