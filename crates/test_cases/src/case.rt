@@ -45,6 +45,22 @@ fn add_files(
     Ok(output)
 }
 
+/// The first two lines of a case.
+#[derive(Drop)]
+struct CaseHead {
+    words: Vec<String>,
+    status: u64,
+}
+
+/// Reads the words and the status.
+fn head_in(alloc: Global, head: &[u8]) -> Result<CaseHead, CaseFault> {
+    let mut lines = Cursor::new(head);
+    let words = lines.next_line().ok_or(CaseFault)?.bytes;
+    let status = decimal(lines.next_line().ok_or(CaseFault)?.bytes).ok_or(CaseFault)?;
+    let words = words_of(alloc, words)?;
+    Ok(CaseHead { words, status })
+}
+
 impl Case<'_> {
     /// Whether the run ends with the case's status, and puts its output.
     pub(crate) fn agrees<R: Threads + Sync>(
@@ -52,14 +68,18 @@ impl Case<'_> {
         rt: &R,
         alloc: Global,
     ) -> Result<bool, CaseFault> {
-        let mut lines = Cursor::new(self.head);
-        let words = words_of(alloc, lines.next_line().ok_or(CaseFault)?.bytes)?;
-        let status = decimal(lines.next_line().ok_or(CaseFault)?.bytes).ok_or(CaseFault)?;
+        let head = head_in(alloc, self.head)?;
         let mut store = MemStore::new(alloc);
         add_files(alloc, &mut store, self.shared)?;
         let output = add_files(alloc, &mut store, self.own)?;
-        let words = words.as_slice();
-        is_outcome(rt, alloc, words, &mut store, status, output.as_slice())
+        is_outcome(
+            rt,
+            alloc,
+            head.words.as_slice(),
+            &mut store,
+            head.status,
+            output.as_slice(),
+        )
     }
 }
 

@@ -60,22 +60,39 @@ impl<'a> Piece<'a> {
     }
 }
 
+/// Which file a mark begins, by the word behind its name and those that follow.
+fn file_kind(next: &[u8], behind: &mut Words<'_>) -> Option<MarkKind> {
+    if next == b"--".as_slice() {
+        return Some(MarkKind::Whole);
+    }
+    if next == b"cut".as_slice() {
+        return Some(MarkKind::Cut);
+    }
+    if next == b"times".as_slice() {
+        let count = decimal(behind.next_word()?)?;
+        return Some(MarkKind::Times(count));
+    }
+    None
+}
+
+/// What a line begins, by its first word, the word behind the name and those that follow.
+fn kind_of(edge: &[u8], next: &[u8], behind: &mut Words<'_>) -> Option<MarkKind> {
+    if edge == b"--".as_slice() {
+        return file_kind(next, behind);
+    }
+    if edge == b"==".as_slice() && next == edge {
+        return Some(MarkKind::Case);
+    }
+    None
+}
+
 /// The mark that a line is.
 fn mark_of<'a>(line: &'a [u8]) -> Option<MarkedLine<'a>> {
     let mut words = Words::new(line);
     let edge = words.next_word()?;
     let name = words.next_word()?;
     let next = words.next_word()?;
-    let kind = match edge {
-        b"==" if next == b"==".as_slice() => MarkKind::Case,
-        b"--" => match next {
-            b"--" => MarkKind::Whole,
-            b"cut" => MarkKind::Cut,
-            b"times" => MarkKind::Times(decimal(words.next_word()?)?),
-            _ => return None,
-        },
-        _ => return None,
-    };
+    let kind = kind_of(edge, next, &mut words)?;
     Some(MarkedLine { kind, name })
 }
 

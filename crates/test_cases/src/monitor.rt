@@ -2,38 +2,76 @@
 
 use crate::fault::CaseFault;
 use crate::outcome::is_outcome;
-use crate::words::joined;
-use rv_io::{Disk, MemStore, Store};
-use rv_text::{Words, decimal};
+use crate::words::{next_decimal, next_word, read, replay_of};
+use rv_io::MemStore;
+use rv_text::Words;
 use std::alloc::Global;
 use std::fs::Files;
 use std::thread::Threads;
 
-/// The bytes of a file of the folder.
-fn read<R: Files>(rt: &R, alloc: Global, folder: &str, name: &str) -> Result<Vec<u8>, CaseFault> {
-    let path = joined(alloc, &["monitors/", folder, "/", name])?;
-    Ok(Disk::new(rt).read(alloc, path.as_str())?)
+/// What a line of the list has in front of the files that the bindings name.
+#[derive(Clone, Copy, Debug, Drop)]
+struct MonitorRun<'a> {
+    folder: &'a str,
+    status: u64,
+    bindings: &'a str,
+    trace: &'a str,
+    report: &'a str,
 }
 
-/// The next word of a line.
-fn next_word<'a>(entry: &mut Words<'a>) -> Result<&'a str, CaseFault> {
-    Ok(std::str::from_utf8(entry.next_word().ok_or(CaseFault)?)?)
-}
-
-/// The files of a run, by the names that they have in the folder.
-fn files_of<R: Files>(
+/// A file of the folder.
+fn file_of<R: Files>(
     rt: &R,
     alloc: Global,
     folder: &str,
+    name: &str,
+) -> Result<Vec<u8>, CaseFault> {
+    read(rt, alloc, &["monitors/", folder, "/", name])
+}
+
+/// The front of a line.
+fn run_in<'a>(entry: &mut Words<'a>) -> Result<MonitorRun<'a>, CaseFault> {
+    let folder = next_word(entry)?;
+    let status = next_decimal(entry)?;
+    let bindings = next_word(entry)?;
+    let trace = next_word(entry)?;
+    let report = next_word(entry)?;
+    Ok(MonitorRun {
+        folder,
+        status,
+        bindings,
+        trace,
+        report,
+    })
+}
+
+/// Adds a file of the folder, by the name that it has there.
+fn add<R: Files>(
+    rt: &R,
+    alloc: Global,
+    store: &mut MemStore,
+    folder: &str,
+    name: &[u8],
+) -> Result<(), CaseFault> {
+    let name = std::str::from_utf8(name)?;
+    let bytes = file_of(rt, alloc, folder, name)?;
+    Ok(store.add(name, bytes.as_slice())?)
+}
+
+/// The files of a run.
+fn files_of<R: Files>(
+    rt: &R,
+    alloc: Global,
+    run: MonitorRun<'_>,
     names: Words<'_>,
 ) -> Result<MemStore, CaseFault> {
     let mut store = MemStore::new(alloc);
     let mut names = names;
     while let Some(name) = names.next_word() {
-        let name = std::str::from_utf8(name)?;
-        let bytes = read(rt, alloc, folder, name)?;
-        store.add(name, bytes.as_slice())?;
+        add(rt, alloc, &mut store, run.folder, name)?;
     }
+    add(rt, alloc, &mut store, run.folder, run.bindings.as_bytes())?;
+    add(rt, alloc, &mut store, run.folder, run.trace.as_bytes())?;
     Ok(store)
 }
 
@@ -45,19 +83,16 @@ pub(crate) fn run<R: Files + Threads + Sync>(
     line: &[u8],
 ) -> Result<bool, CaseFault> {
     let mut entry = Words::new(line);
-    let folder = next_word(&mut entry)?;
-    let status = decimal(entry.next_word().ok_or(CaseFault)?).ok_or(CaseFault)?;
-    let bindings = next_word(&mut entry)?;
-    let trace = next_word(&mut entry)?;
-    let report = next_word(&mut entry)?;
-    let report = read(rt, alloc, folder, report)?;
-    let mut store = files_of(rt, alloc, folder, entry)?;
-    store.add(bindings, read(rt, alloc, folder, bindings)?.as_slice())?;
-    store.add(trace, read(rt, alloc, folder, trace)?.as_slice())?;
-    let mut words = Vec::new(alloc);
-    for word in ["replay", bindings, trace] {
-        words.push(String::from_str(alloc, word)?)?;
-    }
-    let words = words.as_slice();
-    is_outcome(rt, alloc, words, &mut store, status, report.as_slice())
+    let run = run_in(&mut entry)?;
+    let report = file_of(rt, alloc, run.folder, run.report)?;
+    let mut store = files_of(rt, alloc, run, entry)?;
+    let words = replay_of(alloc, run.bindings, run.trace)?;
+    is_outcome(
+        rt,
+        alloc,
+        words.as_slice(),
+        &mut store,
+        run.status,
+        report.as_slice(),
+    )
 }

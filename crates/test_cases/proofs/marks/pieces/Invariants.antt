@@ -1,4 +1,4 @@
-use Rattle.std.proofs.Common.{ℕ, length}
+use Rattle.std.proofs.Common.{length}
 use Rattle.test_cases.proofs.marks.pieces.Given as goal
 
 abbrev pub decreases-loop-line : goal.decreases-loop-line

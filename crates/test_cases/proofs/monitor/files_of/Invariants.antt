@@ -1,4 +1,4 @@
-use Rattle.std.proofs.Common.{ℕ, length}
+use Rattle.std.proofs.Common.{length}
 use Rattle.test_cases.proofs.monitor.files_of.Given as goal
 
 abbrev pub decreases-loop-name : goal.decreases-loop-name
