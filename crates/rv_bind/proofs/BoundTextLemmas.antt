@@ -98,7 +98,7 @@ text_reads pair told left before now here text result read reads =
     (same_reads pair told left before now result _ _ (λ files. text-looks files here text) reads))
 
 -- so a fault of its lines is the pair's
-pub fails_reads : {X Z : Type 0} (view : X → BoundValue) (pair : Z → BoundTextValue) (told mid left : Option Files) (before count now : ℕ) (here slice text : List ℕ) (fault : BindFault) → slice ≡ text → mid ≡ told → before ≤ count
+pub fails_reads : {X Z : Type 0} (view : X → BoundValue) (pair : Z → BoundTextValue) (told mid left : Option Files) (before count now : ℕ) (here slice text : List ℕ) (fault : BindFault) → slice ≡ text → mid ≡ told → count ≡ before
     → ((files : Files) → told ≡ Some files → front_named files here ≡ accepted (text_front text))
     → ReadsOutcome view mid left count now (Err fault) (λ files. lines_bound files here nothing_bound (lines_of slice)) → ReadsOutcome pair told left before now (Err fault) (λ files. bound_text_of files here)
 fails_reads view pair told mid left before count now here slice text fault is same le read reads =
@@ -108,7 +108,7 @@ fails_reads view pair told mid left before count now here slice text fault is sa
     (subst (λ (t : List ℕ). ReadsOutcome view mid left count now (Err fault) (λ files. lines_bound files here nothing_bound (lines_of t))) is reads)))
 
 -- and what its lines make is the pair's
-pub pair_reads : (told mid left : Option Files) (before count now : ℕ) (here slice : List ℕ) (text : Vec ℕ Global) (bound : Bound) → slice ≡ text.items → mid ≡ told → before ≤ count
+pub pair_reads : (told mid left : Option Files) (before count now : ℕ) (here slice : List ℕ) (text : Vec ℕ Global) (bound : Bound) → slice ≡ text.items → mid ≡ told → count ≡ before
     → ((files : Files) → told ≡ Some files → front_named files here ≡ accepted (text_front text.items))
     → ReadsOutcome bound_value mid left count now (Ok bound) (λ files. lines_bound files here nothing_bound (lines_of slice))
     → ReadsOutcome bound_text_value told left before now (Ok (record { text = text; bound = bound })) (λ files. bound_text_of files here)
@@ -117,7 +117,7 @@ pair_reads told mid left before count now here slice text bound is same le read 
     (later_reads bound_text_value told mid left before count now (Ok (record { text = text; bound = bound })) (λ files. text_bound files here text.items) same le
     (record {
       kept = reads.kept;
-      later = reads.later;
+      counts = reads.counts;
       value = λ files known. ap (λ o. reading o (λ bound. accepted (record { text = text.items; bound = bound }))) (ap (λ t. lines_bound files here nothing_bound (lines_of t)) (sym is) ∙ reads.value files known);
       named = tt;
     }))

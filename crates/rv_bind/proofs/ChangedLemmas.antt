@@ -29,9 +29,9 @@ monitors_with-length change (m ∷ monitors) (suc place) = ap (λ n. suc n) (mon
 
 -- a change that leaves what tables and rules go by
 pub change_formed : (b after : BoundValue) (place : Option ℕ) (change : Monitor → Monitor) → ((m : Monitor) → kind_of (change m) ≡ kind_of m) → ((m : Monitor) → (change m).container ≡ m.container)
-    → IsWellFormed b → change_bound b place change ≡ Ok after → IsWellFormed after
-change_formed b after None change kind holder w e = cc
-change_formed b after (Some place) change kind holder w e =
+    → ((m : Monitor) → (change m).name ≡ m.name) → IsWellFormed b → change_bound b place change ≡ Ok after → IsWellFormed after
+change_formed b after None change kind holder name w e = cc
+change_formed b after (Some place) change kind holder name w e =
     let is : bindings_with b change place ≡ after = cc in
     subst IsWellFormed is (record {
       few_containers = w.few_containers;
@@ -41,6 +41,8 @@ change_formed b after (Some place) change kind holder w e =
       rules = rw (monitors_with-map change kind_of kind b.monitors place) w.rules;
       holders = rw (monitors_with-map change (λ m. m.container) holder b.monitors place) w.holders;
       items = rw (monitors_with-length change b.monitors place) w.items;
+      distinct = rw (monitors_with-map change (λ m. m.name) name b.monitors place) w.distinct;
+      named = rw (monitors_with-map change (λ m. m.name) name b.monitors place) w.named;
     })
 
 -- ---- an atom that starts true
@@ -95,6 +97,8 @@ module _ (atom : List ℕ) (bit : ℕ) (m : Monitor) (found : atom_bit m.spec at
     rules = All-weaker (FitsKind (kinds_of b.monitors)) (FitsKind (kinds_of (monitors_with (beginning bit) b.monitors place))) (fits-began bit b.monitors place) b.rules w.rules;
     holders = rw (monitors_with-map (beginning bit) (λ m. m.container) (λ m. refl) b.monitors place) w.holders;
     items = rw (monitors_with-length (beginning bit) b.monitors place) w.items;
+    distinct = rw (monitors_with-map (beginning bit) (λ m. m.name) (λ m. refl) b.monitors place) w.distinct;
+    named = rw (monitors_with-map (beginning bit) (λ m. m.name) (λ m. refl) b.monitors place) w.named;
   }
 
 -- an atom that starts true at the monitor of a place keeps bindings well formed

@@ -80,7 +80,7 @@ spec_front files kind file text is = of_front (λ t. of_file file (compiled_of k
 -- ---- bindings
 
 -- what comes to the same behind each value comes to the same
-reading-same : {X Y : Type 0} (o : Outcome X) (next other : X → Outcome Y) → ((x : X) → next x ≡ other x) → reading o next ≡ reading o other
+pub reading-same : {X Y : Type 0} (o : Outcome X) (next other : X → Outcome Y) → ((x : X) → next x ≡ other x) → reading o next ≡ reading o other
 reading-same (accepted x) next other same = same x
 reading-same (refused file refusal) next other same = refl
 reading-same (missing file) next other same = refl

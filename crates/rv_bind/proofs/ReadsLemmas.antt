@@ -1,11 +1,11 @@
 -- What the readers of parts answer, joined to what the reader of the whole answers.
-use Rattle.std.proofs.Common.{◌≡◌, ℕ, ◌≤◌, refl, sym, ap, ◌∙◌, subst, inl, inr, arith}
+use Rattle.std.proofs.Common.{◌≡◌, ℕ, refl, sym, ap, ◌∙◌, subst, inl, inr}
 use Rattle.std.specs.Prelude.{Option, Some, Result, Ok, Err}
 use Rattle.rv_io.specs.Files.{Files}
 use Rattle.rv_bind.specs.declared.fault.BindFault.{BindFault}
 use Rattle.rv_bind.specs.declared.fault.BindFault.TheVariants as faults
 use Rattle.rv_bind.specs.Outcomes.{Outcome, accepted, reading, BlamesReached, Refines, ReadsOutcome, files_without}
-use Rattle.rv_bind.proofs.OutcomeLemmas.{step_fault, Refines-later, Refines-behind}
+use Rattle.rv_bind.proofs.OutcomeLemmas.{later_counted, fault_counted, step_fault, Refines-later, Refines-behind}
 use Rattle.rv_bind.proofs.ReachedLemmas.{IsLocal, step_named, behind_named}
 
 -- a step's fault is the whole's
@@ -13,17 +13,17 @@ pub step_reads : {X Y Z W : Type 0} (view : X → Y) (whole_view : Z → W) (tol
     → ReadsOutcome view told left before now (Err fault) step → ReadsOutcome whole_view told left before now (Err fault) (λ files. reading (step files) (next files))
 step_reads {X} {Y} {Z} {W} view whole_view told left before now fault step next reads = record {
   kept = reads.kept;
-  later = reads.later;
-  value = step_fault told before before now fault view whole_view step next (λ files. reading (step files) (next files)) (omega arith) (λ files known. refl) reads.value;
+  counts = fault_counted X Z before now fault reads.counts;
+  value = step_fault told before now fault view whole_view step next (λ files. reading (step files) (next files)) (λ files known. refl) reads.value;
   named = step_named X Z told fault step next (λ files. reading (step files) (next files)) (λ files. refl) reads.named;
 }
 
 -- what was read behind a step is what is read
-pub later_reads : {X Y : Type 0} (view : X → Y) (told mid left : Option Files) (before count now : ℕ) (result : Result X BindFault) (outcome : Files → Outcome Y) → mid ≡ told → before ≤ count
+pub later_reads : {X Y : Type 0} (view : X → Y) (told mid left : Option Files) (before count now : ℕ) (result : Result X BindFault) (outcome : Files → Outcome Y) → mid ≡ told → count ≡ before
     → ReadsOutcome view mid left count now result outcome → ReadsOutcome view told left before now result outcome
 later_reads view told mid left before count now result outcome same le reads = record {
   kept = subst (λ (t : Option Files). left ≡ t) same reads.kept;
-  later = let later = reads.later in omega arith;
+  counts = later_counted before count now result le reads.counts;
   value = Refines-later view told mid before count now result outcome same le reads.value;
   named = subst (λ (t : Option Files). BlamesReached t result outcome) same reads.named;
 }
@@ -33,7 +33,7 @@ pub behind_reads : {X Y W : Type 0} (view : X → W) (told left : Option Files) 
     → ((files : Files) → told ≡ Some files → step files ≡ accepted y) → ReadsOutcome view told left before now result (λ files. next files y) → ReadsOutcome view told left before now result (λ files. reading (step files) (next files))
 behind_reads {X} {Y} {W} view told left before now result step y next is read reads = record {
   kept = reads.kept;
-  later = reads.later;
+  counts = reads.counts;
   value = Refines-behind view told before now result step y next read reads.value;
   named = go result reads.named;
 }
@@ -47,7 +47,7 @@ pub same_reads : {X Y : Type 0} (view : X → Y) (told left : Option Files) (bef
     → ReadsOutcome view told left before now result outcome → ReadsOutcome view told left before now result other
 same_reads {X} view told left before now result outcome other same reads = record {
   kept = reads.kept;
-  later = reads.later;
+  counts = reads.counts;
   value = read result reads.value;
   named = named result reads.named;
 }
@@ -70,7 +70,7 @@ pub mapped_reads : {X Y W : Type 0} (view : X → Y) (made : Y → W) (told left
     → ReadsOutcome view told left before now result outcome → ReadsOutcome (λ x. made (view x)) told left before now result (λ files. reading (outcome files) (λ y. accepted (made y)))
 mapped_reads {X} {Y} {W} view made told left before now result outcome reads = record {
   kept = reads.kept;
-  later = reads.later;
+  counts = reads.counts;
   value = value result reads.value;
   named = named result reads.named;
 }
@@ -99,7 +99,7 @@ pub fault_reads : {X Z Y : Type 0} (view : X → Y) (other : Z → Y) (told left
     → ReadsOutcome view told left before now (Err fault) outcome → ReadsOutcome other told left before now (Err fault) outcome
 fault_reads {X} {Z} view other told left before now fault outcome reads = record {
   kept = reads.kept;
-  later = reads.later;
+  counts = fault_counted X Z before now fault reads.counts;
   value = value fault reads.value;
   named = named fault reads.named;
 }

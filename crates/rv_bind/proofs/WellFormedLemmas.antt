@@ -1,6 +1,6 @@
 -- Each line keeps bindings well formed.
-use Rattle.std.proofs.Common.{◌≡◌, ℕ, zero, suc, ◌+◌, ◌<◌, ◌≤◌, Bool, true, false, List, [], ◌∷◌, ◌++◌, map, length, refl, sym, ap, subst, arith, length-append}
-use Rattle.std.specs.Prelude.{All, Option, Some, None, Result, Ok, Err, ◌&&◌, slice_get, nat_lt, if◌then◌else◌}
+use Rattle.std.proofs.Common.{◌≡◌, ℕ, zero, suc, ◌+◌, ◌<◌, ◌≤◌, Bool, true, false, List, [], ◌∷◌, ◌++◌, map, length, refl, sym, ap, ◌∙◌, subst, arith, append_assoc, length-append}
+use Rattle.std.specs.Prelude.{All, IsTrue, Option, Some, None, Result, Ok, Err, ◌&&◌, slice_get, nat_lt, if◌then◌else◌}
 use Rattle.std.proofs.lemmas.List.{map-append, append-nil}
 use Rattle.std.proofs.lemmas.List.Elements.{All-nil, All-push, All-weaker}
 use Rattle.std.specs.Option.{option_copied}
@@ -18,14 +18,15 @@ use Rattle.rv_bind.specs.declared.compile.Compiled.{Compiled}
 use Rattle.rv_bind.specs.declared.forms.OnForm.{OnForm}
 use Rattle.rv_bind.specs.declared.limits.TheConstants.{MAX_CONTAINERS, MAX_RULES}
 use Rattle.rv_bind.specs.Values.{OnValue, BoundValue}
-use Rattle.rv_bind.specs.LineWords.{Words}
+use Rattle.rv_bind.specs.LineWords.{Words, is_name}
 use Rattle.rv_bind.specs.Changes.{allows_hit, brought}
 use Rattle.rv_bind.specs.Compiling.{Compiles}
 use Rattle.rv_bind.specs.Bound.{nothing_bound, is_taken, monitor_named, container_bound, items_of, with_monitor}
 use Rattle.rv_bind.specs.inner.FormViews.{rule_said}
 use Rattle.rv_bind.specs.MonitorLines.{allows_by, with_rule, rule_at, rule_bound}
-use Rattle.rv_bind.specs.WellFormed.{MonitorKind, kind_of, kinds_of, HasTable, HaveTables, FitsKind, holders_of, IsHolder, IsItem, IsWellFormed}
+use Rattle.rv_bind.specs.WellFormed.{MonitorKind, kind_of, kinds_of, HasTable, HaveTables, FitsKind, all_names, holders_of, IsHolder, IsItem, IsWellFormed}
 use Rattle.rv_bind.proofs.ChangeLemmas.{hit_fits, starts_at_first}
+use Rattle.rv_bind.proofs.NameLemmas.{distinct-insert, distinct-push, free-none, named-insert, named-push}
 
 -- bindings of nothing are well formed
 pub nothing_formed : IsWellFormed nothing_bound
@@ -37,6 +38,8 @@ nothing_formed = record {
   rules = All-nil (FitsKind []);
   holders = All-nil (IsHolder 0);
   items = All-nil (IsItem 0 0);
+  distinct = tt;
+  named = refl;
 }
 
 -- ---- a rule
@@ -65,6 +68,8 @@ module _ (b done : BoundValue) (place : ℕ) (event : List ℕ) (by : Option (Li
         rules = All-push (FitsKind (kinds_of b.monitors)) b.rules rule w.rules of_kind;
         holders = w.holders;
         items = w.items;
+        distinct = w.distinct;
+        named = w.named;
       })
 
   -- the rule where there is room
@@ -108,14 +113,14 @@ IsItem-more : (n m c d : ℕ) → n ≤ m → c ≤ d → (item : Item) → IsIt
 IsItem-more n m c d le few (items.Monitor place) h = omega arith
 IsItem-more n m c d le few (items.Container place) h = omega arith
 
-module _ (b : BoundValue) (name : List ℕ) (w : IsWellFormed b) where
+module _ (b : BoundValue) (name : List ℕ) (w : IsWellFormed b) (named : IsTrue (is_name name)) where
   -- one more container
   abbrev contained : BoundValue
   contained = record b { containers = b.containers ++ name ∷ []; items = b.items ++ items.Container (length b.containers) ∷ [] }
 
   -- where there is room, one more container keeps bindings well formed
-  contained_formed : length b.containers < 32 → IsWellFormed contained
-  contained_formed room =
+  contained_formed : length b.containers < 32 → is_taken b name ≡ false → IsWellFormed contained
+  contained_formed room free =
       let more : length contained.containers ≡ length b.containers + 1 = rw length-append refl in
       let n = length b.containers in
       let old : All (IsItem (length b.monitors) (n + 1)) b.items =
@@ -128,17 +133,19 @@ module _ (b : BoundValue) (name : List ℕ) (w : IsWellFormed b) where
         rules = w.rules;
         holders = rw more (All-weaker (IsHolder n) (IsHolder (n + 1)) (IsHolder-more n (n + 1) (omega arith)) (holders_of b.monitors) w.holders);
         items = rw more (All-push (IsItem (length b.monitors) (n + 1)) b.items (items.Container n) old (omega arith));
+        distinct = rw append_assoc (distinct-insert b.containers (map (λ m. m.name) b.monitors) name w.distinct (free-none b name free));
+        named = rw append_assoc (named-insert b.containers (map (λ m. m.name) b.monitors) name w.named named);
       }
 
   -- a line with a container keeps bindings well formed
   pub container_formed : (done : BoundValue) → container_bound b name ≡ Ok done → IsWellFormed done
-  container_formed done e = go (nat_lt (length b.containers) MAX_CONTAINERS) refl (is_taken b name) e
+  container_formed done e = go (nat_lt (length b.containers) MAX_CONTAINERS) refl (is_taken b name) refl e
     where
-      go : (t : Bool) → nat_lt (length b.containers) MAX_CONTAINERS ≡ t → (u : Bool) → (if t then (if u then Err NAME_TWICE else Ok contained) else Err BIND_SYNTAX) ≡ Ok done → IsWellFormed done
-      go true is false e = let is_done : contained ≡ done = cc in subst IsWellFormed is_done (contained_formed (let t = is in grind arith))
-      go true is true e = cc
-      go false is true e = cc
-      go false is false e = cc
+      go : (t : Bool) → nat_lt (length b.containers) MAX_CONTAINERS ≡ t → (u : Bool) → is_taken b name ≡ u → (if t then (if u then Err NAME_TWICE else Ok contained) else Err BIND_SYNTAX) ≡ Ok done → IsWellFormed done
+      go true is false free e = let is_done : contained ≡ done = cc in subst IsWellFormed is_done (contained_formed (let t = is in grind arith) free)
+      go true is true taken e = cc
+      go false is true taken e = cc
+      go false is false free e = cc
 
 -- ---- a monitor
 
@@ -172,12 +179,14 @@ items-more monitors containers old container all = go container
 
 -- one more monitor with its table, where there is room, keeps bindings well formed
 pub monitor_formed : (b : BoundValue) (name : List ℕ) (container : Option ℕ) (scope : Scope) (file : List ℕ) (compiled : Compiled)
-    → IsWellFormed b → length b.monitors < 32 → IsHolder (length b.containers) container → Compiles compiled.spec compiled.table → IsWellFormed (with_monitor b name container scope file compiled)
-monitor_formed b name container scope file compiled w room holder compiles =
+    → IsWellFormed b → length b.monitors < 32 → IsTrue (is_name name) → is_taken b name ≡ false → IsHolder (length b.containers) container → Compiles compiled.spec compiled.table
+    → IsWellFormed (with_monitor b name container scope file compiled)
+monitor_formed b name container scope file compiled w room named free holder compiles =
     let done : BoundValue = with_monitor b name container scope file compiled in
     let kind : MonitorKind = record { scope = scope; spec = compiled.spec; starting = 0 } in
     let more : length done.monitors ≡ length b.monitors + 1 = rw length-append refl in
     let same : kinds_of done.monitors ≡ kinds_of b.monitors ++ kind ∷ [] = map-append kind_of b.monitors _ in
+    let names : all_names done ≡ all_names b ++ name ∷ [] = ap (λ ns. b.containers ++ ns) (map-append (λ m. m.name) b.monitors _) ∙ sym (append_assoc b.containers (map (λ m. m.name) b.monitors) (name ∷ [])) in
     let held : holders_of done.monitors ≡ holders_of b.monitors ++ container ∷ [] = map-append (λ m. m.container) b.monitors _ in
     record {
       few_containers = w.few_containers;
@@ -187,4 +196,6 @@ monitor_formed b name container scope file compiled w room holder compiles =
       rules = rw same (All-weaker (FitsKind (kinds_of b.monitors)) (FitsKind (kinds_of b.monitors ++ kind ∷ [])) (FitsKind-more (kinds_of b.monitors) (kind ∷ [])) b.rules w.rules);
       holders = rw held (All-push (IsHolder (length b.containers)) (holders_of b.monitors) container w.holders holder);
       items = rw more (items-more (length b.monitors) (length b.containers) b.items container w.items);
+      distinct = rw names (distinct-push (all_names b) name w.distinct (free-none b name free));
+      named = rw names (named-push (all_names b) name w.named named);
     }

@@ -3,9 +3,12 @@ pub mod BoundTexts
 pub mod BoundViews
 pub mod Changes
 pub mod Compiling
+pub mod DisplayNames
 pub mod FilePieces
 pub mod Forms
+pub mod Fronts
 pub mod LineWords
+pub mod Lines
 pub mod MonitorLines
 pub mod Outcomes
 pub mod Possible

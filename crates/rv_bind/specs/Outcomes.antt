@@ -1,6 +1,6 @@
 -- What reading files comes to, in the stated order of the reading: a value, a refusal with its file, or a missing file.
 use Rattle.std.specs.Prelude.{◌≡◌, ◌≤◌, ◌⊎◌, ℕ, ◌+◌, List, take, bytes_eq, Option, Some, None, Result, Ok, Err, option_map, if◌then◌else◌}
-use Rattle.rv_text.specs.declared.numbers.TheConstants.{USAGE, NO_INSTANCE}
+use Rattle.rv_text.specs.declared.numbers.TheConstants.{USAGE, DOT_SYNTAX, TOO_MANY_RULES, NO_INSTANCE}
 use Rattle.rv_text.specs.declared.refusals.Refusal.{Refusal}
 use Rattle.rv_text.specs.declared.refusals.Refused.{Refused}
 use Rattle.rv_text.specs.declared.refusals.Refused.TheVariants as refuseds
@@ -58,6 +58,16 @@ IsNumber number = (USAGE ≤ number) × (number ≤ NO_INSTANCE)
 abbrev pub IsRefusal : Refusal → Type 0
 IsRefusal refusal = IsNumber refusal.number
 
+-- the numbers of the refusals of bindings and of the specifications that they name
+abbrev pub IsBindingsNumber : ℕ → Type 0
+IsBindingsNumber number = (DOT_SYNTAX ≤ number) × (number ≤ TOO_MANY_RULES)
+
+-- where the outcome is a refusal, its number is one of these
+abbrev pub IsRefusedBy : {Y : Type 0} → (ℕ → Type 0) → Outcome Y → Type 0
+IsRefusedBy Numbers (accepted y) = Unit {0}
+IsRefusedBy Numbers (refused file refusal) = Numbers refusal.number
+IsRefusedBy Numbers (missing file) = Unit {0}
+
 -- what a reader answers is the outcome on the known files, and on any store a refusal has one of the numbers; where the
 -- count of faults rose, a file may be unread though it is not missing
 abbrev pub Refines : {X Y : Type 0} → (X → Y) → Option Files → ℕ → ℕ → Result X BindFault → (Files → Outcome Y) → Type 0
@@ -84,11 +94,22 @@ BlamesReached told (Err faults.Memory) outcome = Unit {0}
 BlamesReached told (Err (faults.Refused file refusal)) outcome = Unit {0}
 BlamesReached told (Err (faults.Unread file)) outcome = (files : Files) → told ≡ Some files → IsReached outcome files file
 
--- what a reader of files answers: what is known of the files stays, the count of faults does not fall, the answer is
--- the outcome, and a file that is said to be unread is reached
+-- at most one fault was counted
+abbrev pub MayRise : ℕ → ℕ → Type 0
+MayRise before now = (now ≡ before) ⊎ Rose before now
+
+-- no fault is counted where there is a value or a refusal, and else at most one: the first failed read ends the reading
+abbrev pub CountsFaults : {X : Type 0} → ℕ → ℕ → Result X BindFault → Type 0
+CountsFaults before now (Ok x) = now ≡ before
+CountsFaults before now (Err faults.Memory) = MayRise before now
+CountsFaults before now (Err (faults.Refused file refusal)) = now ≡ before
+CountsFaults before now (Err (faults.Unread file)) = MayRise before now
+
+-- what a reader of files answers: what is known of the files stays, at most one fault is counted, the answer is the
+-- outcome, and a file that is said to be unread is reached
 pub record ReadsOutcome {X Y : Type 0} (view : X → Y) (told left : Option Files) (before now : ℕ) (result : Result X BindFault) (outcome : Files → Outcome Y) : Type 0 where
   pub kept : left ≡ told
-  pub later : before ≤ now
+  pub counts : CountsFaults before now result
   pub value : Refines view told before now result outcome
   pub named : BlamesReached told result outcome
 

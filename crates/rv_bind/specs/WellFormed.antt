@@ -1,5 +1,6 @@
 -- What accepted bindings keep, on any store.
-use Rattle.std.specs.Prelude.{◌≡◌, ◌≢◌, ℕ, ◌^◌, ◌<◌, ◌≤◌, true, List, [], ◌∷◌, map, length, All, MatchBool, Option, Some, None, slice_get}
+use Rattle.std.specs.Prelude.{◌≡◌, ◌≢◌, ℕ, ◌^◌, ◌<◌, ◌≤◌, true, List, [], ◌∷◌, ◌++◌, map, length, All, MatchBool, IsTrue, false, Option, Some, None, slice_get, bytes_eq}
+use Rattle.std.specs.List.{AllByRecursion, list_all}
 use Rattle.rv_model.specs.declared.hit.Hit.{Hit}
 use Rattle.rv_model.specs.declared.hit.Mode.TheVariants as modes
 use Rattle.rv_model.specs.declared.hit.What.{What}
@@ -14,6 +15,7 @@ use Rattle.rv_bind.specs.declared.bindings.Item.{Item}
 use Rattle.rv_bind.specs.declared.bindings.Item.TheVariants as items
 use Rattle.rv_bind.specs.Values.{OnValue, BoundValue}
 use Rattle.rv_bind.specs.Compiling.{Compiles}
+use Rattle.rv_bind.specs.LineWords.{is_name}
 use Rattle.rv_bind.specs.MonitorLines.{allows_by}
 
 -- what the table and the rules of a monitor have to fit
@@ -90,7 +92,17 @@ abbrev pub IsItem : ℕ → ℕ → Item → Type 0
 IsItem monitors containers (items.Monitor place) = place < monitors
 IsItem monitors containers (items.Container place) = place < containers
 
--- no list is too long, each monitor has its table, and the rules, containers and items fit what there is
+-- no name is one of those after it
+abbrev pub NamesDiffer : List (List ℕ) → Type 0
+NamesDiffer [] = Unit {0}
+NamesDiffer (name ∷ names) = AllByRecursion (λ other. bytes_eq name other ≡ false) names × NamesDiffer names
+
+-- the names of the containers, and then those of the monitors
+abbrev pub all_names : BoundValue → List (List ℕ)
+all_names b = b.containers ++ map (λ m. m.name) b.monitors
+
+-- no list is too long, each monitor has its table, and the rules, containers and items fit what there is; no two
+-- containers or monitors have one name, and each name is of the bytes of names
 pub record IsWellFormed (b : BoundValue) : Type 0 where
   pub few_containers : length b.containers ≤ 32
   pub few_monitors : length b.monitors ≤ 32
@@ -99,3 +111,5 @@ pub record IsWellFormed (b : BoundValue) : Type 0 where
   pub rules : All (FitsKind (kinds_of b.monitors)) b.rules
   pub holders : All (IsHolder (length b.containers)) (holders_of b.monitors)
   pub items : All (IsItem (length b.monitors) (length b.containers)) b.items
+  pub distinct : NamesDiffer (all_names b)
+  pub named : IsTrue (list_all is_name (all_names b))

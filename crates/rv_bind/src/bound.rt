@@ -1,7 +1,8 @@
 //! The bindings of the lines so far, and what a line adds to them.
-ghost use Rattle.std.specs.Prelude.{◌≡◌, ◌≤◌, ◌<◌, ◌++◌, ℕ, List, Option, Some, None, Bool, length, position, bytes_eq, option_copied, IfOk, IfSome, OnOk};
+ghost use Rattle.std.specs.Prelude.{◌≡◌, ◌≤◌, ◌<◌, ◌++◌, ℕ, List, Option, Some, None, Bool, false, IsTrue, length, position, bytes_eq, option_copied, IfOk, IfSome, OnOk};
 ghost use Rattle.std.specs.List.{position_or_len};
 ghost use Rattle.rv_bind.specs.inner.LineReads.{ReadsValue};
+ghost use Rattle.rv_bind.specs.LineWords.{is_name};
 ghost use Rattle.rv_bind.specs.Compiling.{Compiles};
 ghost use Rattle.rv_bind.specs.Bound.{nothing_bound, is_called, is_taken, monitor_named, holder_named, room_for, place_for, new_monitor, with_monitor, items_of, container_bound};
 ghost use Rattle.rv_bind.specs.MonitorLines.{allows_by, change_bound, reacting, disabled, begin_bound};
@@ -155,7 +156,8 @@ impl Bound {
     /// Adds a container at the end. A 33rd is refused as a line without a form, and else a name that is taken. Want of
     /// memory may leave a part of it.
     pub(crate) fn add_container(&mut self, alloc: Global, name: &[u8]) -> Result<(), LineFault>
-        requires { IsWellFormed (bound_value self.old) }
+        requires formed { IsWellFormed (bound_value self.old) }
+        requires named { IsTrue (is_name name.now) }
         ensures formed { OnOk result (IsWellFormed (bound_value self.new)) }
         ensures container { ReadsValue (λ done. bound_value self.new) result (container_bound (bound_value self.old) name.now) }
     {
@@ -182,7 +184,8 @@ impl Bound {
 
     /// Refuses a name that is taken, and else a monitor too many.
     fn room_for(&self, name: &[u8]) -> Result<(), LineFault>
-        ensures { ReadsValue (λ done. tt) result (room_for (bound_value self.now) name.now) }
+        ensures room { ReadsValue (λ done. tt) result (room_for (bound_value self.now) name.now) }
+        ensures free { OnOk result (is_taken (bound_value self.now) name.now ≡ false) }
     {
         if self.is_taken(name) {
             Err(LineFault::Number(NAME_TWICE))
@@ -219,6 +222,7 @@ impl Bound {
         ensures place { ReadsValue (λ place. place) result (place_for (bound_value self.now) name.now (option_copied holder.entry)) }
         ensures within { IfOk result (IsHolder (length (bound_value self.now).containers)) }
         ensures room { OnOk result (length (bound_value self.now).monitors < MAX_MONITORS) }
+        ensures free { OnOk result (is_taken (bound_value self.now) name.now ≡ false) }
     {
         let container = self.holder(holder)?;
         self.room_for(name)?;
@@ -235,6 +239,8 @@ impl Bound {
     ) -> Result<(), AllocError>
         requires room { length (bound_value self.old).monitors < MAX_MONITORS }
         requires formed { IsWellFormed (bound_value self.old) }
+        requires named { IsTrue (is_name form.name.now) }
+        requires free { is_taken (bound_value self.old) form.name.now ≡ false }
         requires holder { IsHolder (length (bound_value self.old).containers) container }
         requires compiles { Compiles compiled.spec compiled.table }
         ensures monitor { OnOk result (bound_value self.new ≡ with_monitor (bound_value self.old) form.entry.name.now container form.entry.scope form.entry.file.now compiled) }

@@ -95,7 +95,7 @@ pub(crate) fn in_line(
 }
 
 /// The specification in a file, with its table. A refusal or an unread file is named by the specification's file.
-#[tactic(auto, using(crate::proofs::ReachedLemmas::spec_named, crate::proofs::ReachedLemmas::file_named, crate::proofs::PossibleLemmas::spec_unread, crate::proofs::PossibleLemmas::spec_may, crate::proofs::PossibleLemmas::spec_refused))]
+#[tactic(auto, using(crate::proofs::OutcomeLemmas::fault_counted, crate::proofs::ReachedLemmas::spec_named, crate::proofs::ReachedLemmas::file_named, crate::proofs::PossibleLemmas::spec_unread, crate::proofs::PossibleLemmas::spec_may, crate::proofs::PossibleLemmas::spec_refused))]
 pub(crate) fn read_spec<S: Store>(
     alloc: Global,
     store: &mut S,

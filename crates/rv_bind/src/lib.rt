@@ -16,6 +16,8 @@ mod words;
 pub use bindings::{Bindings, Bound, BoundText, Item, Monitor, On, Test};
 pub use fault::BindFault;
 pub use files::{fetch, read_file, refused};
-pub use laws::known_files_may_come;
+pub use laws::{
+    bindings_have_numbers, display_names_differ, fronts_decide, known_files_may_come, the_lines,
+};
 pub use limits::{MAX_CONTAINERS, MAX_MONITORS, MAX_RULES, TEXT_LIMIT, limits_are_numerals};
 pub use reader::{read_bindings, read_bindings_with_text};

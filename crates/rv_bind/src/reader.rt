@@ -1,13 +1,14 @@
 //! From a bindings file, and the files that it names, to bindings with tables.
-ghost use Rattle.std.specs.Prelude.{IfOk, OnOk};
+ghost use Rattle.std.specs.Prelude.{IfOk, IsTrue, OnOk};
 ghost use Rattle.rv_text.specs.TextLines.{line_text, lines_of};
+ghost use Rattle.rv_bind.specs.LineWords.{is_name};
 ghost use Rattle.rv_bind.specs.inner.LineReads.{ReadsValue};
 ghost use Rattle.rv_bind.specs.Outcomes.{ReadsOutcome};
 ghost use Rattle.rv_bind.specs.Bound.{bound_of, compiled_in, compiled_by, line_bound, lines_bound, nothing_bound, form_in, form_by, form_bound};
 ghost use Rattle.rv_bind.specs.BoundTexts.{MayBoundText, bound_text_of, bound_text_value};
 ghost use Rattle.rv_bind.specs.Possible.{MayBound, MayCome, MayFind, MayLine, MayLines};
 ghost use Rattle.rv_bind.specs.BoundViews.{bound_value};
-ghost use Rattle.rv_bind.specs.inner.FormViews.{form_value, monitor_said};
+ghost use Rattle.rv_bind.specs.inner.FormViews.{IsNamed, form_value, monitor_said};
 ghost use Rattle.rv_bind.specs.WellFormed.{IsWellFormed};
 
 use crate::bindings::{Bound, BoundText};
@@ -48,7 +49,7 @@ pub fn read_bindings_with_text<S: Store>(
 }
 
 /// The bindings that the lines of a text make, or the first fault, with the file `here` where it is a line's.
-#[tactic(auto, using(crate::proofs::ReachedLemmas::lines_begin, crate::proofs::ReachedLemmas::rest_named, crate::proofs::PossibleLemmas::lines_may))]
+#[tactic(auto, using(crate::proofs::OutcomeLemmas::behind_counted, crate::proofs::ReachedLemmas::lines_begin, crate::proofs::ReachedLemmas::rest_named, crate::proofs::PossibleLemmas::lines_may))]
 fn bind_lines<S: Store>(
     alloc: Global,
     store: &mut S,
@@ -69,7 +70,8 @@ fn bind_lines<S: Store>(
 
 /// The form of a line. One that ends past the limit has none, whatever it says.
 fn form_in<'a>(alloc: Global, line: &TextLine<'a>) -> Result<Form<'a>, LineFault>
-    ensures { ReadsValue form_value result (form_in (line_text line.now)) }
+    ensures reads { ReadsValue form_value result (form_in (line_text line.now)) }
+    ensures named { IfOk result (λ form. IsNamed (form_value form)) }
 {
     if line.end > TEXT_LIMIT {
         return Err(SYNTAX);
@@ -98,7 +100,7 @@ fn bind_line<S: Store>(
 }
 
 /// Adds what a form says to the bindings, or gives its fault with the file `here` and the line.
-#[tactic(auto, using(crate::proofs::NumberLemmas::container_numbered, crate::proofs::NumberLemmas::rule_numbered, crate::proofs::NumberLemmas::change_numbered, crate::proofs::NumberLemmas::begin_numbered, crate::proofs::OutcomeLemmas::line_comes, crate::proofs::OutcomeLemmas::line_done, crate::proofs::PossibleLemmas::line_may, crate::proofs::PossibleLemmas::nothing_may, crate::proofs::ReachedLemmas::line_named))]
+#[tactic(auto, using(crate::proofs::NumberLemmas::container_numbered, crate::proofs::NumberLemmas::rule_numbered, crate::proofs::NumberLemmas::change_numbered, crate::proofs::NumberLemmas::begin_numbered, crate::proofs::OutcomeLemmas::line_comes, crate::proofs::OutcomeLemmas::line_done, crate::proofs::OutcomeLemmas::none_counted, crate::proofs::PossibleLemmas::line_may, crate::proofs::PossibleLemmas::nothing_may, crate::proofs::ReachedLemmas::line_named))]
 fn bind_form<S: Store>(
     alloc: Global,
     store: &mut S,
@@ -107,7 +109,8 @@ fn bind_form<S: Store>(
     bound: &mut Bound,
     form: Form<'_>,
 ) -> Result<(), BindFault>
-    requires { IsWellFormed (bound_value bound.old) }
+    requires formed { IsWellFormed (bound_value bound.old) }
+    requires named { IsNamed (form_value form) }
     ensures formed { OnOk result (IsWellFormed (bound_value bound.new)) }
     ensures reads { ReadsOutcome (λ done. bound_value bound.new) (S.files store.old) (S.files store.new) (S.faults store.old) (S.faults store.new) result (λ files. form_bound files here.now line (bound_value bound.old) (form_value form.entry)) }
     ensures some { MayCome (λ done. bound_value bound.new) result (MayFind (λ text. form_by (compiled_by text) here.now line (bound_value bound.old) (form_value form.entry))) }
@@ -129,7 +132,7 @@ fn bind_form<S: Store>(
 }
 
 /// Adds a monitor to the bindings. Its specification is read only where there is room for it.
-#[tactic(auto, using(crate::proofs::NumberLemmas::place_numbered, crate::proofs::OutcomeLemmas::line_fault, crate::proofs::PossibleLemmas::fault_may, crate::proofs::PossibleLemmas::monitor_may, crate::proofs::PossibleLemmas::monitor_fails, crate::proofs::ReachedLemmas::line_named, crate::proofs::ReachedLemmas::monitor_named))]
+#[tactic(auto, using(crate::proofs::NumberLemmas::place_numbered, crate::proofs::OutcomeLemmas::line_fault, crate::proofs::OutcomeLemmas::none_counted, crate::proofs::OutcomeLemmas::fault_counted, crate::proofs::PossibleLemmas::fault_may, crate::proofs::PossibleLemmas::monitor_may, crate::proofs::PossibleLemmas::monitor_fails, crate::proofs::ReachedLemmas::line_named, crate::proofs::ReachedLemmas::monitor_named))]
 fn bind_monitor<S: Store>(
     alloc: Global,
     store: &mut S,
@@ -138,7 +141,8 @@ fn bind_monitor<S: Store>(
     bound: &mut Bound,
     form: MonitorForm<'_>,
 ) -> Result<(), BindFault>
-    requires { IsWellFormed (bound_value bound.old) }
+    requires formed { IsWellFormed (bound_value bound.old) }
+    requires named { IsTrue (is_name form.name.now) }
     ensures formed { OnOk result (IsWellFormed (bound_value bound.new)) }
     ensures reads { ReadsOutcome (λ done. bound_value bound.new) (S.files store.old) (S.files store.new) (S.faults store.old) (S.faults store.new) result (λ files. monitor_said (compiled_in files) here.now line (bound_value bound.old) form.entry) }
     ensures some { MayCome (λ done. bound_value bound.new) result (MayFind (λ text. monitor_said (compiled_by text) here.now line (bound_value bound.old) form.entry)) }

@@ -67,7 +67,7 @@ module _ {k : Setup} (slots id : ℕ) {number end : ℕ} {me : Ours} (u : IsUsab
       let low = opens.0 in
       at-slot (λ _. first) End slot at (makes k slots id me (End slot) (λ _. first) (may k number end me (End slot) u setup inside low tt tt) (λ n _. (opens.1, omega arith)))
 
-  -- a stop, which three lost tries have earned
+  -- a stop, which three lost tries justify
   pub stops : (slot : ℕ) {place : ℕ} → place ≡ place_in k (slot + 1) → slot < sum k.shape → LostThrice slot me.0.part.number me.0.part.seen → Allows (KeptPlainly k) slots id me place (λ _. 0) (IsStopStep (step slots place 0 0 none) me)
   stops slot at inside lost =
       at-slot (λ _. 0) Stop slot at

@@ -21,12 +21,12 @@ use Rattle.rv_board.proofs.Knowing.{knows_own, known_is}
 use Rattle.rv_board.proofs.KeepLemmas.{CanMake}
 use Rattle.rv_board.proofs.SoundLemmas.{sound-empty}
 
--- only a Stop has to be earned
+-- only a Stop has to be justified
 abbrev pub IsCalm : Act → Type 0
 IsCalm (Stop slot) = ⊥
 IsCalm _ = Unit {0}
 
--- what is calm is earned by nothing
+-- what is calm needs no justification
 calm : (seat : ℕ) (act : Act) (history : List Entry) → IsCalm act → IsJustifiedBy act seat history
 calm seat (Stop slot) history h = absurd h
 calm seat (Deliver slot hit) history h = tt

@@ -36,7 +36,7 @@ raced_longer p seat slot history rest own quiet t = record {
   three = let three = t.three in let both = filter_append slot t.since rest in omega arith;
 }
 
--- what an act has earned it keeps, whatever others added since
+-- what justifies an act goes on to justify it, whatever others added since
 earned_longer : (p : ℕ → Bool) (seat : ℕ) (act : Act) (history rest : List Entry) → p seat ≡ true → entries_of p rest ≡ [] → IsJustifiedBy act seat history → IsJustifiedBy act seat (history ++ rest)
 earned_longer p seat (Stop slot) history rest own quiet t = raced_longer p seat slot history rest own quiet t
 earned_longer p seat (Deliver slot hit) history rest own quiet t = tt

@@ -1,6 +1,9 @@
+pub mod AgainLemmas
+pub mod BitLemmas
 pub mod EffectLemmas
 pub mod JoinedLemmas
 pub mod OrderLemmas
+pub mod ReadBackLemmas
 pub mod ScriptFront
 pub mod ScriptLemmas
 pub mod SetLemmas

@@ -39,7 +39,7 @@ abbrev pub has_line : ControlValue → Bool → Item → Bool
 has_line tree true item = is_enabled tree item
 has_line tree false item = true
 
--- the line with the shown name of a container or a monitor, where it is listed
+-- the line with the display name of a container or a monitor, where it is listed
 abbrev pub name_line : ControlValue → Bool → Item → List ℕ
 name_line tree enabled item = if has_line tree enabled item then item_display_name tree item ++ line_end else []
 

@@ -5,3 +5,4 @@ pub mod Paths
 pub mod Scripts
 pub mod Sets
 pub mod Trees
+pub mod Writes

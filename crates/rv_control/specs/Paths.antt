@@ -43,11 +43,11 @@ outer_named tree name = item_or (container_named tree name) (monitor_item tree N
 abbrev pub inner_named : ControlValue → List ℕ → List ℕ → Option Item
 inner_named tree container name = option_and_then (λ place. monitor_item tree (Some place) name) (container_named tree container)
 
--- the monitor's shown name is this one
+-- the monitor's display name is this one
 abbrev pub has_display_name : ControlValue → List ℕ → MonitorInfo → Bool
 has_display_name tree name m = bytes_eq (display_name tree.containers m.container m.name) name
 
--- a container, or a monitor by its shown name
+-- a container, or a monitor by its display name
 abbrev pub item_named : ControlValue → List ℕ → Option Item
 item_named tree name = item_or (container_named tree name) (option_map items.Monitor (position (has_display_name tree name) tree.monitors))
 

@@ -22,7 +22,7 @@ pub record IsControl (tree : ControlValue) : Type 0 where
 
 -- ---- names
 
--- the shown name of a monitor, and an empty one where there is no monitor
+-- the display name of a monitor, and an empty one where there is no monitor
 abbrev pub monitor_display_name : ControlValue → Option MonitorInfo → List ℕ
 monitor_display_name tree None = []
 monitor_display_name tree (Some m) = display_name tree.containers m.container m.name

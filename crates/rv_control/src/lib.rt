@@ -2,6 +2,7 @@
 #![tactic(auto)]
 
 mod control;
+mod laws;
 mod limits;
 mod opening;
 mod orders;
@@ -13,6 +14,10 @@ mod watched;
 mod writes;
 
 pub use control::Control;
+pub use laws::{
+    front_decides, second_writes_change_nothing, the_cleared_go_on, the_named_alone_are_on,
+    writes_are_read_back,
+};
 pub use limits::limits_are_numerals;
 pub use opening::opening_switches;
 pub use paths::is_joined;

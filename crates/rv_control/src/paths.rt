@@ -209,7 +209,7 @@ impl Control {
         }
     }
 
-    /// Whether the monitor's shown name is this one.
+    /// Whether the monitor's display name is this one.
     fn has_display_name(&self, monitor: &MonitorInfo, name: &[u8]) -> bool
         ensures { result ≡ has_display_name self.now name.now monitor.now }
     {
@@ -219,7 +219,7 @@ impl Control {
         }
     }
 
-    /// The place of the monitor of this shown name.
+    /// The place of the monitor of this display name.
     fn monitor_displayed(&self, name: &[u8]) -> Option<usize>
         ensures value { result ≡ position (has_display_name self.now name.now) self.now.monitors }
         ensures within { IfSome result (λ place. place < 32) }
@@ -229,7 +229,7 @@ impl Control {
             .position(|monitor| self.has_display_name(monitor, name))
     }
 
-    /// The container of this name, or the monitor of this shown name.
+    /// The container of this name, or the monitor of this display name.
     pub(crate) fn item_named(&self, name: &[u8]) -> Option<Item>
         ensures { result ≡ item_named self.now name.now }
     {

@@ -1,5 +1,5 @@
 -- From what the readers of the two files answer to what their texts come to.
-use Rattle.std.proofs.Common.{◌≡◌, ℕ, ◌≤◌, List, [], ◌∷◌, refl, sym, inl, inr}
+use Rattle.std.proofs.Common.{◌≡◌, ℕ, List, [], ◌∷◌, refl, sym, inl, inr}
 use Rattle.std.specs.Prelude.{Option, Some, None, Err, option_map}
 use Rattle.rv_text.specs.declared.refusals.Refusal.{Refusal}
 use Rattle.rv_text.specs.TextLines.{LineText, lines_of}
@@ -11,6 +11,7 @@ use Rattle.rv_bind.specs.BoundTexts.{BoundTextValue, bound_text_of, text_bound}
 use Rattle.rv_bind.specs.FilePieces.{FailsAs}
 use Rattle.rv_bind.specs.Outcomes.{Outcome, accepted, refused, missing, reading, of_name, of_text, files_without, ReadsOutcome}
 use Rattle.rv_bind.specs.Values.{BoundValue}
+use Rattle.rv_bind.proofs.OutcomeLemmas.{fault_counted}
 use Rattle.rv_bind.proofs.ReachedLemmas.{IsLocal, line-local, of_name-local, reading-local}
 use Rattle.rv_bind.proofs.ReadsLemmas.{behind_reads, later_reads, same_reads, step_reads}
 use Rattle.rv_route.specs.Routing.{RoutedValue}
@@ -35,16 +36,16 @@ module _ {Y W : Type 0} (made : Y → W) where
   -- so its fault is the outcome's
   pub fault_before : {X : Type 0} (view : X → W) (told left : Option Files) (before now : ℕ) (fault : BindFault) (outcome : Files → Outcome Y)
       → ReadsOutcome view told left before now (Err fault) (λ files. reading (outcome files) (λ y. accepted (made y))) → ReadsOutcome (λ (y : Y). y) told left before now (Err fault) outcome
-  fault_before view told left before now faults.Memory outcome reads = record { kept = reads.kept; later = reads.later; value = tt; named = tt }
+  fault_before view told left before now faults.Memory outcome reads = record { kept = reads.kept; counts = reads.counts; value = tt; named = tt }
   fault_before view told left before now (faults.Refused file refusal) outcome reads = record {
     kept = reads.kept;
-    later = reads.later;
+    counts = reads.counts;
     value = (reads.value.0, λ files known. refused_before (outcome files) file refusal (reads.value.1 files known));
     named = tt;
   }
   fault_before view told left before now (faults.Unread file) outcome reads = record {
     kept = reads.kept;
-    later = reads.later;
+    counts = reads.counts;
     value = elim reads.value [
       | inl lacks ↦ inl (lacks.0, lacks.1, missing_before (outcome lacks.0) file lacks.2)
       | inr rose ↦ inr rose
@@ -56,7 +57,7 @@ module _ {Y W : Type 0} (made : Y → W) where
 
 -- what a reader answers to a fault is how it fails
 pub fails_as : {X Y : Type 0} (told left : Option Files) (before now : ℕ) (fault : BindFault) (outcome : Files → Outcome Y) → ReadsOutcome (λ (y : Y). y) told left before now (Err fault) outcome → FailsAs {X = X} told left before now (Err fault) outcome
-fails_as told left before now fault outcome reads = record { kept = reads.kept; later = reads.later; fault = reads.value; named = reads.named }
+fails_as {X} {Y} told left before now fault outcome reads = record { kept = reads.kept; counts = fault_counted Y X before now fault reads.counts; fault = reads.value; named = reads.named }
 
 -- ---- the text of the bindings
 
@@ -105,7 +106,7 @@ module _ (told : Option Files) (bindings trace : List ℕ) where
 
   module _ (read : BoundTextValue) (known : (files : Files) → told ≡ Some files → bound_text_of files bindings ≡ accepted read) where
     -- where the bindings were read, a fault of the trace is that of both
-    pub unrouted_fails : {X Z : Type 0} (view : Z → RoutedValue) (mid left : Option Files) (before count now : ℕ) (fault : BindFault) → mid ≡ told → before ≤ count
+    pub unrouted_fails : {X Z : Type 0} (view : Z → RoutedValue) (mid left : Option Files) (before count now : ℕ) (fault : BindFault) → mid ≡ told → count ≡ before
         → ReadsOutcome view mid left count now (Err fault) (λ files. routed_in files trace read.bound) → FailsAs {X = X} told left before now (Err fault) (λ files. texts_in files bindings trace)
     unrouted_fails view mid left before count now fault same le reads =
         fails_as told left before now fault (λ files. texts_in files bindings trace)

@@ -10,7 +10,7 @@ use Rattle.rv_bind.specs.BoundViews.{bound_value}
 use Rattle.rv_facts.specs.BindingLines.{AreLinesOf}
 use Rattle.rv_findings.specs.Whole.{coverage_status, coverage_text}
 use Rattle.rv_findings.specs.declared.coverage.Told.{Told}
-use Rattle.rv_tool.specs.Calls.{Call}
+use Rattle.rv_tool.specs.Calls.{Call, CountsNone}
 use Rattle.rv_tool.specs.Headline.{Ending, PrintsSome, PrintsText}
 use Rattle.rv_tool.specs.Inputs.{InputValue, run_of}
 use Rattle.rv_tool.specs.Opaque.{EndsOnSome}
@@ -50,10 +50,10 @@ Tells command texts = PrintsSome (IsCoverage command texts)
 
 -- what the call answers on a store that tells its files
 abbrev pub AnswersCoverage : Option CoverageCommandValue → Files → Call → Type 0
-AnswersCoverage None files c = PrintsText (refusal_text None (record { number = USAGE; line = 0 })) 2 c.end
+AnswersCoverage None files c = CountsNone c × PrintsText (refusal_text None (record { number = USAGE; line = 0 })) 2 c.end
 AnswersCoverage (Some command) files c = AnswersBy (Tells command) (λ files. texts_in files command.bindings command.trace) files c
 
 -- the same on one that does not, by what some text of each file comes to
 abbrev pub AnswersCoverageOpaque : Option CoverageCommandValue → Call → Type 0
-AnswersCoverageOpaque None c = PrintsText (refusal_text None (record { number = USAGE; line = 0 })) 2 c.end
+AnswersCoverageOpaque None c = CountsNone c × PrintsText (refusal_text None (record { number = USAGE; line = 0 })) 2 c.end
 AnswersCoverageOpaque (Some command) c = EndsOnSome (MayTexts command.bindings command.trace) (Tells command) c

@@ -41,6 +41,7 @@ pub(crate) struct Read {
 }
 
 /// Reads the bindings and the trace, each once.
+#[tactic(auto, using(rv_bind::proofs::OutcomeLemmas::fault_counted))]
 pub(crate) fn read_watched<S: Store>(
     alloc: Global,
     store: &mut S,

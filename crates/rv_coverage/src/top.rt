@@ -1,6 +1,7 @@
 //! The top call.
 ghost use Rattle.std.specs.Prelude.{◌≡◌, Some, None};
 ghost use Rattle.rv_io.specs.Files.{Files};
+ghost use Rattle.rv_bind.specs.Outcomes.{CountsFaults};
 ghost use Rattle.rv_tool.specs.Calls.{call};
 ghost use Rattle.rv_tool.specs.Words.{texts_of};
 ghost use Rattle.rv_tool.specs.inner.Commands.{ComesTo};
@@ -35,12 +36,14 @@ pub fn rv_coverage<S: Store, K: Sink>(
 }
 
 /// Reads the files and does the run. Nothing is put yet.
+#[tactic(auto, using(rv_bind::proofs::OutcomeLemmas::fault_counted, rv_bind::proofs::OutcomeLemmas::none_counted))]
 fn watched<S: Store>(
     alloc: Global,
     store: &mut S,
     command: CoverageCommand<'_>,
 ) -> Result<FinishedRun, BindFault>
     ensures kept { S.files store.new ≡ S.files store.old }
+    ensures counts { CountsFaults (S.faults store.old) (S.faults store.new) result }
     ensures comes { ComesTo (MayTexts command.entry.bindings.now command.entry.trace.now) (IsCoverage (coverage_command_value command.entry)) (λ files. texts_in files command.entry.bindings.now command.entry.trace.now) (S.files store.old) (S.faults store.old) (S.faults store.new) result }
 {
     let read = read_watched(alloc, store, command)?;

@@ -20,7 +20,7 @@ use Rattle.rv_facts.specs.Shown.{counted_fact, numbered}
 
 -- ---- a monitor
 
--- its facts by its shown name; the lines are those of the rules in the bindings
+-- its facts by its display name; the lines are those of the rules in the bindings
 unfoldable pub facts_of : List ℕ → BoundValue → List ℕ → List RuleCounts → ℕ → Monitor → MonitorCounts → List ℕ
 facts_of name b lines rules place m c =
     summary_fact name c ++ instances_fact name c ++ answers_fact name c ++ of_pairs (own_rule_facts name lines place) b.rules rules

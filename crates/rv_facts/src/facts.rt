@@ -34,7 +34,7 @@ fn put_reached_at(
     put_reached(out, name, c, &tables[place], &monitor.spec)
 }
 
-/// The facts of a monitor by its shown name.
+/// The facts of a monitor by its display name.
 #[tactic(auto, unfolding(crate::specs::Facts::facts_of))]
 fn put_facts_of(
     alloc: Global,

@@ -18,7 +18,7 @@ use Rattle.rv_findings.specs.OwnRules.{first_of, is_nothing, lines_where}
 use Rattle.rv_findings.specs.Watched.{rules_at}
 
 module _ (edges : Bool) (b : BoundValue) (lines : BindingLines) (counts : Counts) (place : ℕ) (m : Monitor) (c : MonitorCounts) where
-  -- its shown name, and its `monitor` line
+  -- its display name, and its `monitor` line
   abbrev pub name_of : List ℕ
   name_of = shown_by b.containers m.container m.name
 

@@ -107,7 +107,7 @@ halt_finding name place lines (Some halt) undelivered = found_if (halt.monitor =
 
 -- ---- all of a monitor
 
--- by its shown name, and its rules
+-- by its display name, and its rules
 unfoldable pub findings_of : List ℕ → List OwnRule → Bool → BindingLines → Counts → ℕ → Monitor → MonitorCounts → List Finding
 findings_of name own edges lines counts place m c =
     let line = slice_index lines.monitors.items place in

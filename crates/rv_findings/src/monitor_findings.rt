@@ -176,7 +176,7 @@ fn add_asked_edges(
     }
 }
 
-/// All of a monitor, by its shown name and its rules.
+/// All of a monitor, by its display name and its rules.
 #[tactic(auto, unfolding(crate::specs::MonitorFindings::findings_of))]
 fn add_findings_of(
     alloc: Global,

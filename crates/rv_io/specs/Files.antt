@@ -1,5 +1,5 @@
 -- What a store tells of its files, and what a read of it may answer.
-use Rattle.std.specs.Prelude.{◌≡◌, ◌⊎◌, ℕ, ◌+◌, ◌-◌, ◌^◌, ◌<◌, List, take, Option, Some, None, Vec, Result, Ok, Err}
+use Rattle.std.specs.Prelude.{◌≡◌, ◌⊎◌, ℕ, ◌+◌, ◌-◌, ◌^◌, List, take, Option, Some, None, Vec, Result, Ok, Err}
 use Rattle.std.specs.declared.alloc.Global.{Global}
 use Rattle.rv_io.specs.declared.store.ReadError.{ReadError}
 use Rattle.rv_io.specs.declared.store.ReadError.TheVariants.{NoFile, Failed, Memory}
@@ -9,9 +9,9 @@ use Rattle.rv_io.specs.declared.store.TheConstants.{READ_LIMIT}
 abbrev pub Files : Type 0
 Files = List ℕ → Option (List ℕ)
 
--- the count is greater than before, or at the last value of a `u64`
+-- the count is one more than before, or stands still at the last value of a `u64`
 abbrev pub Rose : ℕ → ℕ → Type 0
-Rose before now = (before < now) ⊎ (now ≡ 2 ^ 64 - 1)
+Rose before now = (now ≡ before + 1) ⊎ ((before ≡ 2 ^ 64 - 1) × (now ≡ before))
 
 -- what one read gives of a file's bytes
 unfoldable pub front_read : List ℕ → List ℕ
@@ -21,21 +21,21 @@ front_read bytes = take READ_LIMIT bytes
 abbrev pub AreAlikeTo : ℕ → List ℕ → List ℕ → Type 0
 AreAlikeTo most text other = take (most + 1) text ≡ take (most + 1) other
 
--- a read of a name where the files are told: what may be read for that file's bytes, cut, or what there is of them
+-- a read of a name where the files are told: what may be read for that file's bytes, cut, or what there is of them; a failed read alone is counted as a fault
 abbrev pub ReadsKnown : (List ℕ → List ℕ → Type 0) → Option (List ℕ) → ℕ → ℕ → Result (Vec ℕ Global) ReadError → Type 0
-ReadsKnown IsRead (Some bytes) before now (Ok read) = IsRead read.items (front_read bytes)
+ReadsKnown IsRead (Some bytes) before now (Ok read) = IsRead read.items (front_read bytes) × (now ≡ before)
 ReadsKnown IsRead None before now (Ok read) = ⊥
 ReadsKnown IsRead (Some bytes) before now (Err NoFile) = ⊥
 ReadsKnown IsRead None before now (Err NoFile) = now ≡ before
 ReadsKnown IsRead _ before now (Err Failed) = Rose before now
-ReadsKnown IsRead _ before now (Err Memory) = Unit {0}
+ReadsKnown IsRead _ before now (Err Memory) = now ≡ before
 
--- a read where the files are not told: no error without a fault, but for want of memory
+-- a read where the files are not told: no error without a fault, but for want of memory, and no fault without an error
 abbrev pub ReadsOpaque : ℕ → ℕ → Result (Vec ℕ Global) ReadError → Type 0
-ReadsOpaque before now (Ok read) = Unit {0}
+ReadsOpaque before now (Ok read) = now ≡ before
 ReadsOpaque before now (Err NoFile) = Rose before now
 ReadsOpaque before now (Err Failed) = Rose before now
-ReadsOpaque before now (Err Memory) = Unit {0}
+ReadsOpaque before now (Err Memory) = now ≡ before
 
 -- what a read of a name may answer, by what the store tells and what may be read for a file's bytes
 abbrev pub ReadsAs : (List ℕ → List ℕ → Type 0) → Option Files → List ℕ → ℕ → ℕ → Result (Vec ℕ Global) ReadError → Type 0

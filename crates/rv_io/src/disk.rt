@@ -189,7 +189,6 @@ impl<R: Files> Disk<'_, R> {
 impl<R: Files> Disk<'_, R> {
     /// The bytes of a file, at most so many.
     fn read_most(&mut self, alloc: Global, name: &str, most: usize) -> Result<Vec<u8>, ReadError>
-        ensures later { self.old ≤ self.new }
         ensures read { Reads None name.now self.old self.new result }
         ensures bound { IfOk result (λ bytes. length bytes.items ≤ most) }
         ensures same { IsOk result ⊎ IsErrOf result ReadError.Memory → self.new ≡ self.old }
@@ -213,7 +212,6 @@ impl<R: Files> Store for Disk<'_, R> {
     ghost faults = { λ d. d };
 
     fn read(&mut self, alloc: Global, name: &str) -> Result<Vec<u8>, ReadError>
-        ensures later { self.old ≤ self.new }
         ensures read { Reads None name.now self.old self.new result }
         ensures bound { IfOk result (λ bytes. length bytes.items ≤ READ_LIMIT) }
         ensures same { IsOk result ⊎ IsErrOf result ReadError.Memory → self.new ≡ self.old }
@@ -223,7 +221,6 @@ impl<R: Files> Store for Disk<'_, R> {
     }
 
     fn read_short(&mut self, alloc: Global, name: &str, most: usize) -> Result<Vec<u8>, ReadError>
-        ensures later { self.old ≤ self.new }
         ensures read { ReadsShort most None name.now self.old self.new result }
         ensures bound { IfOk result (λ bytes. length bytes.items ≤ most + 1) }
         ensures same { IsOk result ⊎ IsErrOf result ReadError.Memory → self.new ≡ self.old }
@@ -239,7 +236,6 @@ impl<R: Files> Store for Disk<'_, R> {
         from: u64,
         into: &mut [u8],
     ) -> Result<usize, ReadError>
-        ensures later { self.old ≤ self.new }
         ensures piece { ReadsPiece None name.now from into.old into.new self.old self.new result }
         ensures same { IsOk result ⊎ IsErrOf result ReadError.Memory → self.new ≡ self.old }
         ensures fault { IsErrOf result ReadError.NoFile ⊎ IsErrOf result ReadError.Failed → self.new ≡ risen self.old }

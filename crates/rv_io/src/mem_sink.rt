@@ -65,7 +65,6 @@ impl Sink for MemSink {
     ghost faults = { λ s. s.calls.faults };
 
     fn put(&mut self, bytes: &[u8]) -> Result<usize, PutFault>
-        ensures later { self.old.calls.faults ≤ self.new.calls.faults }
         ensures put { Puts (Some self.old.taken) (Some self.new.taken) self.old.calls.faults self.new.calls.faults bytes.now result }
         ensures fault { IsErr result ↔ (IsTrue (is_listed self.old.calls) ⊎ ((0 < length bytes.now) × (self.old.room ≡ 0))) }
         ensures ok { IfOk result (λ n. (n ≡ min (length bytes.now) (min self.old.most self.old.room)) × (self.new ≡ took self.old (take n bytes.now))) }

@@ -10,12 +10,11 @@ pub trait Sink {
     /// The bytes taken, where the sink tells them.
     ghost taken: { Self → Option (List ℕ) };
 
-    /// How many faults there were. The count stands still at the last value of a `u64`.
+    /// How many faults there were: each failed put is one more. The count stands still at the last value of a `u64`.
     ghost faults: { Self → ℕ };
 
     /// Takes some of the front of the piece, and says how many bytes.
     fn put(&mut self, bytes: &[u8]) -> Result<usize, PutFault>
-        ensures later { faults self.old ≤ faults self.new }
         ensures put { Puts (taken self.old) (taken self.new) (faults self.old) (faults self.new) bytes.now result };
 }
 
@@ -29,7 +28,6 @@ fn after_front(bytes: &[u8], count: usize) -> &[u8]
 
 /// Puts a whole text, in as many pieces as the sink takes it.
 pub fn put_all<K: Sink>(out: &mut K, bytes: &[u8]) -> Result<(), PutFault>
-    ensures later { K.faults out.old ≤ K.faults out.new }
     ensures put { PutsWhole (K.taken out.old) (K.taken out.new) (K.faults out.old) (K.faults out.new) bytes.now result }
 {
     let mut rest = bytes;

@@ -1,5 +1,5 @@
 //! Standard output: the trusted edge, so as little as can be.
-ghost use Rattle.std.specs.Prelude.{◌≡◌, ◌≤◌, None, OnOk, OnErr};
+ghost use Rattle.std.specs.Prelude.{◌≡◌, None, OnOk, OnErr};
 ghost use Rattle.rv_io.specs.Calls.{risen};
 ghost use Rattle.rv_io.specs.Taken.{Puts};
 
@@ -36,7 +36,6 @@ impl<R: Print> Sink for Stdout<'_, R> {
     ghost faults = { λ s. s };
 
     fn put(&mut self, bytes: &[u8]) -> Result<usize, PutFault>
-        ensures later { self.old ≤ self.new }
         ensures put { Puts None None self.old self.new bytes.now result }
         ensures ok { OnOk result (self.new ≡ self.old) }
         ensures err { OnErr result (self.new ≡ risen self.old) }

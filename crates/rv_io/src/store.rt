@@ -1,5 +1,5 @@
 //! What gives files by their names.
-ghost use Rattle.std.specs.Prelude.{◌≡◌, ◌≤◌, ℕ, Option};
+ghost use Rattle.std.specs.Prelude.{◌≡◌, ℕ, Option};
 ghost use Rattle.rv_io.specs.Files.{Files, Reads, ReadsShort};
 ghost use Rattle.rv_io.specs.Pieces.{ReadsPiece};
 
@@ -26,20 +26,18 @@ pub trait Store {
     /// The bytes of each name that there is, where the store tells them.
     ghost files: { Self → Option Files };
 
-    /// How many faults there were. The count stands still at the last value of a `u64`.
+    /// How many faults there were: each failed call is one more. The count stands still at the last value of a `u64`.
     ghost faults: { Self → ℕ };
 
     /// A file's bytes, cut after `READ_LIMIT` of them.
     fn read(&mut self, alloc: Global, name: &str) -> Result<Vec<u8>, ReadError>
         ensures kept { files self.new ≡ files self.old }
-        ensures later { faults self.old ≤ faults self.new }
         ensures read { Reads (files self.old) name.now (faults self.old) (faults self.new) result };
 
     /// The same for one who looks no further than one byte past `most`: only up to that byte are they as `read` gives
     /// them.
     fn read_short(&mut self, alloc: Global, name: &str, most: usize) -> Result<Vec<u8>, ReadError>
         ensures kept { files self.new ≡ files self.old }
-        ensures later { faults self.old ≤ faults self.new }
         ensures read { ReadsShort most (files self.old) name.now (faults self.old) (faults self.new) result }
     {
         let _ = most;
@@ -56,6 +54,5 @@ pub trait Store {
         into: &mut [u8],
     ) -> Result<usize, ReadError>
         ensures kept { files self.new ≡ files self.old }
-        ensures later { faults self.old ≤ faults self.new }
         ensures piece { ReadsPiece (files self.old) name.now from into.old into.new (faults self.old) (faults self.new) result };
 }

@@ -61,7 +61,7 @@ module _ {k : Setup} (slots id : ℕ) {number end left : ℕ} {me : Ours} (c : I
   counted-exchanges slot old {new} hit at some_left low fits bits below is =
       let room = c.room in tries k slots id me slot old new hit at low (may k number end me (Deliver slot hit) c.usable setup (low, fits) bits tt tt) (omega arith) below is
 
-  -- a stop, which three lost tries have earned
+  -- a stop, which three lost tries justify
   pub counted-stops : {u : View} (slot : ℕ) {lost raw place : ℕ} → place ≡ place_in k (slot + 1) → 0 < left → slot < sum k.shape → u.part.number < u.part.end → 3 ≤ lost → LostCounted u me.0 slot lost raw
       → Allows (KeptCounted k) slots id me place (λ n. bit_and n 4294967295) (IsCountedStop (step slots place 4294967295 0 none) me)
   counted-stops {u} slot {lost} {raw} at some_left low has three l =

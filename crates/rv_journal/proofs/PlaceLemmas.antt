@@ -89,7 +89,7 @@ look-fits s seat history k acts = let is = sym (switches-are s history k acts) i
 
 -- ---- Stops
 
--- a Stop of an item is earned where the seat's last entry comes early enough
+-- a Stop of an item is justified where the seat's last entry comes early enough
 pub earned-there : (s : Setup) (before history : List Entry) (c : Counted) → IsKnownItem s before c → changes_on (slot_in c.entry.act) before ≡ changes_on (slot_in c.entry.act) history
     → ((slot : ℕ) → c.entry.act ≡ Stop slot → LastBy slot c.entry.seat c.first history) → IsJustifiedBy c.entry.act c.entry.seat history
 earned-there s before history c t many last = by c.entry.act refl
@@ -113,7 +113,7 @@ earned-there s before history c t many last = by c.entry.act refl
         let few = l.few in
         record { until = l.until; since = l.since; is = l.is; none = l.none; three = omega arith }
 
--- an item's act is held
+-- an item's act is permitted
 pub held-item : (act : Act) (seat : ℕ) → IsItemAct act → IsPermittedTo act seat
 held-item act seat = by-item (λ (a : Act). IsPermittedTo a seat) (λ slot hit. tt) (λ slot. tt) act
 

@@ -157,7 +157,7 @@ module _ (s : Setup) (whole : List Counted) (lanes : Lanes) (observed : AreKnown
           ap items_of (others l ne) ∙ (u.left l lt ∙ ap items_in (ap (filter (is_left (lanes.seat l))) first.is ∙ (left-other (lanes.seat l) first.front first.back c off ∙ sym (left-placed (lanes.seat l) first.front first.back c))))
     ]
 
-    -- a Stop of it is earned
+    -- a Stop of it is justified
     earned_is : (slot : ℕ) → c.entry.act ≡ Stop slot → LastBy slot c.entry.seat c.first history
     earned_is slot is = subst (λ (n : ℕ). LastBy slot n c.first history) (sym first.own) ((subst (NextIsJustified (lanes.seat m) history) at (u.justified m low)) slot is)
 

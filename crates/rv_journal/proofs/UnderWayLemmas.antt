@@ -160,13 +160,13 @@ module _ (s : Setup) (lanes : Lanes) where
       | inr ne ↦ subst (λ (z : List MergeStep). held_by slot r z ≡ 0) (sym (others l ne)) (old slot r lt l low')
     ]
 
-    -- an earned next step of another lane stays so
+    -- a justified next step of another lane stays so
     earned-other : (n : ℕ) (xs : List MergeStep) → e.seat ≢ n → NextIsJustified n history xs → NextIsJustified n next xs
     earned-other n [] other x = tt
     earned-other n (TurnLook ∷ xs) other x = tt
     earned-other n (Item d ∷ xs) other x = λ slot is. last-longer slot n d.first history e other (x slot is)
 
-    -- and that of this lane is earned, since it was held
+    -- and that of this lane is justified, since it was held
     earned-own : ((slot r : ℕ) → r < changes_on slot next → held_by slot r (step ∷ steps) ≡ 0) → (xs : List MergeStep) → steps ≡ xs → NextIsJustified (seat m) next xs
     earned-own old [] is = tt
     earned-own old (TurnLook ∷ xs) is = tt
@@ -181,7 +181,7 @@ module _ (s : Setup) (lanes : Lanes) where
             decide : (a b : ℕ) → (a ≤ b) ⊎ (b < a)
             decide a b = grind arith
 
-    -- so the next step of each lane is earned
+    -- so the next step of each lane is justified
     pub earned-next : ((slot r : ℕ) → r < changes_on slot next → (l : ℕ) → l < many → held_by slot r (rest l) ≡ 0) → ((l : ℕ) → l < many → NextIsJustified (seat l) history (rest l)) → (l : ℕ) → l < many → NextIsJustified (seat l) next (rest' l)
     earned-next old all l lt = elim (same_or_other l) [
       | inl is ↦ subst (λ (k : ℕ). NextIsJustified (seat k) next (rest' k)) (sym is) (subst (NextIsJustified (seat m) next) (sym here)

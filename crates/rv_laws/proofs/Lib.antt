@@ -6,8 +6,11 @@ pub mod CpuJoinLemmas
 pub mod CpuLemmas
 pub mod CpuPartLemmas
 pub mod EnabledLemmas
+pub mod EdgeLemmas
 pub mod ExitLemmas
+pub mod FailedStateLemmas
 pub mod FilterLemmas
+pub mod IdleLemmas
 pub mod InstanceLemmas
 pub mod JoinLemmas
 pub mod JoinedReportLemmas
@@ -36,5 +39,6 @@ pub mod StepLemmas
 pub mod StopLemmas
 pub mod SumLemmas
 pub mod SwitchLemmas
+pub mod UnclearedLemmas
 pub mod VerdictLemmas
 pub mod WholeLemmas

@@ -151,28 +151,45 @@ pub record IsByOwner (shape : List ℕ) (slot : ℕ) (works : List Work) (e : En
   pub by : IsBy works e
   pub named : is_named shape slot by.work.deliveries ≡ true
 
-module _ (input : Input) (js : List Judge) (h : List Entry) (legal : IsLegal input js h) (still : input.changes ≡ []) where
-  -- without changes every entry is a CPU's
-  pub by-cpu : (before : List Entry) (e : Entry) (after : List Entry) → h ≡ before ++ e ∷ after → IsBy input.works e
-  by-cpu before e after eq = elim (legal.nobody_else before e after eq) [
-    | inl control ↦
-        let none : acts_of 1 h ≡ [] = legal.control ∙ rw still refl in
-        absurd (acts-none 1 before e after control (rw (← eq) none))
+module _ (input : Input) (js : List Judge) (h : List Entry) (legal : IsLegal input js h) where
+  -- an entry that is not the control actor's is a CPU's
+  by-other : (before : List Entry) (e : Entry) (after : List Entry) → h ≡ before ++ e ∷ after → ¬ (e.seat ≡ 1) → IsBy input.works e
+  by-other before e after eq other = elim (legal.nobody_else before e after eq) [
+    | inl control ↦ absurd (other control)
     | inr any ↦ record { work = any.1; has = (any.0, any.2, any.3); seat = any.4 }
   ]
 
   -- a work's script
-  pub plays : (w : Work) → Contains input.works w → Plays input.setup input.panics w (played input.setup js (2 + w.cpu) (reverse h))
-  plays w has = All-contains (λ w. Plays input.setup input.panics w (played input.setup js (2 + w.cpu) (reverse h))) input.works w legal.cpus has
+  script-of : (w : Work) → Contains input.works w → Plays input.setup input.panics w (played input.setup js (2 + w.cpu) (reverse h))
+  script-of w has = All-contains (λ w. Plays input.setup input.panics w (played input.setup js (2 + w.cpu) (reverse h))) input.works w legal.cpus has
 
-  -- an entry on a slot is by a CPU that has a delivery for it
-  pub by-owner : (slot : ℕ) (before : List Entry) (e : Entry) (after : List Entry) → h ≡ before ++ e ∷ after → is_on slot e.act ≡ true → IsByOwner input.setup.shape slot input.works e
-  by-owner slot before e after eq on =
-      let by = by-cpu before e after eq in
+  -- an entry on a slot that is not the control actor's is by a CPU that has a delivery for it
+  pub owner-of : (slot : ℕ) (before : List Entry) (e : Entry) (after : List Entry) → h ≡ before ++ e ∷ after → ¬ (e.seat ≡ 1) → is_on slot e.act ≡ true → IsByOwner input.setup.shape slot input.works e
+  owner-of slot before e after eq other on =
+      let by = by-other before e after eq other in
       let w : Work = by.work in
       let cut = played-cut input.setup js (2 + w.cpu) before e after by.seat in
       let so_far : List Played = played input.setup js (2 + w.cpu) (reverse before) in
       let a : Answer = answer_at input.setup js (reverse before) e e.act in
       let whole : played input.setup js (2 + w.cpu) (reverse h) ≡ so_far ++ (e, a) ∷ cut.0 = ap (λ (z : List Entry). played input.setup js (2 + w.cpu) (reverse z)) eq ∙ cut.1 in
-      let script = subst (Plays input.setup input.panics w) whole (plays w by.has) in
+      let script = subst (Plays input.setup input.panics w) whole (script-of w by.has) in
       record { by = by; named = plays-named input.setup input.panics slot w so_far (e, a) cut.0 script on }
+
+  module _ (still : input.changes ≡ []) where
+    -- without changes the control actor has no entry
+    not-control : (before : List Entry) (e : Entry) (after : List Entry) → h ≡ before ++ e ∷ after → ¬ (e.seat ≡ 1)
+    not-control before e after eq control =
+        let none : acts_of 1 h ≡ [] = legal.control ∙ rw still refl in
+        acts-none 1 before e after control (rw (← eq) none)
+
+    -- without changes every entry is a CPU's
+    pub by-cpu : (before : List Entry) (e : Entry) (after : List Entry) → h ≡ before ++ e ∷ after → IsBy input.works e
+    by-cpu before e after eq = by-other before e after eq (not-control before e after eq)
+
+    -- and each work's script is there
+    pub plays : (w : Work) → Contains input.works w → Plays input.setup input.panics w (played input.setup js (2 + w.cpu) (reverse h))
+    plays = script-of
+
+    -- an entry on a slot is by a CPU that has a delivery for it
+    pub by-owner : (slot : ℕ) (before : List Entry) (e : Entry) (after : List Entry) → h ≡ before ++ e ∷ after → is_on slot e.act ≡ true → IsByOwner input.setup.shape slot input.works e
+    by-owner slot before e after eq = owner-of slot before e after eq (not-control before e after eq)

@@ -4,9 +4,11 @@ use Rattle.std.specs.Prelude.{filter}
 use Rattle.rv_model.specs.declared.entry.Act.{Act}
 use Rattle.rv_model.specs.declared.entry.Act.TheVariants.{Deliver, Stop, Look, Raise, Lower, Clear, End}
 use Rattle.rv_model.specs.declared.entry.Entry.{Entry}
-use Rattle.rv_model.specs.Histories.{IsNoStop, IsJustifiedBy, LostThrice, NoneOf, is_on, changed}
-use Rattle.rv_laws.specs.SingleWriter.{SingleWriterHasNoStop, AllSingleWriterHaveNoStop}
-use Rattle.rv_laws.proofs.OwnerLemmas.{by-owner}
+use Rattle.rv_model.specs.Cuts.{AtEach}
+use Rattle.rv_model.specs.Histories.{Input, IsLegal, IsNoStop, IsJustifiedBy, LostThrice, NoneOf, is_on, changed}
+use Rattle.rv_model.specs.Judging.{Judge}
+use Rattle.rv_laws.specs.SingleWriter.{HasOneWriter, SingleWriterHasNoStop, AllSingleWriterHaveNoStop}
+use Rattle.rv_laws.proofs.OwnerLemmas.{IsByOwner, by-owner}
 
 -- an entry of another seat that changed the slot
 record ChangedByOther (slot seat : ℕ) (h : List Entry) : Type 0 where
@@ -43,24 +45,29 @@ cut-since h before until since front back after e f eq is at =
 same-seat : (n m seat other : ℕ) → seat ≡ 2 + n → other ≡ 2 + m → n ≡ m → other ≡ seat
 same-seat n m seat other is other_is same = omega arith
 
--- nothing stops a slot of one CPU alone
-pub lone_has_no_stop : SingleWriterHasNoStop
-lone_has_no_stop input js h slot legal still one_writer before e after eq stop =
+-- where each entry on a slot of one CPU alone is by a CPU that has a delivery for it, nothing stops the slot
+pub owned-has-no-stop : (input : Input) (js : List Judge) (h : List Entry) (slot : ℕ) → IsLegal input js h → HasOneWriter input.setup.shape input.works slot
+    → AtEach (λ before e. is_on slot e.act ≡ true → IsByOwner input.setup.shape slot input.works e) h → AtEach (λ before e. ¬ (e.act ≡ Stop slot)) h
+owned-has-no-stop input js h slot legal one_writer owned before e after eq stop =
     let lost : LostThrice slot e.seat before = subst (λ (a : Act). IsJustifiedBy a e.seat before) stop (legal.sound.justified before e after eq) in
     let three = lost.three in
     let c = some-other slot e.seat lost.since (omega arith) lost.none in
     let front : List Entry = lost.until ++ c.front in
     let whole = cut-since h before lost.until lost.since c.front c.back after e c.entry eq lost.is c.is in
     let here : (slot == slot) ≡ true = grind arith in
-    let mine = by-owner input js h legal still slot before e after eq (ap (is_on slot) stop ∙ here) in
-    let theirs = by-owner input js h legal still slot front c.entry (c.back ++ e ∷ after) whole c.on in
+    let mine = owned before e after eq (ap (is_on slot) stop ∙ here) in
+    let theirs = owned front c.entry (c.back ++ e ∷ after) whole c.on in
     let cpu = one_writer mine.by.work theirs.by.work mine.by.has theirs.by.has mine.named theirs.named in
     let seats = same-seat mine.by.work.cpu theirs.by.work.cpu e.seat c.entry.seat mine.by.seat theirs.by.seat cpu in
     let same : (c.entry.seat == e.seat) ≡ true = grind arith in
     let no : true ≡ false = sym same ∙ c.other in cc
 
+-- nothing stops a slot of one CPU alone
+pub lone_has_no_stop : SingleWriterHasNoStop
+lone_has_no_stop input js h slot legal still one_writer = owned-has-no-stop input js h slot legal one_writer (by-owner input js h legal still slot)
+
 -- an act that stops no slot is no Stop
-no-stop-by-slot : (act : Act) → ((slot : ℕ) → ¬ (act ≡ Stop slot)) → IsNoStop act
+pub no-stop-by-slot : (act : Act) → ((slot : ℕ) → ¬ (act ≡ Stop slot)) → IsNoStop act
 no-stop-by-slot (Deliver _ _) none = tt
 no-stop-by-slot (Stop slot) none = none slot refl
 no-stop-by-slot Look none = tt

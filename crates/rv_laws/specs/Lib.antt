@@ -1,5 +1,7 @@
+pub mod Changes
 pub mod CpuParts
 pub mod Exits
+pub mod FailedStates
 pub mod Joins
 pub mod SingleWriter
 pub mod Parts

@@ -1,5 +1,6 @@
 //! Laws of the definitions, each the contract of a call that does nothing.
 ghost use Rattle.rv_laws.specs.SingleWriter.{SingleWriterHasNoStop, AllSingleWriterHaveNoStop, AllSingleWriterGiveNoSix, CpuSlotsHaveOneWriter, AllByCpuHaveOneWriter};
+ghost use Rattle.rv_laws.specs.Changes.{UnclearedHasNoStop, AllUnclearedHaveNoStop, AllUnclearedGiveNoSix, IdleScriptIsNone};
 ghost use Rattle.rv_laws.specs.Exits.{StatusIsSeen};
 ghost use Rattle.rv_laws.specs.CpuParts.{CpuWorkIsPart, CpuWorksAreParts};
 ghost use Rattle.rv_laws.specs.Parts.{PartHasItsRecords};
@@ -12,6 +13,18 @@ pub fn single_writer_slots_are_not_stopped()
     ensures slot { SingleWriterHasNoStop }
     ensures all { AllSingleWriterHaveNoStop }
     ensures status { AllSingleWriterGiveNoSix }
+{}
+
+/// Beside a control script, nobody stops such a slot of a monitor that the script never clears.
+pub fn uncleared_slots_are_not_stopped()
+    ensures slot { UnclearedHasNoStop }
+    ensures all { AllUnclearedHaveNoStop }
+    ensures status { AllUnclearedGiveNoSix }
+{}
+
+/// A control script that asks for no change is none.
+pub fn idle_scripts_are_none()
+    ensures { IdleScriptIsNone }
 {}
 
 /// Only one CPU has deliveries for a slot of a monitor whose instances are the CPUs.

@@ -4,6 +4,7 @@ pub mod ChainSteps
 pub mod Coded
 pub mod Collecting
 pub mod Complete
+pub mod CutLaws
 pub mod Cutting
 pub mod Cycle
 pub mod Elements
@@ -25,6 +26,8 @@ pub mod Ruling
 pub mod Running
 pub mod Settling
 pub mod Sound
+pub mod TextLaws
+pub mod TokenLaws
 pub mod TokenSteps
 pub mod Values
 pub mod WeightLaws

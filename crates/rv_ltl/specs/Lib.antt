@@ -9,4 +9,6 @@ pub mod Replace
 pub mod Reach
 pub mod Atoms
 pub mod RuleFile
+pub mod Cuts
+pub mod Spelling
 pub mod inner

@@ -21,5 +21,5 @@ mod weighing;
 mod weight;
 mod words;
 
-pub use laws::{atoms_are_reached, cycles, the_grammar};
+pub use laws::{atoms_are_reached, cycles, the_grammar, the_text};
 pub use reading::read_ltl;

@@ -48,12 +48,12 @@ pub record LostThrice (slot seat : ℕ) (before : List Entry) : Type 0 where
   pub none : NoneOf seat since
   pub three : 3 ≤ length (filter (changed slot) since)
 
--- a Stop is earned where three entries changed the slot since the seat acted last; no other act has to be
+-- a Stop is justified where three entries changed the slot since the seat acted last; no other act has to be
 abbrev pub IsJustifiedBy : Act → ℕ → List Entry → Type 0
 IsJustifiedBy (Stop slot) seat before = LostThrice slot seat before
 IsJustifiedBy _ seat before = Unit {0}
 
--- every Stop is earned
+-- every Stop is justified
 abbrev pub IsJustified : List Entry → Type 0
 IsJustified = AtEach (λ before e. IsJustifiedBy e.act e.seat before)
 
@@ -68,7 +68,7 @@ IsPermittedTo _ seat = Unit {0}
 abbrev pub IsPermitted : List Entry → Type 0
 IsPermitted = AtEach (λ before e. (e.seat < 67) × IsPermittedTo e.act e.seat)
 
--- a history replays, its stops are earned, and its acts are held
+-- a history replays, its stops are justified, and its acts are permitted
 pub record IsSound (s : Setup) (js : List Judge) (h : List Entry) : Type 0 where
   pub replays : Replays s js h
   pub justified : IsJustified h

@@ -26,7 +26,7 @@ pub record Reported : Type 0 where
   pub spec : Spec
   pub reactor : Reactor
 
--- the shown name: a container's name stands before that of a monitor in it
+-- the display name: a container's name stands before that of a monitor in it
 abbrev pub display_name : List (List ℕ) → Option ℕ → List ℕ → List ℕ
 display_name containers None name = name
 display_name containers (Some container) name = slice_index_or containers container [] ++ codes ":" ++ name
@@ -51,7 +51,7 @@ place_text tasks scope.Global instance = []
 place_text tasks scope.Cpu instance = codes "[cpu " ++ decimal instance ++ codes "]"
 place_text tasks scope.Task instance = codes "[task " ++ task_text (task_at tasks instance) ++ codes "]"
 
--- an instance, by its monitor's shown name
+-- an instance, by its monitor's display name
 abbrev pub instance_text : List Task → Reported → ℕ → List ℕ
 instance_text tasks m instance = m.display_name ++ place_text tasks m.scope instance
 
@@ -115,7 +115,7 @@ is_at monitor instance r = is_of_monitor monitor r && r.instance == instance
 abbrev pub instance_count : ℕ → List Record → ℕ → ℕ
 instance_count monitor records n = count_by (λ instance. list_any (is_at monitor instance) records) (list_of (λ instance. instance) n)
 
--- a monitor's line, by its shown name and its counts
+-- a monitor's line, by its display name and its counts
 abbrev pub count_text : List ℕ → ℕ → ℕ → ℕ → ℕ → List ℕ
 count_text shown instances deliveries failures stopped =
     shown ++ codes ": instances " ++ decimal instances ++ codes ", deliveries " ++ decimal deliveries ++ codes ", failures " ++ decimal failures

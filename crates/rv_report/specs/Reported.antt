@@ -4,7 +4,7 @@ use Rattle.rv_model.specs.Reports.{Reported}
 use Rattle.rv_bind.specs.declared.bindings.Bindings.{Bindings}
 use Rattle.rv_bind.specs.declared.bindings.Monitor.{Monitor}
 
--- the shown name: a container's name stands before that of a monitor in it
+-- the display name: a container's name stands before that of a monitor in it
 abbrev pub shown_by : List (List ℕ) → Option ℕ → List ℕ → List ℕ
 shown_by containers None name = name
 shown_by containers (Some container) name = slice_index_or containers container [] ++ codes ":" ++ name

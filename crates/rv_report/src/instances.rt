@@ -9,7 +9,7 @@ use rv_slots::Tasks;
 use rv_text::Line;
 use std::alloc::AllocError;
 
-/// Appends a monitor's shown name.
+/// Appends a monitor's display name.
 pub fn display_name(
     out: &mut Line,
     containers: &Names,

@@ -1,7 +1,7 @@
 -- What a rule asks for, and how tasks grow by it.
 use Rattle.std.proofs.Common.{◌≡◌, ℕ, zero, suc, ◌<◌, ◌≤◌, Bool, true, false, List, [], ◌∷◌, ◌++◌, length, refl, sym, ap, ◌∙◌, arith, length-append}
 use Rattle.std.specs.Prelude.{Option, Some, None, nat_lt, slice_get, if◌then◌else◌}
-use Rattle.std.specs.List.{list_any, position_or_len}
+use Rattle.std.specs.List.{list_all, list_any, position_or_len}
 use Rattle.rv_text.specs.Decimal.{decimal_of}
 use Rattle.rv_trace.specs.declared.line.TraceLine.{TraceLine}
 use Rattle.rv_model.specs.declared.record.Task.{Task}
@@ -13,7 +13,8 @@ use Rattle.rv_bind.specs.declared.bindings.Monitor.{Monitor}
 use Rattle.rv_bind.specs.RuleValues.{OnValue}
 use Rattle.rv_bind.specs.WellFormed.{MonitorKind, kind_of, kinds_of}
 use Rattle.rv_route.specs.declared.asking.Ask.TheVariants as asks
-use Rattle.rv_route.specs.Asking.{text_at, field_value, fires, pid_from, pid_at, pid_of, by_scope, asked_of, ask_of}
+use Rattle.rv_route.specs.inner.Asking.{ask_on}
+use Rattle.rv_route.specs.Asking.{text_at, field_value, holds, fires, pid_from, pid_at, pid_of, by_scope, asked_of, ask_of}
 
 -- ---- what a rule asks for
 
@@ -39,6 +40,24 @@ pub instance-fits : (fields : List ℕ) (line : TraceLine) (by : Option (List �
 instance-fits fields line by scopes.Global i tasks cpu e = let same : 0 ≡ i = cc in omega arith
 instance-fits fields line by scopes.Cpu i tasks cpu e = let same : line.cpu ≡ i = cc in omega arith
 instance-fits fields line by scopes.Task i tasks cpu e = absurd (no_instance fields line by i e)
+
+-- and its number is below 64
+instance-small : (fields : List ℕ) (line : TraceLine) (by : Option (List ℕ)) (scope : Scope) (i : ℕ) → line.cpu < 64 → by_scope fields line by scope ≡ asks.Instance i → i < 64
+instance-small fields line by scopes.Global i cpu e = let same : 0 ≡ i = cc in omega arith
+instance-small fields line by scopes.Cpu i cpu e = let same : line.cpu ≡ i = cc in omega arith
+instance-small fields line by scopes.Task i cpu e = absurd (no_instance fields line by i e)
+
+-- so it is where a rule asks for one on a line of its event
+pub asked-small : (fields : List ℕ) (line : TraceLine) (monitors : List Monitor) (rule : OnValue) (i : ℕ) → line.cpu < 64 → ask_on fields line monitors rule ≡ asks.Instance i → i < 64
+asked-small fields line monitors rule i cpu e = go (list_all (holds fields) rule.tests) e
+  where
+    at : (m : Option Monitor) → asked_of fields line rule.by m ≡ asks.Instance i → i < 64
+    at None e = cc
+    at (Some m) e = instance-small fields line rule.by m.scope i cpu e
+
+    go : (b : Bool) → (if b then asked_of fields line rule.by (slice_get monitors rule.monitor) else asks.Quiet) ≡ asks.Instance i → i < 64
+    go true e = at (slice_get monitors rule.monitor) e
+    go false e = cc
 
 -- where a pid is asked for, the number of each task is that of an instance
 pub pid-scope : (fields : List ℕ) (line : TraceLine) (by : Option (List ℕ)) (scope : Scope) (pid n tasks : ℕ) → by_scope fields line by scope ≡ asks.Pid pid → n < tasks → n < count_of tasks scope

@@ -1,7 +1,9 @@
+pub mod AcceptedLemmas
 pub mod AskLemmas
 pub mod AskingLemmas
 pub mod EventLemmas
 pub mod FieldTestLemmas
+pub mod FilteredLemmas
 pub mod FiredLemmas
 pub mod FiringLemmas
 pub mod FittingLemmas
@@ -12,6 +14,7 @@ pub mod ListingLemmas
 pub mod MappedLemmas
 pub mod MoveLemmas
 pub mod NotedLemmas
+pub mod RenumberedLemmas
 pub mod RoutedLemmas
 pub mod RoutingLemmas
 pub mod RuleLemmas

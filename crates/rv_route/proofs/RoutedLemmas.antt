@@ -1,6 +1,7 @@
 -- What routing keeps: each lane's turns name its deliveries in order, each once.
-use Rattle.std.proofs.Common.{◌≡◌, ℕ, zero, suc, ◌+◌, ◌==◌, ◌&&◌, Bool, true, false, not, List, [], ◌∷◌, ◌++◌, length, get_or, refl, sym, subst, arith, length-append}
+use Rattle.std.proofs.Common.{◌≡◌, ℕ, zero, suc, ◌+◌, ◌<◌, ◌==◌, ◌&&◌, Bool, true, false, not, List, [], ◌∷◌, ◌++◌, length, get_or, refl, sym, subst, arith, length-append}
 use Rattle.std.specs.Prelude.{All, Result, Ok, Err, nat_lt, if◌then◌else◌}
+use Rattle.std.proofs.lemmas.Bool.{ltb-true}
 use Rattle.std.proofs.lemmas.List.Elements.{All-set, All-replicate, All-head, All-tail}
 use Rattle.rv_text.specs.declared.refusals.Refusal.{Refusal}
 use Rattle.rv_text.specs.Readings.{and_then}
@@ -39,15 +40,15 @@ lane_grows lane line delivery names = rw length-append (go (ends_with lane.turns
     go false is = NamesEach-more 0 lane.turns (length lane.deliveries) line names
 
 -- what holds of an empty lane and of a grown one holds of all lanes that are routed
-module _ (P : Routes → Type 0) (grows : (routes : Routes) (line : TraceLine) (rule : OnValue) (instance : ℕ) → P routes → P (delivered routes line rule instance))
+module _ (P : Routes → Type 0) (grows : (routes : Routes) (line : TraceLine) (rule : OnValue) (instance : ℕ) → routes.count < MAX_DELIVERIES → P routes → P (delivered routes line rule instance))
     (tasks : (routes : Routes) (pid cpu : ℕ) → P routes → P (record routes { tasks = with_task routes.tasks (task_of pid cpu) })) where
   -- it holds after a delivery that is not one too many
   deliver_keeps : (routes after : Routes) (line : TraceLine) (rule : OnValue) (instance : ℕ) → P routes → deliver routes line rule instance ≡ Ok after → P after
-  deliver_keeps routes after line rule instance p is = go (nat_lt routes.count MAX_DELIVERIES) is
+  deliver_keeps routes after line rule instance p is = go (nat_lt routes.count MAX_DELIVERIES) refl is
     where
-      go : (b : Bool) → (if b then Ok (delivered routes line rule instance) else Rattle.rv_text.specs.Readings.refused_at Rattle.rv_text.specs.declared.numbers.TheConstants.TOO_MANY_DELIVERIES line.number) ≡ Ok after → P after
-      go true is = let same : delivered routes line rule instance ≡ after = cc in subst P same (grows routes line rule instance p)
-      go false is = cc
+      go : (b : Bool) → nat_lt routes.count MAX_DELIVERIES ≡ b → (if b then Ok (delivered routes line rule instance) else Rattle.rv_text.specs.Readings.refused_at Rattle.rv_text.specs.declared.numbers.TheConstants.TOO_MANY_DELIVERIES line.number) ≡ Ok after → P after
+      go true room is = let same : delivered routes line rule instance ≡ after = cc in subst P same (grows routes line rule instance (ltb-true routes.count MAX_DELIVERIES room) p)
+      go false full is = cc
 
   -- it holds after what one rule asks for
   answer_keeps : (routes after : Routes) (line : TraceLine) (rule : OnValue) (ask : Ask) → P routes → answer routes line rule ask ≡ Ok after → P after
@@ -84,8 +85,8 @@ pub lanes_line : (text : List ℕ) (monitors : List Monitor) (rules : List OnVal
 lanes_line text monitors rules line routes after lanes is =
     line_keeps (λ (routes : Routes). All IsLane routes.lanes) grows (λ routes pid cpu p. p) text line monitors rules routes after lanes is
   where
-    grows : (routes : Routes) (line : TraceLine) (rule : OnValue) (instance : ℕ) → All IsLane routes.lanes → All IsLane (delivered routes line rule instance).lanes
-    grows routes line rule instance lanes = All-set IsLane routes.lanes line.cpu _ (lane_grows _ line.number _ (lane_at routes.lanes line.cpu lanes)) lanes
+    grows : (routes : Routes) (line : TraceLine) (rule : OnValue) (instance : ℕ) → routes.count < MAX_DELIVERIES → All IsLane routes.lanes → All IsLane (delivered routes line rule instance).lanes
+    grows routes line rule instance room lanes = All-set IsLane routes.lanes line.cpu _ (lane_grows _ line.number _ (lane_at routes.lanes line.cpu lanes)) lanes
       where
         lane_at : (lanes : List LaneValue) (i : ℕ) → All IsLane lanes → IsLane (get_or lanes i no_lane)
         lane_at [] i all = refl

@@ -1,5 +1,6 @@
 //! Collects what the lines of a trace are routed to: the works of CPUs, or one list.
 ghost use Rattle.std.specs.Prelude.{◌≡◌, ◌≤◌, true, false, List, length, None, All, IfOk};
+ghost use Rattle.rv_bind.specs.declared.limits.TheConstants.{MAX_RULES};
 ghost use Rattle.rv_bind.specs.WellFormed.{FitsKind, kinds_of, MonitorKind};
 ghost use Rattle.rv_route.specs.Fitting.{FitsLines, WorksFit};
 ghost use Rattle.rv_route.specs.Lines.{IsRoutable};
@@ -54,7 +55,8 @@ impl Model for Collector {
 impl Collector {
     /// No line was taken. Deliveries go to one list, or to the scripts of their CPUs.
     fn begin(alloc: Global, bindings: &Bindings, listed: bool) -> Result<Collector, AllocError>
-        requires { All (FitsKind (kinds_of bindings.now.monitors.items)) bindings.now.rules.items }
+        requires rules { All (FitsKind (kinds_of bindings.now.monitors.items)) bindings.now.rules.items }
+        requires few { length bindings.now.rules.items ≤ MAX_RULES }
         ensures made { IfOk result (λ router. IsFor bindings.now router) }
         ensures routes { IfOk result (λ router. router.routes ≡ no_routes) }
         ensures next { IfOk result (λ router. router.next ≡ 0) }
@@ -76,7 +78,8 @@ impl Collector {
 
     /// No line was taken. The rules are to be those of the bindings that every call is given.
     pub fn new(alloc: Global, bindings: &Bindings) -> Result<Collector, AllocError>
-        requires { All (FitsKind (kinds_of bindings.now.monitors.items)) bindings.now.rules.items }
+        requires rules { All (FitsKind (kinds_of bindings.now.monitors.items)) bindings.now.rules.items }
+        requires few { length bindings.now.rules.items ≤ MAX_RULES }
         ensures made { IfOk result (λ router. IsFor bindings.now router) }
         ensures routes { IfOk result (λ router. router.routes ≡ no_routes) }
         ensures next { IfOk result (λ router. router.next ≡ 0) }
@@ -88,7 +91,8 @@ impl Collector {
 
     /// The same, for one list of all deliveries, which `end_list` gives.
     pub fn listing(alloc: Global, bindings: &Bindings) -> Result<Collector, AllocError>
-        requires { All (FitsKind (kinds_of bindings.now.monitors.items)) bindings.now.rules.items }
+        requires rules { All (FitsKind (kinds_of bindings.now.monitors.items)) bindings.now.rules.items }
+        requires few { length bindings.now.rules.items ≤ MAX_RULES }
         ensures made { IfOk result (λ router. IsFor bindings.now router) }
         ensures routes { IfOk result (λ router. router.routes ≡ no_routes) }
         ensures next { IfOk result (λ router. router.next ≡ 0) }

@@ -1,5 +1,6 @@
 //! The deliveries to each CPU, as they come.
-ghost use Rattle.std.specs.Prelude.{◌≡◌, ◌<◌, true, [], map, length, slice_index_or, IfOk, IfErr, OnOk};
+ghost use Rattle.std.specs.Prelude.{ℕ, ◌≡◌, ◌<◌, ◌≤◌, true, [], map, length, slice_index_or, IfOk, IfErr, OnOk};
+ghost use Rattle.rv_bind.specs.declared.limits.TheConstants.{MAX_RULES};
 ghost use Rattle.rv_bind.specs.RuleValues.{OnValue};
 ghost use Rattle.rv_text.specs.declared.refusals.Refused.TheVariants.{Memory};
 ghost use Rattle.rv_route.specs.LineByLine.{GivesRoutes, answer, deliver, delivered, no_routes};
@@ -52,14 +53,11 @@ impl Deliveries {
         requires listed { self.old.listed ≡ true }
         requires room { self.old.routes.count < 4000000 }
         requires place { place < length self.old.targets }
+        requires instance { instance < 65536 }
         ensures added { OnOk result ((rule : OnValue) → slice_index_or self.old.targets place no_target ≡ target_of rule → self.new.routes ≡ delivered self.old.routes line.now rule instance) }
         ensures refused { IfErr result (λ refused. refused ≡ Memory) }
         ensures kept { GathersLine line.now.number self.old self.new }
     {
-        // No task and no CPU has a larger number.
-        if instance > u16::MAX as u32 {
-            return Err(Refused::Memory);
-        }
         self.items.push(Listed {
             line: line.number,
             instance: instance as u16,
@@ -81,6 +79,7 @@ impl Deliveries {
     ) -> Result<(), Refused>
         requires cpu { line.now.cpu < 64 }
         requires target { IsTarget self.old.targets place rule.now }
+        requires instance { instance < 65536 }
         ensures gives { GivesRoutes result self.new.routes (deliver self.old.routes line.now rule.now instance) }
         ensures kept { GathersLine line.now.number self.old self.new }
     {
@@ -116,6 +115,7 @@ impl Deliveries {
     ) -> Result<(), Refused>
         requires cpu { line.now.cpu < 64 }
         requires target { IsTarget self.old.targets place rule.now }
+        requires instance { (instance : ℕ) → ask ≡ Ask.Instance instance → instance < 64 }
         ensures gives { GivesRoutes result self.new.routes (answer self.old.routes line.now rule.now ask) }
         ensures kept { GathersLine line.now.number self.old self.new }
     {
@@ -127,7 +127,11 @@ impl Deliveries {
                 line: line.number,
             })),
             Ask::Pid(pid) => match self.tasks.number(pid, line.cpu) {
-                Ok(number) => self.deliver(line, rule, place, number),
+                Ok(number) => {
+                    // no number is above the last task's
+                    self.tasks.len();
+                    self.deliver(line, rule, place, number)
+                }
                 Err(TaskFault::Full) => Err(Refused::Because(Refusal {
                     number: TOO_MANY_TASKS,
                     line: line.number,
@@ -139,6 +143,7 @@ impl Deliveries {
 
     /// Nothing is routed yet. Deliveries go to one list, or to the scripts of their CPUs.
     pub(crate) fn new(alloc: Global, rules: &[On], listed: bool) -> Result<Deliveries, AllocError>
+        requires { length rules.now ≤ MAX_RULES }
         ensures routes { IfOk result (λ deliveries. deliveries.routes ≡ no_routes) }
         ensures targets { IfOk result (λ deliveries. deliveries.targets ≡ map target_of rules.now) }
         ensures listed { IfOk result (λ deliveries. deliveries.listed ≡ listed) }

@@ -1,13 +1,13 @@
 //! The events that rules are on, by their names.
-ghost use Rattle.std.specs.Prelude.{◌≡◌, ◌≢◌, ◌<◌, [], ◌∷◌, ◌++◌, List, ℕ, length, take, All, IfOk, IfSome, IfNone, OnOk, slice_get};
+ghost use Rattle.std.specs.Prelude.{◌≡◌, ◌<◌, [], ◌∷◌, ◌++◌, List, ℕ, length, take, All, IfOk, IfSome, IfNone, OnOk};
 ghost use Rattle.std.specs.List.{IsAmong};
 ghost use Rattle.rv_route.specs.Events.{IsEventOf, HasEvent, IsIndexOf};
 ghost use Rattle.rv_route.specs.EventKeys.{key_of};
 
 use crate::event::{Event, event_of};
+use indexmap::IndexMap;
 use rv_bind::On;
 use std::alloc::{AllocError, Global};
-use std::collections::BTreeMap;
 use std::marker::Model;
 
 /// How many keys there are.
@@ -15,11 +15,9 @@ pub(crate) const KEYS: usize = 512;
 
 /// Events by their names.
 pub struct Index {
-    events: Vec<Event>,
-    /// The place of the first event of each key.
+    events: IndexMap<Vec<u8>, Event>,
+    /// For each key the place of the first event with it. It is tried first, and the event there may have another name.
     firsts: Vec<Option<usize>>,
-    /// The places of the other events. No names that are chosen make an ordered map slow.
-    others: BTreeMap<Vec<u8>, usize>,
 }
 
 /// Taken apart once, here, so that what drops one has nothing to prove of its parts.
@@ -28,21 +26,21 @@ impl Drop for Index {
         let Index {
             events: _,
             firsts: _,
-            others: _,
         } = self;
     }
 }
 
 impl Model for Index {
     ghost use Rattle.std.specs.Prelude.{List};
+    ghost use Rattle.indexmap.specs.IndexMap.{values};
     ghost use Rattle.rv_route.specs.declared.event.Event.{Event};
-    ghost use Rattle.rv_route.specs.EventKeys.{LeadToAll};
+    ghost use Rattle.rv_route.specs.EventKeys.{AreByName, HaveKeys};
 
     ghost Value = { List Event };
 
-    ghost view = { λ i. i.events.items };
+    ghost view = { λ i. values i.events };
 
-    ghost invariant = { λ i. LeadToAll i.firsts.items i.others i.events.items };
+    ghost invariant = { λ i. AreByName i.events.entries × HaveKeys i.firsts.items (values i.events) };
 }
 
 /// A number that most names have for themselves, from their first, middle and last byte and their length.
@@ -68,31 +66,35 @@ pub fn event_at<'a>(index: &'a Index, name: &[u8], text: &[u8]) -> Option<&'a Ev
     ensures named { IfSome result (λ event. event.now.name ≡ name.now) }
     ensures none { IfNone result (¬ HasEvent index.now name.now) }
 {
-    let events = index.events.as_slice();
-    match named_at(events, index.firsts[key_of(name)], name, text) {
+    let place = index.firsts[key_of(name)]?;
+    match named_at(index.events.values().as_slice(), place, name, text) {
         Some(event) => Some(event),
-        None => named_at(events, index.others.get(name).copied(), name, text),
+        None => named(index, name),
     }
 }
 
-/// The event at the place, if the name is its own.
+/// The event at the place, if there is one and the name is its own.
 #[inline(always)]
-fn named_at<'a>(
-    events: &'a [Event],
-    place: Option<usize>,
-    name: &[u8],
-    text: &[u8],
-) -> Option<&'a Event>
+fn named_at<'a>(events: &'a [Event], place: usize, name: &[u8], text: &[u8]) -> Option<&'a Event>
     requires { take (length name.now) text.now ≡ name.now }
     ensures among { IfSome result (λ event. IsAmong events.now event.now) }
     ensures named { IfSome result (λ event. event.now.name ≡ name.now) }
-    ensures none { IfNone result (IfSome place (λ at. IfSome (slice_get events.now at) (λ event. event.name ≢ name.now))) }
 {
-    let event = events.get(place?)?;
+    let event = events.get(place)?;
     if event.name.is(name, text) {
         return Some(event);
     }
     None
+}
+
+/// The event of the name.
+#[inline(never)]
+fn named<'a>(index: &'a Index, name: &[u8]) -> Option<&'a Event>
+    ensures among { IfSome result (λ event. IsAmong index.now event.now) }
+    ensures named { IfSome result (λ event. event.now.name ≡ name.now) }
+    ensures none { IfNone result (¬ HasEvent index.now name.now) }
+{
+    index.events.get(name)
 }
 
 /// The events of the rules.
@@ -111,9 +113,8 @@ fn no_events(alloc: Global) -> Result<Index, AllocError>
     ensures { IfOk result (λ index. index ≡ []) }
 {
     Ok(Index {
-        events: Vec::new(alloc),
+        events: IndexMap::new(alloc),
         firsts: vec![in alloc; None; KEYS]?,
-        others: BTreeMap::new(alloc),
     })
 }
 
@@ -139,12 +140,9 @@ fn add(alloc: Global, index: &mut Index, event: Event) -> Result<(), AllocError>
 {
     let place = index.events.len();
     let key = key_of(event.name.bytes());
-    if index.firsts[key].is_some() {
-        let name = Vec::from_slice(alloc, event.name.bytes())?;
-        index.others.insert(name, place)?;
-        index.events.push(event)?;
-    } else {
-        index.events.push(event)?;
+    let name = Vec::from_slice(alloc, event.name.bytes())?;
+    index.events.insert(name, event)?;
+    if index.firsts[key].is_none() {
         index.firsts[key] = Some(place);
     }
     Ok(())

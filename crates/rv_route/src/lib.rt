@@ -23,7 +23,10 @@ pub use deliveries::MAX_DELIVERIES;
 pub use event::{Asked, Event, tested_field};
 pub use finds::Finds;
 pub use index::{Index, event_at, index_of};
-pub use laws::{lines_are_routed_alike, lines_make_the_whole, works_are_from_rules};
+pub use laws::{
+    fired_lines_are_enough, lines_are_routed_alike, lines_make_the_whole, routed_works_fit,
+    works_are_from_rules,
+};
 pub use limits::limits_are_numerals;
 pub use listing::{DeliveryList, Listed, RoutedList, Target};
 pub use routed::Routed;

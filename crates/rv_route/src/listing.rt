@@ -1,8 +1,9 @@
 //! The deliveries of a trace as one list, in the order of its lines.
 ghost use Rattle.std.specs.Prelude.{◌≡◌, ◌<◌, ◌≤◌, map, length, slice_index_or, IfOk};
+ghost use Rattle.rv_bind.specs.declared.limits.TheConstants.{MAX_RULES};
 ghost use Rattle.rv_route.specs.Listing.{ListedDelivery, target_of};
 
-use rv_bind::{MAX_RULES, On};
+use rv_bind::On;
 use rv_model::{Delivery, Hit};
 use rv_slots::Tasks;
 use std::alloc::{AllocError, Global};
@@ -51,12 +52,10 @@ pub struct RoutedList {
 
 /// What each rule hits.
 pub(crate) fn targets_of(alloc: Global, rules: &[On]) -> Result<Vec<Target>, AllocError>
+    requires { length rules.now ≤ MAX_RULES }
     ensures targets { IfOk result (λ targets. targets.items ≡ map target_of rules.now) }
     ensures few { IfOk result (λ targets. length targets.items ≤ MAX_RULES) }
 {
-    if rules.len() > MAX_RULES {
-        return Err(AllocError);
-    }
     let mut targets = Vec::with_capacity(alloc, rules.len())?;
     for rule in rules {
         targets.push(Target {

@@ -1,5 +1,6 @@
 //! Takes the lines of a trace one after the other.
 ghost use Rattle.std.specs.Prelude.{◌≡◌, ◌≤◌, List, length, None, All, IfOk};
+ghost use Rattle.rv_bind.specs.declared.limits.TheConstants.{MAX_RULES};
 ghost use Rattle.rv_bind.specs.WellFormed.{FitsKind, kinds_of, MonitorKind};
 ghost use Rattle.rv_route.specs.Fitting.{FitsLines, WorksFit};
 ghost use Rattle.rv_route.specs.Lines.{IsRoutable};
@@ -38,7 +39,8 @@ impl Model for Router {
 impl Router {
     /// No line was taken. The rules are to be those of the bindings that every call is given.
     pub fn new(alloc: Global, bindings: &Bindings) -> Result<Router, AllocError>
-        requires { All (FitsKind (kinds_of bindings.now.monitors.items)) bindings.now.rules.items }
+        requires rules { All (FitsKind (kinds_of bindings.now.monitors.items)) bindings.now.rules.items }
+        requires few { length bindings.now.rules.items ≤ MAX_RULES }
         ensures made { IfOk result (λ router. IsFor bindings.now router) }
         ensures routes { IfOk result (λ router. router.routes ≡ no_routes) }
         ensures next { IfOk result (λ router. router.next ≡ 0) }

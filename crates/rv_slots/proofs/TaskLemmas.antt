@@ -1,20 +1,18 @@
--- A task's number is its place, and the one that its key finds.
-use Rattle.std.proofs.Common.{◌≡◌, ℕ, zero, suc, ◌+◌, ◌*◌, ◌<◌, Bool, true, false, cond, List, [], ◌∷◌, ◌++◌, length, Option, Some, None, ◌==◌, Result, Ok, Err, refl, sym, ◌∙◌, ap, ap₂, subst, arith, All, slice_get, get_or, nat_lt, length-append}
-use Rattle.std.specs.BTreeMap.{BTreeMap, Updates, get, is_at}
-use Rattle.std.specs.List.{position, position_or_len}
-use Rattle.std.specs.Cmp.{Equal-is}
-use Rattle.std.specs.FinMap.{nat_cmp-IsAntisymmetric}
-use Rattle.std.specs.Ordering.{nat_cmp}
+-- A task's number is its place.
+use Rattle.std.proofs.Common.{◌≡◌, ℕ, zero, suc, ◌<◌, Bool, true, false, cond, List, [], ◌∷◌, ◌++◌, length, Some, None, ◌==◌, Result, Ok, Err, refl, sym, ◌∙◌, ap, ap₂, subst, arith, All, slice_get, get_or, nat_lt, length-append}
+use Rattle.std.specs.List.{IsDistinct, position, position_or_len}
+use Rattle.std.proofs.lemmas.Bool.{false≢true}
 use Rattle.std.proofs.lemmas.Bool.Decides.{Decides-eqb, Decides-and}
 use Rattle.std.proofs.lemmas.List.Folds.{list_any_at, list_any_none}
 use Rattle.std.proofs.lemmas.List.Sums.{position_or_len_is}
-use Rattle.std.proofs.lemmas.Option.{slice_get-get_or, slice_get_within, slice_get_read, get_or_from_slice_get}
+use Rattle.std.proofs.lemmas.Map.Keys.{apart_from_distinct}
+use Rattle.std.proofs.lemmas.Option.{slice_get-get_or, slice_get_within, get_or_from_slice_get}
 use Rattle.std.proofs.lemmas.List.Quantifiers.{position-Some}
 use Rattle.std.proofs.Math.Seq.{get_or-append_seam}
 use Rattle.std.specs.Prelude.{IfOk, OnOk}
 use Rattle.rv_model.specs.declared.record.Task.{Task}
 use Rattle.rv_slots.specs.declared.tasks.TaskFault.{TaskFault}
-use Rattle.rv_slots.specs.Tasks.{task_of, same_task, is_held, task_number, task_key, IsTask, AreNumbers}
+use Rattle.rv_slots.specs.Tasks.{task_of, same_task, is_held, task_number, IsTask}
 
 -- what is not true
 not-true : (b : Bool) → (b ≡ true → ⊥) → b ≡ false
@@ -35,14 +33,13 @@ same_task-equal a b same =
 same_task-self : (a : Task) → same_task a a ≡ true
 same_task-self a = (Decides-and (a.pid == a.pid) (a.cpu == a.cpu) (Decides-eqb a.pid a.pid) (Decides-eqb a.cpu a.cpu)).1 (refl, refl)
 
-module _ (numbers : BTreeMap ℕ ℕ) (tasks : List Task) (are : AreNumbers numbers tasks) (task : Task) where
+module _ (tasks : List Task) (distinct : IsDistinct same_task tasks) (task : Task) where
   -- no task before its place is the same
   not-before : (k n : ℕ) → slice_get tasks n ≡ Some task → k < n → same_task task (get_or tasks k task) ≡ false
   not-before k n here less = not-true (same_task task (get_or tasks k task)) (λ same.
-      let end = slice_get_within tasks n task here in
-      let there : slice_get tasks k ≡ Some task = slice_get-get_or tasks k task (omega (arith, less, end)) ∙ ap Some (same_task-equal task _ same) in
-      let one : k ≡ n = one-number k n (sym (are task k there) ∙ are task n here) in
-      omega (arith, less, one))
+      let apart = apart_from_distinct same_task tasks k n task distinct less (slice_get_within tasks n task here) in
+      let one = ap₂ same_task (same_task-equal task _ same) (get_or_from_slice_get tasks n task task here) in
+      false≢true (sym apart ∙ one ∙ same_task-self task))
 
   -- where it stands is its number
   number-at : (n : ℕ) → slice_get tasks n ≡ Some task → task_number tasks task ≡ n
@@ -76,10 +73,6 @@ module _ (tasks : List Task) (task : Task) (nowhere : (n : ℕ) → slice_get ta
   pub not-held : is_held tasks task ≡ false
   not-held = list_any_none (same_task task) tasks other-at
 
--- nor one whose key finds the number of another, or none
-pub stands-nowhere : (numbers : BTreeMap ℕ ℕ) (tasks : List Task) (task : Task) → AreNumbers numbers tasks → (found : Option ℕ) → get nat_cmp numbers (task_key task) ≡ found → ((n : ℕ) → found ≡ Some n → slice_get tasks n ≡ Some task → ⊥) → (n : ℕ) → slice_get tasks n ≡ Some task → ⊥
-stands-nowhere numbers tasks task are found is other n here = other n (sym is ∙ are task n here) here
-
 -- and one that the test does not find
 module _ (tasks : List Task) (task : Task) (new : is_held tasks task ≡ false) where
   nowhere : (n : ℕ) → slice_get tasks n ≡ Some task → ⊥
@@ -89,11 +82,6 @@ module _ (tasks : List Task) (task : Task) (new : is_held tasks task ≡ false) 
 
   pub number-next : task_number tasks task ≡ length tasks
   number-next = position_or_len_is (same_task task) tasks (length tasks) task (omega arith) (λ k less. other-at tasks task nowhere k task less) (λ less. absurd (omega (arith, less)))
-
-  pub no-position : position (same_task task) tasks ≡ None
-  no-position =
-      let past : nat_lt (length tasks) (length tasks) ≡ false = grind arith in
-      ap (λ (k : ℕ). cond (nat_lt k (length tasks)) (Some k) None) number-next ∙ ap (λ (b : Bool). cond b (Some (length tasks)) None) past
 
 -- only an idle task has a CPU
 pub task_of-IsTask : (pid cpu : ℕ) → IsTask (task_of pid cpu)
@@ -117,25 +105,8 @@ stands-last (Ok n) old new task is grown =
 stands-last (Err e) old new task is grown = tt
 
 -- the task that stands at a place is this one
-pub stands-here : (tasks : List Task) (n : ℕ) (held task : Task) → n < length tasks → held ≡ get_or tasks n held → same_task held task ≡ true → slice_get tasks n ≡ Some task
-stands-here tasks n held task within is same = slice_get_read tasks (length tasks) n held refl within is ∙ ap Some (sym (same_task-equal held task same))
-
--- tasks with one key are one
-task_key-one : (a b : Task) → IsTask a → IsTask b → task_key a ≡ task_key b → b ≡ a
-task_key-one a b is_a is_b = go (a.pid == 0) (b.pid == 0) refl refl
-  where
-    go : (x y : Bool) → (a.pid == 0) ≡ x → (b.pid == 0) ≡ y → cond x (2 * a.cpu) (2 * a.pid + 1) ≡ cond y (2 * b.cpu) (2 * b.pid + 1) → b ≡ a
-    go true true zero_a zero_b same =
-        let pids : b.pid ≡ a.pid = (Decides-eqb b.pid 0).0 zero_b ∙ sym ((Decides-eqb a.pid 0).0 zero_a) in
-        let cpus : b.cpu ≡ a.cpu = omega (arith, same) in
-        ap₂ (λ pid cpu. record { pid = pid; cpu = cpu }) pids cpus
-    go true false zero_a some_b same = absurd (omega (arith, same))
-    go false true some_a zero_b same = absurd (omega (arith, same))
-    go false false some_a some_b same =
-        let pids : b.pid ≡ a.pid = omega (arith, same) in
-        let cpu_a : a.cpu ≡ 0 = is_a (λ none. absurd (cc ((Decides-eqb a.pid 0).1 none, some_a))) in
-        let cpu_b : b.cpu ≡ 0 = is_b (λ none. absurd (cc ((Decides-eqb b.pid 0).1 none, some_b))) in
-        ap₂ (λ pid cpu. record { pid = pid; cpu = cpu }) pids (cpu_b ∙ sym cpu_a)
+pub stands-here : (tasks : List Task) (n : ℕ) (task d : Task) → n < length tasks → same_task (get_or tasks n d) task ≡ true → slice_get tasks n ≡ Some task
+stands-here tasks n task d within same = slice_get-get_or tasks n d within ∙ ap Some (sym (same_task-equal _ task same))
 
 -- what holds of each task by its place, and of one more behind them
 pushed : (R : Task → ℕ → Type 0) (tasks : List Task) (task : Task) → ((t : Task) (k : ℕ) → slice_get tasks k ≡ Some t → R t k) → R task (length tasks) → (t : Task) (k : ℕ) → slice_get (tasks ++ task ∷ []) k ≡ Some t → R t k
@@ -150,27 +121,3 @@ are-tasks tasks task tell is k d within = go k within
   where
     go : (k : ℕ) → k < length (tasks ++ task ∷ []) → IsTask (get_or (tasks ++ task ∷ []) k d)
     go k within = pushed (λ t k. IsTask t) tasks task (λ t k here. subst IsTask (get_or_from_slice_get tasks k t t here) (tell k t (slice_get_within tasks k t here))) is (get_or (tasks ++ task ∷ []) k d) k (slice_get-get_or (tasks ++ task ∷ []) k d within)
-
--- the map after an insert, by the task and not by its key
-pub are-numbered : (m n : BTreeMap ℕ ℕ) (tasks old : List Task) (task : Task) (key number : ℕ) → tasks ≡ old → key ≡ task_key task → number ≡ length old → Updates nat_cmp m n key (Some number) → Updates nat_cmp m n (task_key task) (Some (length tasks))
-are-numbered m n tasks old task key number same by last updates =
-    subst (λ (k : ℕ). Updates nat_cmp m n (task_key task) (Some k)) (last ∙ ap length (sym same)) (subst (λ (k : ℕ). Updates nat_cmp m n k (Some number)) by updates)
-
--- the numbers after a new task's
-module _ (m n : BTreeMap ℕ ℕ) (tasks : List Task) (task : Task) (are : AreNumbers m tasks) (tell : All IsTask tasks) (is : IsTask task) (new : is_held tasks task ≡ false) (updates : Updates nat_cmp m n (task_key task) (Some (length tasks))) where
-  pub numbers-stay : AreNumbers n tasks
-  numbers-stay t k here = updates.2 (task_key t) (not-true (is_at (nat_cmp (task_key task)) (task_key t)) other) ∙ are t k here
-    where
-      is_t : IsTask t
-      is_t = subst IsTask (get_or_from_slice_get tasks k t t here) (tell k t (slice_get_within tasks k t here))
-
-      other : is_at (nat_cmp (task_key task)) (task_key t) ≡ true → ⊥
-      other same =
-          let keys : task_key task ≡ task_key t = nat_cmp-IsAntisymmetric (task_key task) (task_key t) ((Equal-is (nat_cmp (task_key task) (task_key t))).0 same) in
-          nowhere tasks task new k (here ∙ ap Some (task_key-one task t is is_t keys))
-
-  pub numbers-grow : AreNumbers n (tasks ++ task ∷ [])
-  numbers-grow = pushed (λ t k. get_number t ≡ Some k) tasks task numbers-stay updates.1
-    where
-      get_number : Task → Option ℕ
-      get_number t = get nat_cmp n (task_key t)

@@ -1,8 +1,6 @@
 -- Tasks in the order of their first use.
-use Rattle.std.specs.Prelude.{◌≡◌, ◌≢◌, ℕ, ◌+◌, ◌*◌, Bool, ◌&&◌, ◌==◌, List, [], ◌∷◌, ◌++◌, Some, slice_get, if◌then◌else◌}
-use Rattle.std.specs.BTreeMap.{BTreeMap, get}
+use Rattle.std.specs.Prelude.{◌≡◌, ◌≢◌, ℕ, Bool, ◌&&◌, ◌==◌, List, [], ◌∷◌, ◌++◌, if◌then◌else◌}
 use Rattle.std.specs.List.{list_any, position_or_len}
-use Rattle.std.specs.Ordering.{nat_cmp}
 use Rattle.rv_model.specs.declared.record.Task.{Task}
 
 -- the task of a pid on a CPU: pid 0 is the idle task of each CPU
@@ -28,11 +26,3 @@ with_task tasks task = if is_held tasks task then tasks else tasks ++ task ∷ [
 -- the task's number: its place, or the next one
 abbrev pub task_number : List Task → Task → ℕ
 task_number tasks task = position_or_len (same_task task) tasks
-
--- the number by which a task is found: even for an idle task, and odd for every other
-abbrev pub task_key : Task → ℕ
-task_key task = if task.pid == 0 then 2 * task.cpu else 2 * task.pid + 1
-
--- each task's number is found by its key
-abbrev pub AreNumbers : BTreeMap ℕ ℕ → List Task → Type 0
-AreNumbers numbers tasks = (task : Task) (number : ℕ) → slice_get tasks number ≡ Some task → get nat_cmp numbers (task_key task) ≡ Some number

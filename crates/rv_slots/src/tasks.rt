@@ -1,11 +1,11 @@
 //! The tasks of a run, in the order of their first use.
 ghost use Rattle.std.specs.Prelude.{◌≡◌, ◌<◌, ◌≤◌, ◌↔◌, ◌++◌, [], ◌∷◌, length, true, false, position, AllPairs, IsErrOf, IsNone, IfOk, OnOk, OnErr, slice_get, Some};
-ghost use Rattle.rv_slots.specs.Tasks.{task_of, same_task, is_held, with_task, task_number, task_key, IsTask};
+ghost use Rattle.rv_slots.specs.Tasks.{task_of, same_task, is_held, with_task, task_number, IsTask};
 
-use crate::task::{task_key, task_of};
+use crate::task::task_of;
+use indexmap::IndexSet;
 use rv_model::Task;
 use std::alloc::{AllocError, Global};
-use std::collections::BTreeMap;
 use std::marker::Model;
 use thiserror::Error;
 
@@ -27,8 +27,7 @@ pub enum TaskFault {
 
 /// Tasks without repeats. A task's number is its place.
 pub struct Tasks {
-    list: Vec<Task>,
-    numbers: BTreeMap<u64, u32>,
+    set: IndexSet<Task>,
     /// By the last bits of a pid, the number of the last task that had them. It is tried first, and may be another's.
     guesses: Vec<u32>,
 }
@@ -36,25 +35,21 @@ pub struct Tasks {
 /// Taken apart once, here, so that what drops one has nothing to prove of its parts.
 impl Drop for Tasks {
     fn drop(self) {
-        let Tasks {
-            list: _,
-            numbers: _,
-            guesses: _,
-        } = self;
+        let Tasks { set: _, guesses: _ } = self;
     }
 }
 
 impl Model for Tasks {
     ghost use Rattle.std.specs.Prelude.{List, length, ◌≤◌, All};
-    ghost use Rattle.rv_slots.specs.Tasks.{IsTask, AreNumbers};
+    ghost use Rattle.rv_slots.specs.Tasks.{IsTask};
     ghost use Rattle.rv_model.specs.declared.record.Task.{Task};
     ghost use Rattle.rv_slots.specs.declared.tasks.TheConstants.{MAX_TASKS};
 
     ghost Value = { List Task };
 
-    ghost view = { λ t. t.list.items };
+    ghost view = { λ t. t.set.keys };
 
-    ghost invariant = { λ t. (length t.list.items ≤ MAX_TASKS) × All IsTask t.list.items × AreNumbers t.numbers t.list.items };
+    ghost invariant = { λ t. (length t.set.keys ≤ MAX_TASKS) × All IsTask t.set.keys };
 }
 
 impl Tasks {
@@ -62,8 +57,7 @@ impl Tasks {
         ensures { result ≡ [] }
     {
         Tasks {
-            list: Vec::new(alloc),
-            numbers: BTreeMap::new(alloc),
+            set: IndexSet::new(alloc),
             guesses: Vec::new(alloc),
         }
     }
@@ -74,8 +68,7 @@ impl Tasks {
         ensures few { result ≤ MAX_TASKS }
         ensures distinct { AllPairs (λ a b. same_task a b ≡ false) self.now }
     {
-        let _ = &self.numbers;
-        self.list.len() as u32
+        self.set.len() as u32
     }
 
     /// The task's number, which it keeps from its first use on.
@@ -105,10 +98,9 @@ impl Tasks {
         ensures found { result ≡ position (same_task (task_of pid cpu)) self.now }
         ensures none { IsNone result ↔ (is_held self.now (task_of pid cpu) ≡ false) }
     {
-        let task = task_of(pid, cpu);
-        match self.numbers.get(&task_key(task)) {
-            Some(number) if self.is_numbered(*number, task) => Some(*number),
-            _ => None,
+        match self.set.get_index_of(&task_of(pid, cpu)) {
+            Some(number) => Some(number as u32),
+            None => None,
         }
     }
 
@@ -118,7 +110,7 @@ impl Tasks {
         ensures held { slice_get self.now number ≡ Some result }
         ensures task { IsTask result }
     {
-        self.list[number as usize]
+        self.set.as_slice()[number as usize]
     }
 
     /// Whether the task of the number is this one.
@@ -126,10 +118,11 @@ impl Tasks {
         ensures holds { (result ≡ true) ↔ (slice_get self.now number ≡ Some task) }
         ensures first { result ≡ true → position (same_task task) self.now ≡ Some number }
     {
-        if number as usize >= self.list.len() {
+        let tasks = self.set.as_slice();
+        if number as usize >= tasks.len() {
             return false;
         }
-        self.list[number as usize] == task
+        tasks[number as usize] == task
     }
 
     /// Where the task's guess stands.
@@ -164,11 +157,11 @@ impl Tasks {
         ensures full { IsErrOf result TaskFault.Full ↔ (length self.old ≡ MAX_TASKS) }
         ensures err { OnErr result (self.new ≡ self.old) }
     {
-        let number = self.list.len() as u32;
+        let number = self.set.len() as u32;
         if number >= MAX_TASKS {
             return Err(TaskFault::Full);
         }
-        match self.put(task, number) {
+        match self.put(task) {
             Ok(()) => {
                 self.remember(task, number);
                 Ok(number)
@@ -182,23 +175,22 @@ impl Tasks {
         ensures { self.new ≡ self.old }
     {
         let room = self.guesses.len();
-        if room <= 2 * self.list.len() {
+        if room <= 2 * self.set.len() {
             self.guesses.resize(2 * room.max(FIRST_GUESSES), 0)?;
         }
         Ok(())
     }
 
     /// Adds a task under the next number.
-    fn put(&mut self, task: Task, number: u32) -> Result<(), AllocError>
+    fn put(&mut self, task: Task) -> Result<(), AllocError>
         requires new { is_held self.old task ≡ false }
         requires task { IsTask task }
-        requires number { (number ≡ length self.old) × (number < MAX_TASKS) }
+        requires few { length self.old < MAX_TASKS }
         ensures grown { OnOk result (self.new ≡ self.old ++ task ∷ []) }
         ensures err { OnErr result (self.new ≡ self.old) }
     {
         self.make_room()?;
-        self.numbers.insert(task_key(task), number)?;
-        self.list.push(task)?;
+        self.set.insert(task)?;
         Ok(())
     }
 }

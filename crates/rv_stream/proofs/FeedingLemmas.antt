@@ -22,7 +22,7 @@ use Rattle.rv_route.specs.Routing.{route_of}
 use Rattle.rv_stream.specs.inner.Feeding.{FedOf, IsFileFed, IsAll}
 use Rattle.rv_stream.specs.RoutedTraces.{routed_text, routed_in}
 use Rattle.rv_stream.proofs.FrontLemmas.{front_refused}
-use Rattle.rv_stream.proofs.NumberLemmas.{refusal_numbered, trace_numbered}
+use Rattle.rv_stream.proofs.NumberLemmas.{IsTraceRefusal, refusal_numbered, trace_numbered, traces_are_refusals}
 
 -- the bytes of a piece stand at the front
 piece_front : (bytes : List ℕ) (from : ℕ) (old new : List ℕ) (count : ℕ) → IsPiece bytes from old new count → take count new ≡ take count (drop from bytes)
@@ -91,7 +91,7 @@ module _ (told : Option Files) where
   refused-comes trace bound place count fed old new before now refuseds.Memory given low is piece refuses said = rw said tt
   refused-comes trace bound place count fed old new before now (refuseds.Because refusal) faults.Memory low is piece refuses said = tt
   refused-comes trace bound place count fed old new before now (refuseds.Because refusal) (faults.Refused named told_refusal) low is piece refuses said = (
-    rw said.1 (refusal_numbered (trace_of (part_read false (fed ++ take count new))) refusal (trace_numbered (part_read false (fed ++ take count new))) refuses),
+    rw said.1 (traces_are_refusals refusal (refusal_numbered IsTraceRefusal (trace_of (part_read false (fed ++ take count new))) refusal (trace_numbered (part_read false (fed ++ take count new))) refuses)),
     λ files known. piece_refused trace bound (files trace) place count fed old new refusal low (is files known) (piece files known) refuses ∙ (λ i. refused (sym said.0 i) (sym said.1 i)),
   )
   refused-comes trace bound place count fed old new before now (refuseds.Because refusal) (faults.Unread named) low is piece refuses said = absurd said

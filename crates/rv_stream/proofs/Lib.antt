@@ -5,5 +5,6 @@ pub mod NumberLemmas
 pub mod PiecesLemmas
 pub mod PossibleLemmas
 pub mod RefinesLemmas
+pub mod RefusedLemmas
 pub mod RoutedLemmas
 pub mod ToldLemmas

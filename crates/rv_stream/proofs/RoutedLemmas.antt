@@ -1,5 +1,5 @@
 -- What a trace is routed to, as its file tells it, from what its text is routed to.
-use Rattle.std.proofs.Common.{◌≡◌, ℕ, ◌≤◌, List, sym, ◌∙◌, subst}
+use Rattle.std.proofs.Common.{◌≡◌, ℕ, List, sym, ◌∙◌, subst}
 use Rattle.std.specs.Prelude.{Option, Result, Ok, Err, IfOk, OnOk}
 use Rattle.rv_io.specs.Files.{Files}
 use Rattle.rv_text.specs.Readings.{and_then}
@@ -8,6 +8,7 @@ use Rattle.rv_bind.specs.declared.fault.BindFault.{BindFault}
 use Rattle.rv_bind.specs.Outcomes.{Outcome, ReadsOutcome, of_file}
 use Rattle.rv_bind.specs.Possible.{MayCome, MayRead}
 use Rattle.rv_bind.specs.Values.{BoundValue}
+use Rattle.rv_bind.proofs.OutcomeLemmas.{none_counted}
 use Rattle.rv_route.specs.Routing.{RoutedValue, route_of}
 use Rattle.rv_trace.specs.Traces.{trace_of}
 use Rattle.rv_stream.specs.inner.Faults.{IsOutcome}
@@ -26,10 +27,10 @@ module _ {X : Type 0} (view : X → RoutedValue) (trace text : List ℕ) (bound 
   told_by_text = subst (λ (o : Outcome RoutedValue). IsOutcome view result o) (of_file-and_then trace (trace_of text) (route_of bound.monitors bound.rules text)) tells
 
   -- the file comes to it
-  pub trace_reads : (told left : Option Files) (before now : ℕ) → left ≡ told → before ≤ now → IsAll told trace text → ReadsOutcome view told left before now result (λ files. routed_in files trace bound)
-  trace_reads told left before now kept later all = record {
+  pub trace_reads : (told left : Option Files) (before now : ℕ) → left ≡ told → now ≡ before → IsAll told trace text → ReadsOutcome view told left before now result (λ files. routed_in files trace bound)
+  trace_reads told left before now kept same all = record {
     kept = kept;
-    later = later;
+    counts = none_counted before now result same;
     value = routed_comes told trace text bound all view before now result told_by_text;
     named = tells_named told view result (of_file trace (and_then (trace_of text) (route_of bound.monitors bound.rules text))) (λ files. routed_in files trace bound) tells;
   }

@@ -1,4 +1,5 @@
 pub mod Listed
+pub mod Numbers
 pub mod Observing
 pub mod RoutedTraces
 pub mod inner

@@ -4,6 +4,7 @@ ghost use Rattle.rv_text.specs.Readings.{Gives, Refuses, and_then};
 ghost use Rattle.rv_text.specs.TextLines.{lines_of};
 ghost use Rattle.rv_trace.specs.Streams.{part_read};
 ghost use Rattle.rv_trace.specs.Traces.{trace_of};
+ghost use Rattle.rv_bind.specs.declared.limits.TheConstants.{MAX_RULES};
 ghost use Rattle.rv_bind.specs.WellFormed.{FitsKind, kinds_of};
 ghost use Rattle.rv_route.specs.Fitting.{WorksFit, FromRules};
 ghost use Rattle.rv_route.specs.Routed.{routed_value, list_value};
@@ -92,7 +93,8 @@ fn route_rest<O: LineObserver>(
 
 /// No line was taken. Deliveries go to one list, or to the scripts of their CPUs.
 fn new_collector(alloc: Global, bindings: &Bindings, listed: bool) -> Result<Collector, AllocError>
-    requires { All (FitsKind (kinds_of bindings.now.monitors.items)) bindings.now.rules.items }
+    requires rules { All (FitsKind (kinds_of bindings.now.monitors.items)) bindings.now.rules.items }
+    requires few { length bindings.now.rules.items ≤ MAX_RULES }
     ensures routed { IfOk result (λ collector. IsRouted bindings.now [] collector None) }
     ensures listed { IfOk result (λ collector. collector.listed ≡ listed) }
 {
@@ -111,7 +113,8 @@ impl Routing {
         bindings: &Bindings,
         listed: bool,
     ) -> Result<Routing, AllocError>
-        requires { All (FitsKind (kinds_of bindings.now.monitors.items)) bindings.now.rules.items }
+        requires rules { All (FitsKind (kinds_of bindings.now.monitors.items)) bindings.now.rules.items }
+        requires few { length bindings.now.rules.items ≤ MAX_RULES }
         ensures open { IfOk result (MayBeFed bindings.now) }
         ensures fed { IfOk result (λ routing. routing.lines.fed ≡ []) }
         ensures passed { IfOk result (λ routing. lines_of (passed_text routing.lines) ≡ []) }

@@ -62,6 +62,7 @@ fn take_next<S: Store, O: LineObserver>(
 }
 
 /// Routes the trace piece by piece, up to its end or to the limit of a read.
+#[tactic(auto, using(rv_bind::proofs::OutcomeLemmas::behind_counted))]
 fn take_pieces<S: Store, O: LineObserver>(
     alloc: Global,
     store: &mut S,
@@ -141,6 +142,7 @@ fn take_trace<S: Store, O: LineObserver>(
 }
 
 /// Routes the trace to one list, or to the scripts of CPUs.
+#[tactic(auto, using(rv_bind::proofs::OutcomeLemmas::fault_counted))]
 fn route_trace<S: Store, O: LineObserver>(
     alloc: Global,
     store: &mut S,
@@ -167,6 +169,7 @@ fn route_trace<S: Store, O: LineObserver>(
 }
 
 /// Reads the trace in pieces and routes it.
+#[tactic(auto, using(rv_bind::proofs::OutcomeLemmas::fault_counted))]
 pub fn read_routed<S: Store>(
     alloc: Global,
     store: &mut S,
@@ -201,6 +204,7 @@ pub fn read_list<S: Store>(
 /// The same, where an observer is told of each line as it is read, of the skipped ones too. It is kept out of the code of its
 /// callers, whose loops are the slower for it.
 #[inline(never)]
+#[tactic(auto, using(rv_bind::proofs::OutcomeLemmas::fault_counted))]
 pub fn read_list_observed<S: Store, O: LineObserver>(
     alloc: Global,
     store: &mut S,

@@ -27,12 +27,11 @@ IsRowSet n set = (set < 2 ^ n) × (has_bit set 0 ≡ false)
 abbrev pub IsNodeBelow : ℕ → Node → Type 0
 IsNodeBelow n node = All IsLabel node.labels × IsRowSet n node.next
 
--- row 0 and at most 31 others, whose sets name rows from 1 on, and whose labels can be counted
+-- row 0 and at most 31 others, whose sets name rows from 1 on
 pub record IsLabelRows (nodes : List Node) : Type 0 where
   pub some : 1 ≤ length nodes
   pub few : length nodes ≤ 32
   pub in_range : All (IsNodeBelow (length nodes)) nodes
-  pub counted : All (λ node. length node.labels < 2 ^ 32) nodes
 
 -- the rows of a formula's table: row 0 has no labels, and the nodes are the rows from 1 on
 abbrev pub node_rows : ℕ → List Node → List Node

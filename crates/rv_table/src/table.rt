@@ -1,5 +1,5 @@
 //! Tables of both kinds.
-ghost use Rattle.std.specs.Prelude.{◌≡◌, ◌<◌, ◌≤◌, ◌+◌, ◌^◌, IfOk, IsTrue, All, length, slice_index_or};
+ghost use Rattle.std.specs.Prelude.{◌≡◌, ◌<◌, ◌≤◌, ◌+◌, IfOk, length, slice_index_or};
 ghost use Rattle.rv_model.specs.declared.formula.Spec.TheVariants.{Da};
 ghost use Rattle.rv_model.specs.Formulas.{ltl};
 ghost use Rattle.rv_model.specs.Ltl.{True};
@@ -69,9 +69,6 @@ impl Table {
         requires { FitNodes first nodes.items }
         ensures { IfOk result (λ table. table ≡ of_labels (node_rows first nodes.items)) }
     {
-        if !are_counted(&nodes) {
-            return Err(AllocError);
-        }
         let nodes = Nodes::new(alloc, first, &nodes)?;
         Ok(Table {
             kind: TableRows::Labels { nodes },
@@ -137,37 +134,25 @@ impl Table {
     }
 
     /// How many labels a row of a formula's table has.
-    pub fn labels(&self, row: u32) -> u32
+    pub fn labels(&self, row: u32) -> usize
         requires { HasNode self.now row }
         ensures { result ≡ length (node_in self.now row).labels }
     {
         match &self.kind {
             TableRows::Events { .. } => 0,
-            TableRows::Labels { nodes } => nodes.labels(row as usize) as u32,
+            TableRows::Labels { nodes } => nodes.labels(row as usize),
         }
     }
 
     /// The label at this place of a row of a formula's table.
-    pub fn label(&self, row: u32, place: u32) -> &Formula
+    pub fn label(&self, row: u32, place: usize) -> &Formula
         requires row { HasNode self.now row }
         requires place { place < length (node_in self.now row).labels }
         ensures { ltl result.now ≡ slice_index_or (node_in self.now row).labels place True }
     {
         match &self.kind {
             TableRows::Events { .. } => unreachable!(),
-            TableRows::Labels { nodes } => nodes.label(row as usize, place as usize),
+            TableRows::Labels { nodes } => nodes.label(row as usize, place),
         }
     }
-}
-
-/// Whether each node's labels can be counted.
-fn are_counted(nodes: &[Node]) -> bool
-    ensures { IsTrue result → All (λ node. length node.labels < 2 ^ 32) nodes.now }
-{
-    for node in nodes {
-        if node.labels.len() > u32::MAX as usize {
-            return false;
-        }
-    }
-    true
 }

@@ -7,6 +7,9 @@ use std::simd::prelude::*;
 /// How many bytes are looked at together.
 const WIDTH: usize = 32;
 
+/// How many bytes are near.
+const NEAR: usize = 128;
+
 /// The first of the next places that has the byte.
 #[inline(always)]
 fn next_of(byte: u8, text: &[u8], place: usize) -> Option<usize>
@@ -21,6 +24,27 @@ fn next_of(byte: u8, text: &[u8], place: usize) -> Option<usize>
         return None;
     }
     Some(place + found.trailing_zeros() as usize)
+}
+
+/// The first place from `from` on that has the byte, where it is near. Of a place that is not near nothing is said.
+#[inline(always)]
+pub(crate) fn near_byte(byte: u8, text: &[u8], from: usize) -> Option<usize>
+    requires { from ≤ length text.now }
+    ensures value { IfSome result (λ found. found ≡ least (λ k. slice_index text.now k == byte) from (length text.now - from)) }
+    ensures low { IfSome result (λ found. from ≤ found) }
+    ensures high { IfSome result (λ found. found < length text.now) }
+{
+    if text.len() - from < NEAR {
+        return None;
+    }
+    let mut place = from;
+    while place + WIDTH <= from + NEAR {
+        if let Some(found) = next_of(byte, text, place) {
+            return Some(found);
+        }
+        place += WIDTH;
+    }
+    None
 }
 
 /// The first place from `from` on that has the byte, or the end.

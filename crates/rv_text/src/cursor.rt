@@ -2,7 +2,8 @@
 ghost use Rattle.std.specs.Prelude.{◌≡◌, ◌<◌, ◌≤◌, ◌+◌, List, [], ◌∷◌, length, min, true, IfSome, IfNone};
 ghost use Rattle.rv_text.specs.TextLines.{LineText, line_text, lines_from, lines_of, line_end, next_number, is_line_start};
 
-use crate::bytes::find_byte;
+use crate::bytes::near_byte;
+use memchr::memchr;
 use std::marker::Model;
 
 /// A line of a text.
@@ -72,7 +73,7 @@ impl<'a> Cursor<'a> {
     }
 }
 
-/// The first line end from a place on, or the end of the text.
+/// The first line end from a place on, or the end of the text. Most are near.
 #[inline(always)]
 #[tactic(auto, unfolding(crate::specs::TextLines::line_end))]
 pub fn line_end(text: &[u8], from: usize) -> usize
@@ -81,7 +82,24 @@ pub fn line_end(text: &[u8], from: usize) -> usize
     ensures low { from ≤ result }
     ensures high { result ≤ length text.now }
 {
-    find_byte(b'\n', text, from)
+    match near_byte(b'\n', text, from) {
+        Some(to) => to,
+        None => far_line_end(text, from),
+    }
+}
+
+/// The same, however far it is.
+#[inline(never)]
+fn far_line_end(text: &[u8], from: usize) -> usize
+    requires { from ≤ length text.now }
+    ensures value { result ≡ line_end text.now from }
+    ensures low { from ≤ result }
+    ensures high { result ≤ length text.now }
+{
+    match memchr(b'\n', &text[from..]) {
+        Some(offset) => from + offset,
+        None => text.len(),
+    }
 }
 
 /// The place behind the line end that stands here, if one does.

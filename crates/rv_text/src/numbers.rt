@@ -112,5 +112,5 @@ pub const NO_HEADER: u8 = 35;
 /// The text is not that of the C tables of any automaton.
 pub const HEADER_SYNTAX: u8 = 36;
 
-/// The monitor is no shown name; or the instance is not 0 of a global monitor, no CPU up to 63 of a cpu monitor, or no pid of a task that has deliveries.
+/// The monitor is no display name; or the instance is not 0 of a global monitor, no CPU up to 63 of a cpu monitor, or no pid of a task that has deliveries.
 pub const NO_INSTANCE: u8 = 37;

@@ -8,9 +8,10 @@ use Rattle.rv_model.specs.Histories.{IsOneHistory, IsLegal}
 use Rattle.rv_io.specs.Files.{Files}
 use Rattle.rv_bind.specs.declared.fault.BindFault.{BindFault}
 use Rattle.rv_bind.specs.declared.fault.BindFault.TheVariants as faults
-use Rattle.rv_bind.specs.Outcomes.{Outcome, accepted, refused, missing, IsRefusal}
+use Rattle.rv_bind.specs.Outcomes.{Outcome, accepted, refused, missing, CountsFaults, IsRefusal}
+use Rattle.rv_bind.proofs.OutcomeLemmas.{none_counted}
 use Rattle.rv_tool.specs.declared.replay.FinishedRun.{FinishedRun}
-use Rattle.rv_tool.specs.Calls.{CallEnd, Call}
+use Rattle.rv_tool.specs.Calls.{CallEnd, Call, CountsNone}
 use Rattle.rv_tool.specs.Changes.{input_beside}
 use Rattle.rv_tool.specs.Checks.{IsCheckReport, checked_input}
 use Rattle.rv_tool.specs.inner.Commands.{IsOneReport, IsVerdictReport, IsText, IsPrinted, IsSessionText, ComesTo, CommandComes}
@@ -69,12 +70,12 @@ module _ (c : Call) {Y : Type 0} (May : Outcome Y → Type 0) (Goes : Y → List
   refusal_ends file refusal numbered (inr up) = inr up
 
   -- on a store that tells no files
-  pub untold_ends : (result : Result FinishedRun BindFault) → ComesTo May Goes outcome told c.faults_before c.faults_after result → IsPut result c.end → told ≡ None → EndsOnSome May Accepted c
-  untold_ends (Ok done) comes put none = inl (accepted comes.1.0, comes.1.1, tt, done_ends comes.1.0 done comes.1.2 put)
-  untold_ends (Err faults.Memory) comes up none = inr up
-  untold_ends (Err (faults.Refused file refusal)) comes says none = inl (refused file refusal, comes.2, tt, refusal_ends file refusal comes.0.0 says)
-  untold_ends (Err (faults.Unread file)) (inl lacks, named, may) says none = absurd (let both : Some lacks.0 ≡ None = rw (← lacks.1) none in cc)
-  untold_ends (Err (faults.Unread file)) (inr rose, named, may) says none = inl (missing file, may, rose, says)
+  pub untold_ends : (result : Result FinishedRun BindFault) → CountsFaults c.faults_before c.faults_after result → ComesTo May Goes outcome told c.faults_before c.faults_after result → IsPut result c.end → told ≡ None → EndsOnSome May Accepted c
+  untold_ends (Ok done) counts comes put none = inl (accepted comes.1.0, comes.1.1, counts, done_ends comes.1.0 done comes.1.2 put)
+  untold_ends (Err faults.Memory) counts comes up none = inr (counts, up)
+  untold_ends (Err (faults.Refused file refusal)) counts comes says none = inl (refused file refusal, comes.2, counts, refusal_ends file refusal comes.0.0 says)
+  untold_ends (Err (faults.Unread file)) counts (inl lacks, named, may) says none = absurd (let both : Some lacks.0 ≡ None = rw (← lacks.1) none in cc)
+  untold_ends (Err (faults.Unread file)) counts (inr rose, named, may) says none = inl (missing file, may, rose, says)
 
   module _ (no : (y : Y) → GivesUp c.end → Accepted y c.end) where
     -- want of memory ends every command
@@ -84,24 +85,26 @@ module _ (c : Call) {Y : Type 0} (May : Outcome Y → Type 0) (Goes : Y → List
     gives_up (missing file) up = inr up
 
     -- on a store that tells its files
-    pub told_ends : (result : Result FinishedRun BindFault) → ComesTo May Goes outcome told c.faults_before c.faults_after result → IsPut result c.end → (files : Files) → told ≡ Some files → AnswersBy Accepted outcome files c
-    told_ends (Ok done) comes put files known =
+    pub told_ends : (result : Result FinishedRun BindFault) → CountsFaults c.faults_before c.faults_after result → ComesTo May Goes outcome told c.faults_before c.faults_after result → IsPut result c.end → (files : Files) → told ≡ Some files → AnswersBy Accepted outcome files c
+    told_ends (Ok done) counts comes put files known =
         let found = comes.0 files known in
-        inl (subst (λ (o : Outcome Y). Ends Accepted o c.end) (sym found.1) (done_ends found.0 done found.2 put))
-    told_ends (Err faults.Memory) comes up files known = inl (gives_up (outcome files) up)
-    told_ends (Err (faults.Refused file refusal)) comes says files known = inl (subst (λ (o : Outcome Y). Ends Accepted o c.end) (sym (comes.0.1 files known)) (refusal_ends file refusal comes.0.0 says))
-    told_ends (Err (faults.Unread file)) (inl lacks, named, may) says files known =
+        inl (counts, subst (λ (o : Outcome Y). Ends Accepted o c.end) (sym found.1) (done_ends found.0 done found.2 put))
+    told_ends (Err faults.Memory) (inl same) comes up files known = inl (same, gives_up (outcome files) up)
+    told_ends (Err faults.Memory) (inr rose) comes up files known = inr (rose, inr up)
+    told_ends (Err (faults.Refused file refusal)) counts comes says files known = inl (counts, subst (λ (o : Outcome Y). Ends Accepted o c.end) (sym (comes.0.1 files known)) (refusal_ends file refusal comes.0.0 says))
+    told_ends (Err (faults.Unread file)) (inr rose) comes says files known = inr (rose, inl (file, comes.1 files known, says))
+    told_ends (Err (faults.Unread file)) (inl still) (inr rose, named, may) says files known = inr (rose, inl (file, named files known, says))
+    told_ends (Err (faults.Unread file)) (inl still) (inl lacks, named, may) says files known =
         let both : Some lacks.0 ≡ Some files = sym lacks.1 ∙ known in
         let same : lacks.0 ≡ files = cc in
-        inl (subst (λ (o : Outcome Y). Ends Accepted o c.end) (sym (ap outcome (sym same) ∙ lacks.2)) says)
-    told_ends (Err (faults.Unread file)) (inr rose, named, may) says files known = inr (rose, file, named files known, says)
+        inl (still, subst (λ (o : Outcome Y). Ends Accepted o c.end) (sym (ap outcome (sym same) ∙ lacks.2)) says)
 
 -- where no fault was counted, no file is blamed
 no_blame : {Y : Type 0} (Accepted : Y → Ending) (outcome : Files → Outcome Y) (files : Files) (c : Call) → c.faults_before ≡ 0 → c.faults_after ≡ 0 → AnswersBy Accepted outcome files c → Ends Accepted (outcome files) c.end
-no_blame Accepted outcome files c first last (inl ends) = ends
-no_blame Accepted outcome files c first last (inr (rose, file, reached, said)) = absurd (elim rose [
-  | inl lt ↦ omega arith
-  | inr full ↦ omega arith
+no_blame Accepted outcome files c first last (inl ends) = ends.1
+no_blame Accepted outcome files c first last (inr (rose, said)) = absurd (elim rose [
+  | inl more ↦ omega arith
+  | inr full ↦ let at = full.0 in omega arith
 ])
 
 -- ---- all commands
@@ -112,24 +115,24 @@ pub record IsAnswered (asked : Option CommandValue) (told : Option Files) (c : C
   pub verdicts : (files : Files) → told ≡ Some files → Verdicts asked files c
   pub opaque : told ≡ None → AnswersOpaque asked c
 
-module _ (c : Call) (told : Option Files) (result : Result FinishedRun BindFault) (put : IsPut result c.end) where
+module _ (c : Call) (told : Option Files) (result : Result FinishedRun BindFault) (counts : CountsFaults c.faults_before c.faults_after result) (put : IsPut result c.end) where
   -- what goes with the value is told as it is
   module _ {Y : Type 0} (May : Outcome Y → Type 0) (Goes : Y → List Entry → List ℕ → ℕ → Type 0) (outcome : Files → Outcome Y) (comes : ComesTo May Goes outcome told c.faults_before c.faults_after result) where
     -- on a store that tells its files
     pub report_told : (Weaker : Y → List Entry → List ℕ → ℕ → Type 0) → ((y : Y) (h : List Entry) (text : List ℕ) (said : ℕ) → Goes y h text said → Weaker y h text said) → (files : Files) → told ≡ Some files → AnswersBy (λ y. PrintsSome (Weaker y)) outcome files c
-    report_told Weaker weaker = told_ends c May Goes (λ y. PrintsSome (Weaker y)) (λ y text said goes written. inl (text, said, weaker y c.end.history text said goes, written)) outcome told (λ y up. inr up) result comes put
+    report_told Weaker weaker = told_ends c May Goes (λ y. PrintsSome (Weaker y)) (λ y text said goes written. inl (text, said, weaker y c.end.history text said goes, written)) outcome told (λ y up. inr up) result counts comes put
 
     -- on one that does not
     pub report_untold : told ≡ None → EndsOnSome May (λ y. PrintsSome (Goes y)) c
-    report_untold = untold_ends c May Goes (λ y. PrintsSome (Goes y)) (λ y text said goes written. inl (text, said, goes, written)) outcome told result comes put
+    report_untold = untold_ends c May Goes (λ y. PrintsSome (Goes y)) (λ y text said goes written. inl (text, said, goes, written)) outcome told result counts comes put
 
   -- a text that is one of these is printed
   module _ (May : Outcome (List ℕ) → Type 0) (outcome : Files → Outcome (List ℕ)) (comes : ComesTo May IsPrinted outcome told c.faults_before c.faults_after result) where
     text_told : (files : Files) → told ≡ Some files → AnswersBy Prints outcome files c
-    text_told = told_ends c May IsPrinted Prints (λ y text said goes written. text_ends c.end y 0 text said goes written) outcome told (λ y up. inr up) result comes put
+    text_told = told_ends c May IsPrinted Prints (λ y text said goes written. text_ends c.end y 0 text said goes written) outcome told (λ y up. inr up) result counts comes put
 
     text_untold : told ≡ None → EndsOnSome May Prints c
-    text_untold = untold_ends c May IsPrinted Prints (λ y text said goes written. text_ends c.end y 0 text said goes written) outcome told result comes put
+    text_untold = untold_ends c May IsPrinted Prints (λ y text said goes written. text_ends c.end y 0 text said goes written) outcome told result counts comes put
 
   -- a command that was done and put is answered
   pub command_answered : (command : CommandValue) → IsWithin command → CommandComes command told c.faults_before c.faults_after result → IsAnswered (Some command) told c
@@ -177,20 +180,20 @@ module _ (c : Call) (told : Option Files) (result : Result FinishedRun BindFault
   }
   command_answered (control bindings script) within comes =
       let outcome : Files → Outcome Printed = λ files. control_in files bindings script in record {
-        answers = told_ends c (MayControl bindings script) IsSessionText PrintsSession (λ y text said goes written. text_ends c.end y.text y.status text said goes written) outcome told (λ y up. inr up) result comes put;
+        answers = told_ends c (MayControl bindings script) IsSessionText PrintsSession (λ y text said goes written. text_ends c.end y.text y.status text said goes written) outcome told (λ y up. inr up) result counts comes put;
         verdicts = λ files known. tt;
-        opaque = untold_ends c (MayControl bindings script) IsSessionText PrintsSession (λ y text said goes written. text_ends c.end y.text y.status text said goes written) outcome told result comes put;
+        opaque = untold_ends c (MayControl bindings script) IsSessionText PrintsSession (λ y text said goes written. text_ends c.end y.text y.status text said goes written) outcome told result counts comes put;
       }
-  command_answered (load blocks) few comes = record { answers = λ files known. load_reports blocks few c.end whole; verdicts = λ files known. load_ends blocks few c.end whole; opaque = λ none. load_ends blocks few c.end whole }
+  command_answered (load blocks) few comes = record { answers = λ files known. (comes.0, load_reports blocks few c.end whole); verdicts = λ files known. (comes.0, load_ends blocks few c.end whole); opaque = λ none. (comes.0, load_ends blocks few c.end whole) }
     where
       whole : Ends (λ y. PrintsSome (IsVerdictReport y)) (run_input (generated_files blocks) (codes "gen.rv") (codes "gen.txt")) c.end
       whole = no_blame (λ y. PrintsSome (IsVerdictReport y)) (λ files. run_input files (codes "gen.rv") (codes "gen.txt")) (generated_files blocks) (record c { faults_before = 0; faults_after = 0 }) refl refl
-          (told_ends (record c { faults_before = 0; faults_after = 0 }) (MayInput (codes "gen.rv") (codes "gen.txt")) IsVerdictReport (λ y. PrintsSome (IsVerdictReport y)) (λ y text said goes written. inl (text, said, goes, written)) (λ files. run_input files (codes "gen.rv") (codes "gen.txt")) (Some (generated_files blocks)) (λ y up. inr up) result comes put (generated_files blocks) refl)
+          (told_ends (record c { faults_before = 0; faults_after = 0 }) (MayInput (codes "gen.rv") (codes "gen.txt")) IsVerdictReport (λ y. PrintsSome (IsVerdictReport y)) (λ y text said goes written. inl (text, said, goes, written)) (λ files. run_input files (codes "gen.rv") (codes "gen.txt")) (Some (generated_files blocks)) (λ y up. inr up) result (none_counted 0 0 result refl) comes.1 put (generated_files blocks) refl)
 
 -- the words ask for the command that was done
 pub words_answered : (asked said : Option CommandValue) (told : Option Files) (c : Call) → said ≡ asked → IsAnswered said told c → IsAnswered asked told c
 words_answered asked said told c same = subst (λ (o : Option CommandValue). IsAnswered o told c) same
 
 -- words that are no command are refused
-pub usage_answered : (told : Option Files) (c : Call) → PrintsText (refusal_text None (record { number = USAGE; line = 0 })) 2 c.end → IsAnswered None told c
-usage_answered told c said = record { answers = λ files known. said; verdicts = λ files known. tt; opaque = λ none. said }
+pub usage_answered : (told : Option Files) (c : Call) → CountsNone c → PrintsText (refusal_text None (record { number = USAGE; line = 0 })) 2 c.end → IsAnswered None told c
+usage_answered told c none said = record { answers = λ files known. (none, said); verdicts = λ files known. tt; opaque = λ untold. (none, said) }

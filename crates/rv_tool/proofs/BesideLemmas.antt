@@ -1,5 +1,5 @@
 -- The unread file that a part of a reading with a control script names is reached in the whole.
-use Rattle.std.proofs.Common.{◌≡◌, ◌≤◌, List, ℕ, [], refl, inr}
+use Rattle.std.proofs.Common.{◌≡◌, List, ℕ, [], refl, inr}
 use Rattle.std.specs.Prelude.{Option, Some, Err}
 use Rattle.rv_io.specs.Files.{Files}
 use Rattle.rv_bind.specs.declared.fault.BindFault.{BindFault}
@@ -44,7 +44,7 @@ module _ (told : Option Files) where
     beside_named X Z fault = step_named X Z told fault (λ files. run_input files bindings trace) next (λ files. input_beside files bindings trace script) (λ files. refl)
 
 -- where the bindings and the trace were read, the whole's fault is the script's
-pub beside_behind_reads : {X Z : Type 0} (view : X → List Change) (whole_view : Z → InputValue) (told mid left : Option Files) (before count now : ℕ) (bindings trace script : List ℕ) (input : InputValue) (fault : BindFault) → mid ≡ told → before ≤ count
+pub beside_behind_reads : {X Z : Type 0} (view : X → List Change) (whole_view : Z → InputValue) (told mid left : Option Files) (before count now : ℕ) (bindings trace script : List ℕ) (input : InputValue) (fault : BindFault) → mid ≡ told → count ≡ before
     → ((files : Files) → told ≡ Some files → run_input files bindings trace ≡ accepted input)
     → ReadsOutcome view mid left count now (Err fault) (λ files. changes_in files script (control_value input.bound)) → ReadsOutcome whole_view told left before now (Err fault) (λ files. input_beside files bindings trace script)
 beside_behind_reads view whole_view told mid left before count now bindings trace script input fault same le read reads =

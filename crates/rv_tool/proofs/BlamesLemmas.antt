@@ -1,5 +1,5 @@
 -- The unread file that a part of a reading names is reached in the whole.
-use Rattle.std.proofs.Common.{◌≡◌, ℕ, ◌≤◌, List, [], refl}
+use Rattle.std.proofs.Common.{◌≡◌, ℕ, List, [], refl}
 use Rattle.std.specs.Prelude.{Option, Some, Result, Err}
 use Rattle.rv_io.specs.Files.{Files}
 use Rattle.rv_bind.specs.declared.fault.BindFault.{BindFault}
@@ -46,14 +46,14 @@ module _ (told : Option Files) where
 
 module _ (told mid left : Option Files) (before count now : ℕ) (bindings : List ℕ) (bound : BoundValue) where
   -- where the bindings were read, the commands are what the script is
-  pub control_behind_reads : {X : Type 0} (view : X → Printed) (script : List ℕ) (result : Result X BindFault) → mid ≡ told → before ≤ count → ((files : Files) → told ≡ Some files → bound_of files bindings ≡ accepted bound)
+  pub control_behind_reads : {X : Type 0} (view : X → Printed) (script : List ℕ) (result : Result X BindFault) → mid ≡ told → count ≡ before → ((files : Files) → told ≡ Some files → bound_of files bindings ≡ accepted bound)
       → ReadsOutcome view mid left count now result (λ files. session_in files script bound) → ReadsOutcome view told left before now result (λ files. control_in files bindings script)
   control_behind_reads view script result same le read reads =
       behind_reads view told left before now result (λ files. bound_of files bindings) bound (λ files b. session_in files script b) (bound-local bindings) read
       (later_reads view told mid left before count now result (λ files. session_in files script bound) same le reads)
 
   -- and the run's fault is the trace's
-  pub input_behind_reads : {X Z : Type 0} (view : X → RoutedValue) (whole_view : Z → InputValue) (trace : List ℕ) (fault : BindFault) → mid ≡ told → before ≤ count → ((files : Files) → told ≡ Some files → bound_of files bindings ≡ accepted bound)
+  pub input_behind_reads : {X Z : Type 0} (view : X → RoutedValue) (whole_view : Z → InputValue) (trace : List ℕ) (fault : BindFault) → mid ≡ told → count ≡ before → ((files : Files) → told ≡ Some files → bound_of files bindings ≡ accepted bound)
       → ReadsOutcome view mid left count now (Err fault) (λ files. routed_in files trace bound) → ReadsOutcome whole_view told left before now (Err fault) (λ files. run_input files bindings trace)
   input_behind_reads view whole_view trace fault same le read reads =
       behind_reads whole_view told left before now (Err fault) (λ files. bound_of files bindings) bound (λ files b. reading (routed_in files trace b) (λ routed. accepted (record { bound = b; routed = routed; changes = [] }))) (bound-local bindings) read

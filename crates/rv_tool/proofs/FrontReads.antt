@@ -9,6 +9,7 @@ use Rattle.rv_bind.specs.declared.fault.BindFault.{BindFault}
 use Rattle.rv_bind.specs.Values.{BoundValue}
 use Rattle.rv_bind.specs.Outcomes.{Outcome, ReadsOutcome, of_file, of_name, text_front, front_named}
 use Rattle.rv_bind.proofs.FrontLemmas.{LooksAtFront, of_front}
+use Rattle.rv_bind.proofs.OutcomeLemmas.{none_counted}
 use Rattle.rv_control.specs.Trees.{ControlValue}
 use Rattle.rv_stream.specs.inner.Faults.{IsOutcome}
 use Rattle.rv_tool.specs.Tables.{table_text, table_in}
@@ -24,7 +25,7 @@ module _ (told left : Option Files) (before now : ℕ) (file : List ℕ) (read :
       → ReadsOutcome view told left before now result (λ files. of_name files file outcome)
   front_reads view outcome looks result tells = record {
     kept = reads.kept;
-    later = reads.later;
+    counts = none_counted before now result reads.counts;
     value = tells_comes told view before now (λ files. of_name files file outcome) (outcome read.items) (λ files known. of_front outcome looks files file read.items (reads.value files known)) result tells;
     named = tells_named told view result (outcome read.items) (λ files. of_name files file outcome) tells;
   }

@@ -20,6 +20,7 @@ pub mod RecordableLemmas
 pub mod RecordingLemmas
 pub mod ReportedLemmas
 pub mod SessionLemmas
+pub mod StepLemmas
 pub mod VerdictLemmas
 pub mod WatchLemmas
 pub mod WidthLemmas

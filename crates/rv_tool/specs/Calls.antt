@@ -1,5 +1,5 @@
 -- What is seen of a call from outside.
-use Rattle.std.specs.Prelude.{ℕ, List, Option}
+use Rattle.std.specs.Prelude.{◌≡◌, ℕ, List, Option}
 use Rattle.rv_io.specs.declared.sink.Sink as sinks
 use Rattle.rv_io.specs.declared.store.Store as stores
 use Rattle.rv_model.specs.declared.entry.Entry.{Entry}
@@ -22,6 +22,10 @@ pub record Call : Type 0 where
   pub faults_before : ℕ
   pub faults_after : ℕ
   pub end : CallEnd
+
+-- the store counted no fault
+abbrev pub CountsNone : Call → Type 0
+CountsNone c = c.faults_after ≡ c.faults_before
 
 -- ---- of the code's values
 

@@ -14,6 +14,7 @@ pub mod Output
 pub mod Puts
 pub mod Runs
 pub mod Sessions
+pub mod Steps
 pub mod Possible
 pub mod Tables
 pub mod Opaque

@@ -22,8 +22,8 @@ refusal_text file refusal = codes "rv: refused " ++ decimal refusal.number ++ in
 abbrev pub missing_text : List ℕ → List ℕ
 missing_text file = codes "rv: cannot read " ++ file ++ codes "\n"
 
--- the sink took the whole text; or its count of faults rose, a front of the text was taken, and the status is 4
+-- the sink took the whole text and counted no fault; or its count of faults rose, a front of the text was taken, and the status is 4
 abbrev pub IsWritten : SinkState → SinkState → List ℕ → ℕ → ℕ → Type 0
 IsWritten before after text said status =
-    ((status ≡ said) × Takes before.taken after.taken text)
+    ((status ≡ said) × (after.faults ≡ before.faults) × Takes before.taken after.taken text)
     ⊎ ((status ≡ 4) × Rose before.faults after.faults × (front : List ℕ) × (back : List ℕ) × (text ≡ front ++ back) × Takes before.taken after.taken front)

@@ -13,7 +13,7 @@ use Rattle.rv_model.specs.Setups.{slot_of}
 use Rattle.rv_slots.specs.declared.shape.TheConstants.{CPUS}
 use Rattle.rv_laws.specs.SingleWriter.{HasOneWriter, IsByCpu}
 use Rattle.rv_laws.specs.Verdicts.{AgreeOnSingleWriter, records_on}
-use Rattle.rv_tool.specs.Calls.{Call}
+use Rattle.rv_tool.specs.Calls.{Call, CountsNone}
 use Rattle.rv_tool.specs.Headline.{Ending, IsReported, PrintsSome}
 use Rattle.rv_tool.specs.Inputs.{InputValue, run_input, run_of, HasCpus}
 use Rattle.rv_tool.specs.Loads.{EndsAsLoad}
@@ -88,5 +88,5 @@ ReportsLoad i = PrintsSome (λ h text status. IsReported IsLegal i h text status
 abbrev pub Verdicts : Option CommandValue → Files → Call → Type 0
 Verdicts (Some (replay bindings trace)) files c = AnswersBy ReportsOne (λ files. run_input files bindings trace) files c
 Verdicts (Some (feed bindings trace)) files c = AnswersBy ReportsVerdicts (λ files. run_input files bindings trace) files c
-Verdicts (Some (load blocks)) files c = EndsAsLoad ReportsLoad blocks c.end
+Verdicts (Some (load blocks)) files c = CountsNone c × EndsAsLoad ReportsLoad blocks c.end
 Verdicts _ files c = Unit {0}

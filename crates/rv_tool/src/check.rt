@@ -3,7 +3,7 @@ ghost use Rattle.std.specs.Prelude.{◌≡◌, ◌≤◌, ◌<◌, [], length, f
 ghost use Rattle.rv_model.specs.Numbers.{number_of};
 ghost use Rattle.rv_core.specs.Judged.{JudgesBySpecs};
 ghost use Rattle.rv_bind.specs.FilePieces.{FailsAs};
-ghost use Rattle.rv_bind.specs.Outcomes.{BlamesReached, of_text, accepted};
+ghost use Rattle.rv_bind.specs.Outcomes.{BlamesReached, CountsFaults, of_text, accepted};
 ghost use Rattle.rv_bind.specs.Possible.{IsUnread};
 ghost use Rattle.rv_feed.specs.Lane.{FitLanes, panics_of, works_of};
 ghost use Rattle.rv_tool.specs.Checks.{judged, verdict_text, verdict_status, checked_input};
@@ -163,6 +163,7 @@ fn take_journal<S: Store>(
 }
 
 /// The verdict on the journal, once the bindings and the trace were read.
+#[tactic(auto, using(rv_bind::proofs::OutcomeLemmas::fault_counted, rv_bind::proofs::OutcomeLemmas::behind_counted))]
 pub(crate) fn read_verdict<S: Store>(
     alloc: Global,
     store: &mut S,
@@ -171,7 +172,7 @@ pub(crate) fn read_verdict<S: Store>(
     journal: &str,
 ) -> Result<Verdict, BindFault>
     ensures kept { S.files store.new ≡ S.files store.old }
-    ensures later { S.faults store.old ≤ S.faults store.new }
+    ensures counts { CountsFaults (S.faults store.old) (S.faults store.new) result }
     ensures value { JudgesRead (S.files store.old) (S.faults store.old) (S.faults store.new) result (λ files. checked_input files bindings.now trace.now journal.now) }
     ensures named { BlamesReached (S.files store.old) result (λ files. checked_input files bindings.now trace.now journal.now) }
     ensures some { JudgesSome result (MayCheck bindings.now trace.now journal.now) }

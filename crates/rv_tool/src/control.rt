@@ -144,7 +144,7 @@ fn run_text(alloc: Global, script: &str, bound: &Bound, text: &[u8]) -> Result<S
 }
 
 /// Reads the script and does its commands.
-#[tactic(auto, using(crate::proofs::BlamesLemmas::script_named, crate::proofs::PossibleLemmas::session_unread, crate::proofs::PossibleLemmas::session_may))]
+#[tactic(auto, using(rv_bind::proofs::OutcomeLemmas::fault_counted, crate::proofs::BlamesLemmas::script_named, crate::proofs::PossibleLemmas::session_unread, crate::proofs::PossibleLemmas::session_may))]
 fn run_script<S: Store>(
     alloc: Global,
     store: &mut S,
@@ -160,7 +160,7 @@ fn run_script<S: Store>(
 }
 
 /// Reads the bindings and the script, and does its commands.
-#[tactic(auto, using(crate::proofs::BlamesLemmas::control_named))]
+#[tactic(auto, using(rv_bind::proofs::OutcomeLemmas::fault_counted, crate::proofs::BlamesLemmas::control_named))]
 pub(crate) fn read_control<S: Store>(
     alloc: Global,
     store: &mut S,

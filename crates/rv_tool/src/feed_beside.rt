@@ -101,7 +101,7 @@ fn changes_in_text(
 }
 
 /// Reads the script and gives its changes.
-#[tactic(auto, using(crate::proofs::BesideLemmas::changes_named, crate::proofs::PossibleLemmas::script_unread, crate::proofs::PossibleLemmas::script_may))]
+#[tactic(auto, using(rv_bind::proofs::OutcomeLemmas::fault_counted, crate::proofs::BesideLemmas::changes_named, crate::proofs::PossibleLemmas::script_unread, crate::proofs::PossibleLemmas::script_may))]
 fn read_changes<S: Store>(
     alloc: Global,
     store: &mut S,
@@ -119,7 +119,7 @@ fn read_changes<S: Store>(
 }
 
 /// Reads the bindings and the trace, and then the script that runs beside the CPUs.
-#[tactic(auto, using(crate::proofs::BesideLemmas::beside_named))]
+#[tactic(auto, using(rv_bind::proofs::OutcomeLemmas::fault_counted, crate::proofs::BesideLemmas::beside_named))]
 pub(crate) fn read_beside<S: Store>(
     alloc: Global,
     store: &mut S,

@@ -37,7 +37,7 @@ fn named_header(alloc: Global, name: &str, file: &str, bytes: &[u8]) -> Result<V
 }
 
 /// The C tables of a file.
-#[tactic(auto, using(crate::proofs::BlamesLemmas::header_named, crate::proofs::PossibleLemmas::header_unread, crate::proofs::PossibleLemmas::header_may))]
+#[tactic(auto, using(rv_bind::proofs::OutcomeLemmas::fault_counted, crate::proofs::BlamesLemmas::header_named, crate::proofs::PossibleLemmas::header_unread, crate::proofs::PossibleLemmas::header_may))]
 pub(crate) fn read_header<S: Store>(
     alloc: Global,
     store: &mut S,

@@ -44,7 +44,7 @@ pub(crate) struct RunParts {
 }
 
 /// Reads the bindings and the trace.
-#[tactic(auto, using(crate::proofs::BlamesLemmas::input_named))]
+#[tactic(auto, using(rv_bind::proofs::OutcomeLemmas::fault_counted, crate::proofs::BlamesLemmas::input_named))]
 pub(crate) fn read_input<S: Store>(
     alloc: Global,
     store: &mut S,

@@ -63,7 +63,7 @@ fn recordable(alloc: Global, bindings: &str, ready: Prepared) -> Result<Prepared
 }
 
 /// Reads the bindings and the trace, and finds whether the monitors can be numbered.
-#[tactic(auto, using(crate::proofs::RecordableLemmas::numbered_named))]
+#[tactic(auto, using(rv_bind::proofs::OutcomeLemmas::fault_counted, rv_bind::proofs::OutcomeLemmas::none_counted, crate::proofs::RecordableLemmas::numbered_named))]
 pub(crate) fn read_recordable<S: Store>(
     alloc: Global,
     store: &mut S,

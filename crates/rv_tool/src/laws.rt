@@ -1,5 +1,6 @@
-//! Laws of the generated input, each the contract of a call that does nothing.
+//! Laws of the generated input, and of refusals, each the contract of a call that does nothing.
 ghost use Rattle.rv_tool.specs.GeneratedBound.{LoadIsBound, LoadIsAccepted};
+ghost use Rattle.rv_tool.specs.Steps.{AreRefusedByStep, NoInstance};
 
 /// The generated bindings and automata are accepted: two monitors and seven rules.
 pub fn load_is_bound()
@@ -10,4 +11,11 @@ pub fn load_is_bound()
 /// for one slot.
 pub fn load_is_accepted()
     ensures { LoadIsAccepted }
+{}
+
+/// On any store a command is refused by the numbers of its steps; and on known files 37 comes only where the run does not
+/// have the instance.
+pub fn refusals_have_steps()
+    ensures steps { AreRefusedByStep }
+    ensures no_instance { NoInstance }
 {}

@@ -33,7 +33,7 @@ pub struct PreparedList {
 }
 
 /// Reads the bindings and the trace.
-#[tactic(auto, using(crate::proofs::BlamesLemmas::input_named))]
+#[tactic(auto, using(rv_bind::proofs::OutcomeLemmas::fault_counted, crate::proofs::BlamesLemmas::input_named))]
 pub(crate) fn read_listed<S: Store>(
     alloc: Global,
     store: &mut S,

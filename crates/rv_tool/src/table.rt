@@ -68,7 +68,7 @@ fn named_text(alloc: Global, kind: SpecKind, name: &str, bytes: &[u8]) -> Result
 }
 
 /// The table of a file.
-#[tactic(auto, using(crate::proofs::BlamesLemmas::table_named, crate::proofs::PossibleLemmas::table_unread, crate::proofs::PossibleLemmas::table_may))]
+#[tactic(auto, using(rv_bind::proofs::OutcomeLemmas::fault_counted, crate::proofs::BlamesLemmas::table_named, crate::proofs::PossibleLemmas::table_unread, crate::proofs::PossibleLemmas::table_may))]
 pub(crate) fn read_table<S: Store>(
     alloc: Global,
     store: &mut S,

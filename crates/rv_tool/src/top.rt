@@ -1,6 +1,7 @@
 //! The top call.
 ghost use Rattle.std.specs.Prelude.{◌≡◌, [], Some, None, option_copied, IfOk};
 ghost use Rattle.rv_io.specs.Files.{Files};
+ghost use Rattle.rv_bind.specs.Outcomes.{CountsFaults};
 ghost use Rattle.rv_tool.specs.Calls.{call, call_end};
 ghost use Rattle.rv_tool.specs.Checks.{verdict_text, verdict_status};
 ghost use Rattle.rv_tool.specs.inner.Commands.{CommandComes, IsFinished, IsText};
@@ -66,6 +67,7 @@ pub fn rv<R: Threads + Sync, S: Store, K: Sink, G: Gate + Send>(
 }
 
 /// Reads the files of a command and does it. Nothing is put yet.
+#[tactic(auto, using(rv_bind::proofs::OutcomeLemmas::none_counted, rv_bind::proofs::OutcomeLemmas::fault_counted))]
 fn run<R: Threads + Sync, S: Store, G: Gate + Send>(
     rt: &R,
     alloc: Global,
@@ -75,6 +77,7 @@ fn run<R: Threads + Sync, S: Store, G: Gate + Send>(
 ) -> Result<FinishedRun, BindFault>
     requires { IsWellNamed command }
     ensures kept { S.files store.new ≡ S.files store.old }
+    ensures counts { CountsFaults (S.faults store.old) (S.faults store.new) result }
     ensures comes { CommandComes (command_value command.entry) (S.files store.old) (S.faults store.old) (S.faults store.new) result }
 {
     match command {

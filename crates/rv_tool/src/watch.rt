@@ -58,7 +58,7 @@ fn find_slot(
 }
 
 /// Reads the bindings and the trace, and finds the slot that the words name.
-#[tactic(auto, using(crate::proofs::WatchLemmas::watch_named))]
+#[tactic(auto, using(rv_bind::proofs::OutcomeLemmas::fault_counted, rv_bind::proofs::OutcomeLemmas::none_counted, crate::proofs::WatchLemmas::watch_named))]
 pub(crate) fn read_watched<S: Store>(
     alloc: Global,
     store: &mut S,

@@ -1,4 +1,4 @@
--- Which instance two words of the command line name: a monitor's shown name, and a decimal number.
+-- Which instance two words of the command line name: a monitor's display name, and a decimal number.
 use Rattle.std.specs.Prelude.{ℕ, ◌^◌, Bool, ◌||◌, ◌==◌, nat_lt, nat_le, List, map, length, position, Option, Some, None, option_map, slice_get, bytes_eq, if◌then◌else◌}
 use Rattle.std.specs.Option.{option_and_then}
 use Rattle.rv_model.specs.declared.record.Task.{Task}
@@ -11,7 +11,7 @@ use Rattle.rv_slots.specs.Shapes.{count_of}
 use Rattle.rv_slots.specs.Tasks.{task_of, same_task}
 use Rattle.rv_bind.specs.declared.bindings.Monitor.{Monitor}
 
--- the monitor's shown name is this one
+-- the monitor's display name is this one
 abbrev pub is_named : List (List ℕ) → List ℕ → Monitor → Bool
 is_named containers name m = bytes_eq (display_name containers m.container m.name) name
 
@@ -33,7 +33,7 @@ shape_of monitors tasks = map (count_of tasks) (map (λ m. m.scope) monitors)
 abbrev pub slot_in : List ℕ → List Task → ℕ → List ℕ → Scope → Option ℕ
 slot_in shape tasks place text scope = option_map (slot_of shape place) (option_and_then (instance_by tasks scope) (decimal_of text))
 
--- the slot that the two words name, where the first is a shown name and the second names an instance of its monitor
+-- the slot that the two words name, where the first is a display name and the second names an instance of its monitor
 abbrev pub slot_named : List (List ℕ) → List Monitor → List Task → List ℕ → List ℕ → Option ℕ
 slot_named containers monitors tasks name text =
     option_and_then (λ place. option_and_then (λ m. slot_in (shape_of monitors (length tasks)) tasks place text m.scope) (slice_get monitors place)) (position (is_named containers name) monitors)

@@ -21,7 +21,7 @@ fn container_name(containers: &Names, place: u8) -> &[u8]
     }
 }
 
-/// Whether the monitor's shown name is this one.
+/// Whether the monitor's display name is this one.
 fn is_named(containers: &Names, monitor: &Monitor, name: &[u8]) -> bool
     ensures { result ≡ is_named containers.now name.now monitor.now }
 {
@@ -82,8 +82,8 @@ fn slot_in(shape: &Shape, tasks: &Tasks, place: u8, text: &[u8], scope: Scope) -
     Some(shape.slot(place, instance))
 }
 
-/// The slot that the words MONITOR and INSTANCE name: a monitor's shown name, and 0 for a global monitor, the CPU for
-/// a cpu monitor, or the pid for a task monitor. There is none where MONITOR is no shown name, or INSTANCE is no decimal,
+/// The slot that the words MONITOR and INSTANCE name: a monitor's display name, and 0 for a global monitor, the CPU for
+/// a cpu monitor, or the pid for a task monitor. There is none where MONITOR is no display name, or INSTANCE is no decimal,
 /// is not 0, is over 63, or is 0 or the pid of no task that is held.
 pub fn watched_slot(
     bindings: &Bindings,

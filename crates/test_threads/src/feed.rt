@@ -1,5 +1,5 @@
 //! Two CPUs that wait for each other at their gates, on a board of one instance.
-ghost use Rattle.std.specs.Prelude.{◌≡◌, ◌+◌, ◌<◌, [], ◌∷◌, AllPairs, IfOk};
+ghost use Rattle.std.specs.Prelude.{◌≡◌, ◌+◌, [], ◌∷◌, IfOk};
 ghost use Rattle.rv_model.specs.declared.hit.Mode.{Mode};
 ghost use Rattle.rv_model.specs.declared.hit.Mode.TheVariants.{Start};
 ghost use Rattle.rv_model.specs.declared.hit.What.TheVariants.{Da};
@@ -26,9 +26,9 @@ fn one_board(alloc: Global) -> Result<BoardStart, AllocError>
 }
 
 /// One turn, with one delivery, which is a start.
-fn one_turn(alloc: Global, cpu: u8) -> Result<CpuWork, AllocError>
+pub(crate) fn one_turn(alloc: Global, cpu: u8) -> Result<CpuWork, AllocError>
     ensures cpu { IfOk result (λ work. work.cpu ≡ cpu) }
-    ensures lines { IfOk result (λ work. AllPairs (λ t u. t.line < u.line) work.turns) }
+    ensures turns { IfOk result (λ work. work.turns ≡ record { line = 1 + cpu; from = 0; to = 1 } ∷ []) }
     ensures deliveries { IfOk result (λ work. work.deliveries ≡ record { order = cpu; monitor = 0; instance = 0; hit = record { mode = Start; what = Da 0 } } ∷ []) }
 {
     let mut turns = Vec::new(alloc);
@@ -109,7 +109,7 @@ fn feeder_of<'a>(
 }
 
 /// The outcome of the first delivery.
-fn outcome_of(lane: &Lane) -> Option<Delivered> {
+pub(crate) fn outcome_of(lane: &Lane) -> Option<Delivered> {
     match lane.records.first() {
         Some(record) => Some(record.outcome),
         None => None,

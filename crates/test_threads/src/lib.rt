@@ -7,6 +7,8 @@ mod board;
 mod feed;
 #[cfg(test)]
 mod journal;
+#[cfg(test)]
+mod machine;
 mod seats;
 #[cfg(test)]
 mod setup;

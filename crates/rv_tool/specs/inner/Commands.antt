@@ -56,7 +56,7 @@ ComesTo {Y} May Goes outcome told before now (Ok done) =
     × ((y : Y) × May (accepted y) × Goes y done.closed done.text.items done.status)
 ComesTo May Goes outcome told before now (Err fault) = FaultRefines told before now fault outcome × FaultBlamesReached told fault outcome × MayFault fault May
 
--- by what the words ask for; the generated input is read from a store of its own
+-- by what the words ask for; the generated input is read from a store of its own, and nothing from the given one
 abbrev pub CommandComes : CommandValue → Option Files → ℕ → ℕ → Result FinishedRun BindFault → Type 0
 CommandComes (replay bindings trace) = ComesTo (MayInput bindings trace) IsOneReport (λ files. run_input files bindings trace)
 CommandComes (feed bindings trace) = ComesTo (MayInput bindings trace) IsVerdictReport (λ files. run_input files bindings trace)
@@ -64,7 +64,7 @@ CommandComes (feed_beside bindings trace script) = ComesTo (MayRunBeside binding
 CommandComes (watch bindings trace monitor instance) = ComesTo (MayWatch bindings trace monitor instance) IsWatchReport (λ files. watched_input files bindings trace monitor instance)
 CommandComes (journal bindings trace) = ComesTo (MayRecord bindings trace) IsJournalReport (λ files. recordable_input files bindings trace)
 CommandComes (check bindings trace judged) = ComesTo (MayCheck bindings trace judged) IsCheckReport (λ files. checked_input files bindings trace judged)
-CommandComes (load blocks) = λ told before now. ComesTo (MayInput (codes "gen.rv") (codes "gen.txt")) IsVerdictReport (λ files. run_input files (codes "gen.rv") (codes "gen.txt")) (Some (generated_files blocks)) 0 0
+CommandComes (load blocks) = λ told before now result. (now ≡ before) × ComesTo (MayInput (codes "gen.rv") (codes "gen.txt")) IsVerdictReport (λ files. run_input files (codes "gen.rv") (codes "gen.txt")) (Some (generated_files blocks)) 0 0 result
 CommandComes (table kind file) = ComesTo (MayTable kind file) IsPrinted (λ files. table_in files kind file)
 CommandComes (header name file) = ComesTo (MayHeader name file) IsPrinted (λ files. header_in files name file)
 CommandComes (control bindings script) = ComesTo (MayControl bindings script) IsSessionText (λ files. control_in files bindings script)

@@ -1,4 +1,4 @@
-use Rattle.std.proofs.Common.{◌≡◌, ◌∷◌, List, ap, ◌∙◌, subst, arith, rules}
+use Rattle.std.proofs.Common.{◌≡◌, ◌∷◌, List, ap, ◌∙◌, subst, rules}
 use Rattle.std.specs.Prelude.{Some}
 use Rattle.std.proofs.lemmas.Result.{err_from_is_err_and}
 use Rattle.rv_text.specs.TextLines.{LineText, line_text, lines_of}
@@ -22,7 +22,7 @@ loop-line-preserved g c =
     let split : c.loop-line.lines ≡ line ∷ later = c.in-Some.ensures.some in
     let read : (files : Files) → told ≡ Some files → line_bound files here before line ≡ accepted (bound_value c.bind_line.new.bound) = λ files known. c.in_ok-bind_line.ensures.reads.value files (c.loop-line.invariant.0 ∙ known) in (
       c.bind_line.ensures.reads.kept ∙ c.loop-line.invariant.0,
-      omega (arith, c.loop-line.invariant.1, c.bind_line.ensures.reads.later),
+      c.in_ok-bind_line.ensures.reads.counts ∙ c.loop-line.invariant.1,
       c.in_ok-bind_line.ensures.formed,
       λ files known.
           c.loop-line.invariant.3 files known

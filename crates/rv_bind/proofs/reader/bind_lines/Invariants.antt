@@ -1,4 +1,4 @@
-use Rattle.std.proofs.Common.{◌≡◌, ◌≤◌, length}
+use Rattle.std.proofs.Common.{◌≡◌, length}
 use Rattle.std.specs.Prelude.{Some}
 use Rattle.rv_io.specs.Files.{Files}
 use Rattle.rv_text.specs.TextLines.{lines_of}
@@ -12,7 +12,7 @@ use Rattle.rv_bind.proofs.reader.bind_lines.Given as goal
 abbrev pub invariant-loop-line : goal.invariant-loop-line
 invariant-loop-line g l =
     (g.S.Store.files l.store ≡ g.S.Store.files l.initial.store)
-    × (g.S.Store.faults l.initial.store ≤ g.S.Store.faults l.store)
+    × (g.S.Store.faults l.store ≡ g.S.Store.faults l.initial.store)
     × IsWellFormed (bound_value l.bound)
     × ((files : Files) → g.S.Store.files l.initial.store ≡ Some files → lines_bound files l.here nothing_bound (lines_of l.text) ≡ lines_bound files l.here (bound_value l.bound) l.lines)
     × MayRest l.here (lines_of l.text) (bound_value l.bound) l.lines

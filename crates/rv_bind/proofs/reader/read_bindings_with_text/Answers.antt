@@ -23,7 +23,7 @@ returns-in_err-bound-clause-reads g c =
     let given = err_from_is_err_and c.from_residual-in_err-bound.result c.from_residual-in_err-bound.ensures.1 in
     let first = c.in_ok-text.ensures.reads in
     rw (given.1, given.2)
-    (fails_reads bound_value bound_text_value _ _ _ _ _ _ c.args.name.now c.as_slice.result.now c.in_ok-text.text.items c.in_err-bound.field-0.0 c.as_slice.ensures.value first.kept first.later first.value c.in_err-bound.ensures.reads)
+    (fails_reads bound_value bound_text_value _ _ _ _ _ _ c.args.name.now c.as_slice.result.now c.in_ok-text.text.items c.in_err-bound.field-0.0 c.as_slice.ensures.value first.kept first.counts first.value c.in_err-bound.ensures.reads)
 
 pub returns-in_err-bound-clause-bound : goal.returns-in_err-bound-clause-bound
 returns-in_err-bound-clause-bound g c = bound_reads bound_text_value _ _ _ _ c.args.name.now _ (returns-in_err-bound-clause-reads g c)
@@ -36,7 +36,7 @@ returns-in_err-bound-clause-some g c =
 pub returns-clause-reads : goal.returns-clause-reads
 returns-clause-reads g c =
     let first = c.in_ok-text.ensures.reads in
-    pair_reads _ _ _ _ _ _ c.args.name.now c.as_slice.result.now c.in_ok-text.text c.in_ok-bound.bound c.as_slice.ensures.value first.kept first.later first.value c.in_ok-bound.ensures.reads
+    pair_reads _ _ _ _ _ _ c.args.name.now c.as_slice.result.now c.in_ok-text.text c.in_ok-bound.bound c.as_slice.ensures.value first.kept first.counts first.value c.in_ok-bound.ensures.reads
 
 pub returns-clause-bound : goal.returns-clause-bound
 returns-clause-bound g c = bound_reads bound_text_value _ _ _ _ c.args.name.now _ (returns-clause-reads g c)

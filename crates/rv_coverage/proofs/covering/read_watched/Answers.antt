@@ -22,7 +22,7 @@ returns-in_err-routed-clause-fails g c =
     let given = err_from_is_err_and c.from_residual-in_err-routed.result c.from_residual-in_err-routed.ensures.1 in
     let words = c.args.command in
     let first = c.in_ok-text.ensures.reads in
-    rw (given.1, given.2) (unrouted_fails (g.S.Store.files c.args.store.now) words.bindings.now words.trace.now (bound_text_value c.in_ok-text.field-0) first.value list_value _ _ _ _ _ c.in_err-routed.field-0.0 first.kept first.later c.in_err-routed.ensures.reads)
+    rw (given.1, given.2) (unrouted_fails (g.S.Store.files c.args.store.now) words.bindings.now words.trace.now (bound_text_value c.in_ok-text.field-0) first.value list_value _ _ _ _ _ c.in_err-routed.field-0.0 first.kept first.counts c.in_err-routed.ensures.reads)
 
 pub returns-in_err-routed-clause-some : goal.returns-in_err-routed-clause-some
 returns-in_err-routed-clause-some g c =

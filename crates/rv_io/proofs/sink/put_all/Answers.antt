@@ -1,4 +1,4 @@
-use Rattle.std.proofs.Common.{◌≡◌, ◌++◌, arith, take, drop, append_assoc, take-append-drop, ap, ◌∙◌}
+use Rattle.std.proofs.Common.{◌≡◌, ◌++◌, take, drop, append_assoc, take-append-drop, ap, ◌∙◌}
 use Rattle.rv_io.proofs.PutLemmas.{Takes-more}
 use Rattle.rv_io.proofs.sink.put_all.Goals as goal
 
@@ -10,4 +10,4 @@ loop-rest-preserved g c =
     let rest = c.loop-rest.rest.now in
     let whole : (kept.1 ++ take count rest) ++ c.after_front-rest.result.now ≡ c.args.bytes.now =
     rw c.after_front-rest.ensures (append_assoc kept.1 (take count rest) (drop count rest) ∙ ap (λ s. kept.1 ++ s) (take-append-drop count rest) ∙ kept.2) in
-    (omega (arith, kept.0, put.later), kept.1 ++ take count rest, whole, Takes-more _ _ _ kept.1 (take count rest) kept.3 put.put.2)
+    (put.put.3 ∙ kept.0, kept.1 ++ take count rest, whole, Takes-more _ _ _ kept.1 (take count rest) kept.3 put.put.2)

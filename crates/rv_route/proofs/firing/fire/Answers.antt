@@ -11,6 +11,7 @@ use Rattle.rv_route.specs.inner.Asking.{ask_on}
 use Rattle.rv_route.specs.Events.{is_on_event, IsAsked, HasFound}
 use Rattle.rv_route.specs.LineByLine.{Routes, line_routes}
 use Rattle.rv_text.specs.Readings.{and_then}
+use Rattle.rv_route.proofs.AskLemmas.{asked-small}
 use Rattle.rv_route.proofs.EventLemmas.{asked_at, asked-many, has_found, itself}
 use Rattle.rv_route.proofs.IndexLemmas.{fired}
 use Rattle.rv_route.proofs.RoutingLemmas.{rules-end, refuses-then}
@@ -51,6 +52,12 @@ answer-requires-clause-target c =
     let at = asked_at all event.fields c.deref-asked-items.result.now those c.loop-asked.asked-index c.asked-item.result are (omega arith) c.asked-item.is in
     let inside : c.asked-item.result.rule < length all = slice_get_within all c.asked-item.result.rule at.rule at.asks.there in
     is-target all c.loop-asked.deliveries.targets c.asked-item.result.rule c.index-rule.result.now (c.loop-asked.invariant.1.targets ∙ c.requires.targets) inside c.index-rule.ensures
+
+pub answer-requires-clause-instance : goal.answer-requires-clause-instance
+answer-requires-clause-instance c i e =
+    let fields = text_at c.args.text.now c.args.line.now.fields in
+    let cpu : c.args.line.now.cpu < 64 = let l = c.requires.line.lies.cpu in omega arith in
+    asked-small fields c.args.line.now c.deref.result.now c.index-rule.result.now i cpu (sym c.ask_for-ask.ensures ∙ e)
 
 pub loop-asked-preserved : goal.loop-asked-preserved
 loop-asked-preserved c =

@@ -1,52 +1,44 @@
-use Rattle.std.proofs.Common.{◌≡◌, ◌<◌, ℕ, List, Option, [], ◌∷◌, ◌++◌, length, get_or, set, cond, Some, None, rules, sym, ap, ap₂, ◌∙◌, subst}
-use Rattle.std.specs.Prelude.{bytes_eq}
-use Rattle.rv_trace.specs.FieldNames.{place_in}
-use Rattle.rv_trace.proofs.OrderedLemmas.{map-put}
+use Rattle.std.proofs.Common.{◌≡◌, ◌∙◌, ◌++◌, ◌∷◌, [], List, Some, ap, sym, subst, set}
+use Rattle.std.specs.Option.{is_some}
+use Rattle.indexmap.specs.IndexMap.{values}
 use Rattle.rv_route.specs.declared.event.Event.{Event}
-use Rattle.rv_route.specs.declared.index.TheConstants.{KEYS}
 use Rattle.rv_route.specs.Events.{HasEvent}
-use Rattle.rv_route.specs.EventKeys.{key_of, LeadToAll}
-use Rattle.rv_route.proofs.NotedLemmas.{first-at, none-of, first-more, other-kept, other-more}
+use Rattle.rv_route.specs.EventKeys.{key_of, HaveKeys}
+use Rattle.rv_route.proofs.NotedLemmas.{entered, first-at, keyed-more, keyed-first}
 use Rattle.rv_route.proofs.index.add.Goals as goal
 
-pub invariant_of-index-in-Continue-branch-3 : goal.invariant_of-index-in-Continue-branch-3
-invariant_of-index-in-Continue-branch-3 c =
+pub invariant_of-index-then-is_none : goal.invariant_of-index-then-is_none
+invariant_of-index-then-is_none c =
     let inside = c.index.inside in
     let event = c.args.event in
-    let events = inside.events.items in
-    let new = subst (λ (es : List Event). ¬ HasEvent es event.name) (sym c.index.view_is) c.requires.new in
-    let last : c.len-place.result ≡ length events = search rules in
-    let key = c.in_ok-name.ensures.items ∙ c.bytes-then-is_some.ensures in
-    let put : (name : List ℕ) → place_in c.insert.new.self name ≡ cond (bytes_eq event.name name) (Some (length events)) (place_in inside.others name) =
-    λ name. map-put c.in_ok-name.name.items inside.others c.insert.new.self (Some c.len-place.result) c.in_ok-insert.ensures.updates name
-    ∙ ap₂ (λ (k : List ℕ) (n : ℕ). cond (bytes_eq k name) (Some n) (place_in inside.others name)) key last in
-    rw c.in_ok-push.ensures.items (other-more events inside.firsts.items inside.others c.index.invariant event new c.insert.new.self put)
-
-pub invariant_of-index-in_err-push : goal.invariant_of-index-in_err-push
-invariant_of-index-in_err-push c =
-    let inside = c.index.inside in
-    let event = c.args.event in
-    let events = inside.events.items in
-    let new = subst (λ (es : List Event). ¬ HasEvent es event.name) (sym c.index.view_is) c.requires.new in
-    let last : c.len-place.result ≡ length events = search rules in
-    let key = c.in_ok-name.ensures.items ∙ c.bytes-then-is_some.ensures in
-    let put : (name : List ℕ) → place_in c.insert.new.self name ≡ cond (bytes_eq event.name name) (Some (length events)) (place_in inside.others name) =
-    λ name. map-put c.in_ok-name.name.items inside.others c.insert.new.self (Some c.len-place.result) c.in_ok-insert.ensures.updates name
-    ∙ ap₂ (λ (k : List ℕ) (n : ℕ). cond (bytes_eq k name) (Some n) (place_in inside.others name)) key last in
-    rw c.in_err-push.ensures.items (other-kept events inside.firsts.items inside.others c.index.invariant event new c.insert.new.self put)
-
-pub invariant_of-index-else-is_some : goal.invariant_of-index-else-is_some
-invariant_of-index-else-is_some c =
-    let inside = c.index.inside in
-    let event = c.args.event in
-    let events = inside.events.items in
     let firsts = inside.firsts.items in
     let new = subst (λ (es : List Event). ¬ HasEvent es event.name) (sym c.index.view_is) c.requires.new in
-    let last : c.len-place.result ≡ length events = search rules in
+    let it = entered inside.events.entries c.insert.new.self.entries c.in_ok-name.name event c.index.invariant.0 (c.in_ok-name.ensures.items ∙ c.bytes-2.ensures) new c.in_ok-insert.ensures.entries in
     let key : c.key_of-key.result ≡ key_of event.name = c.key_of-key.ensures.key ∙ ap key_of c.bytes.ensures in
-    let first = first-at firsts c.key_of-key.result event.name c.index-2.result.now _ c.index.invariant.keys key c.key_of-key.ensures.few c.index-2.ensures in
-    let free : get_or firsts (key_of event.name) None ≡ None = sym first ∙ none-of c.index-2.result.now (sym c.is_some.ensures ∙ c.if-is_some.false) in
-    let within : key_of event.name < KEYS = subst (λ (k : ℕ). k < KEYS) key c.key_of-key.ensures.few in
-    let more = first-more events firsts inside.others c.index.invariant event new free within in
-    let table : set firsts c.key_of-key.result (Some c.len-place.result) ≡ set firsts (key_of event.name) (Some (length events)) = ap₂ (λ (k n : ℕ). set firsts k (Some n)) key last in
-    rw c.in_ok-push-2.ensures.items (subst (λ (fs : List (Option ℕ)). LeadToAll fs inside.others (events ++ event ∷ [])) (sym table) more)
+    let have = keyed-first firsts (values inside.events) event c.key_of-key.result c.len-place.result c.index.invariant.1 key c.key_of-key.ensures.few in
+    (it.by_name, subst (HaveKeys (set firsts c.key_of-key.result (Some c.len-place.result))) (sym it.events) have)
+
+pub invariant_of-index-else-is_none : goal.invariant_of-index-else-is_none
+invariant_of-index-else-is_none c =
+    let inside = c.index.inside in
+    let event = c.args.event in
+    let firsts = inside.firsts.items in
+    let new = subst (λ (es : List Event). ¬ HasEvent es event.name) (sym c.index.view_is) c.requires.new in
+    let it = entered inside.events.entries c.insert.new.self.entries c.in_ok-name.name event c.index.invariant.0 (c.in_ok-name.ensures.items ∙ c.bytes-2.ensures) new c.in_ok-insert.ensures.entries in
+    let key : c.key_of-key.result ≡ key_of event.name = c.key_of-key.ensures.key ∙ ap key_of c.bytes.ensures in
+    let first = first-at firsts c.key_of-key.result event.name c.index-2.result.now _ c.index.invariant.1.keys key c.key_of-key.ensures.few c.index-2.ensures in
+    (it.by_name, subst (HaveKeys firsts) (sym it.events) (keyed-more firsts (values inside.events) c.index.invariant.1 event (sym (ap is_some first) ∙ c.if-is_none.ensures)))
+
+pub returns-then-is_none : goal.returns-then-is_none
+returns-then-is_none c =
+    let inside = c.index.inside in
+    let new = subst (λ (es : List Event). ¬ HasEvent es c.args.event.name) (sym c.index.view_is) c.requires.new in
+    let it = entered inside.events.entries c.insert.new.self.entries c.in_ok-name.name c.args.event c.index.invariant.0 (c.in_ok-name.ensures.items ∙ c.bytes-2.ensures) new c.in_ok-insert.ensures.entries in
+    it.events ∙ ap (λ (es : List Event). es ++ c.args.event ∷ []) c.index.view_is
+
+pub returns-else-is_none : goal.returns-else-is_none
+returns-else-is_none c =
+    let inside = c.index.inside in
+    let new = subst (λ (es : List Event). ¬ HasEvent es c.args.event.name) (sym c.index.view_is) c.requires.new in
+    let it = entered inside.events.entries c.insert.new.self.entries c.in_ok-name.name c.args.event c.index.invariant.0 (c.in_ok-name.ensures.items ∙ c.bytes-2.ensures) new c.in_ok-insert.ensures.entries in
+    it.events ∙ ap (λ (es : List Event). es ++ c.args.event ∷ []) c.index.view_is

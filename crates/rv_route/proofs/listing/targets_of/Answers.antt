@@ -18,4 +18,4 @@ pub returns-clause-few : goal.returns-clause-few
 returns-clause-few c =
     let many : length c.loop-rule.targets.items ≡ length c.args.rules.now =
     ap length (c.loop-rule.invariant ∙ ap (map target_of) (take_all c.loop-rule.rule-index c.args.rules.now c.loop-rule-test.false)) ∙ length-map c.args.rules.now target_of in
-    rw many c.if-rules-gt-MAX_RULES.false
+    rw many c.requires

@@ -1,8 +1,10 @@
 use Rattle.std.proofs.Common.{◌≡◌, ◌≤◌, ◌+◌, ◌++◌, List, ℕ, take, arith, sym, subst}
+use Rattle.std.specs.Prelude.{Err}
 use Rattle.std.proofs.lemmas.Result.{err_from_is_err_and}
 use Rattle.rv_io.specs.declared.store.TheConstants.{READ_LIMIT}
 use Rattle.rv_bind.specs.BoundViews.{bound_value}
 use Rattle.rv_bind.specs.Outcomes.{of_name, accepted}
+use Rattle.rv_bind.proofs.OutcomeLemmas.{none_counted, fault_counted}
 use Rattle.rv_bind.proofs.ReachedLemmas.{unread_named, file_named}
 use Rattle.rv_route.specs.Routing.{RoutedValue}
 use Rattle.rv_stream.specs.inner.Feeding.{FedOf}
@@ -33,7 +35,7 @@ returns-in-Err-clause-fails g c =
     let low : c.args.place + count ≤ READ_LIMIT = let most = c.requires.room in let few = c.in_ok-count.ensures.room in omega arith in
     record {
       kept = c.in_ok-count.ensures.fails.kept;
-      later = c.in_ok-count.ensures.fails.later;
+      counts = none_counted {X = ℕ} _ _ (Err c.refused.result) c.in_ok-count.ensures.fails.counts;
       fault =
           refused-comes told trace bound c.args.place count c.args.routing.now.lines.fed c.args.buffer.now c.fetch.new.buffer (g.S.Store.faults c.args.store.now) (g.S.Store.faults c.fetch.new.store) c.in-Err.fault c.refused.result low
           c.requires.fed c.in_ok-count.ensures.piece c.in-Err.ensures.refused c.refused.ensures;
@@ -48,7 +50,7 @@ returns-in_err-count-clause-some g c =
 pub returns-in-Ok-clause-fails : goal.returns-in-Ok-clause-fails
 returns-in-Ok-clause-fails g c = record {
   kept = c.in_ok-count.ensures.fails.kept;
-  later = c.in_ok-count.ensures.fails.later;
+  counts = c.in_ok-count.ensures.fails.counts;
   fault = tt;
   named = tt;
 }
@@ -66,7 +68,7 @@ returns-in_err-count-clause-fails g c =
     let count = c.in_err-count in
     rw (given.1, given.2) record {
       kept = count.ensures.fails.kept;
-      later = count.ensures.fails.later;
+      counts = fault_counted ℕ ℕ _ _ count.field-0.0 count.ensures.fails.counts;
       fault = unread_comes told trace read (g.S.Store.faults c.args.store.now) (g.S.Store.faults c.fetch.new.store) count.field-0.0 count.ensures.unread count.ensures.fails.fault;
       named = unread_named told ℕ trace read count.field-0.0 count.ensures.unread;
     }

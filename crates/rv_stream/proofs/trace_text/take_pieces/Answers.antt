@@ -24,4 +24,4 @@ take_next-requires-clause-fed g c =
     subst (λ (told : Option Files). IsFileFed told c.args.trace.now c.loop-place.place c.loop-place.routing.lines.fed) (sym kept.0) kept.5
 
 pub returns-clause-fails : goal.returns-clause-fails
-returns-clause-fails g c = record { kept = c.loop-place.invariant.0; later = c.loop-place.invariant.1; fault = tt; named = tt }
+returns-clause-fails g c = record { kept = c.loop-place.invariant.0; counts = c.loop-place.invariant.1; fault = tt; named = tt }

@@ -9,7 +9,7 @@ use Rattle.rv_stream.proofs.trace_text.take_pieces.Given as goal
 abbrev pub invariant-loop-place : goal.invariant-loop-place
 invariant-loop-place g l =
     (g.S.Store.files l.store ≡ g.S.Store.files l.fn.store)
-    × (g.S.Store.faults l.fn.store ≤ g.S.Store.faults l.store)
+    × (g.S.Store.faults l.store ≡ g.S.Store.faults l.fn.store)
     × (l.place ≤ READ_LIMIT)
     × (length l.buffer ≡ length l.fn.buffer)
     × MayBeFed l.bound.bindings l.routing

@@ -25,7 +25,7 @@ returns-in_err-take_journal-clause-value g c =
     let given = err_from_is_err_and c.from_residual-in_err-take_journal.result c.from_residual-in_err-take_journal.ensures.1 in
     rw (given.1, given.2)
     (checked_comes (g.S.Store.files c.args.store.now) c.args.bindings.now c.args.trace.now journal (prepared_value c.in_ok-ready.ready) c.in_ok-ready.ensures.reads.value (g.S.Store.faults c.args.store.now) (g.S.Store.faults c.take_journal.new.store) fault
-    (Refines-later (λ (text : List ℕ). text) (g.S.Store.files c.args.store.now) (g.S.Store.files c.read_input.new.store) (g.S.Store.faults c.args.store.now) (g.S.Store.faults c.read_input.new.store) (g.S.Store.faults c.take_journal.new.store) (Err fault) (λ files. of_text journal (files journal) accepted) c.in_ok-ready.ensures.reads.kept c.in_ok-ready.ensures.reads.later c.in_err-take_journal.ensures.fails.fault))
+    (Refines-later (λ (text : List ℕ). text) (g.S.Store.files c.args.store.now) (g.S.Store.files c.read_input.new.store) (g.S.Store.faults c.args.store.now) (g.S.Store.faults c.read_input.new.store) (g.S.Store.faults c.take_journal.new.store) (Err fault) (λ files. of_text journal (files journal) accepted) c.in_ok-ready.ensures.reads.kept c.in_ok-ready.ensures.reads.counts c.in_err-take_journal.ensures.fails.fault))
 
 pub returns-in_err-take_journal-clause-named : goal.returns-in_err-take_journal-clause-named
 returns-in_err-take_journal-clause-named g c =

@@ -4,7 +4,7 @@ use Rattle.std.proofs.lemmas.Result.{err_from_is_err_and}
 use Rattle.rv_io.specs.Files.{Files}
 use Rattle.rv_bind.specs.FilePieces.{FailsAs, FaultBlamesReached, IsFilePiece}
 use Rattle.rv_bind.specs.Outcomes.{Outcome, of_text, accepted}
-use Rattle.rv_bind.proofs.OutcomeLemmas.{Refines-later}
+use Rattle.rv_bind.proofs.OutcomeLemmas.{behind_counted, Refines-later}
 use Rattle.rv_check.specs.Readings.{ReaderValue}
 use Rattle.rv_stream.specs.inner.Feeding.{FedOf}
 use Rattle.rv_tool.proofs.CheckLemmas.{whole_comes, whole_named, fed_all, fed_enough}
@@ -24,7 +24,7 @@ returns-in_err-count-clause-fails g c =
     let outcome : Files → Outcome (List ℕ) = λ held. of_text journal (held journal) accepted in
     let fails : FailsAs {X = Unit} (files c.args.store.now) (files c.fetch.new.store) (faults c.args.store.now) (faults c.fetch.new.store) (Err fault) outcome = record {
       kept = last.kept ∙ kept.0;
-      later = let first = kept.1 in let later = last.later in omega arith;
+      counts = behind_counted ℕ Unit (faults c.args.store.now) (faults c.loop-piece.store) (faults c.fetch.new.store) fault kept.1 last.counts;
       fault =
           Refines-later (λ (text : List ℕ). text) (files c.args.store.now) (files c.loop-piece.store) (faults c.args.store.now) (faults c.loop-piece.store) (faults c.fetch.new.store) (Err fault) outcome kept.0 kept.1
           (whole_comes (files c.loop-piece.store) journal (faults c.loop-piece.store) (faults c.fetch.new.store) fault last.fault);
@@ -66,10 +66,9 @@ loop-piece-preserved g c =
     let more = fed-more told journal c.loop-piece.place count c.loop-piece.reader.journal.text c.loop-piece.buffer c.fetch.new.buffer kept.4 piece in
     let ok = c.in-Ok-true.ensures.ok in
     let text : c.feed.new.self.journal.text ≡ c.loop-piece.reader.journal.text ++ take count c.fetch.new.buffer = ap (λ (r : ReaderValue). r.journal.text) ok in
-    let first = kept.1 in let later = c.in_ok-count.ensures.fails.later in
     let next : c.in-Some.next ≡ c.loop-piece.place + count = c.in-Some.ensures.1 in (
       c.in_ok-count.ensures.fails.kept ∙ kept.0,
-      omega arith,
+      c.in_ok-count.ensures.fails.counts ∙ kept.1,
       c.in_ok-count.ensures.len ∙ kept.2,
       same_longer c.args.reader.now.journal c.loop-piece.reader c.feed.new.self (take count c.fetch.new.buffer) _ kept.3 ok,
       λ files known. subst (λ (n : ℕ). FedOf (files journal) n c.feed.new.self.journal.text) (sym next) (subst (λ (t : List ℕ). FedOf (files journal) (c.loop-piece.place + count) t) (sym text) (more files known)),

@@ -11,7 +11,7 @@ returns-clause-reads g c =
     let faults = g.S.Store.faults in
     let first = c.in_ok-bound.ensures.reads in
     control_behind_reads (files c.args.store.now) (files c.read_bindings.new.store) (files c.run_script.new.store) (faults c.args.store.now) (faults c.read_bindings.new.store) (faults c.run_script.new.store)
-    c.args.bindings.now (bound_value c.in_ok-bound.bound) session_value c.args.script.now c.run_script.result first.kept first.later first.value c.run_script.ensures.reads
+    c.args.bindings.now (bound_value c.in_ok-bound.bound) session_value c.args.script.now c.run_script.result first.kept first.counts first.value c.run_script.ensures.reads
 
 pub returns-in_err-bound-clause-some : goal.returns-in_err-bound-clause-some
 returns-in_err-bound-clause-some g c =

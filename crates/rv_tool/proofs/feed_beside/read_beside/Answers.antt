@@ -11,7 +11,7 @@ returns-in-Err-clause-reads g c =
     let faults = g.S.Store.faults in
     let first = c.in_ok-ready.ensures.reads in
     beside_behind_reads (λ changes. changes.items) prepared_value (files c.args.store.now) (files c.read_input.new.store) (files c.read_changes.new.store) (faults c.args.store.now) (faults c.read_input.new.store) (faults c.read_changes.new.store)
-    c.args.bindings.now c.args.trace.now c.args.script.now (prepared_value c.in_ok-ready.ready) c.in-Err.fault first.kept first.later first.value c.in-Err.ensures.reads
+    c.args.bindings.now c.args.trace.now c.args.script.now (prepared_value c.in_ok-ready.ready) c.in-Err.fault first.kept first.counts first.value c.in-Err.ensures.reads
 
 pub returns-in_err-ready-clause-some : goal.returns-in_err-ready-clause-some
 returns-in_err-ready-clause-some g c =

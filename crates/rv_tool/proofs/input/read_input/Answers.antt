@@ -15,7 +15,7 @@ returns-in_err-routed-clause-reads g c =
     let given = err_from_is_err_and c.from_residual-in_err-routed.result c.from_residual-in_err-routed.ensures.1 in
     rw (given.1, given.2)
     (input_behind_reads (files c.args.store.now) (files c.read_bindings.new.store) (files c.read_routed.new.store) (faults c.args.store.now) (faults c.read_bindings.new.store) (faults c.read_routed.new.store)
-    c.args.bindings.now (bound_value c.in_ok-bound.bound) routed_value prepared_value c.args.trace.now fault first.kept first.later first.value c.in_err-routed.ensures.reads)
+    c.args.bindings.now (bound_value c.in_ok-bound.bound) routed_value prepared_value c.args.trace.now fault first.kept first.counts first.value c.in_err-routed.ensures.reads)
 
 pub returns-in_err-routed-clause-some : goal.returns-in_err-routed-clause-some
 returns-in_err-routed-clause-some g c =

@@ -7,4 +7,4 @@ pub returns-clause-container : goal.returns-clause-container
 returns-clause-container c = search rules
 
 pub returns-clause-formed : goal.returns-clause-formed
-returns-clause-formed c = container_formed (bound_value c.args.self.now) c.args.name.now c.requires _ (returns-clause-container c)
+returns-clause-formed c = container_formed (bound_value c.args.self.now) c.args.name.now c.requires.formed c.requires.named _ (returns-clause-container c)

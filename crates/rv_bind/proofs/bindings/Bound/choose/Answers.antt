@@ -13,4 +13,4 @@ returns-clause-reactor c =
     change_added (bound_value c.args.self.now) c.args.monitor.now c.in-Some.place named (reacting c.args.reactor) c.index_mut.result.now _ (search rules) (sym c.index_mut.ensures.value) refl
 
 pub returns-clause-formed : goal.returns-clause-formed
-returns-clause-formed c = change_formed (bound_value c.args.self.now) _ _ (reacting c.args.reactor) (λ m. refl) (λ m. refl) c.requires (returns-clause-reactor c)
+returns-clause-formed c = change_formed (bound_value c.args.self.now) _ _ (reacting c.args.reactor) (λ m. refl) (λ m. refl) (λ m. refl) c.requires (returns-clause-reactor c)

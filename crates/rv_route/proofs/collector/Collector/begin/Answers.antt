@@ -13,7 +13,7 @@ invariant_of-result c = (c.in_ok-works.ensures.items, (let e = c.in_ok-works.ens
 pub returns-clause-made : goal.returns-clause-made
 returns-clause-made c = record {
   index = subst (λ rules. IsIndexOf rules c.in_ok-index.index) c.as_slice.ensures.value c.in_ok-index.ensures;
-  rules = c.requires;
+  rules = c.requires.rules;
   targets = c.in_ok-deliveries.ensures.targets ∙ ap (map target_of) c.as_slice-2.ensures.value;
   lines = below-none c.in_ok-deliveries.deliveries.list c.in_ok-deliveries.ensures.list;
   fits = λ _. fits_no_routes (kinds_of c.args.bindings.now.monitors.items) c.in_ok-deliveries.deliveries.routes c.in_ok-deliveries.ensures.routes;
