@@ -1,10 +1,14 @@
 #compdef @PROGRAM@
 # zsh completion for @PROGRAM@
 
-# The shown names of the monitors of a bindings file.
+# The shown names of the monitors of a bindings file. Another's file may have any text in the place of a name: what is none is left out.
 _@PROGRAM@_monitors() {
     local -a monitors
-    monitors=(${(f)"$(awk '$1 == "monitor" { print ($6 == "in" ? $7 ":" : "") $2 }' ${(Q)words[3]} 2>/dev/null)"})
+    local file=${(Q)words[3]}
+    [[ $words[3] != \~/* ]] || file=$HOME/${file#\~/}
+    [[ -f $file ]] || return 1
+    monitors=(${(f)"$(LC_ALL=C awk '$1 == "monitor" { print ($6 == "in" ? $7 ":" : "") $2 }' <$file 2>/dev/null |
+        LC_ALL=C grep -a -x -E '([a-z0-9_]{1,32}:)?[a-z0-9_]{1,32}')"})
     compadd -a monitors
 }
 

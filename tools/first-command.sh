@@ -19,8 +19,13 @@ disk_of_a_crate=270
 # seconds that a crate takes on the average, on four processors: the 31 of ./rv took 22 minutes
 seconds_of_a_crate=43
 
+# A line on standard error. What a terminal would obey in it, as in the name of a folder, is shown.
 say() {
-    printf '%s: %s\n' "$command" "$1" >&2
+    if [ -t 2 ]; then
+        printf '%s: %s\n' "$command" "$(printf %s "$1" | cat -v | tr '\n' '?')" >&2
+    else
+        printf '%s: %s\n' "$command" "$1" >&2
+    fi
 }
 
 refuse() {
@@ -298,5 +303,10 @@ if ! is_current; then
     take_turn
     is_current || build
     exec 8<&- 9<&-
+fi
+# A terminal is shown what is not seen in what the program prints, since a name of a file may have any bytes. (-I and -S: nothing of the
+# folder where one stands is read)
+if [ -t 1 ] && [ -r "$top/tools/lib/rv_terminal.py" ] && command -v python3 >/dev/null; then
+    exec python3 -I -S -B "$top/tools/lib/rv_terminal.py" "$program" "$@"
 fi
 exec "$program" "$@"

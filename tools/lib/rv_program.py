@@ -13,12 +13,14 @@ BUILT = os.path.join(ROOT, "crates", "rv", "out", "rv")
 class Program:
     """The program to run: the given one, the one that this checkout built, or the one on the PATH."""
 
+    name, built = "rv", BUILT
+
     def __init__(self, given=None):
-        for it in [given] if given else [BUILT, shutil.which("rv")]:
+        for it in [given] if given else [self.built, shutil.which(self.name)]:
             if it and (os.path.isfile(it) or shutil.which(it)):
                 self.path = os.path.abspath(it) if os.path.isfile(it) else shutil.which(it)
                 return
-        raise Trouble(UNREADABLE, f"no program {given or 'rv: build it by ./rv, or name it by --rv'}")
+        raise Trouble(UNREADABLE, f"no program {given or f'{self.name}: build it by ./{self.name}, or name it by --{self.name}'}")
 
     def run(self, *words, folder=None):
         """The status and the text of a command. What is said on standard error, as where a script builds it first, goes to the user.
@@ -36,8 +38,14 @@ class Program:
         """The text of a command that has to end with one of the statuses."""
         status, text = self.run(*words, folder=folder)
         if status not in statuses:
-            raise Trouble(UNREADABLE, text.strip() or f"rv {' '.join(words)} ended with {status}")
+            raise Trouble(UNREADABLE, text.strip() or f"{self.name} {' '.join(words)} ended with {status}")
         return text
+
+
+class Coverage(Program):
+    """The program that tells what a run has watched."""
+
+    name, built = "rv-coverage", os.path.join(ROOT, "crates", "coverage", "out", "coverage")
 
 
 def add_rv_option(parser):

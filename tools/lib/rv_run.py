@@ -69,7 +69,7 @@ class Monitor:
         """Whether an instance may have such a word."""
         rows, count = rows_in(word), len(self.table.states) if self.kind == "da" else self.table.nodes
         if self.kind == "da":
-            return levels_in(word) == 0 and rows.bit_count() <= 1 and rows.bit_length() <= count + 1
+            return levels_in(word) == 0 and (rows & (rows - 1)) == 0 and rows.bit_length() <= count + 1
         return rows.bit_length() <= count + 1 and self.has_atoms(levels_in(word))
 
     def has_atoms(self, atoms):
@@ -130,7 +130,26 @@ def monitors_of(bindings, program):
 
 # ---- the names of tasks
 
-NAMED = re.compile(r"(?:^|[ \t])(next_|prev_|)comm=(.*?)[ \t]\1pid=([0-9]+)(?![^ \t])")
+NAMED = re.compile(r"(?:^|[ \t])(next_|prev_|)comm=")
+PID = re.compile(r"[ \t](next_|prev_|)pid=([0-9]+)(?![^ \t])")
+
+
+def named_in(fields):
+    """The tasks that fields name: each name behind `comm=`, `next_comm=` or `prev_comm=` with the first pid behind it that begins so too."""
+    pids = {"": [], "next_": [], "prev_": []}
+    for it in PID.finditer(fields):
+        pids[it[1]].append((it.start(), it.end(), it[2]))
+    for those in pids.values():
+        those.reverse()
+    end = 0
+    for name in NAMED.finditer(fields):
+        those = pids[name[1]]
+        while those and those[-1][0] < name.end():
+            those.pop()
+        # (what looks like a name within another is part of it)
+        if those and name.start() >= end:
+            begun, end, pid = those[-1]
+            yield fields[name.end(): begun], rv_texts.number_of(pid, rv_texts.HIGHEST_PID)
 
 
 class TaskNames:
@@ -142,8 +161,8 @@ class TaskNames:
     def see(self, line):
         self._own[line.pid] = line.comm
         if "comm=" in line.text:
-            for _, name, pid in NAMED.findall(line.fields):
-                self._told.setdefault(int(pid), name)
+            for name, pid in named_in(line.fields):
+                self._told.setdefault(pid, name)
 
     def of(self, pid):
         own = self._own.get(pid, "").strip(" \t")
@@ -189,6 +208,8 @@ class Run:
             by_event[rule.event].append((rule, monitor, monitor.what_of(rule)))
         for line in rv_texts.events_of(self.trace):
             time = line.time
+            if time is None:
+                raise Trouble(UNREADABLE, f"{self.trace} line {line.number}: no clock counts so far as this line's stamp")
             self.last_line = line.number
             self.first_time = time if self.first_time is None else min(self.first_time, time)
             self.last_time = time if self.last_time is None else max(self.last_time, time)

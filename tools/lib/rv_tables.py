@@ -5,9 +5,9 @@ from rv_explain import rules
 from rv_texts import check_kept, lines_of, text_of
 from rv_tool import UNREADABLE, Trouble
 
-STATE = re.compile("([0-9]+) ([^ ]+)( marked)?")
-EDGE = re.compile("  ([^ ]+) ([0-9]+)")
-ROW = re.compile(r"([0-9]+)(?: \[(.*)\])? ->((?: [0-9]+)*)")
+STATE = re.compile("([0-9]{1,20}) ([^ ]+)( marked)?")
+EDGE = re.compile("  ([^ ]+) ([0-9]{1,20})")
+ROW = re.compile(r"([0-9]{1,20})(?: \[(.*)\])? ->((?: [0-9]{1,20})*)")
 
 
 class Misread(Exception):

@@ -70,13 +70,25 @@ def read_lines(path):
         raise Trouble(UNREADABLE, f"cannot read {path}: {error.strerror}") from error
 
 
-def input_lines():
-    """The lines of standard input, without their line ends, one after another."""
+def input_lines(with_ends=False):
+    """The lines of standard input, without their line ends or with them, one after another."""
     try:
         for line in sys.stdin or ():
-            yield line.removesuffix("\n")
+            yield line if with_ends else line.removesuffix("\n")
     except OSError as error:
         raise Trouble(UNREADABLE, f"cannot read standard input: {error.strerror}") from error
+
+
+LONGEST = 20  # digits of a number that a program counts to
+
+
+def number_of(digits, most=10**LONGEST - 1):
+    """The number that decimal digits are, in a text or in bytes, with any zeros in front, or None where it is more than the most. Long
+    digits are never converted."""
+    if len(digits) > LONGEST:
+        digits = digits.lstrip(b"0" if isinstance(digits, bytes) else "0")
+    number = int(digits or "0") if len(digits) <= LONGEST else most + 1
+    return number if number <= most else None
 
 
 WORD = re.compile(r"[^ \t]+")
@@ -95,15 +107,15 @@ def places_of(line):
 # ---- reports
 
 VIOLATION = re.compile(
-    r"rv: (?P<panic>panic: )?monitor (?P<monitor>[a-z0-9_:]+)(?:\[cpu (?P<cpu>[0-9]+)\]|\[task (?P<task>[0-9]+)(?: cpu (?P<idle>[0-9]+))?\])?"
-    r"(?: does not allow event (?P<event>[^ ]+) on state (?P<state>[^ ]+)|: violation detected) \(line (?P<line>[0-9]+)\)"
+    r"rv: (?P<panic>panic: )?monitor (?P<monitor>[a-z0-9_:]+)(?:\[cpu (?P<cpu>[0-9]{1,20})\]|\[task (?P<task>[0-9]{1,20})(?: cpu (?P<idle>[0-9]{1,20}))?\])?"
+    r"(?: does not allow event (?P<event>[^ ]+) on state (?P<state>[^ ]+)|: violation detected) \(line (?P<line>[0-9]{1,20})\)"
 )
-SUMMARY = re.compile(r"(?P<monitor>[a-z0-9_:]+): instances (?P<instances>[0-9]+), deliveries (?P<deliveries>[0-9]+), failures (?P<failures>[0-9]+), stopped (?P<stopped>[0-9]+)")
-REFUSAL = re.compile(r"rv: refused ([0-9]+)(?: in (.*?)(?: line ([0-9]+))?)?")
+SUMMARY = re.compile(r"(?P<monitor>[a-z0-9_:]+): instances (?P<instances>[0-9]{1,20}), deliveries (?P<deliveries>[0-9]{1,20}), failures (?P<failures>[0-9]{1,20}), stopped (?P<stopped>[0-9]{1,20})")
+REFUSAL = re.compile(r"rv: refused ([0-9]{1,20})(?: in (.*?)(?: line ([0-9]{1,20}))?)?")
 UNREAD = re.compile(r"rv: cannot read (.*)")
 # what rv-coverage prints besides summaries, as docs/COVERAGE.md has it
 FACT = re.compile(r"(?:the trace|the run|all monitors): .*|[a-z0-9_:]+: (?:instances: started|answers: passed|on [0-9]+|state|edge|row|atom) .*")
-FINDING = re.compile(r".*:[0-9]+: [a-z]+(?:-[a-z]+)+: .*")
+FINDING = re.compile(r"(?P<file>.*):(?P<line>[0-9]+): (?P<finding>[a-z]+(?:-[a-z]+)+): (?P<text>.*)")
 
 
 def is_of_report(line):
@@ -130,9 +142,10 @@ def violations_of(path):
 # ---- lines of a trace
 
 # The head ends at the first place that it can: no other head begins within one.
-HEAD = re.compile(r"-([0-9]+)[ \t]+\[([0-9]+)\][ \t]")
-STAMP = re.compile(r"[0-9]+(?:\.[0-9]+)?:")
-BODY = re.compile(rf"[ \t]*(?:({STAMP.pattern})|[^ \t]+[ \t]+({STAMP.pattern}))[ \t]+([^ \t]+):(?![^ \t])")
+HEAD_FORM = r"-([0-9]+)[ \t]+\[([0-9]+)\][ \t]"
+STAMP_FORM = r"[0-9]+(?:\.[0-9]+)?:"
+BODY_FORM = rf"[ \t]*(?:({STAMP_FORM})|[^ \t\n]+[ \t]+({STAMP_FORM}))[ \t]+([^ \t\n]+):(?![^ \t\n])"
+HEAD, STAMP, BODY = re.compile(HEAD_FORM), re.compile(STAMP_FORM), re.compile(BODY_FORM)
 
 
 class Event:
@@ -140,8 +153,8 @@ class Event:
 
     __slots__ = ("number", "text", "pid", "cpu", "name", "_named", "_begun", "_stamped", "fields_at")
 
-    def __init__(self, number, text, head, body):
-        self.number, self.text, self.pid, self.cpu, self.name = number, text, int(head[1]), int(head[2]), body[3]
+    def __init__(self, number, text, pid, cpu, head, body):
+        self.number, self.text, self.pid, self.cpu, self.name = number, text, pid, cpu, body[3]
         self._named = head.start()  # where the task's name ends
         self._begun, colon = body.span(1 if body[1] else 2)
         self._stamped = colon - 1
@@ -158,14 +171,23 @@ class Event:
 
     @property
     def time(self):
-        """The stamp in nanoseconds; one without a point counts microseconds, as other clocks than seconds do."""
+        """The stamp in nanoseconds; one without a point counts microseconds, as other clocks than seconds do. None where no clock counts so far."""
         whole, point, part = self.stamp.partition(".")
-        return int(whole) * 1_000_000_000 + int(part[:9].ljust(9, "0")) if point else int(whole) * 1_000
+        count = number_of(whole)
+        if count is None:
+            return None
+        return count * 1_000_000_000 + int(part[:9].ljust(9, "0")) if point else count * 1_000
 
     @property
     def front(self):
         """The line up to its stamp, without the colon behind it."""
         return self.text[: self._stamped]
+
+    @property
+    def columns(self):
+        """The task with its pid, the words between it and the stamp, the stamp, and what stands behind its colon; blanks around them are padding."""
+        pid, *words, stamp = words_of(self.front[self._named:])
+        return f"{self.comm}{pid}", words, stamp, self.text[self._stamped + 1:].strip(" \t")
 
     @property
     def fields(self):
@@ -197,9 +219,36 @@ def event_of(line, number=None):
     """The event of a trace's line, else None: the line is skipped, or rv refuses it."""
     head = None if is_skipped(line) or is_lost_note(line) else HEAD.search(line)
     body = head and BODY.match(line, head.end())
-    if not body or int(head[1]) > HIGHEST_PID or int(head[2]) >= CPUS:
+    pid, cpu = (number_of(head[1], HIGHEST_PID), number_of(head[2], CPUS - 1)) if body else (None, None)
+    if pid is None or cpu is None:
         return None
-    return Event(number, line, head, body)
+    return Event(number, line, pid, cpu, head, body)
+
+
+# The same of a line as bytes, with or without its line end, by one search: PID and CPU are its groups 2 and 3, the event is group 6, and the
+# fields stand behind the match. (What is looked ahead for is taken whole, so no other head is tried.)
+EVENT_LINE = re.compile(rf"(?=([^\n]*?{HEAD_FORM}))\1{BODY_FORM}".encode("ascii"))
+
+
+USUAL_CPUS = frozenset(b"%03d" % cpu for cpu in range(CPUS))
+
+
+def is_sound(pid, cpu):
+    """Whether a line that has the form of an event has a PID and a CPU that rv takes. (Of most lines it is known at once.)"""
+    return (cpu in USUAL_CPUS or number_of(cpu, CPUS - 1) is not None) and (len(pid) < 10 or number_of(pid, HIGHEST_PID) is not None)
+
+
+def is_loss_in_bytes(line):
+    """Whether a line as bytes, with or without its line end, is the note of lost events."""
+    return line.startswith(b"CPU:") and line.removesuffix(b"\n").endswith(b"EVENTS]")
+
+
+def input_lines_in_bytes(what):
+    """The lines of standard input as bytes, with their line ends, one after another."""
+    try:
+        yield from sys.stdin.buffer if sys.stdin is not None else ()
+    except OSError as error:
+        raise Trouble(UNREADABLE, f"cannot read {what}: {error.strerror}") from error
 
 
 def events_of(path):
@@ -214,7 +263,7 @@ def events_of(path):
 
 def decimal_pid(text):
     """The pid that a field's value is, or None."""
-    return int(text) if text is not None and re.fullmatch("[0-9]+", text) and int(text) <= HIGHEST_PID else None
+    return number_of(text, HIGHEST_PID) if text is not None and re.fullmatch("[0-9]+", text) else None
 
 
 # ---- bindings
@@ -306,7 +355,7 @@ class Bindings:
 
 # ---- journals
 
-NUMBER = r"(0|[1-9][0-9]*)"
+NUMBER = r"(0|[1-9][0-9]{0,19})"
 ENTRY = re.compile(
     rf"{NUMBER} (?:deliver {NUMBER} (event|start|start_run) (?:da {NUMBER}|ltl {NUMBER} {NUMBER} {NUMBER})"
     rf"|(look)|(raise|lower) {NUMBER}|(clear|end|stop) {NUMBER}) {NUMBER} {NUMBER}"

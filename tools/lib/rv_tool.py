@@ -3,9 +3,17 @@ import argparse
 import contextlib
 import os
 import re
+import shlex
 import sys
 
+from rv_terminal import Terminal
+
 NAME = os.path.basename(sys.argv[0])
+LEAST = 3, 9  # the version of Python that the tools want
+# (each tool has this module before anything that an older version has not)
+if sys.version_info[:2] < LEAST:
+    sys.stderr.write(f"{NAME}: Python {'.'.join(map(str, LEAST))} or later is wanted, and this is {'.'.join(map(str, sys.version_info[:3]))}\n")
+    sys.exit(3)
 FILE = os.path.basename(os.path.realpath(sys.argv[0]))  # an installed tool may have another name than its file
 FINDINGS, WRONG_USE, UNREADABLE, INTERRUPTED = 1, 2, 3, 130
 
@@ -36,10 +44,11 @@ class Parser(argparse.ArgumentParser):
         return self._help
 
     def print_help(self, file=None):
-        print(self._help, end="", file=file)
+        print_lines(self._help, file)
 
     def error(self, message):
-        say(self._usage.rstrip("\n"), name="")
+        for line in self._usage.splitlines():
+            say(line, name="")
         raise Trouble(WRONG_USE, message)
 
 
@@ -60,20 +69,53 @@ def say(text, name=NAME):
         print(f"{name}: {text}" if name else text, file=sys.stderr, flush=True)
 
 
+def quoted(path):
+    """A path as a shell takes it, in a command that is to be pasted; one that begins with a dash is no option so."""
+    return shlex.quote(f"./{path}" if path.startswith("-") else path)
+
+
+def print_lines(text, file=None):
+    """Prints a text of many lines: what print takes is one line, and a line end in it is shown on a terminal."""
+    print(*text.removesuffix("\n").split("\n"), sep="\n", file=file)
+
+
+def write_own(text):
+    """Writes to standard output what the tool made itself, as colours around a text that is shown already (rv_terminal.shown)."""
+    getattr(sys.stdout, "write_own", sys.stdout.write)(text)
+
+
 def keep_bytes():
-    """Standard input and output keep every byte, and a line ends at the byte 10 alone. A closed output fails at the first write."""
+    """Standard input and outputs keep every byte, and a line ends at the byte 10 alone; a terminal shows what is not seen. A closed output
+    fails at the first write."""
     if sys.stdout is None:
         sys.stdout = open(os.open(os.devnull, os.O_RDONLY), "w")
-    for stream in filter(None, (sys.stdin, sys.stdout)):
+    for stream in filter(None, (sys.stdin, sys.stdout, sys.stderr)):
         stream.reconfigure(encoding="utf-8", errors="surrogateescape", newline="\n")
-    if sys.stderr is not None:
-        sys.stderr.reconfigure(errors="backslashreplace")
+    # (a test tells of its cases in many lines)
+    kept = "\t\n" if os.path.basename(os.path.dirname(os.path.realpath(sys.argv[0]))) == "test" else "\t"
+    sys.stdout, sys.stderr = (Terminal(it, kept) if it is not None and it.isatty() else it for it in (sys.stdout, sys.stderr))
 
 
 def drop_output():
     """Drops what was not written, so that nothing is said of it once more."""
     with contextlib.suppress(OSError):
         os.dup2(os.open(os.devnull, os.O_WRONLY), sys.stdout.fileno())
+
+
+@contextlib.contextmanager
+def writing(path):
+    """Trouble where what is done within cannot write the file."""
+    try:
+        yield
+    except OSError as error:
+        raise Trouble(UNREADABLE, f"cannot write {path}: {error.strerror}") from error
+
+
+def write_all(file, text):
+    """Writes bytes to a file that holds nothing back, so that nothing is left to be written where a write fails."""
+    text = memoryview(text)
+    while text:
+        text = text[file.write(text) :]
 
 
 def status_of(main):
@@ -96,9 +138,8 @@ def status_of(main):
         return UNREADABLE, f"cannot write: {error.strerror}" if error.filename is None else f"{error.filename}: {error.strerror}"
 
 
-def run_tool(main):
-    """Ends the process with what main returns; trouble has one line on standard error."""
-    sys.set_int_max_str_digits(0)  # a pid may have any number of zeros in front
+def run_tool(main, shown=lambda status: status):
+    """Ends the process with what main returns, as a function shows it; trouble has one line on standard error."""
     keep_bytes()
     status, why = status_of(main)
     if why is not None:
@@ -107,4 +148,4 @@ def run_tool(main):
         sys.stdout.flush()
     except OSError:
         drop_output()
-    sys.exit(status)
+    sys.exit(shown(status))

@@ -70,7 +70,7 @@ def add_part_options(parser):
 
 
 def _range(text):
-    found = re.fullmatch(r"([0-9]+)-([0-9]+)", text)
+    found = re.fullmatch(r"([0-9]{1,18})-([0-9]{1,18})", text)
     if not found or int(found[1]) > int(found[2]):
         raise argparse.ArgumentTypeError(f"{text} is not FROM-TO")
     return int(found[1]), int(found[2])

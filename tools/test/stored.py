@@ -14,7 +14,8 @@ import tempfile
 ROOT = os.path.dirname(os.path.dirname(os.path.dirname(os.path.realpath(__file__))))
 sys.dont_write_bytecode = True
 sys.path.insert(0, f"{ROOT}/tools/lib")
-from rv_tool import Parser, run_tool  # noqa: E402
+from rv_tool import Parser  # noqa: E402
+from ending import check_built, need, run_test  # noqa: E402, F401 (the tests take these from here)
 
 LATEST = 300  # seconds for a command
 # by the option that names another program: the command and the crate
@@ -62,6 +63,9 @@ def compare(name, commands, top, environment, is_writing, twin=None):
             if other != said:
                 twins += 1
                 print(f"$ {command}", *changes(other, said, ("twin", "said")), sep="\n    ")
+    for command in [] if is_writing else set(stored) - set(commands):
+        differ += 1
+        print(f"$ {command}\n    it is stored, and no command")
     if is_writing:
         with open(path, "w", encoding="utf-8", errors="surrogateescape", newline="\n") as file:
             file.write("".join(outputs))
@@ -72,34 +76,35 @@ def compare(name, commands, top, environment, is_writing, twin=None):
     return 1 if differ or twins else 0
 
 
-def main(name, describe, commands, needs=(), files=(), option="--rv", twin=None):
-    """Runs the commands; ends with 0 where all agree, 1 where one differs, 3 where the program that an option names, or a tool, is missing."""
-    command, crate = PROGRAMS[option]
+def main(name, describe, commands, needs=(), files=(), option="--rv", twin=None, others=()):
+    """Runs the commands; ends with 0 where all agree, 1 where one differs or a program that an option names is missing."""
     parser = Parser(describe)
-    parser.add_argument(option, metavar="PROGRAM", dest="program", default=f"{ROOT}/crates/{crate}/out/{crate}")
+    for it in (option, *others):
+        parser.add_argument(it, metavar="PROGRAM", default="{0}/crates/{1}/out/{1}".format(ROOT, PROGRAMS[it][1]))
     parser.add_argument("--write", action="store_true")
     given = parser.parse_args()
-    for missing in [it for it in needs if not shutil.which(it)]:
-        print(f"{name}: {missing} is missing")
-        return 3
-    if not os.access(given.program, os.X_OK):
-        print(f"{name}: {given.program} is not the built program; ./{command} builds it")
-        return 3
+    for tool in needs:
+        need(tool)
+    programs = [(*PROGRAMS[it], getattr(given, it[2:].replace("-", "_"))) for it in (option, *others)]
+    for command, _, program in programs:
+        check_built(program, command)
     with tempfile.TemporaryDirectory() as room:
         top = os.path.join(os.path.realpath(room), "top")
-        os.makedirs(f"{top}/crates/{crate}/out")
         os.makedirs(f"{top}/bin")
         for it in ("docs", "tools"):
             shutil.copytree(f"{ROOT}/{it}", f"{top}/{it}")
-        shutil.copytree(os.path.realpath(f"{ROOT}/examples"), f"{top}/examples")
-        for link in (f"crates/{crate}/out/{crate}", f"bin/{command}"):
-            os.symlink(os.path.abspath(given.program), f"{top}/{link}")
+        for it in ("examples", "monitors"):
+            shutil.copytree(os.path.realpath(f"{ROOT}/{it}"), f"{top}/{it}")
+        for command, crate, program in programs:
+            os.makedirs(f"{top}/crates/{crate}/out")
+            for link in (f"crates/{crate}/out/{crate}", f"bin/{command}"):
+                os.symlink(os.path.abspath(program), f"{top}/{link}")
         for file, text in files:
-            with open(f"{top}/{file}", "w", encoding="utf-8", newline="\n") as to:
+            with open(f"{top}/{file}", "w", encoding="utf-8", errors="surrogateescape", newline="\n") as to:
                 to.write(text)
         environment = dict(os.environ, LC_ALL="C.UTF-8", PATH=f"{top}/tools:{top}/bin:{os.environ['PATH']}")
         return compare(name, commands, top, environment, given.write, twin)
 
 
 def finish(*words, **more):
-    run_tool(lambda: main(*words, **more))
+    run_test(lambda: main(*words, **more))

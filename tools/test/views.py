@@ -7,7 +7,8 @@ import sys
 ROOT = os.path.dirname(os.path.dirname(os.path.dirname(os.path.abspath(__file__))))
 sys.dont_write_bytecode = True
 sys.path.insert(0, f"{ROOT}/tools/lib")
-from rv_tool import Parser, run_tool  # noqa: E402, F401 (the tests take run_tool from here)
+from rv_tool import Parser  # noqa: E402
+from ending import Skips, check_built, run_test  # noqa: E402, F401 (the tests take run_test from here)
 
 STORED = os.path.join(ROOT, "tools", "test", "views")
 VIEWS = "tools/test/views"
@@ -36,9 +37,8 @@ class Test:
         given = parser.parse_args()
         self.name, self.tool, self.rv, self._write = tool, f"{ROOT}/tools/{tool}", os.path.abspath(given.rv), given.write
         self.agree = self.differ = 0
-        if not os.access(self.rv, os.X_OK):
-            print(f"{tool}: {given.rv} is not the built program; ./rv builds it")
-            sys.exit(3)
+        self.skips = Skips()
+        check_built(given.rv, "rv")
 
     def run(self, *words, folder=ROOT, given=subprocess.DEVNULL):
         """The status, output and errors of the tool."""
@@ -105,5 +105,5 @@ class Test:
                 self.same(f"cat {file} | {' '.join(words)}", (3, "", f"{self.name}: {name} is no regular file, and is read more than once: save it first\n"), refused)
 
     def end(self):
-        print(f"{self.name}: {self.agree} of {self.agree + self.differ} cases agree")
+        print(f"{self.name}: {self.agree} of {self.agree + self.differ} cases agree{self.skips}")
         sys.exit(1 if self.differ else 0)

@@ -4,6 +4,7 @@ import os
 import re
 
 import rv_texts
+from rv_tool import quoted
 
 
 class Finding:
@@ -17,9 +18,14 @@ class Finding:
 CARRIAGE_RETURN = "the line ends in a carriage return, as Windows writes it, and it belongs to the last word", "take them out of the whole file: `tr -d '\\r' < FILE > MENDED`"
 
 
+SPELLED = 200  # letters of a word that is compared by its spelling, which takes the product of two lengths
+
+
 def nearest(word, known):
     """The known word that is spelled most like this one, or None."""
-    lower = {it.lower(): it for it in reversed(list(known))}
+    if len(word) > SPELLED:
+        return None
+    lower = {it.lower(): it for it in reversed(list(known)) if len(it) <= SPELLED}
     found = difflib.get_close_matches(word.lower(), lower, 1, 0.6)
     return lower[found[0]] if found else None
 
@@ -94,19 +100,19 @@ def kind_by_text(text):
 def foreign(path, text, wanted):
     """The finding of a file that is none of the wanted kind at all, or None."""
     kind = kind_by_bytes(text)
-    name = os.path.basename(path)
+    name, file = os.path.basename(path), quoted(path)
     if kind in ENGLISH:
-        trace = f"rv replay BINDINGS <({ENGLISH[kind]} {name})" if wanted == "trace" else f"{ENGLISH[kind]} {name} > plain"
+        trace = f"rv replay BINDINGS <({ENGLISH[kind]} {file})" if wanted == "trace" else f"{ENGLISH[kind]} {file} > plain"
         return Finding(f"{path} is compressed by {kind}", f"unpack it: `{trace}`", 1)
     if kind == "trace.dat":
         text = "trace.txt" if name != "trace.txt" else "text.txt"
-        return Finding(f"{path} is trace-cmd's own file, and no text", f"print it first: `trace-cmd report -N -i {name} | grep -vE '^(cpus=|CPU [0-9]+ is empty)' > {text}`", 1)
+        return Finding(f"{path} is trace-cmd's own file, and no text", f"print it first: `trace-cmd report -N -i {file} | grep -vE '^(cpus=|CPU [0-9]+ is empty)' > {text}`", 1)
     if kind == "perf.data":
         return Finding(f"{path} is a recording of perf", "record with tracefs or trace-cmd (docs/TRACES.md): the text of `perf script` has other columns", 1)
     if kind == "UTF-16":
-        return Finding(f"{path} is UTF-16 text, two bytes a letter", f"turn it into plain text: `iconv -f UTF-16 -t UTF-8 {name} > plain.txt`", 1)
+        return Finding(f"{path} is UTF-16 text, two bytes a letter", f"turn it into plain text: `iconv -f UTF-16 -t UTF-8 {file} > plain.txt`", 1)
     if kind == "BOM" and wanted != "trace":
-        return Finding("three invisible bytes, a byte order mark, stand before the first letter", f"take them out: `sed -i '1s/^\\xef\\xbb\\xbf//' {name}`", 1, 0, 1)
+        return Finding("three invisible bytes, a byte order mark, stand before the first letter", f"take them out: `sed -i '1s/^\\xef\\xbb\\xbf//' {file}`", 1, 0, 1)
     if kind in ("zip", "program", "binary"):
         return Finding(f"{path} is {'an archive' if kind == 'zip' else 'a program' if kind == 'program' else 'no text'}", f"give {SHOWN[wanted]}", 1)
     found = kind_by_text(text)

@@ -23,6 +23,8 @@ SCOPE_WORDS = {"per_cpu": "cpu", "per-cpu": "cpu", "percpu": "cpu", "per_task": 
 KIND_WORDS = {"dot": "da", "automaton": "da", "dfa": "da", "fsm": "da", "rule": "ltl", "formula": "ltl"}
 REACTOR_WORDS = {"print": "printk", "log": "printk", "none": "nop", "off": "nop", "printf": "printk", "signal": "printk"}
 MODE_WORDS = {"begin": "start", "init": "start", "run": "start_run", "startrun": "start_run", "start-run": "start_run", "events": "event", "stop": "end", "exit": "end"}
+# what the kernel's monitors call, in part or whole (docs/KERNEL.md)
+MODE_WORDS |= {f"{front}{call}": mode for front in ("", "da_handle_") for call, mode in (("event", "event"), ("start_event", "start"), ("start_run_event", "start_run")) if front + call != "event"}
 
 
 class Wrong(Exception):
@@ -139,6 +141,10 @@ def monitor_line(words, line, context):
         elif name == "KIND":
             choose(words[at], KINDS, KIND_WORDS, "kind")
     file = words[4]
+    last = next((word for word in words[5:] if word[2][-1] == file[2][0]), None) if file[2][0] in "\"'" and file[2][-1] != file[2][0] else None
+    if last:
+        name = line[file[0] + 1 : last[1] - 1]
+        raise Wrong((file[0], last[1], ""), "FILE stands in quotes, and has a blank: a blank ends a word, in quotes too", f"give the file a name without blanks, as `{re.sub('[ ]+', '_', name)}`, and write that without quotes")
     if file[2][0] in "\"'" or file[2][-1] in "\"'":
         raise Wrong(file, "FILE stands in quotes, and they are read as part of its name", f"write `{file[2].strip(chr(34) + chr(39))}`; a name with blanks cannot be written")
     if re.search("[\udc80-\udcff]", file[2]):
@@ -162,6 +168,9 @@ def on_line(words, line, context):
     monitor = check_monitor(words[1], context)
     colon = find_colon(words, line)
     at = 3
+    if words[2][2] == "by" and 4 < colon and words[4][2] not in ("if", "by"):
+        event, rest = words[4], joined(words[5:])
+        raise Wrong((words[2][0], words[3][1], ""), "`by FIELD` stands before the event", f"write `{joined(words[:2])} {event[2]} {joined(words[2:4])} {rest}`")
     if words[2][2] == ":":
         raise Wrong(words[2], "the trace event is missing before the `:`", "write the name of the trace event behind the monitor")
     if at < colon and words[at][2] == "by":
@@ -202,6 +211,11 @@ def by_field(words, at, colon, monitor):
     return at + 2
 
 
+def compared(test):
+    """A test as a filter of tracefs has it."""
+    return re.sub(r" *([<>]=?) *", r" \1 ", test).strip()
+
+
 def test_at(words, at, colon, monitor):
     word = words[at]
     if word[2] == "by":
@@ -217,7 +231,7 @@ def test_at(words, at, colon, monitor):
         raise Wrong(words[colon], "the test behind `if` is missing", "write `if FIELD=VALUE` or `if FIELD!=VALUE`")
     test = words[at + 1]
     if re.fullmatch(r".*[A-Za-z0-9_][<>]=?[^ ]*|.*[<>].*", test[2]) and not re.fullmatch("[^=<>]+=.+", test[2]):
-        raise Wrong(test, f"`{test[2]}` compares by order, and a test is `FIELD=VALUE` or `FIELD!=VALUE`", "write an `on` line for each value that is meant, or let an event probe compare when recording (docs/TRACES.md)")
+        raise Wrong(test, f"`{test[2]}` compares by order, and a test is `FIELD=VALUE` or `FIELD!=VALUE`", f"write an `on` line for each value that is meant; or have the kernel compare when the trace is recorded, by a line `# filter {words[2][2]}: {compared(test[2])}` of the bindings, which tools/record obeys, and leave the test out")
     if "==" in test[2]:
         raise Wrong(test, f"`{test[2]}` has two `=`, and the second belongs to the value", f"write `{test[2].replace('==', '=')}`")
     if not re.fullmatch("[^=]+=.+", test[2]) or re.fullmatch("!=.*", test[2]):

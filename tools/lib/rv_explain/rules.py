@@ -10,6 +10,7 @@ CHAINED = ("and", "or")
 CONSTANTS = ("true", "false")
 OPERATORS = (*UNARY, *BETWEEN_TWO, *CHAINED, *CONSTANTS)
 TOKEN = re.compile(r"(?P<skip>[ \t\r\n]+|#[^\n]*)|(?P<mark>[()=])|(?P<word>[A-Za-z0-9_]+)")
+TIMED = ("within", "during", "deadline", "timeout")  # words of logics with time
 NAME = re.compile("[A-Z][A-Z0-9_]*")
 # How others write the operators (Spot, Promela, C and logic), longest first.
 SIGNS = {
@@ -123,7 +124,13 @@ class Reader:
         likely = nearest(token.text, [*OPERATORS, *SPELLED]) if token.kind == "word" and token.text not in OPERATORS else None
         if token.kind == "word" and NAME.fullmatch(token.text):
             self.stop(token, f"`{token.text}` follows {last.shown()} without an operator", "write an operator between them, or `NAME =` where a definition begins")
+        self.no_time(token)
         self.stop(token, f"{token.shown()} follows a formula that is already whole", f"write `{SPELLED.get(likely, likely)}`" if likely else "write an operator between them, or put parentheses")
+
+    def no_time(self, token):
+        """A bound of time, which no rule has."""
+        if token.text.lower() in TIMED or re.fullmatch("[0-9]+(?:ns|us|ms|s)", token.text):
+            self.stop(token, f"{token.shown()} speaks of time, and a rule says the order of events alone", "leave the bound out; where an event tells that the time is over, as one of a timer does, bind it to an atom and write `not OVER until B`")
 
     def expression(self):
         first = self.term()
@@ -187,6 +194,7 @@ class Reader:
             self.stop(token, f"`{token.text}` has nothing before it", "write a formula on both sides")
         if lower in SPELLED:
             self.stop(token, f"`{token.text}` is no operator here", f"write `{SPELLED[lower]}`")
+        self.no_time(token)
         likely = nearest(token.text, OPERATORS)
         if likely and (self.token.text == "(" or self.token.kind == "word" and self.token.text not in CHAINED + BETWEEN_TWO and self.following().text != "="):
             self.stop(token, f"`{token.text}` is no operator here", f"write `{likely}`")

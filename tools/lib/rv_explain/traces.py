@@ -48,12 +48,12 @@ def finding_of(number, path, text, line_number, bindings):
     if number == 24:
         return no_event(lines, line_number, line, text)
     if number == 25:
-        count = re.search("[0-9]+(?= EVENTS)", line)
+        count = re.search("(?<![0-9])[0-9]{1,20}(?= EVENTS)", line)
         lost = f"{count[0]} events were lost" if count else "events were lost"
         return Finding(f"the kernel's buffer was full, and {lost} before this line", "never cut this line out, since what follows may be judged wrongly: record again with a larger buffer (`echo 65536 > buffer_size_kb`), with fewer events, or for a shorter time", line_number)
     if number == 26:
         head = rv_texts.HEAD.search(line)
-        return Finding(f"the line is of CPU {int(head[2]) if head else '64 or more'}, and CPUs 0 to 63 are read", "record on CPUs 0 to 63 alone (`echo ffffffffffffffff > tracing_cpumask`), or take the CPUs above away where no monitor needs them: `trace-cmd report -N --cpu 0-63`", line_number, *(head.span(2) if head else (None, None)))
+        return Finding(f"the line is of CPU {head[2].lstrip('0')[:LOOKED_AT] if head else '64 or more'}, and CPUs 0 to 63 are read", "deal the trace to parts, in which the CPUs are renumbered: `rv-parts BINDINGS parts < TRACE`, then `rv-many parts/manifest` (docs/LARGE.md). Where all monitors are by CPU, CPUs 0 to 63 alone are enough (`echo ffffffffffffffff > tracing_cpumask`, or `trace-cmd report -N --cpu 0-63`); monitors by task, and global ones, find false violations then", line_number, *(head.span(2) if head else (None, None)))
     if number == 27:
         count = f"{size_of(path):,} bytes" if size_of(path) > rv_texts.MOST_BYTES else f"{len(lines):,} lines"
         return Finding(f"the trace has {count}, and {rv_texts.MOST_LINES:,} lines and {rv_texts.MOST_BYTES:,} bytes are read", "leave out the lines of events that the bindings do not name, or deal the trace to parts; cutting it by time loses failures (docs/LARGE.md)", line_number)
@@ -84,8 +84,8 @@ def no_event(lines, line_number, line, text):
     head = rv_texts.HEAD.search(line)
     if head is None:
         return headless(lines, line_number, line, is_last and not text.endswith("\n"))
-    if int(head[1]) > rv_texts.HIGHEST_PID:
-        return Finding(f"the PID {head[1]} is over {rv_texts.HIGHEST_PID}", "a task's name may hold such text, and the head ends at the first place that can: rename the task, or leave its lines out", line_number, *head.span(1))
+    if rv_texts.number_of(head[1], rv_texts.HIGHEST_PID) is None:
+        return Finding(f"the PID {head[1][:LOOKED_AT]} is over {rv_texts.HIGHEST_PID}", "a task's name may hold such text, and the head ends at the first place that can: rename the task, or leave its lines out", line_number, *head.span(1))
     words = rv_texts.places_of(line[head.end():])
     stamp = next((word for word in words[:2] if rv_texts.STAMP.fullmatch(word[2])), None)
     if stamp is None:
@@ -101,6 +101,8 @@ def no_event(lines, line_number, line, text):
 
 def headless(lines, line_number, line, is_cut):
     before = lines[line_number - 2] if line_number > 1 else ""
+    if is_cut and line_number == 1:
+        return Finding(f"it is no trace: its first line, of {len(line)} bytes without a line end, has no head `NAME-PID [CPU] `", "give the text that `cat trace` prints in tracefs, or `trace-cmd report -N` (docs/TRACES.md)", line_number, 0, len(line))
     if is_cut:
         return Finding("the file ends in the middle of this line", "the copy was cut: copy the trace again, or take the last line out (`sed '$d'`)", line_number, max(len(line) - 1, 0), len(line))
     if "tracing_mark_write:" in before or "bprint:" in before or "bputs:" in before or "print:" in before:
@@ -126,6 +128,12 @@ def stampless(line_number, line, head, words, is_last):
     return Finding(f"`{near[2]}` stands where the timestamp is wanted, digits (with `.` and digits) and `:`", "print the trace with the clock `global` and without options that change the columns (docs/TRACES.md)", line_number, start, end)
 
 
+def mend_by(fields, by):
+    """Which fields of a line hold a pid."""
+    pids = [f"`by {it}`" for it in fields if it.endswith("pid") and it != by]
+    return f"a pid stands in another field: write {' or '.join(pids)}" if pids else "name a field that holds a pid; without `by` the instance is that of the task that ran"
+
+
 def no_pid(line, line_number, bindings):
     event = rv_texts.event_of(line)
     if event is None:
@@ -144,16 +152,16 @@ def no_pid(line, line_number, bindings):
         return carriage_return(line, line_number, f"{told}: ")
     who = f"line {rule.line} of the bindings takes the task from `{by}`, and " if rule else ""
     start = line.find(f"{event.name}:")
-    if re.search(r"(?:^|[ \t])[A-Za-z0-9_]+=0x[0-9a-f]+ \(", event.fields):
-        return Finding(f"{who}the option `fields` was on: numbers stand in two ways, as in `{re.search(r'[A-Za-z0-9_]+=0x[0-9a-f]+ [(][^)]*[)]', event.fields)[0]}`", "print the text again: `echo 0 > options/fields; cat trace > trace.txt`", line_number, start, len(line))
-    if event.name.startswith("sched_") and re.match(r"[ \t]+.*:[0-9]+ \[[0-9]+\]", event.fields) or not fields and event.fields.strip():
+    twice = re.search(r"(?:^|[ \t])([A-Za-z0-9_]+=0x[0-9a-f]{1,16} \([^)]{0,40}\)?)", event.fields)
+    if twice:
+        return Finding(f"{who}the option `fields` was on: numbers stand in two ways, as in `{twice[1]}`", "print the text again: `echo 0 > options/fields; cat trace > trace.txt`", line_number, start, len(line))
+    if event.name.startswith("sched_") and re.match(r"[ \t].*:[0-9]+ \[[0-9]+\]", event.fields) or not fields and event.fields.strip():
         return Finding(f"{who}the line has no fields `NAME=VALUE`: `trace-cmd report` printed the event in words of its own", "print it again with `-N`: " + WITHOUT_HEAD, line_number, start, len(line))
     if by and by in fields:
         place = re.search(rf"(?:^|[ \t]){by}=", event.fields)
         at = len(line) - len(event.fields) + place.end()
-        return Finding(f"{who}its value `{value}` is no decimal of at most {rv_texts.HIGHEST_PID}", "name a field that holds a pid" if value.rstrip("\r") else "the text was cut, or the field is empty: name another field", line_number, at, at + max(1, len(value)))
+        return Finding(f"{who}its value `{value}` is no decimal of at most {rv_texts.HIGHEST_PID}", mend_by(fields, by) if value.rstrip("\r") else "the text was cut, or the field is empty: name another field", line_number, at, at + max(1, len(value)))
     mend = did_you_mean(by, fields, "the fields of this line") if by and fields else f"the fields of this line are {', '.join(fields) or 'none'}; compare them with `by` in the bindings, and with the event's `format` file in tracefs"
-    pids = [field for field in fields if field.endswith("pid")]
-    if by and pids and not nearest(by, fields):
-        mend = f"a pid stands in {', '.join(f'`{it}`' for it in pids)}"
+    if by and not (nearest(by, fields) or "").endswith("pid") and any(it.endswith("pid") for it in fields):
+        mend = mend_by(fields, by)
     return Finding(f"{who}the line has no such field" if who else "a `by` field of the bindings has no decimal number on this line", mend, line_number, start, len(line))

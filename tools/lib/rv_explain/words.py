@@ -5,6 +5,7 @@ import os
 import re
 
 import rv_texts
+from rv_tool import quoted
 
 from . import Finding, did_you_mean, nearest, one_of, read_again
 
@@ -77,7 +78,7 @@ def usage(command, forms):
         return at(1, f"there are no options, and `{name}` is read as a command", "leave it out; what is printed of a failure stands in the bindings (`react`)")
     if name not in commands:
         if len(words) == 2 and name.endswith(".rv"):
-            return at(1, "the command is missing", f"write `rv replay {' '.join(words)}`")
+            return at(1, "the command is missing", f"write `rv replay {' '.join(map(quoted, words))}`")
         likely = nearest(name, commands) or OTHERS.get(name.lower())
         mend = f"write `{likely}`: `rv {' '.join(next(form for form in mine if form[0] == likely))}`" if likely else f"the commands are {', '.join(commands)}"
         return at(1, f"`{name}` is no command of rv", mend + ("" if likely or command.program else "; if rv-coverage was called, give its name before its words: `rv-explain rv-coverage WORD ..`"))
@@ -88,21 +89,21 @@ def usage(command, forms):
     if name == "load" and len(words) == 2:
         if not re.fullmatch("[0-9]+", words[1]):
             return at(2, f"`{words[1]}` is no decimal", f"N is a number of blocks of 64 lines, from 1 to {MOST_BLOCKS}")
-        if not 1 <= int(words[1]) <= MOST_BLOCKS:
-            return at(2, f"{int(words[1])} blocks are not in 1 to {MOST_BLOCKS}", f"{MOST_BLOCKS} blocks are 1,000,000 lines, the most that a trace has")
+        if not rv_texts.number_of(words[1], MOST_BLOCKS):
+            return at(2, f"{words[1].lstrip('0') or '0'} blocks are not in 1 to {MOST_BLOCKS}", f"{MOST_BLOCKS} blocks are 1,000,000 lines, the most that a trace has")
     if name == "table" and len(words) > 1 and words[1] not in ("da", "ltl"):
         kind = {".dot": "da", ".ltl": "ltl"}.get(os.path.splitext(words[-1])[1])
         if len(words) == 2:
-            return at(1, "the kind, `da` or `ltl`, is missing", f"write `rv table {kind or 'da'} {words[1]}`")
+            return at(1, "the kind, `da` or `ltl`, is missing", f"write `rv table {kind or 'da'} {quoted(words[1])}`")
         likely = kind or nearest(words[1], ["da", "ltl"]) or "da"
         if words[-1] in ("da", "ltl"):
-            return at(2, "the kind stands behind the file", f"write `rv table {words[-1]} {words[1]}`")
-        return at(2, f"`{words[1]}` is no kind", f"an automaton is `da`, a rule `ltl`: write `rv table {likely} {words[-1]}`")
+            return at(2, "the kind stands behind the file", f"write `rv table {words[-1]} {quoted(words[1])}`")
+        return at(2, f"`{words[1]}` is no kind", f"an automaton is `da`, a rule `ltl`: write `rv table {likely} {quoted(words[-1])}`")
     if name == "header" and len(words) == 3 and not re.fullmatch("[a-z0-9_]{1,32}", words[1]):
         if re.search("[./]", words[1]) and re.fullmatch("[a-z0-9_]{1,32}", words[2]):
-            return at(2, "NAME and FILE are exchanged", f"write `rv header {words[2]} {words[1]}`")
+            return at(2, "NAME and FILE are exchanged", f"write `rv header {words[2]} {quoted(words[1])}`")
         if re.search("[./]", words[1]):
-            return at(2, f"`{words[1]}` is no NAME", f"write `rv header {re.sub('[^a-z0-9_]', '_', os.path.splitext(os.path.basename(words[1]))[0].lower())} {words[2]}`")
+            return at(2, f"`{words[1]}` is no NAME", f"write `rv header {re.sub('[^a-z0-9_]', '_', os.path.splitext(os.path.basename(words[1]))[0].lower())} {quoted(words[2])}`")
         return at(2, f"`{words[1]}` is no NAME, which has 1 to 32 lower-case letters, digits and `_`", f"write `{re.sub('[^a-z0-9_]', '_', words[1].lower())[:32]}`")
     return miscounted(RV, words, mine, at)
 
@@ -172,14 +173,14 @@ def no_instance(words, bindings, path):
         return Finding("the idle tasks, pid 0 on each CPU, are not watched", "write the pid of another task", 0, *at)
     if not re.fullmatch("[0-9]+", instance):
         return Finding(f"`{instance}` is no pid", "write the task's number, in decimal", 0, *at)
-    return Finding(f"no event of this trace is delivered to a task with the pid {instance}", f"take a pid that the trace has: `grep -oE 'pid={instance}|-{instance} ' {path}` finds none that is bound", 0, *at)
+    return Finding(f"no event of this trace is delivered to a task with the pid {instance}", f"take a pid that the trace has: `grep -oE 'pid={instance}|-{instance} ' {quoted(path)}` finds none that is bound", 0, *at)
 
 
 def unread(path, bindings_path):
     """Why a file could not be read."""
     plain = path.rstrip("\r")
     if plain != path:
-        mend = f"take carriage returns out of the bindings: `tr -d '\\r' < {bindings_path or 'BINDINGS'} > mended.rv`"
+        mend = f"take carriage returns out of the bindings: `tr -d '\\r' < {quoted(bindings_path) if bindings_path else 'BINDINGS'} > mended.rv`"
         return Finding(f"the name ends in a carriage return, which is not seen: the bindings have Windows line ends{' (the file ' + plain + ' is there)' if os.path.exists(plain) else ''}", mend)
     if path == "-":
         return Finding("`-` is no name of standard input: rv looks for a file that is called so", "write `/dev/stdin`, or `<(COMMAND)` in bash")
@@ -200,7 +201,7 @@ def unread(path, bindings_path):
         return Finding(f"it is a link to {os.readlink(path)}, which is not there", "mend the link, or name the file itself")
     if os.path.exists(path) and not os.access(path, os.R_OK):
         is_of_kernel = path.startswith("/sys/kernel/")
-        return Finding("you may not read it", "tracefs is root's: `sudo cat " + path + " > trace.txt`, and give that file" if is_of_kernel else f"`chmod a+r {path}` by its owner, or copy it: `sudo cat {path} > copy`")
+        return Finding("you may not read it", "tracefs is root's: `sudo cat " + quoted(path) + " > trace.txt`, and give that file" if is_of_kernel else f"`chmod a+r {quoted(path)}` by its owner, or copy it: `sudo cat {quoted(path)} > copy`")
     if os.path.exists(path):
         return Finding("it can be read from here now: the run had another folder, or the file came later", "run rv where rv-explain was run, or name the file from the root (`/..`)")
     return missing(path, bindings_path)
@@ -213,14 +214,14 @@ def missing(path, bindings_path):
     up = here
     while True:
         if os.path.exists(os.path.join(up, path)) and up != here:
-            return Finding(f"there is no such file from where you stand, {here}{named}; bindings name files from where rv is run", f"there is one from {up}: run rv there, `cd {up}`")
+            return Finding(f"there is no such file from where you stand, {here}{named}; bindings name files from where rv is run", f"there is one from {up}: run rv there, `cd {quoted(up)}`")
         if os.path.dirname(up) == up:
             break
         up = os.path.dirname(up)
     beside = [os.path.join(os.path.dirname(bindings_path or ""), tail) for tail in (path, name)] + [name]
     for it in beside:
         if it != path and os.path.exists(it):
-            return Finding(f"there is no such file from where you stand{named}; bindings name files from where rv is run, and not from where the bindings are", f"the file {it} is there: write this in the bindings, or run rv from another folder" if bindings_path or "/" in path else f"write `{it}`")
+            return Finding(f"there is no such file from where you stand{named}; bindings name files from where rv is run, and not from where the bindings are", f"the file {it} is there: run rv where the bindings are, and name the trace from there; or write `{it}` in the bindings" if bindings_path or "/" in path else f"write `{it}`")
     upper = folder or "."
     while not os.path.isdir(upper) and os.path.dirname(upper):
         upper = os.path.dirname(upper)

@@ -1,0 +1,358 @@
+"""Runs of rv on many traces: what each leaves behind, and who runs them: this machine, others over ssh, or any engine by a plan.
+
+A run leaves its report, and beside it a line `STATUS KEY SUM`: rv's status, the key of what it read, and the sum of the report. Both
+are written aside and moved, so a run that was cut off leaves nothing, and two that write at once leave the whole of one of them.
+"""
+import concurrent.futures
+import contextlib
+import ctypes
+import hashlib
+import os
+import shlex
+import shutil
+import signal
+import socket
+import subprocess
+import sys
+import threading
+import time
+
+from rv_tool import UNREADABLE, WRONG_USE, Trouble, writing
+
+ENDS = (0, 1, 2, 6)  # the statuses that the files alone determine: no other try changes them
+PR_SET_CHILD_SUBREAPER = 36  # of Linux's prctl
+OTHER_TRY = (3, 4, 5)  # cannot read, cannot write, no memory: another host or hour may do better, and the last one counts
+OTHER_FILES, UNWRITTEN = 120, 74  # how a run's command ends where a host has other files, or a report cannot be written
+CAUSES = {
+    OTHER_FILES: "the program, the bindings or a specification is another one there", UNWRITTEN: "its report could not be written",
+    126: "the program cannot be run", 127: "the program is not there", 137: "it was killed, as for want of memory", 153: "a file grew too large",
+    255: "the host is gone",
+}
+# What a host runs, in sh alone: PROGRAM BINDINGS TRACE REPORT SUMS KEY, and `ssh` where it ends with its connection. It ends with 0 where no other try is wanted.
+RUNNER = f"""# replays a trace for rv-many; what comes of it is written aside and moved
+new=$4.new.$(uname -n).$$
+run='' watch=''
+trap 'rm -f "$new" "$new.status"' 0
+trap 'kill $run $watch 2> /dev/null; exit 143' 1 2 15
+if ! sha256sum --check --status "$5"; then
+    echo "rv-many: on $(uname -n) the program, the bindings or a specification is another one" >&2
+    exit {OTHER_FILES}
+fi
+"$1" replay "$2" "$3" > "$new" < /dev/null &
+run=$!
+if [ "$7" = ssh ] && [ -r "/proc/$$/status" ]; then
+    # where the sshd above is gone, nobody waits for the run
+    above=$$
+    while [ "${{above:-1}}" -gt 1 ]; do
+        case $(cat "/proc/$above/comm" 2> /dev/null) in sshd*) break ;; esac
+        above=$(sed -n 's/^PPid:[^0-9]*//p' "/proc/$above/status" 2> /dev/null)
+    done
+    while kill -0 "$run"; do
+        if [ "${{above:-1}}" -le 1 ] || ! [ -d "/proc/$above" ]; then kill "$run"; fi
+        sleep 1
+    done > /dev/null 2>&1 &
+    watch=$!
+fi
+wait "$run"
+status=$?
+[ -z "$watch" ] || kill "$watch" 2> /dev/null
+case $status in
+0 | 1 | 2 | 6) ;;
+3 | 4 | 5)
+    # (never in place of what ended well)
+    read -r old key rest 2> /dev/null < "$4.status" && [ "$key" = "$6" ] && case $old in 0 | 1 | 2 | 6) exit 0 ;; esac ;;
+*) exit "$status" ;;
+esac
+read -r sum rest << END
+$(sha256sum < "$new")
+END
+[ -n "$sum" ] && printf '%s %s %s\\n' "$status" "$6" "$sum" > "$new.status" && mv -f "$new" "$4" && mv -f "$new.status" "$4.status" || exit {UNWRITTEN}
+case $status in 3 | 4 | 5) exit "$status" ;; esac
+exit 0
+"""
+SSH = "-o BatchMode=yes -o ConnectTimeout=10 -o ServerAliveInterval=5 -o ServerAliveCountMax=3"  # a host that is gone or frozen is noticed in 15 seconds
+
+
+def sum_of(path):
+    """The sum of a file's bytes, or None where it cannot be read, or has no end."""
+    total = hashlib.sha256()
+    if not os.path.isfile(path):
+        return None
+    try:
+        with open(path, "rb") as file:
+            for piece in iter(lambda: file.read(1 << 20), b""):
+                total.update(piece)
+    except OSError:
+        return None
+    return total.hexdigest()
+
+
+def sums_text(sums):
+    """A list of sums as sha256sum reads it, which begins a line by a backslash where a name has one or a line end."""
+    lines = []
+    for path, total in sums.items():
+        quoted = path.replace("\\", "\\\\").replace("\n", "\\n").replace("\r", "\\r")
+        lines.append(f"{chr(92) if quoted != path else ''}{total}  {quoted}\n")
+    return "".join(lines)
+
+
+def write_new(path, text):
+    """Writes a file aside and moves it."""
+    aside = f"{path}.new.{os.getpid()}"
+    with writing(path):
+        try:
+            with open(aside, "wb") as file:
+                file.write(os.fsencode(text))
+            os.replace(aside, path)
+        finally:
+            with contextlib.suppress(OSError):
+                os.remove(aside)
+
+
+class Run:
+    """A replay of a trace, whose report is wanted in a file."""
+
+    def __init__(self, bindings, trace, report, sums):
+        """The sums are those of the program, the bindings and the specifications, as text."""
+        self.bindings, self.trace, self.report, self.why = bindings, trace, report, None
+        try:
+            told = os.stat(trace)
+            place = f"{told.st_size} {told.st_mtime_ns}"
+        except OSError:
+            place = "none"
+        self.key = hashlib.sha256(os.fsencode(f"{sums}{bindings}\n{trace}\n{place}\n")).hexdigest()
+
+    def status(self):
+        """The status of the run of just these files, where it ended by itself, else None."""
+        try:
+            with open(f"{self.report}.status", encoding="ascii") as file:
+                status, key, total = file.read().split()
+        except (OSError, ValueError):
+            return None
+        is_whole = status.isdigit() and int(status) <= 6 and key == self.key and total == sum_of(self.report)
+        return int(status) if is_whole else None
+
+    def take_away(self):
+        """Takes away what an earlier run left."""
+        for path in (f"{self.report}.status", self.report):
+            with writing(path), contextlib.suppress(FileNotFoundError):
+                os.remove(path)
+
+    def keep(self, aside, status):
+        """Keeps a report that was written aside."""
+        write_new(f"{self.report}.status", f"{status} {self.key} {sum_of(aside)}\n")
+        with writing(self.report):
+            os.replace(aside, self.report)
+
+    def said(self):
+        """Why there is no verdict, in a few words."""
+        if self.why is None:
+            return "did not end by itself"
+        return CAUSES.get(self.why) or ("it took too long" if self.why == "timeout" else f"it ended with {self.why}")
+
+
+# ---- this machine
+
+
+class Here:
+    """Runs on this machine, some at once. What it began ends with it."""
+
+    def __init__(self, program, jobs, timeout):
+        self.program, self.jobs, self.timeout, self.running, self.lock, self.is_over = program, jobs or os.cpu_count() or 1, timeout, set(), threading.Lock(), False
+
+    def replay(self, run):
+        aside = f"{run.report}.new.{socket.gethostname()}.{os.getpid()}"
+        try:
+            with writing(run.report), open(aside, "wb") as file, self.lock:
+                if self.is_over:
+                    return
+                words = [self.program, "replay", run.bindings, run.trace]
+                try:
+                    process = subprocess.Popen(words, stdin=subprocess.DEVNULL, stdout=file, start_new_session=True)
+                except OSError:
+                    run.why = 126
+                    return
+                self.running.add(process)
+            try:
+                run.why = process.wait(self.timeout)
+            except subprocess.TimeoutExpired:
+                self.kill(process)
+                run.why = "timeout"
+            finally:
+                with self.lock:
+                    self.running.discard(process)
+            if run.why in ENDS + OTHER_TRY and not self.is_over:
+                run.keep(aside, run.why)
+            elif isinstance(run.why, int) and run.why < 0:
+                run.why = 128 - run.why
+        finally:
+            with contextlib.suppress(OSError):
+                os.remove(aside)
+
+    @staticmethod
+    def kill(process):
+        with contextlib.suppress(OSError):
+            os.killpg(process.pid, signal.SIGKILL)
+        process.wait()
+
+    def run(self, runs):
+        shows = sys.stderr is not None and sys.stderr.isatty()
+        pool = concurrent.futures.ThreadPoolExecutor(min(self.jobs, len(runs)))
+        try:
+            waiting = [pool.submit(self.replay, run) for run in runs]
+            for count, done in enumerate(concurrent.futures.as_completed(waiting), 1):
+                done.result()
+                if shows:
+                    print(f"\r{count} of {len(runs)} runs", end="\n" if count == len(runs) else "", file=sys.stderr, flush=True)
+        finally:
+            self.is_over = True
+            pool.shutdown(wait=False, cancel_futures=True)
+            with self.lock:
+                left = list(self.running)
+            for process in left:
+                self.kill(process)
+            pool.shutdown()
+
+
+# ---- any engine
+
+
+def write_runner(folder, sums):
+    """The files that commands need beside their own: what a host runs, and the sums that it looks at."""
+    write_new(f"{folder}/replay", RUNNER)
+    write_new(f"{folder}/sums", sums)
+
+
+def words_of_run(program, folder, run):
+    return ["sh", f"{folder}/replay", program, run.bindings, run.trace, run.report, f"{folder}/sums", run.key]
+
+
+def command_of(program, folder, run):
+    """A line of sh that runs it, from wherever."""
+    return f"cd {shlex.quote(os.getcwd())} && {shlex.join(words_of_run(program, folder, run))}"
+
+
+# ---- other machines
+
+
+def check_parallel():
+    """Trouble where GNU parallel is missing; moreutils has another program of that name."""
+    told = subprocess.run(["parallel", "--version"], stdin=subprocess.DEVNULL, capture_output=True, check=False).stdout if shutil.which("parallel") else b""
+    if not told.startswith(b"GNU parallel"):
+        raise Trouble(UNREADABLE, "--sshloginfile wants GNU parallel (Debian's package parallel)")
+
+
+def descendants(pid):
+    """The processes below one, as /proc has them."""
+    below = {}
+    for name in filter(str.isdigit, os.listdir("/proc")):
+        with contextlib.suppress(OSError, IndexError, ValueError), open(f"/proc/{name}/stat", encoding="utf-8", errors="replace") as file:
+            below.setdefault(int(file.read().rpartition(")")[2].split()[1]), []).append(int(name))
+    found, waiting = [], [pid]
+    while waiting:
+        more = below.get(waiting.pop(), [])
+        found += more
+        waiting += more
+    return found
+
+
+def adopt():
+    """Makes this process the parent of those below it whose own parent ends, so that it finds them (Linux alone)."""
+    with contextlib.suppress(OSError, AttributeError):
+        ctypes.CDLL(None).prctl(PR_SET_CHILD_SUBREAPER, 1, 0, 0, 0)
+
+
+def end_all():
+    """Ends all processes below this one: they are asked, and then killed, until there is none."""
+    for name, seconds in ((signal.SIGTERM, 2), (signal.SIGKILL, 10)):
+        until = time.monotonic() + seconds
+        while (left := descendants(os.getpid())) and time.monotonic() < until:
+            for pid in left:
+                with contextlib.suppress(OSError):
+                    os.kill(pid, name)
+            time.sleep(0.1)
+            with contextlib.suppress(ChildProcessError):
+                while os.waitpid(-1, os.WNOHANG)[0]:
+                    pass
+
+
+class Fleet:
+    """Runs on other machines, by GNU parallel over ssh."""
+
+    def __init__(self, program, folder, given):
+        self.program, self.folder, self.given = program, folder, given
+        if given.transfer and not shutil.which("rsync"):
+            raise Trouble(UNREADABLE, "--transfer wants rsync (Debian's package rsync), here and on the hosts")
+        check_parallel()
+
+    def words(self, runs, files):
+        """The words of parallel, whose inputs are the traces, the reports and the keys of the runs."""
+        given = self.given
+        words = ["parallel", "--plain", "--will-cite", "--null", "--jobs", str(given.jobs or "100%"), "--retries", str(given.retries), "--timeout", str(given.timeout)]
+        words += ["--joblog", f"{self.folder}/joblog", "--sshdelay", "0.2", "--sshloginfile", given.sshloginfile]
+        words += ["--ssh", f"{os.environ.get('PARALLEL_SSH', 'ssh')} {SSH}"]
+        words += ["--bar"] if sys.stderr is not None and sys.stderr.isatty() else []
+        common = shlex.join(["sh", f"{self.folder}/replay", self.program, runs[0].bindings])
+        command = f"{common} {{1}} {{2}} {shlex.quote(f'{self.folder}/sums')} {{3}} ssh"
+        if given.transfer:
+            words += ["--workdir", f"rv-many-{socket.gethostname()}-{os.getpid()}", "--cleanup", "--transferfile", "{1}", "--return", "{2}", "--return", "{2}.status"]
+            for path in (f"{self.folder}/replay", f"{self.folder}/sums", *files):
+                words += ["--basefile", path]
+        else:
+            command = f"cd {shlex.quote(os.getcwd())} && {command}"
+        return [*words, command]
+
+    def check_names(self, names):
+        """With --transfer a name is the same here and below a folder of the host."""
+        for name in names:
+            if os.path.isabs(name) or ".." in name.split("/") or "\n" in name:
+                raise Trouble(WRONG_USE, f"--transfer carries what lies below this folder, and {name} does not")
+
+    def run(self, runs, files):
+        if self.given.transfer:
+            self.check_names([self.folder, *files, *(run.trace for run in runs)])
+        words = self.words(runs, files)
+        for kind in ("trace", "report", "key"):
+            path = f"{self.folder}/inputs.{kind}"
+            write_new(path, "".join(f"{getattr(run, kind)}\0" for run in runs))
+            words += ["::::" if kind == "trace" else "::::+", path]
+        adopt()
+        # (the lines are of sh, whatever shell calls)
+        process = subprocess.Popen(words, stdin=subprocess.DEVNULL, stdout=sys.stderr, env={**os.environ, "PARALLEL_SHELL": "/bin/sh"}, start_new_session=True)
+        try:
+            status = process.wait()
+        except BaseException:
+            end_all()
+            raise
+        finally:
+            for kind in ("trace", "report", "key"):
+                with contextlib.suppress(OSError):
+                    os.remove(f"{self.folder}/inputs.{kind}")
+        if status not in range(102):
+            raise Trouble(UNREADABLE, f"parallel ended with {status}")
+        self.read_log(runs)
+
+    def read_log(self, runs):
+        """Takes from parallel's log how the runs ended."""
+        with contextlib.suppress(OSError), open(f"{self.folder}/joblog", encoding="utf-8", errors="surrogateescape") as file:
+            for line in list(file)[1:]:
+                cells = line.split("\t")
+                if len(cells) > 7 and cells[0].isdigit() and 0 < int(cells[0]) <= len(runs):
+                    runs[int(cells[0]) - 1].why = "timeout" if cells[6] == "-1" else int(cells[6]) if cells[6].isdigit() else None
+
+
+@contextlib.contextmanager
+def ended_by_signals():
+    """SIGTERM and SIGHUP end what is done within, with all that it began."""
+
+    def interrupt(*_):
+        for it in (signal.SIGTERM, signal.SIGHUP):
+            signal.signal(it, signal.SIG_IGN)
+        raise Trouble(UNREADABLE, "interrupted: the next call runs what did not end well")
+
+    before = {it: signal.signal(it, interrupt) for it in (signal.SIGTERM, signal.SIGHUP)}
+    try:
+        yield
+    finally:
+        for it, handler in before.items():
+            signal.signal(it, handler)
