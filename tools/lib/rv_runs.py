@@ -14,6 +14,7 @@ import signal
 import socket
 import subprocess
 import sys
+import tempfile
 import threading
 import time
 
@@ -34,6 +35,9 @@ new=$4.new.$(uname -n).$$
 run='' watch=''
 trap 'rm -f "$new" "$new.status"' 0
 trap 'kill $run $watch 2> /dev/null; exit 143' 1 2 15
+# (a link that another put there is not followed)
+rm -f "$new" "$new.status"
+set -C
 if ! sha256sum --check --status "$5"; then
     echo "rv-many: on $(uname -n) the program, the bindings or a specification is another one" >&2
     exit {OTHER_FILES}
@@ -96,12 +100,19 @@ def sums_text(sums):
     return "".join(lines)
 
 
+def create(path):
+    """A new file to write: a link that another put there is not followed."""
+    with contextlib.suppress(FileNotFoundError):
+        os.remove(path)
+    return open(path, "xb")
+
+
 def write_new(path, text):
     """Writes a file aside and moves it."""
     aside = f"{path}.new.{os.getpid()}"
     with writing(path):
         try:
-            with open(aside, "wb") as file:
+            with create(aside) as file:
                 file.write(os.fsencode(text))
             os.replace(aside, path)
         finally:
@@ -163,7 +174,7 @@ class Here:
     def replay(self, run):
         aside = f"{run.report}.new.{socket.gethostname()}.{os.getpid()}"
         try:
-            with writing(run.report), open(aside, "wb") as file, self.lock:
+            with writing(run.report), create(aside) as file, self.lock:
                 if self.is_over:
                     return
                 words = [self.program, "replay", run.bindings, run.trace]
@@ -285,22 +296,35 @@ class Fleet:
             raise Trouble(UNREADABLE, "--transfer wants rsync (Debian's package rsync), here and on the hosts")
         check_parallel()
 
-    def words(self, runs, files):
-        """The words of parallel, whose inputs are the traces, the reports and the keys of the runs."""
+    def columns(self, runs):
+        """What stands in the command of a run, by its name: for each run a value. None of it stands in parallel's own text, where {1} would
+        be replaced, and what is between {= and =} would be run as Perl."""
+        same = {"runner": f"{self.folder}/replay", "program": self.program, "bindings": runs[0].bindings, "sums": f"{self.folder}/sums", "here": os.getcwd()}
+        own = {kind: [getattr(run, kind) for run in runs] for kind in ("trace", "report", "key")}
+        return own | {kind: [value] * len(runs) for kind, value in same.items()}
+
+    def words(self, runs, files, room):
+        """The words of parallel, whose inputs are files of the room, one for each column."""
         given = self.given
         words = ["parallel", "--plain", "--will-cite", "--null", "--jobs", str(given.jobs or "100%"), "--retries", str(given.retries), "--timeout", str(given.timeout)]
-        words += ["--joblog", f"{self.folder}/joblog", "--sshdelay", "0.2", "--sshloginfile", given.sshloginfile]
+        words += ["--joblog", f"{room}/joblog", "--sshdelay", "0.2", "--sshloginfile", given.sshloginfile]
         words += ["--ssh", f"{os.environ.get('PARALLEL_SSH', 'ssh')} {SSH}"]
         words += ["--bar"] if sys.stderr is not None and sys.stderr.isatty() else []
-        common = shlex.join(["sh", f"{self.folder}/replay", self.program, runs[0].bindings])
-        command = f"{common} {{1}} {{2}} {shlex.quote(f'{self.folder}/sums')} {{3}} ssh"
+        columns = self.columns(runs)
+        at = {kind: f"{{{number}}}" for number, kind in enumerate(columns, 1)}
+        command = " ".join(["sh", *(at[kind] for kind in ("runner", "program", "bindings", "trace", "report", "sums", "key")), "ssh"])
         if given.transfer:
-            words += ["--workdir", f"rv-many-{socket.gethostname()}-{os.getpid()}", "--cleanup", "--transferfile", "{1}", "--return", "{2}", "--return", "{2}.status"]
+            words += ["--workdir", f"rv-many-{socket.gethostname()}-{os.getpid()}", "--cleanup"]
+            words += ["--transferfile", at["trace"], "--return", at["report"], "--return", f"{at['report']}.status"]
             for path in (f"{self.folder}/replay", f"{self.folder}/sums", *files):
                 words += ["--basefile", path]
         else:
-            command = f"cd {shlex.quote(os.getcwd())} && {command}"
-        return [*words, command]
+            command = f"cd {at['here']} && {command}"
+        words.append(command)
+        for kind, values in columns.items():
+            write_new(f"{room}/{kind}", "".join(f"{value}\0" for value in values))
+            words += ["::::" if kind == "trace" else "::::+", f"{room}/{kind}"]
+        return words
 
     def check_names(self, names):
         """With --transfer a name is the same here and below a folder of the host."""
@@ -311,11 +335,18 @@ class Fleet:
     def run(self, runs, files):
         if self.given.transfer:
             self.check_names([self.folder, *files, *(run.trace for run in runs)])
-        words = self.words(runs, files)
-        for kind in ("trace", "report", "key"):
-            path = f"{self.folder}/inputs.{kind}"
-            write_new(path, "".join(f"{getattr(run, kind)}\0" for run in runs))
-            words += ["::::" if kind == "trace" else "::::+", path]
+        # (a folder of this call alone: another call in the same folder has other runs left)
+        with writing(self.folder):
+            room = tempfile.mkdtemp(prefix="fleet-", dir=self.folder)
+        try:
+            self.run_in(room, runs, files)
+        finally:
+            with contextlib.suppress(OSError):
+                os.replace(f"{room}/joblog", f"{self.folder}/joblog")
+            shutil.rmtree(room, ignore_errors=True)
+
+    def run_in(self, room, runs, files):
+        words = self.words(runs, files, room)
         adopt()
         # (the lines are of sh, whatever shell calls)
         process = subprocess.Popen(words, stdin=subprocess.DEVNULL, stdout=sys.stderr, env={**os.environ, "PARALLEL_SHELL": "/bin/sh"}, start_new_session=True)
@@ -324,17 +355,14 @@ class Fleet:
         except BaseException:
             end_all()
             raise
-        finally:
-            for kind in ("trace", "report", "key"):
-                with contextlib.suppress(OSError):
-                    os.remove(f"{self.folder}/inputs.{kind}")
         if status not in range(102):
             raise Trouble(UNREADABLE, f"parallel ended with {status}")
-        self.read_log(runs)
+        self.read_log(room, runs)
 
-    def read_log(self, runs):
+    @staticmethod
+    def read_log(room, runs):
         """Takes from parallel's log how the runs ended."""
-        with contextlib.suppress(OSError), open(f"{self.folder}/joblog", encoding="utf-8", errors="surrogateescape") as file:
+        with contextlib.suppress(OSError), open(f"{room}/joblog", encoding="utf-8", errors="surrogateescape") as file:
             for line in list(file)[1:]:
                 cells = line.split("\t")
                 if len(cells) > 7 and cells[0].isdigit() and 0 < int(cells[0]) <= len(runs):
