@@ -59,6 +59,7 @@ class Reader:
 
     def __init__(self, text):
         self.text, self.at, self.behind, self.declared, self.edges, self.is_empty = text, 0, 0, [], [], True
+        self.strings, self.settings = [], []  # the strings, and of each NAME = VALUE both
         self.token = None
         self.next()
 
@@ -78,7 +79,10 @@ class Reader:
                 raise Stop(token, *STRANGE.get(letter, (f"`{letter}` is no mark of this grammar", "take it out, or write the name between double quotes")))
             self.at = found.end()
             if found.lastgroup != "skip":
-                return Token(found.lastgroup, found[found.lastgroup], found.start(), found.end())
+                token = Token(found.lastgroup, found[found.lastgroup], found.start(), found.end())
+                if token.kind == "string":
+                    self.strings.append(token)
+                return token
         return Token("end", "", len(self.text), len(self.text))
 
     def drop(self, mark):
@@ -144,7 +148,7 @@ class Reader:
             name = self.name("a statement")
             if self.token.is_mark("=") and name.kind == "word":
                 self.next()
-                self.value()
+                self.value_of(name)
                 return self.drop(";")
             self.is_empty = False
             if self.token.is_mark("->"):
@@ -166,11 +170,11 @@ class Reader:
                 raise Stop(self.token, "the group declares no state", 'name its states behind the bracket: `{node [shape = circle] "a"};`')
             self.declared += names
         elif self.token.kind == "word" and self.token.text not in RESERVED:
-            self.next()
+            name = self.next()
             if not self.token.is_mark("="):
                 raise Stop(self.token, "a group is a declaration or a rank group", 'write `{node [shape = circle] "a"};`, or leave the braces out')
             self.next()
-            self.value()
+            self.value_of(name)
             self.drop(";")
             self.names(("the states of the group",))
         else:
@@ -187,9 +191,10 @@ class Reader:
             self.is_empty = False
         return names
 
-    def value(self):
+    def value_of(self, name):
         if self.token.kind not in ("word", "string"):
             raise Stop(self.token, f"a value stands behind `=`, and {self.token.shown()} stands there", "write it as a word, or between double quotes")
+        self.settings.append((name, self.token))
         return self.next()
 
     def attributes(self):
@@ -201,7 +206,7 @@ class Reader:
                 raise Stop(self.token, f"an attribute `NAME = VALUE` or `]` is wanted, and {self.token.shown()} stands there", "close the bracket, or write the attribute so")
             name = self.next()
             self.want("=", f"`=` and a value stand behind the attribute `{name.text}`", "write `NAME = VALUE`")
-            found[name.text] = self.value()
+            found[name.text] = self.value_of(name)
             if self.token.is_mark(",") or self.token.is_mark(";"):
                 self.next()
         self.next()
