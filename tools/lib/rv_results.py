@@ -10,7 +10,7 @@ ENDS = "all monitors: "  # what the last line of rv-coverage begins with
 MARKS = 10  # GitHub shows so many of a level in a step
 ESCAPED = re.compile(rb"\\x([0-9a-f]{2})")
 # what XML 1.0 cannot hold, control characters, bytes that are no UTF-8 text, and marks that turn a line round
-UNSEEN = re.compile("[^\n\x20-\x7e\xa0-\u200d\u2010-\u2027\u202f-\u2065\u206a-\ud7ff\ue000-\ufffd\U00010000-\U0010ffff]")
+UNSEEN = re.compile("[^\n\x20-\x7e\xa0-\u061b\u061d-\u200d\u2010-\u2027\u202f-\u2065\u206a-\ud7ff\ue000-\ufffd\U00010000-\U0010ffff]")
 
 
 # ---- a text
@@ -65,12 +65,19 @@ def counted(number, what):
     return f"{number} {what}{'' if number == 1 else 's'}"
 
 
+def plain(line):
+    """A line of a report without the carriage return that a console, or Windows, put behind it."""
+    bare = line.removesuffix("\r")
+    return bare if bare != line and (rv_texts.VIOLATION.fullmatch(bare) or rv_texts.SUMMARY.fullmatch(bare)) else line
+
+
 class Printed:
     """A text of rv or of rv-coverage, or one behind the other: its lines, and an object for each."""
 
     def __init__(self, text):
+        text = text.removeprefix("\ufeff")  # (as Windows puts it in front)
         self._has_end = not text or text.endswith("\n")
-        self.lines = rv_texts.lines_of(text)
+        self.lines = list(map(plain, rv_texts.lines_of(text)))
         self.objects = list(map(object_of, self.lines))
 
     def of(self, *types):
@@ -100,20 +107,24 @@ class Printed:
 
     def results(self):
         """A test for each monitor, for each refusal, and for what rv-coverage finds; what is said twice counts once."""
-        results, told = [], lambda monitor: [line for line, it in self.of("violation") if it["monitor"] == monitor]
+        results, told = [], {}
+        for line, it in self.of("violation"):
+            told.setdefault(it["monitor"], []).append(line)
         for _, it in dict(self.of("summary")).items():
             why = [counted(it["failures"], "failure")] if it["failures"] else []
             why += [f"{it['stopped']} stopped"] if it["stopped"] else []
-            results.append(Result(it["monitor"], ", ".join(why) or None, told(it["monitor"])))
+            results.append(Result(it["monitor"], ", ".join(why) or None, told.pop(it["monitor"], ())))
         for monitor in self.unsummed():
-            results.append(Result(monitor, f"{counted(len(told(monitor)), 'violation')} and no summary", told(monitor)))
+            results.append(Result(monitor, f"{counted(len(told[monitor]), 'violation')} and no summary", told[monitor]))
+        # (no monitor has the name of another test: its name has no dash)
+        monitors = {it.name for it in results}
         for line, it in dict(self.of("refusal", "unreadable")).items():
-            results.append(Result("rv", said_of_refusal(it), [line], True))
+            results.append(Result("rv-refusal" if "rv" in monitors else "rv", said_of_refusal(it), [line], True))
         findings = list(dict(self.of("finding")))
         if findings or self.of("fact"):
             why = [counted(len(findings), "finding")] if findings else []
             why += ["no last line"] if self._lacks_last() else []
-            results.append(Result("coverage", ", ".join(why) or None, findings))
+            results.append(Result("rv-coverage" if "coverage" in monitors else "coverage", ", ".join(why) or None, findings))
         return results
 
 
@@ -135,23 +146,28 @@ def json_lines(printed):
         yield json.dumps(plain, ensure_ascii=False)
 
 
+def seen(text):
+    """A text that XML can hold, in which nothing is hidden."""
+    shown = lambda letter: f"\\x{letter & 0xff:02x}" if letter < 0x100 or 0xdc80 <= letter < 0xdd00 else f"\\u{letter:04x}"
+    return UNSEEN.sub(lambda it: shown(ord(it[0])), text)
+
+
+def of_ktap(text):
+    """A text of a name, as of a file: to no reader it ends the line, and it makes of no test one that is skipped."""
+    return seen(text).replace("\n", "\\n").replace("#", "\\#")
+
+
 def ktap_lines(printed, trouble=None):
     """KTAP version 1. `trouble` is why the tests ended before their end, where that is known otherwise than by the text."""
     results = printed.results()
     yield "KTAP version 1"
     yield f"1..{len(results)}"
     for line, _ in printed.of("violation", "finding", "watch", "text"):
-        yield f"# {line}"
+        yield f"# {seen(line)}"
     for number, it in enumerate(results, 1):
-        yield f"not ok {number} {it.name} # {it.why}" if it.why else f"ok {number} {it.name}"
+        yield f"not ok {number} {it.name} # {of_ktap(it.why)}" if it.why else f"ok {number} {it.name}"
     if trouble or printed.is_cut():
-        yield f"Bail out! {trouble or CUT}"
-
-
-def seen(text):
-    """A text that XML can hold, in which nothing is hidden."""
-    shown = lambda letter: f"\\x{letter & 0xff:02x}" if letter < 0x100 or 0xdc80 <= letter < 0xdd00 else f"\\u{letter:04x}"
-    return UNSEEN.sub(lambda it: shown(ord(it[0])), text)
+        yield f"Bail out! {of_ktap(trouble or CUT)}"
 
 
 def junit_text(printed):
