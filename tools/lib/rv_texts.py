@@ -199,6 +199,16 @@ class Event:
         found = value_form(field).search(self.text, self.fields_at)
         return found[1] if found else None
 
+    @property
+    def values(self):
+        """The values of all fields, by one look at the line."""
+        values = {}
+        for word in words_of(self.fields):
+            field, equals, value = word.partition("=")
+            if equals:
+                values.setdefault(field, value)
+        return values
+
 
 @functools.cache
 def value_form(field):
@@ -278,6 +288,10 @@ class Monitor:
         self.reactor, self.is_on, self.begins = "nop", True, []
 
 
+MOST_RULES = 256  # of bindings
+FEW = 8  # tests of a rule
+
+
 class Rule:
     """An `on` line: of which monitor, on which event, under which tests, whose, in which mode, and what it does."""
 
@@ -286,14 +300,16 @@ class Rule:
         self.tests = []
         for test in tests:
             field, other, value = re.fullmatch(r"(.+?)(!?)=(.*)", test, re.DOTALL).groups()
-            self.tests.append((value_form(field), not other, value))
+            self.tests.append((field, not other, value))
 
     def fires(self, event):
         if event.name != self.event:
             return False
-        for form, wanted, value in self.tests:
-            found = form.search(event.text, event.fields_at)
-            if not found or (found[1] == value) != wanted:
+        # (a field is looked for at each test, but where tests are many)
+        value_of = event.value if len(self.tests) <= FEW else event.values.get
+        for field, wanted, value in self.tests:
+            found = value_of(field)
+            if found is None or (found == value) != wanted:
                 return False
         return True
 
@@ -327,7 +343,7 @@ class Bindings:
         elif kind == "on" and ":" in rest[2:] and rest[0] in self.monitors:
             colon = rest.index(":", 2)
             by, tests = self.middle(rest[2:colon])
-            if len(rest) > colon + 1 and all(re.search(".=.", test) for test in tests):
+            if len(rest) > colon + 1 and len(self.rules) < MOST_RULES and all(re.search(".=.", test) for test in tests):
                 self.rules.append(Rule(number, self.monitors[rest[0]], rest[1], by, tests, rest[colon + 1], rest[colon + 2:]))
         elif kind in ("react", "off", "begin") and rest and rest[0] in self.monitors:
             monitor = self.monitors[rest[0]]

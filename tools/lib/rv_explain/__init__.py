@@ -19,13 +19,14 @@ CARRIAGE_RETURN = "the line ends in a carriage return, as Windows writes it, and
 
 
 SPELLED = 200  # letters of a word that is compared by its spelling, which takes the product of two lengths
+COMPARED = 1000  # words that one is compared with
 
 
 def nearest(word, known):
     """The known word that is spelled most like this one, or None."""
     if len(word) > SPELLED:
         return None
-    lower = {it.lower(): it for it in reversed(list(known)) if len(it) <= SPELLED}
+    lower = {it.lower(): it for it in reversed(list(known)[:COMPARED]) if len(it) <= SPELLED}
     found = difflib.get_close_matches(word.lower(), lower, 1, 0.6)
     return lower[found[0]] if found else None
 

@@ -322,9 +322,9 @@ def finding_of(number, path, text):
     if number == 3:
         return no_initial(text, reader, states)
     if number == 4:
-        one = markers[0]
-        other = next((edge for edge in markers if edge.target.text != one.target.text), one)
-        return at_token(text, other.target, f"`{one.source.text}` leads to `{one.target.text}`, and `{other.source.text}` to `{other.target.text}`", "keep one of the two edges: there is one initial state")
+        one = markers[0] if markers else None
+        other = one and next((edge for edge in markers if edge.target.text != one.target.text), one)
+        return other and at_token(text, other.target, f"`{one.source.text}` leads to `{one.target.text}`, and `{other.source.text}` to `{other.target.text}`", "keep one of the two edges: there is one initial state")
     if number == 5:
         return undeclared(text, reader, states)
     if number == 6:
@@ -350,9 +350,10 @@ def no_initial(text, reader, states):
 
 
 def undeclared(text, reader, states):
+    declared = set(states)
     for edge in reader.edges:
         for token in [edge.target] if edge.is_from_marker() else [edge.source, edge.target]:
-            if token.text in states:
+            if token.text in declared:
                 continue
             if token.text.startswith("__init_"):
                 return at_token(text, token, f"an edge leads to the marker `{token.text}`", "let it lead to the state itself")
@@ -373,7 +374,7 @@ def not_deterministic(text, reader):
 
 def no_header(text, reader, states):
     taken = ("state_max", "event_max", "automaton")
-    events = events_of(text)
+    events = {event for edge in reader.edges if not edge.is_from_marker() for event in edge.events()}
     for token in reader.declared:
         if token.text.startswith("__init_"):
             continue

@@ -364,7 +364,7 @@ def finding_of(number, path, text, line_number):
             kind = words[0][2] if words and words[0][2] in KEYWORDS else nearest(words[0][2], KEYWORDS) if words else None
             form = FORMS.get("monitor in" if kind == "monitor" and "in" in [word[2] for word in words[5:]] else kind)
             return Finding(wrong.cause, wrong.mend, line_number, wrong.start, wrong.end), form
-    if number == 19:
+    if number == 19 and len(words) > 1:
         name = words[1]
         first = before.monitors[name[2]].line if name[2] in before.monitors else before.containers.get(name[2])
         return Finding(f"line {first} has the name `{name[2]}` already; containers and monitors share one space of names", f"write another name, such as `{name[2][:30]}_2`", line_number, name[0], name[1]), None
@@ -384,7 +384,7 @@ def unknown_name(number, line_number, words, context):
         text = read_again(monitor.file)
     except OSError:
         return Finding(f"the file {monitor.file} of `{monitor.name}` could not be read here", "run rv-explain where rv was run", line_number)
-    known = (automata.events_of if number == 20 else rules.atoms_of)(text) or []
+    known = dict.fromkeys((automata.events_of if number == 20 else rules.atoms_of)(text) or [])
     candidates = words[-1:] if number == 20 else words[3:] if words[0][2] == "on" else words[2:3]
     for start, end, word in candidates:
         name = word.lstrip("+-*") if number == 21 else word

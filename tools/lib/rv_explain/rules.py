@@ -4,6 +4,7 @@ import re
 from . import Finding, foreign, nearest, size_of
 
 LARGEST, MOST_DEFINITIONS, LONGEST_CHAIN, DEEPEST, MOST_ATOMS, HEAVIEST = 1048576, 256, 256, 256, 32, 1024
+TOLD = 10**18  # a weight that is told in digits
 UNARY = ("always", "eventually", "next", "not")
 BETWEEN_TWO = ("until", "release", "weak_until", "imply", "equivalent")
 CHAINED = ("and", "or")
@@ -222,22 +223,29 @@ def read(text):
 
 
 def names_in(formula):
-    """The names that stand in a formula, each as often as it stands."""
-    if isinstance(formula, str):
-        return [] if formula in CONSTANTS else [formula]
-    return [name for operand in formula[1:] for name in names_in(operand)]
-
-
-def reached(definitions, name):
-    """The names that a definition reaches, the atoms and the defined ones."""
-    formulas = {it: formula for it, _, formula in definitions}
-    found, left = [], [name]
+    """The names that stand in a formula, each once, in their order."""
+    found, left = {}, [formula]
     while left:
         it = left.pop()
-        for further in names_in(formulas[it]) if it in formulas else []:
-            if further not in found:
-                found.append(further)
-                left.append(further)
+        if not isinstance(it, str):
+            left += reversed(it[1:])
+        elif it not in CONSTANTS:
+            found[it] = None
+    return found
+
+
+def names_of(definitions):
+    """The names that stand in the formula of each definition; of two of one name the last one counts."""
+    return {name: names_in(formula) for name, formula in {name: formula for name, _, formula in definitions}.items()}
+
+
+def reached(names, name):
+    """The names that a definition reaches by these names of each definition, the atoms and the defined ones."""
+    found, left = {}, [name]
+    while left:
+        new = [it for it in names.get(left.pop(), ()) if it not in found]
+        found.update(dict.fromkeys(new))
+        left += new
     return found
 
 
@@ -247,18 +255,41 @@ def atoms_of(text):
     if definitions is None:
         return None
     defined = {name for name, _, _ in definitions}
-    return sorted(set(reached(definitions, "RULE")) - defined)
+    return sorted(set(reached(names_of(definitions), "RULE")) - defined)
 
 
-def weight_of(formula, formulas, known):
+def circles_of(names):
+    """The definitions that reach themselves, in their order, each with the others that it reaches and that reach it."""
+    defined = {name: {it for it in those if it in names} for name, those in names.items()}
+    for middle, further in defined.items():
+        for those in defined.values():
+            if middle in those:
+                those |= further
+    for name, those in defined.items():
+        if name in those:
+            yield name, [it for it in reached(names, name) if it in those and it != name and name in defined[it]]
+
+
+def weight_of_rule(formulas, names):
+    """The weight of `RULE`: that of each definition once, behind those of the names in it."""
+    known, left = {"RULE": 1}, [("RULE", iter(names["RULE"]))]
+    while left:
+        name, those = left[-1]
+        further = next((it for it in those if it in names and it not in known), None)
+        if further is None:
+            known[name] = weight_of(formulas[name], known)
+            left.pop()
+        else:
+            known[further] = 1  # (as it stays where a definition reaches itself, and nothing has a weight)
+            left.append((further, iter(names[further])))
+    return known["RULE"]
+
+
+def weight_of(formula, known):
     if isinstance(formula, str):
-        if formula not in formulas:
-            return 1
-        if formula not in known:
-            known[formula] = weight_of(formulas[formula], formulas, known)
-        return known[formula]
+        return known.get(formula, 1)
     operator, *operands = formula
-    weights = [weight_of(operand, formulas, known) for operand in operands]
+    weights = [weight_of(operand, known) for operand in operands]
     if operator == "equivalent":
         return 3 + 2 * sum(weights)
     if operator == "weak_until":
@@ -289,16 +320,16 @@ def finding_of(number, path, text):
                 first = text.count("\n", 0, definitions[names.index(name)][1].start) + 1
                 return at_name(text, token, f"`{name}` is defined here, and on line {first} already", "give one of the two another name, or leave it out")
     if number == 12:
-        for name, token, _ in definitions:
-            if name in reached(definitions, name):
-                others = [it for it in reached(definitions, name) if it in formulas and it != name and name in reached(definitions, it)]
+        for name, others in circles_of(names_of(definitions)):
+                token = next(token for it, token, _ in definitions if it == name)
                 return at_name(text, token, f"`{name}` reaches itself" + (f", by way of {', '.join(others)}" if others else ""), "say what repeats by `always`, `until` or `weak_until`; a definition stands for its formula and cannot repeat")
     if number == 13:
         atoms = atoms_of(text)
         return Finding(f"`RULE` reaches {len(atoms)} atoms, and {MOST_ATOMS} are read", "make monitors of parts of the rule, or let one atom stand for several events: several `on` lines may set one atom")
-    if number == 14:
-        return Finding(f"the weight of `RULE` is {weight_of('RULE', formulas, {})}, and {HEAVIEST} is read; each use of a name counts its whole formula, and `equivalent` counts both sides twice", "make monitors of parts of the rule")
-    if number in (15, 16, 17):
+    if number == 14 and "RULE" in formulas:
+        weight = weight_of_rule(formulas, names_of(definitions))
+        return Finding(f"the weight of `RULE` is {weight if weight <= TOLD else f'more than {TOLD}'}, and {HEAVIEST} is read; each use of a name counts its whole formula, and `equivalent` counts both sides twice", "make monitors of parts of the rule")
+    if number in (15, 16, 17) and "RULE" in formulas:
         return too_large(number, text, definitions, formulas)
     return None
 
@@ -306,15 +337,12 @@ def finding_of(number, path, text):
 def too_large(number, text, definitions, formulas):
     what = {15: "parts of the normal form", 16: "branches", 17: "nodes of the table"}[number]
     token = next(token for name, token, _ in definitions if name == "RULE")
-    rule = formulas["RULE"]
-    whole = rule
-    while isinstance(whole, str) and whole in formulas:
-        whole = formulas[whole]
-    inner = whole
-    while isinstance(inner, list) and inner[0] == "always":
-        inner = inner[1]
-        while isinstance(inner, str) and inner in formulas:
-            inner = formulas[inner]
+    rule = inner = formulas["RULE"]
+    opened = set()
+    while isinstance(inner, list) and inner[0] == "always" or isinstance(inner, str) and inner in formulas and inner not in opened:
+        if isinstance(inner, str):
+            opened.add(inner)
+        inner = formulas[inner] if isinstance(inner, str) else inner[1]
     if isinstance(inner, list) and inner[0] == "and":
         return at_name(text, token, f"the rule asks {len(inner) - 1} things at once, and together they have too many {what}", f"make {len(inner) - 1} monitors of it, one rule file for each operand of the `and`: each of them is judged for itself")
     nexts = str(rule).count("'next'")

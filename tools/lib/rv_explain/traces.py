@@ -9,6 +9,7 @@ WITHOUT_HEAD = "`trace-cmd report -N trace.dat | grep -vE '^(cpus=|CPU [0-9]+ is
 RECORD_AGAIN = "turn it off (`echo 0 > options/{}` in /sys/kernel/tracing) and record again"
 # A line may have millions of bytes; its first ones tell what it is.
 LOOKED_AT = 1000
+NAMED = 12  # fields of a line that are named
 # What a line is that has not the form of an event: its form, the cause and the mend.
 LINES = [
     (r"(version = [0-9]+|CPU [0-9]+ is empty|cpus=[0-9]+)$", "it is a line of the head of trace-cmd, and no event", f"leave these lines out: {WITHOUT_HEAD}"),
@@ -130,7 +131,7 @@ def stampless(line_number, line, head, words, is_last):
 
 def mend_by(fields, by):
     """Which fields of a line hold a pid."""
-    pids = [f"`by {it}`" for it in fields if it.endswith("pid") and it != by]
+    pids = [f"`by {it}`" for it in fields if it.endswith("pid") and it != by][:NAMED]
     return f"a pid stands in another field: write {' or '.join(pids)}" if pids else "name a field that holds a pid; without `by` the instance is that of the task that ran"
 
 
@@ -161,7 +162,7 @@ def no_pid(line, line_number, bindings):
         place = re.search(rf"(?:^|[ \t]){by}=", event.fields)
         at = len(line) - len(event.fields) + place.end()
         return Finding(f"{who}its value `{value}` is no decimal of at most {rv_texts.HIGHEST_PID}", mend_by(fields, by) if value.rstrip("\r") else "the text was cut, or the field is empty: name another field", line_number, at, at + max(1, len(value)))
-    mend = did_you_mean(by, fields, "the fields of this line") if by and fields else f"the fields of this line are {', '.join(fields) or 'none'}; compare them with `by` in the bindings, and with the event's `format` file in tracefs"
+    mend = did_you_mean(by, fields, "the fields of this line") if by and fields else f"the fields of this line are {', '.join(fields[:NAMED]) or 'none'}{', ..' * (len(fields) > NAMED)}; compare them with `by` in the bindings, and with the event's `format` file in tracefs"
     if by and not (nearest(by, fields) or "").endswith("pid") and any(it.endswith("pid") for it in fields):
         mend = mend_by(fields, by)
     return Finding(f"{who}the line has no such field" if who else "a `by` field of the bindings has no decimal number on this line", mend, line_number, start, len(line))
