@@ -1,5 +1,6 @@
 """What tools/rv-explain knows: for each kind of file, where it goes wrong, why, and how it is mended."""
 import difflib
+import functools
 import os
 import re
 
@@ -68,6 +69,7 @@ SHOWN = {
 }
 
 
+@functools.lru_cache(maxsize=1)
 def read_again(path):
     """The text of a file that rv read; an OSError where it cannot be read here, as the standard input of rv, which is another one than this tool's."""
     if rv_texts.is_standard_input(path):

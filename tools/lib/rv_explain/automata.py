@@ -302,10 +302,14 @@ def states_of(reader):
     return list(dict.fromkeys(token.text for token in reader.declared if not token.text.startswith("__init_")))
 
 
+def events_in(reader):
+    return {event for edge in reader.edges if not edge.is_from_marker() for event in edge.events()}
+
+
 def events_of(text):
     """The events of an automaton file in order, or None where it is none."""
     reader, _ = read(text)
-    return reader and sorted({event for edge in reader.edges if not edge.is_from_marker() for event in edge.events()})
+    return reader and sorted(events_in(reader))
 
 
 def finding_of(number, path, text):
@@ -332,7 +336,7 @@ def finding_of(number, path, text):
     if number == 7:
         return Finding(f"the automaton has {len(states)} states, and {MOST_STATES} are read", "leave out states, or make two monitors of it that each watch a part")
     if number == 8:
-        events = events_of(text)
+        events = events_in(reader)
         return Finding(f"the automaton has {len(events)} events, and {MOST_EVENTS} are read", "give events that are never told apart one name: several `on` lines may feed one event")
     if number == 35:
         return no_header(text, reader, states)
@@ -374,7 +378,7 @@ def not_deterministic(text, reader):
 
 def no_header(text, reader, states):
     taken = ("state_max", "event_max", "automaton")
-    events = {event for edge in reader.edges if not edge.is_from_marker() for event in edge.events()}
+    events = events_in(reader)
     for token in reader.declared:
         if token.text.startswith("__init_"):
             continue

@@ -260,14 +260,14 @@ def atoms_of(text):
 
 def circles_of(names):
     """The definitions that reach themselves, in their order, each with the others that it reaches and that reach it."""
-    defined = {name: {it for it in those if it in names} for name, those in names.items()}
-    for middle, further in defined.items():
-        for those in defined.values():
-            if middle in those:
-                those |= further
-    for name, those in defined.items():
-        if name in those:
-            yield name, [it for it in reached(names, name) if it in those and it != name and name in defined[it]]
+    bits = {name: 1 << place for place, name in enumerate(names)}
+    reach = {name: sum(bits.get(it, 0) for it in those) for name, those in names.items()}
+    for middle, bit in bits.items():
+        for name in [it for it, those in reach.items() if those & bit]:
+            reach[name] |= reach[middle]
+    for name, bit in bits.items():
+        if reach[name] & bit:
+            yield name, [it for it in reached(names, name) if it != name and reach.get(it, 0) & bit]
 
 
 def weight_of_rule(formulas, names):
