@@ -305,8 +305,8 @@ if ! is_current; then
     exec 8<&- 9<&-
 fi
 # A terminal is shown what is not seen in what the program prints, since a name of a file may have any bytes. (-I and -S: nothing of the
-# folder where one stands is read)
-if [ -t 1 ] && [ -r "$top/tools/lib/rv_terminal.py" ] && command -v python3 >/dev/null; then
+# folder where one stands is read; where standard input is a folder no Python begins, and its status, 1, is that of a failure)
+if [ -t 1 ] && [ ! -d /dev/stdin ] && [ -r "$top/tools/lib/rv_terminal.py" ] && command -v python3 >/dev/null; then
     exec python3 -I -S -B "$top/tools/lib/rv_terminal.py" "$program" "$@"
 fi
 exec "$program" "$@"
