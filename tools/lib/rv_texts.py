@@ -123,6 +123,13 @@ def is_of_report(line):
     return any(form.fullmatch(line) for form in (VIOLATION, SUMMARY, REFUSAL, UNREAD))
 
 
+def status_of(summaries):
+    """The status of a run that has these summaries."""
+    if any(int(it["failures"]) for it in summaries):
+        return 1
+    return 6 if any(int(it["stopped"]) for it in summaries) else 0
+
+
 def failures_of(path):
     """The violations of a report, in its order, and how many failures its summaries count, None where it has none; `-` is standard input."""
     lines, shown = list(input_lines() if path == "-" else read_lines(path)), "standard input" if path == "-" else path
