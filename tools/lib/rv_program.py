@@ -17,8 +17,10 @@ class Program:
 
     def __init__(self, given=None):
         for it in [given] if given else [self.built, shutil.which(self.name)]:
-            if it and (os.path.isfile(it) or shutil.which(it)):
-                self.path = os.path.abspath(it) if os.path.isfile(it) else shutil.which(it)
+            # (a name is first looked for on the PATH: the folder where one stands may be another's)
+            path = it and (shutil.which(it) or it)
+            if path and os.path.isfile(path):
+                self.path = os.path.abspath(path)
                 return
         raise Trouble(UNREADABLE, f"no program {given or f'{self.name}: build it by ./{self.name}, or name it by --{self.name}'}")
 
@@ -28,6 +30,8 @@ class Program:
         It has the standard input of the tool where that is a regular file, so that /dev/stdin is the same text to both, and else none.
         """
         given = None if sys.stdin is not None and os.path.isfile("/dev/stdin") else subprocess.DEVNULL
+        if any("\0" in it for it in words):
+            raise Trouble(UNREADABLE, f"no file has such a name: {' '.join(words)}")
         try:
             done = subprocess.run([self.path, *words], cwd=folder, stdin=given, stdout=subprocess.PIPE, check=False)
         except OSError as error:

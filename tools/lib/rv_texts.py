@@ -4,6 +4,7 @@ Texts are read as bytes that stand in strings one for one where they are no UTF-
 What rv refuses has no form here: a line of no form is left out, or none.
 """
 import collections
+import errno
 import functools
 import os
 import re
@@ -42,6 +43,8 @@ def check_kept(path):
 
 def read_text(path):
     """The text of a file, no more than what rv would read of a trace; an OSError where it cannot be read."""
+    if "\0" in path:
+        raise FileNotFoundError(errno.ENOENT, os.strerror(errno.ENOENT), path)
     with open(path, "rb") as file:
         return file.read(MOST_BYTES + 1).decode("utf-8", "surrogateescape")
 

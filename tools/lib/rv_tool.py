@@ -14,6 +14,9 @@ LEAST = 3, 9  # the version of Python that the tools want
 if sys.version_info[:2] < LEAST:
     sys.stderr.write(f"{NAME}: Python {'.'.join(map(str, LEAST))} or later is wanted, and this is {'.'.join(map(str, sys.version_info[:3]))}\n")
     sys.exit(3)
+# Texts and names are bytes that stand for UTF-8 whatever the locale is: else an event of the bindings is none of the trace.
+if sys.getfilesystemencoding() != "utf-8" and sys.executable:
+    os.execv(sys.executable, [sys.executable, *(["-I"] if sys.flags.isolated else []), "-X", "utf8", *sys.argv])
 FILE = os.path.basename(os.path.realpath(sys.argv[0]))  # an installed tool may have another name than its file
 FINDINGS, WRONG_USE, UNREADABLE, INTERRUPTED = 1, 2, 3, 130
 
@@ -65,6 +68,8 @@ def number_from(least, most):
 
 def say(text, name=NAME):
     """A line on standard error, where there is one that takes it."""
+    if sys.stderr is None:  # (print would take standard output)
+        return
     with contextlib.suppress(OSError):
         print(f"{name}: {text}" if name else text, file=sys.stderr, flush=True)
 
@@ -133,6 +138,8 @@ def status_of(main):
         return INTERRUPTED, None
     except BrokenPipeError:
         return UNREADABLE, None
+    except MemoryError:
+        return UNREADABLE, "there is not enough memory"
     except OSError as error:
         # (what is read says itself what cannot be read: what has no name is standard output)
         return UNREADABLE, f"cannot write: {error.strerror}" if error.filename is None else f"{error.filename}: {error.strerror}"
