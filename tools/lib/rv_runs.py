@@ -8,6 +8,7 @@ import contextlib
 import ctypes
 import hashlib
 import os
+import select
 import shlex
 import shutil
 import signal
@@ -214,7 +215,8 @@ class Here:
             for count, done in enumerate(concurrent.futures.as_completed(waiting), 1):
                 done.result()
                 if shows:
-                    print(f"\r{count} of {len(runs)} runs", end="\n" if count == len(runs) else "", file=sys.stderr, flush=True)
+                    sys.stderr.write_own(f"\r{count} of {len(runs)} runs" + ("\n" if count == len(runs) else ""))
+                    sys.stderr.flush()
         finally:
             self.is_over = True
             pool.shutdown(wait=False, cancel_futures=True)
@@ -309,7 +311,6 @@ class Fleet:
         words = ["parallel", "--plain", "--will-cite", "--null", "--jobs", str(given.jobs or "100%"), "--retries", str(given.retries), "--timeout", str(given.timeout)]
         words += ["--joblog", f"{room}/joblog", "--sshdelay", "0.2", "--sshloginfile", given.sshloginfile]
         words += ["--ssh", f"{os.environ.get('PARALLEL_SSH', 'ssh')} {SSH}"]
-        words += ["--bar"] if sys.stderr is not None and sys.stderr.isatty() else []
         columns = self.columns(runs)
         at = {kind: f"{{{number}}}" for number, kind in enumerate(columns, 1)}
         command = " ".join(["sh", *(at[kind] for kind in ("runner", "program", "bindings", "trace", "report", "sums", "key")), "ssh"])
@@ -348,9 +349,13 @@ class Fleet:
     def run_in(self, room, runs, files):
         words = self.words(runs, files, room)
         adopt()
+        shows = sys.stderr is not None and sys.stderr.isatty()
+        outputs = {"stdout": subprocess.PIPE, "stderr": subprocess.STDOUT} if shows else {"stdout": subprocess.DEVNULL if sys.stderr is None else sys.stderr}
         # (the lines are of sh, whatever shell calls)
-        process = subprocess.Popen(words, stdin=subprocess.DEVNULL, stdout=sys.stderr, env={**os.environ, "PARALLEL_SHELL": "/bin/sh"}, start_new_session=True)
+        process = subprocess.Popen(words, stdin=subprocess.DEVNULL, env={**os.environ, "PARALLEL_SHELL": "/bin/sh"}, start_new_session=True, **outputs)
         try:
+            if shows:
+                self.show(process.stdout, room, len(runs))
             status = process.wait()
         except BaseException:
             end_all()
@@ -358,6 +363,31 @@ class Fleet:
         if status not in range(102):
             raise Trouble(UNREADABLE, f"parallel ended with {status}")
         self.read_log(room, runs)
+
+    def show(self, output, room, count):
+        """Shows on a terminal how many runs have ended, and what the hosts say, whose bytes command nothing there."""
+        said, told, data = b"", None, None
+        while data != b"":
+            data = os.read(output.fileno(), 1 << 16) if select.select([output], [], [], 1)[0] else None
+            said += data or b""
+            # (of a host that ends no line too)
+            end = len(said) if data == b"" or len(said) > 1 << 16 else said.rfind(b"\n") + 1
+            if end:
+                sys.stderr.write_own("\r\033[K")
+                sys.stderr.buffer.write(said[:end])
+            said, ended = said[end:], self.ended(room)
+            if end or ended != told:
+                told = ended
+                sys.stderr.write_own(f"\r{told} of {count} runs")
+                sys.stderr.flush()
+        sys.stderr.write_own("\n")
+
+    @staticmethod
+    def ended(room):
+        """How many runs parallel's log has."""
+        with contextlib.suppress(OSError), open(f"{room}/joblog", "rb") as file:
+            return len({line.split(b"\t")[0] for line in file if line[:1].isdigit()})
+        return 0
 
     @staticmethod
     def read_log(room, runs):
