@@ -14,7 +14,7 @@ use Rattle.rv_tool.specs.declared.replay.FinishedRun.{FinishedRun}
 use Rattle.rv_tool.specs.Calls.{CallEnd, Call, CountsNone}
 use Rattle.rv_tool.specs.Changes.{input_beside}
 use Rattle.rv_tool.specs.Checks.{IsCheckReport, checked_input}
-use Rattle.rv_tool.specs.inner.Commands.{IsOneReport, IsVerdictReport, IsText, IsPrinted, IsSessionText, ComesTo, CommandComes}
+use Rattle.rv_tool.specs.inner.Commands.{IsOneReport, IsVerdictReport, IsWatchVerdictReport, IsJournalVerdictReport, IsText, IsPrinted, IsSessionText, ComesTo, CommandComes}
 use Rattle.rv_tool.specs.Puts.{IsPut}
 use Rattle.rv_tool.specs.HeaderFiles.{header_in}
 use Rattle.rv_tool.specs.Headline.{IsReported, Ending, GivesUp, PrintsText, PrintsRefusal, PrintsSome, Ends}
@@ -28,7 +28,7 @@ use Rattle.rv_tool.specs.Runs.{Prints, PrintsSession, AnswersBy, Answers}
 use Rattle.rv_tool.specs.Sessions.{Printed, control_in}
 use Rattle.rv_tool.specs.Tables.{table_in}
 use Rattle.rv_tool.specs.Verdicts.{Verdicts}
-use Rattle.rv_tool.specs.Watched.{watched_input}
+use Rattle.rv_tool.specs.Watched.{WatchValue, watched_input}
 use Rattle.rv_tool.specs.WatchReports.{IsWatchReport}
 use Rattle.rv_tool.specs.Words.{CommandValue, replay, feed, feed_beside, journal, check, watch, table, header, control, load}
 use Rattle.rv_tool.proofs.LoadedLemmas.{IsWithin, load_ends, load_reports}
@@ -153,16 +153,19 @@ module _ (c : Call) (told : Option Files) (result : Result FinishedRun BindFault
     verdicts = λ files known. tt;
     opaque = report_untold (MayRunBeside bindings trace script) (IsReported IsLegal) (λ files. input_beside files bindings trace script) comes;
   }
-  command_answered (watch bindings trace monitor instance) within comes = record {
-    answers = report_told (MayWatch bindings trace monitor instance) IsWatchReport (λ files. watched_input files bindings trace monitor instance) comes IsWatchReport (λ y h text said goes. goes);
-    verdicts = λ files known. tt;
-    opaque = report_untold (MayWatch bindings trace monitor instance) IsWatchReport (λ files. watched_input files bindings trace monitor instance) comes;
-  }
-  command_answered (journal bindings trace) within comes = record {
-    answers = report_told (MayRecord bindings trace) IsJournalReport (λ files. recordable_input files bindings trace) comes IsJournalReport (λ y h text said goes. goes);
-    verdicts = λ files known. tt;
-    opaque = report_untold (MayRecord bindings trace) IsJournalReport (λ files. recordable_input files bindings trace) comes;
-  }
+  command_answered (watch bindings trace monitor instance) within comes =
+      let May : Outcome WatchValue → Type 0 = MayWatch bindings trace monitor instance in
+      let outcome : Files → Outcome WatchValue = λ files. watched_input files bindings trace monitor instance in record {
+        answers = report_told May IsWatchVerdictReport outcome comes IsWatchReport (λ y h text said goes. goes.0);
+        verdicts = report_told May IsWatchVerdictReport outcome comes IsWatchVerdictReport (λ y h text said goes. goes);
+        opaque = report_untold May IsWatchVerdictReport outcome comes;
+      }
+  command_answered (journal bindings trace) within comes =
+      let outcome : Files → Outcome InputValue = λ files. recordable_input files bindings trace in record {
+        answers = report_told (MayRecord bindings trace) IsJournalVerdictReport outcome comes IsJournalReport (λ y h text said goes. goes.0);
+        verdicts = report_told (MayRecord bindings trace) IsJournalVerdictReport outcome comes IsJournalVerdictReport (λ y h text said goes. goes);
+        opaque = report_untold (MayRecord bindings trace) IsJournalVerdictReport outcome comes;
+      }
   command_answered (check bindings trace judged) within comes = record {
     answers = report_told (MayCheck bindings trace judged) IsCheckReport (λ files. checked_input files bindings trace judged) comes IsCheckReport (λ y h text said goes. goes);
     verdicts = λ files known. tt;

@@ -8,6 +8,7 @@ pub mod CountsFitLemmas
 pub mod CpuLemmas
 pub mod FitLemmas
 pub mod FrontReads
+pub mod JournalLemmas
 pub mod JudgedLemmas
 pub mod LoadLemmas
 pub mod LoadedLemmas

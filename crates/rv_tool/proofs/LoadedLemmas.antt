@@ -83,8 +83,8 @@ zero_or_one false false status is other = inl is
 load_verdict : (blocks : ℕ) (made : Loads blocks) (h : List Entry) (text : List ℕ) (status : ℕ) → IsReported IsLegal made.input h text status → HasVerdicts made.input h text status → HasLoadVerdict made.input h text status
 load_verdict blocks made h text status is verdicts = record {
   no_stop = all_lone_have_no_stop (run_of made.input) is.judges h is.history made.unchanged made.one_writer;
-  said = zero_or_one _ _ status is.status_is (verdicts.not_six made.one_writer);
-  alike = verdicts.all made.no_panic made.one_writer;
+  said = zero_or_one _ _ status is.status_is (verdicts.run.not_six made.one_writer);
+  alike = λ k other said one. (verdicts.text_is made.no_panic made.one_writer k other said one, verdicts.run.status_is made.no_panic made.one_writer k other said one);
 }
 
 -- where a report with its verdicts is put, one with fewer facts, or more that follow, is

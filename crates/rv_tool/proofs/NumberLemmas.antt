@@ -1,6 +1,6 @@
 -- Every refusal of a script, a table, C tables and a watched slot has one of the refusals' numbers.
-use Rattle.std.proofs.Common.{◌≡◌, ℕ, List, [], ◌∷◌, ◌++◌, inl, inr, arith}
-use Rattle.std.specs.Prelude.{Option, Result, Ok, Err, IfErr, if◌then◌else◌}
+use Rattle.std.proofs.Common.{ℕ, List, [], ◌∷◌, inl, inr, arith}
+use Rattle.std.specs.Prelude.{Option, Result, Ok, Err, IfErr}
 use Rattle.rv_text.specs.declared.refusals.Refusal.{Refusal}
 use Rattle.rv_text.specs.TextLines.{LineText, lines_of}
 use Rattle.rv_model.specs.declared.work.Change.{Change}

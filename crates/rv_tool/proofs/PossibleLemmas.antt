@@ -1,7 +1,6 @@
 -- What was read may come of some texts.
-use Rattle.std.proofs.Common.{◌≡◌, ℕ, List, [], ◌++◌, length, refl, ap}
+use Rattle.std.proofs.Common.{◌≡◌, ℕ, List, [], length, refl, ap}
 use Rattle.std.specs.Prelude.{Result, Ok, Err}
-use Rattle.rv_text.specs.declared.refusals.Refused.{Refused}
 use Rattle.rv_model.specs.declared.kind.SpecKind.{SpecKind}
 use Rattle.rv_model.specs.declared.work.Change.{Change}
 use Rattle.rv_bind.specs.declared.fault.BindFault.{BindFault}

@@ -1,5 +1,5 @@
 -- A command is refused by the numbers of its steps.
-use Rattle.std.proofs.Common.{◌≡◌, ℕ, Bool, true, false, List, [], refl, sym, ap, ◌∙◌, ◌⊎◌, subst, inl, inr, arith}
+use Rattle.std.proofs.Common.{◌≡◌, ℕ, Bool, true, false, List, [], refl, sym, ap, ◌∙◌, subst, inl, inr, arith}
 use Rattle.std.specs.Prelude.{Option, Some, None, Ok, option_map, if◌then◌else◌}
 use Rattle.rv_io.specs.Files.{Files, front_read}
 use Rattle.rv_text.specs.declared.numbers.TheConstants.{NOT_NUMBERED, NO_INSTANCE}

@@ -23,11 +23,17 @@ use Rattle.rv_laws.proofs.StopLemmas.{lone_has_no_stop}
 use Rattle.rv_laws.proofs.VerdictLemmas.{lone_records_are_one, all_records_are_one}
 use Rattle.rv_tool.specs.declared.input.Prepared.{Prepared}
 use Rattle.rv_tool.specs.declared.replay.FinishedRun.{FinishedRun}
-use Rattle.rv_tool.specs.inner.Commands.{IsVerdictReport}
+use Rattle.rv_tool.specs.declared.watch.PreparedWatch.{PreparedWatch}
+use Rattle.rv_tool.specs.inner.Commands.{IsVerdictReport, IsWatchVerdictReport, IsJournalVerdictReport}
 use Rattle.rv_tool.specs.Headline.{IsReported}
 use Rattle.rv_tool.specs.Inputs.{InputValue, run_of}
+use Rattle.rv_tool.specs.inner.Journals.{IsRecordable}
 use Rattle.rv_tool.specs.inner.Prepared.{prepared_value, IsPrepared}
-use Rattle.rv_tool.specs.Verdicts.{HasOneWriterIn, HasNoPanic, HasVerdicts}
+use Rattle.rv_tool.specs.inner.WatchReports.{watch_value, IsPreparedWatch}
+use Rattle.rv_tool.specs.Journals.{IsJournalReport}
+use Rattle.rv_tool.specs.Verdicts.{HasOneWriterIn, HasNoPanic, HasRunVerdicts, HasVerdicts}
+use Rattle.rv_tool.specs.Watched.{WatchValue}
+use Rattle.rv_tool.specs.WatchReports.{IsWatchReport}
 use Rattle.rv_tool.proofs.CpuLemmas.{FitCpus, ready_routed, cpu_is_lone, all_are_lone}
 
 -- ---- reactors
@@ -75,21 +81,29 @@ module _ (i : InputValue) (unchanged : i.changes ≡ []) (h : List Entry) (text 
       all_records_are_one (run_of i) is.judges one.judges h k (steady none) (record { judges = is.are_judges; other_judges = one.are_judges; history = is.history; other = one.history }) one_writer in
       (is.text_is ∙ ap (report_text (map (reported i.bound.containers) i.bound.monitors) i.routed.tasks) same ∙ sym one.text_is, is.status_is ∙ ap status_of same ∙ sym one.status_is)
 
-  -- the report of a run at once has its verdicts
-  has_verdicts : FitCpus i → HasOneHistory (run_of i) → HasVerdicts i h text status
-  has_verdicts routed one = record {
+  -- the history and the status of a run at once have their verdicts
+  has_run_verdicts : FitCpus i → HasOneHistory (run_of i) → HasRunVerdicts i h status
+  has_run_verdicts routed one = record {
     one = one_reported i one;
     not_stopped = no_stop;
     not_six = no_six;
     single_writer = lone_as_one;
-    all = all_as_one;
+    status_is = λ none one_writer k other said is_one. (all_as_one none one_writer k other said is_one).1;
     by_cpu = record {
       own = routed.by_cpu;
       not_stopped = λ monitor cpu has below. no_stop (slot_of (run_of i).setup.shape monitor cpu) (cpu_is_lone i routed monitor cpu has below);
       not_six = λ all. no_six (all_are_lone i routed all);
       each = λ none judges k are one monitor cpu has below. lone_as_one none judges k are one monitor cpu (cpu_is_lone i routed monitor cpu has below);
-      all = λ none all. all_as_one none (all_are_lone i routed all);
+      status_is = λ none all k other said is_one. (all_as_one none (all_are_lone i routed all) k other said is_one).1;
     };
+  }
+
+  -- and so has its report
+  has_verdicts : FitCpus i → HasOneHistory (run_of i) → HasVerdicts i h text status
+  has_verdicts routed one = record {
+    run = has_run_verdicts routed one;
+    text_is = λ none one_writer k other said is_one. (all_as_one none one_writer k other said is_one).0;
+    text_by_cpu = λ none all k other said is_one. (all_as_one none (all_are_lone i routed all) k other said is_one).0;
   }
 
 -- a run at once of what is ready has its verdicts
@@ -97,3 +111,37 @@ pub runs_verdicts : (ready : Prepared) (ran : Result FinishedRun AllocError) →
     → IfOk ran (λ done. IsReported IsLegal (prepared_value ready) done.closed done.text.items done.status) → IfOk ran (λ done. IsVerdictReport (prepared_value ready) done.closed done.text.items done.status)
 runs_verdicts ready (Ok done) is unchanged one reported = (reported, has_verdicts (prepared_value ready) unchanged done.closed done.text.items done.status reported (ready_routed ready is) one)
 runs_verdicts ready (Err none) is unchanged one done = done
+
+-- ---- a watched run
+
+-- the report of a watched run is one of a legal history
+watched_legal : (w : WatchValue) (h : List Entry) (text : List ℕ) (status : ℕ) → (is : IsWatchReport w h text status) → IsReported IsLegal w.input h is.report status
+watched_legal w h text status is = record {
+  judges = is.reported.judges;
+  are_judges = is.reported.are_judges;
+  history = is.reported.history.legal;
+  text_is = is.reported.text_is;
+  status_is = is.reported.status_is;
+}
+
+-- and so it has its verdicts
+pub watch_verdicts : (w : PreparedWatch) (ran : Result FinishedRun AllocError) → IsPreparedWatch w → HasOneHistory (run_of (prepared_value w.ready))
+    → IfOk ran (λ done. IsWatchReport (watch_value w) done.closed done.text.items done.status) → IfOk ran (λ done. IsWatchVerdictReport (watch_value w) done.closed done.text.items done.status)
+watch_verdicts w (Ok done) is one told =
+    (told, has_verdicts (prepared_value w.ready) is.unchanged done.closed told.report done.status (watched_legal (watch_value w) done.closed done.text.items done.status told) (ready_routed w.ready is.ready) one)
+watch_verdicts w (Err none) is one done = done
+
+-- ---- a recorded run
+
+-- the history of a journal has a report
+recorded_legal : (i : InputValue) (h : List Entry) (text : List ℕ) (status : ℕ) → (is : IsJournalReport i h text status) → IsReported IsLegal i h (report_text (map (reported i.bound.containers) i.bound.monitors) i.routed.tasks (records_of (run_of i) is.judges h)) status
+recorded_legal i h text status is = record { judges = is.judges; are_judges = is.are_judges; history = is.history; text_is = refl; status_is = is.status_is }
+
+-- and so it and its status have their verdicts
+pub journal_verdicts : (ready : Prepared) (ran : Result FinishedRun AllocError) → IsRecordable ready → HasOneHistory (run_of (prepared_value ready))
+    → IfOk ran (λ done. IsJournalReport (prepared_value ready) done.closed done.text.items done.status) → IfOk ran (λ done. IsJournalVerdictReport (prepared_value ready) done.closed done.text.items done.status)
+journal_verdicts ready (Ok done) is one told =
+    let i : InputValue = prepared_value ready in
+    let text : List ℕ = report_text (map (reported i.bound.containers) i.bound.monitors) i.routed.tasks (records_of (run_of i) told.judges done.closed) in
+    (told, has_run_verdicts i is.unchanged done.closed text done.status (recorded_legal i done.closed done.text.items done.status told) (ready_routed ready is.ready) one)
+journal_verdicts ready (Err none) is one done = done

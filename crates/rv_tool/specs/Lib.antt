@@ -11,6 +11,7 @@ pub mod Loaded
 pub mod Loads
 pub mod CountsFit
 pub mod Output
+pub mod PrintedJournals
 pub mod Puts
 pub mod Runs
 pub mod Sessions

@@ -1,5 +1,5 @@
 -- What a run on one thread begins with: the deliveries of the trace as one list.
-use Rattle.std.specs.Prelude.{◌≡◌, ◌<◌, ◌≤◌, [], length, map}
+use Rattle.std.specs.Prelude.{◌≡◌, [], length, map}
 use Rattle.rv_core.specs.Judged.{AllMean}
 use Rattle.rv_replay.specs.Lists.{FitsList}
 use Rattle.rv_route.specs.Listing.{works_listed}

@@ -7,13 +7,11 @@ use Rattle.rv_model.specs.Histories.{IsLegal}
 use Rattle.rv_tool.specs.Calls.{Call, CountsNone}
 use Rattle.rv_tool.specs.Checks.{Checks}
 use Rattle.rv_tool.specs.Headline.{Ending, GivesUp, PrintsText, Reports, Ends}
-use Rattle.rv_tool.specs.Journals.{Journals}
 use Rattle.rv_tool.specs.Loads.{EndsAsLoad}
 use Rattle.rv_tool.specs.Output.{refusal_text}
 use Rattle.rv_tool.specs.Possible.{MayInput, MayRunBeside, MayWatch, MayRecord, MayCheck, MayTable, MayHeader, MayControl}
 use Rattle.rv_tool.specs.Runs.{Prints, PrintsSession}
-use Rattle.rv_tool.specs.Verdicts.{ReportsOne, ReportsVerdicts, ReportsLoad}
-use Rattle.rv_tool.specs.WatchReports.{Watches}
+use Rattle.rv_tool.specs.Verdicts.{ReportsOne, ReportsVerdicts, ReportsWatchVerdicts, ReportsJournalVerdicts, ReportsLoad}
 use Rattle.rv_tool.specs.Words.{CommandValue, replay, feed, feed_beside, journal, check, watch, table, header, control, load}
 
 -- a file that is missing was counted as a fault, and nothing else was
@@ -32,8 +30,8 @@ AnswersOpaque None c = CountsNone c × PrintsText (refusal_text None (record { n
 AnswersOpaque (Some (replay bindings trace)) c = EndsOnSome (MayInput bindings trace) ReportsOne c
 AnswersOpaque (Some (feed bindings trace)) c = EndsOnSome (MayInput bindings trace) ReportsVerdicts c
 AnswersOpaque (Some (feed_beside bindings trace script)) c = EndsOnSome (MayRunBeside bindings trace script) (Reports IsLegal) c
-AnswersOpaque (Some (watch bindings trace monitor instance)) c = EndsOnSome (MayWatch bindings trace monitor instance) Watches c
-AnswersOpaque (Some (journal bindings trace)) c = EndsOnSome (MayRecord bindings trace) Journals c
+AnswersOpaque (Some (watch bindings trace monitor instance)) c = EndsOnSome (MayWatch bindings trace monitor instance) ReportsWatchVerdicts c
+AnswersOpaque (Some (journal bindings trace)) c = EndsOnSome (MayRecord bindings trace) ReportsJournalVerdicts c
 AnswersOpaque (Some (check bindings trace judged)) c = EndsOnSome (MayCheck bindings trace judged) Checks c
 AnswersOpaque (Some (load blocks)) c = CountsNone c × EndsAsLoad ReportsLoad blocks c.end
 AnswersOpaque (Some (table kind file)) c = EndsOnSome (MayTable kind file) Prints c

@@ -69,7 +69,7 @@ pub(crate) fn read_input<S: Store>(
 }
 
 /// Does nothing, and gives a proof that what is ready has a history of one thread.
-fn assert_one(ready: &Prepared)
+pub(crate) fn assert_one(ready: &Prepared)
     requires ready { IsPrepared ready.now }
     requires unchanged { ready.now.changes.items ≡ [] }
     ensures { HasOneHistory (run_of (prepared_value ready.now)) }

@@ -1,5 +1,6 @@
-//! Laws of the generated input, and of refusals, each the contract of a call that does nothing.
+//! Laws of the generated input, of refusals, and of printed journals, each the contract of a call that does nothing.
 ghost use Rattle.rv_tool.specs.GeneratedBound.{LoadIsBound, LoadIsAccepted};
+ghost use Rattle.rv_tool.specs.PrintedJournals.{PrintedIsYes, PrintedIsJudgedYes};
 ghost use Rattle.rv_tool.specs.Steps.{AreRefusedByStep, NoInstance};
 
 /// The generated bindings and automata are accepted: two monitors and seven rules.
@@ -18,4 +19,11 @@ pub fn load_is_accepted()
 pub fn refusals_have_steps()
     ensures steps { AreRefusedByStep }
     ensures no_instance { NoInstance }
+{}
+
+/// `check` says `yes` of what `journal` printed of the same input; so do two calls, where a name then has what the first one
+/// printed, and the files that the run reads are the same.
+pub fn check_says_yes()
+    ensures input { PrintedIsYes }
+    ensures calls { PrintedIsJudgedYes }
 {}

@@ -19,7 +19,7 @@ use crate::control::read_control;
 use crate::feed::fed;
 use crate::feed_beside::read_beside;
 use crate::header::read_header;
-use crate::input::read_input;
+use crate::input::{assert_one, read_input};
 use crate::journal::{read_recordable, recorded};
 use crate::listed::read_listed;
 use crate::load::{BINDINGS, TRACE, generated_store};
@@ -104,10 +104,12 @@ fn run<R: Threads + Sync, S: Store, G: Gate + Send>(
             instance,
         } => {
             let ready = read_watched(alloc, store, bindings, trace, monitor, instance)?;
+            assert_one(&ready.ready);
             ended(watched(rt, alloc, gate, ready))
         }
         ToolCommand::Journal { bindings, trace } => {
             let ready = read_recordable(alloc, store, bindings, trace)?;
+            assert_one(&ready);
             ended(recorded(rt, alloc, gate, ready))
         }
         ToolCommand::Check {

@@ -20,8 +20,8 @@ use Rattle.rv_tool.specs.Loaded.{generated_files}
 use Rattle.rv_tool.specs.Possible.{MayInput, MayRunBeside, MayWatch, MayRecord, MayCheck, MayTable, MayHeader, MayControl}
 use Rattle.rv_tool.specs.Sessions.{Printed, control_in}
 use Rattle.rv_tool.specs.Tables.{table_in}
-use Rattle.rv_tool.specs.Verdicts.{HasOneVerdict, HasVerdicts}
-use Rattle.rv_tool.specs.Watched.{watched_input}
+use Rattle.rv_tool.specs.Verdicts.{HasOneVerdict, HasRunVerdicts, HasVerdicts}
+use Rattle.rv_tool.specs.Watched.{WatchValue, watched_input}
 use Rattle.rv_tool.specs.WatchReports.{IsWatchReport}
 use Rattle.rv_tool.specs.Words.{CommandValue, replay, feed, feed_beside, journal, check, watch, table, header, control, load}
 
@@ -34,6 +34,14 @@ IsOneReport i h text status = IsReported IsOneHistory i h text status × HasOneV
 -- the report of a legal history, with its verdicts
 abbrev pub IsVerdictReport : InputValue → List Entry → List ℕ → ℕ → Type 0
 IsVerdictReport i h text status = IsReported IsLegal i h text status × HasVerdicts i h text status
+
+-- the report of a watched run, with the verdicts of the part in front of the words
+abbrev pub IsWatchVerdictReport : WatchValue → List Entry → List ℕ → ℕ → Type 0
+IsWatchVerdictReport w h text status = (is : IsWatchReport w h text status) × HasVerdicts w.input h is.report status
+
+-- the journal of a legal history, with the verdicts that speak of no text
+abbrev pub IsJournalVerdictReport : InputValue → List Entry → List ℕ → ℕ → Type 0
+IsJournalVerdictReport i h text status = IsJournalReport i h text status × HasRunVerdicts i h status
 
 -- this text and this status, and no history
 abbrev pub IsText : List ℕ → ℕ → List Entry → List ℕ → ℕ → Type 0
@@ -61,8 +69,8 @@ abbrev pub CommandComes : CommandValue → Option Files → ℕ → ℕ → Resu
 CommandComes (replay bindings trace) = ComesTo (MayInput bindings trace) IsOneReport (λ files. run_input files bindings trace)
 CommandComes (feed bindings trace) = ComesTo (MayInput bindings trace) IsVerdictReport (λ files. run_input files bindings trace)
 CommandComes (feed_beside bindings trace script) = ComesTo (MayRunBeside bindings trace script) (IsReported IsLegal) (λ files. input_beside files bindings trace script)
-CommandComes (watch bindings trace monitor instance) = ComesTo (MayWatch bindings trace monitor instance) IsWatchReport (λ files. watched_input files bindings trace monitor instance)
-CommandComes (journal bindings trace) = ComesTo (MayRecord bindings trace) IsJournalReport (λ files. recordable_input files bindings trace)
+CommandComes (watch bindings trace monitor instance) = ComesTo (MayWatch bindings trace monitor instance) IsWatchVerdictReport (λ files. watched_input files bindings trace monitor instance)
+CommandComes (journal bindings trace) = ComesTo (MayRecord bindings trace) IsJournalVerdictReport (λ files. recordable_input files bindings trace)
 CommandComes (check bindings trace judged) = ComesTo (MayCheck bindings trace judged) IsCheckReport (λ files. checked_input files bindings trace judged)
 CommandComes (load blocks) = λ told before now result. (now ≡ before) × ComesTo (MayInput (codes "gen.rv") (codes "gen.txt")) IsVerdictReport (λ files. run_input files (codes "gen.rv") (codes "gen.txt")) (Some (generated_files blocks)) 0 0 result
 CommandComes (table kind file) = ComesTo (MayTable kind file) IsPrinted (λ files. table_in files kind file)

@@ -6,20 +6,19 @@ use Rattle.rv_tool.specs.declared.watch.PreparedWatch.{PreparedWatch}
 use Rattle.rv_tool.specs.Changes.{input_beside}
 use Rattle.rv_tool.specs.Checks.{CheckedValue, IsCheckReport, checked_input}
 use Rattle.rv_tool.specs.Headline.{IsReported}
-use Rattle.rv_tool.specs.inner.Commands.{IsOneReport, IsVerdictReport, IsSessionText}
+use Rattle.rv_tool.specs.inner.Commands.{IsOneReport, IsVerdictReport, IsWatchVerdictReport, IsJournalVerdictReport, IsSessionText}
 use Rattle.rv_tool.specs.Inputs.{run_input}
 use Rattle.rv_tool.specs.Listed.{listed_value}
 use Rattle.rv_tool.specs.inner.Prepared.{prepared_value}
-use Rattle.rv_tool.specs.Journals.{IsJournalReport, recordable_input}
+use Rattle.rv_tool.specs.Journals.{recordable_input}
 use Rattle.rv_tool.specs.Possible.{MayInput, MayRunBeside, MayWatch, MayRecord, MayCheck, MayControl}
 use Rattle.rv_tool.specs.Sessions.{control_in}
 use Rattle.rv_tool.specs.inner.SessionValues.{session_value}
 use Rattle.rv_tool.specs.Watched.{watched_input}
-use Rattle.rv_tool.specs.WatchReports.{IsWatchReport}
 use Rattle.rv_tool.specs.inner.WatchReports.{watch_value}
 use Rattle.rv_tool.proofs.CommandLemmas.{done_comes, run_comes, fault_comes, verdict_comes}
 use Rattle.rv_tool.proofs.OneLemmas.{runs_one}
-use Rattle.rv_tool.proofs.VerdictLemmas.{runs_verdicts}
+use Rattle.rv_tool.proofs.VerdictLemmas.{runs_verdicts, watch_verdicts, journal_verdicts}
 use Rattle.rv_tool.proofs.top.run.Goals as goal
 
 pub returns-in_ok-ready-in-Replay-clause-comes : goal.returns-in_ok-ready-in-Replay-clause-comes
@@ -49,8 +48,8 @@ returns-in_ok-ready-in-FeedBeside-clause-comes g c =
 pub returns-in_ok-ready-in-Journal-clause-comes : goal.returns-in_ok-ready-in-Journal-clause-comes
 returns-in_ok-ready-in-Journal-clause-comes g c =
     let words = c.in-Journal in let read = c.in_ok-ready-in-Journal in
-    rw words.is (run_comes prepared_value (MayRecord words.bindings.now words.trace.now) IsJournalReport (λ files. recordable_input files words.bindings.now words.trace.now) _ _ _ read.ready c.recorded.result c.ended-in-Journal.result
-    read.ensures.reads.value read.ensures.some c.recorded.ensures c.ended-in-Journal.ensures)
+    rw words.is (run_comes prepared_value (MayRecord words.bindings.now words.trace.now) IsJournalVerdictReport (λ files. recordable_input files words.bindings.now words.trace.now) _ _ _ read.ready c.recorded.result c.ended-in-Journal.result
+    read.ensures.reads.value read.ensures.some (journal_verdicts read.ready c.recorded.result read.ensures.ready c.assert_one-in-Journal.ensures c.recorded.ensures) c.ended-in-Journal.ensures)
 
 pub returns-in_err-ready-in-FeedBeside-clause-comes : goal.returns-in_err-ready-in-FeedBeside-clause-comes
 returns-in_err-ready-in-FeedBeside-clause-comes g c =
@@ -62,13 +61,13 @@ pub returns-in_err-ready-in-Watch-clause-comes : goal.returns-in_err-ready-in-Wa
 returns-in_err-ready-in-Watch-clause-comes g c =
     let words = c.in-Watch in let read = c.in_err-ready-in-Watch in
     let given = err_from_is_err_and c.from_residual-in_err-ready-in-Watch.result c.from_residual-in_err-ready-in-Watch.ensures.1 in
-    rw (words.is, given.1, given.2) (fault_comes watch_value (MayWatch words.bindings.now words.trace.now words.monitor.now words.instance.now) IsWatchReport (λ files. watched_input files words.bindings.now words.trace.now words.monitor.now words.instance.now) _ _ _ PreparedWatch read.field-0.0 read.ensures.reads.value read.ensures.reads.named read.ensures.some)
+    rw (words.is, given.1, given.2) (fault_comes watch_value (MayWatch words.bindings.now words.trace.now words.monitor.now words.instance.now) IsWatchVerdictReport (λ files. watched_input files words.bindings.now words.trace.now words.monitor.now words.instance.now) _ _ _ PreparedWatch read.field-0.0 read.ensures.reads.value read.ensures.reads.named read.ensures.some)
 
 pub returns-in_err-ready-in-Journal-clause-comes : goal.returns-in_err-ready-in-Journal-clause-comes
 returns-in_err-ready-in-Journal-clause-comes g c =
     let words = c.in-Journal in let read = c.in_err-ready-in-Journal in
     let given = err_from_is_err_and c.from_residual-in_err-ready-in-Journal.result c.from_residual-in_err-ready-in-Journal.ensures.1 in
-    rw (words.is, given.1, given.2) (fault_comes prepared_value (MayRecord words.bindings.now words.trace.now) IsJournalReport (λ files. recordable_input files words.bindings.now words.trace.now) _ _ _ Prepared read.field-0.0 read.ensures.reads.value read.ensures.reads.named read.ensures.some)
+    rw (words.is, given.1, given.2) (fault_comes prepared_value (MayRecord words.bindings.now words.trace.now) IsJournalVerdictReport (λ files. recordable_input files words.bindings.now words.trace.now) _ _ _ Prepared read.field-0.0 read.ensures.reads.value read.ensures.reads.named read.ensures.some)
 
 pub returns-in_err-verdict-in-Check-clause-comes : goal.returns-in_err-verdict-in-Check-clause-comes
 returns-in_err-verdict-in-Check-clause-comes g c =
@@ -79,8 +78,8 @@ returns-in_err-verdict-in-Check-clause-comes g c =
 pub returns-in_ok-ready-in-Watch-clause-comes : goal.returns-in_ok-ready-in-Watch-clause-comes
 returns-in_ok-ready-in-Watch-clause-comes g c =
     let words = c.in-Watch in let read = c.in_ok-ready-in-Watch in
-    rw words.is (run_comes watch_value (MayWatch words.bindings.now words.trace.now words.monitor.now words.instance.now) IsWatchReport (λ files. watched_input files words.bindings.now words.trace.now words.monitor.now words.instance.now) _ _ _ read.ready
-    c.watched.result c.ended-in-Watch.result read.ensures.reads.value read.ensures.some c.watched.ensures c.ended-in-Watch.ensures)
+    rw words.is (run_comes watch_value (MayWatch words.bindings.now words.trace.now words.monitor.now words.instance.now) IsWatchVerdictReport (λ files. watched_input files words.bindings.now words.trace.now words.monitor.now words.instance.now) _ _ _ read.ready
+    c.watched.result c.ended-in-Watch.result read.ensures.reads.value read.ensures.some (watch_verdicts read.ready c.watched.result read.ensures.ready c.assert_one.ensures c.watched.ensures) c.ended-in-Watch.ensures)
 
 pub returns-in_ok-verdict-in-Check-clause-comes : goal.returns-in_ok-verdict-in-Check-clause-comes
 returns-in_ok-verdict-in-Check-clause-comes g c =
