@@ -4,12 +4,15 @@ pub mod BlamesLemmas
 pub mod ChangesLemmas
 pub mod CheckLemmas
 pub mod CommandLemmas
+pub mod CompiledLemmas
 pub mod CountsFitLemmas
 pub mod CpuLemmas
 pub mod FitLemmas
+pub mod FormedLemmas
 pub mod FrontReads
 pub mod JournalLemmas
 pub mod JudgedLemmas
+pub mod KnownFilesLemmas
 pub mod LoadLemmas
 pub mod LoadedLemmas
 pub mod LookLemmas

@@ -6,6 +6,7 @@ pub mod GeneratedBound
 pub mod Headline
 pub mod Inputs
 pub mod Journals
+pub mod KnownFiles
 pub mod Listed
 pub mod Loaded
 pub mod Loads

@@ -1,5 +1,7 @@
-//! Laws of the generated input, of refusals, and of printed journals, each the contract of a call that does nothing.
+//! Laws of the generated input, of refusals, of printed journals, and of what files may come to, each the contract of a call
+//! that does nothing.
 ghost use Rattle.rv_tool.specs.GeneratedBound.{LoadIsBound, LoadIsAccepted};
+ghost use Rattle.rv_tool.specs.KnownFiles.{AcceptedIsWellFormed, KnownFilesMayCome};
 ghost use Rattle.rv_tool.specs.PrintedJournals.{PrintedIsYes, PrintedIsJudgedYes};
 ghost use Rattle.rv_tool.specs.Steps.{AreRefusedByStep, NoInstance};
 
@@ -26,4 +28,11 @@ pub fn refusals_have_steps()
 pub fn check_says_yes()
     ensures input { PrintedIsYes }
     ensures calls { PrintedIsJudgedYes }
+{}
+
+/// Whatever files say, bindings that are accepted are well formed, and a trace that is accepted under them has works that
+/// fit them; and what a command comes to on known files is what it may come to on any store.
+pub fn known_files_may_come()
+    ensures formed { AcceptedIsWellFormed }
+    ensures come { KnownFilesMayCome }
 {}

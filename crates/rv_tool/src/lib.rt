@@ -20,7 +20,9 @@ mod watch;
 mod widths;
 mod words;
 
-pub use laws::{check_says_yes, load_is_accepted, load_is_bound, refusals_have_steps};
+pub use laws::{
+    check_says_yes, known_files_may_come, load_is_accepted, load_is_bound, refusals_have_steps,
+};
 pub use listed::{PreparedList, prepare_list};
 pub use replay::FinishedRun;
 pub use top::{Finished, put_done, put_usage, rv};
