@@ -399,16 +399,24 @@ class Fleet:
                     runs[int(cells[0]) - 1].why = "timeout" if cells[6] == "-1" else int(cells[6]) if cells[6].isdigit() else None
 
 
+ENDED_BY = (signal.SIGINT, signal.SIGTERM, signal.SIGHUP)
+
+
 @contextlib.contextmanager
 def ended_by_signals():
-    """SIGTERM and SIGHUP end what is done within, with all that it began."""
+    """SIGINT, SIGTERM and SIGHUP end what is done within, with all that it began; a second one does not cut that."""
 
-    def interrupt(*_):
-        for it in (signal.SIGTERM, signal.SIGHUP):
+    def interrupt(number, _):
+        for it in ENDED_BY:
             signal.signal(it, signal.SIG_IGN)
+        if number == signal.SIGINT:
+            raise KeyboardInterrupt
         raise Trouble(UNREADABLE, "interrupted: the next call runs what did not end well")
 
-    before = {it: signal.signal(it, interrupt) for it in (signal.SIGTERM, signal.SIGHUP)}
+    # (what was ignored, as by nohup, stays so)
+    before = {it: signal.getsignal(it) for it in ENDED_BY if signal.getsignal(it) != signal.SIG_IGN}
+    for it in before:
+        signal.signal(it, interrupt)
     try:
         yield
     finally:
