@@ -135,9 +135,9 @@ read_rule text rule e = by_pieces (pieces_of false text) (test_passed (ltb 10485
 -- ---- tables
 
 -- what is taken is so, where it is so of each value that it may be made of
-ok_then : {X Y : Type 0} {Is : Y → Type 0} {next : X → Result Y Refusal} (r : Result X Refusal) → ((x : X) → r ≡ Ok x → IfOk (next x) Is) → IfOk (and_then r next) Is
-ok_then (Ok x) each = each x refl
-ok_then (Err refusal) each = tt
+ok_then : {X Y : Type 0} (Is : Y → Type 0) (next : X → Result Y Refusal) (r : Result X Refusal) → ((x : X) → r ≡ Ok x → IfOk (next x) Is) → IfOk (and_then r next) Is
+ok_then Is next (Ok x) each = each x refl
+ok_then Is next (Err refusal) each = tt
 
 -- the table of a rule's parts means the rule
 parts_mean : (rule : RuleValue) (table : Table) (r : Result (List PartValue) Refusal) → IsRule rule → normal_of rule.formula ≡ r → and_then r tableau_of ≡ Ok table → Means table (specs.Ltl rule)
@@ -146,5 +146,5 @@ parts_mean rule table (Ok parts) is normal k = tableaux.table_means rule is part
 
 -- a specification that is compiled has the table that means it
 pub compiled_means : (kind : SpecKind) (text : List ℕ) → IfOk (compiled_of kind text) (λ c. Compiles c.spec c.table)
-compiled_means kinds.Da text = ok_then (dot_of text) (λ a read. record { is = refl; means = automata.table_means a (dot_sound text a read).keeps })
-compiled_means kinds.Ltl text = ok_then (ltl_of text) (λ rule read. ok_then (formula_table rule.formula) (λ table made. record { is = made; means = parts_mean rule table (normal_of rule.formula) (read_rule text rule read) refl made }))
+compiled_means kinds.Da text = ok_then _ _ (dot_of text) (λ a read. record { is = refl; means = automata.table_means a (dot_sound text a read).keeps })
+compiled_means kinds.Ltl text = ok_then _ _ (ltl_of text) (λ rule read. ok_then _ _ (formula_table rule.formula) (λ table made. record { is = made; means = parts_mean rule table (normal_of rule.formula) (read_rule text rule read) refl made }))

@@ -159,14 +159,14 @@ placed b name holder place e = go (holder_named b.containers holder) refl e
     go (Ok p) found k = in_place b name p place (held_place b.containers holder p found) (is_taken b name) refl k
 
 -- what a text gives is so, where it is so of its value
-ok_is : {Y : Type 0} {Is : Y → Type 0} (file : List ℕ) (read : Result Y Refusal) → IfOk read Is → AcceptedIs Is (of_file file read)
-ok_is file (Ok y) is = is
-ok_is file (Err refusal) is = tt
+ok_is : {Y : Type 0} (Is : Y → Type 0) (file : List ℕ) (read : Result Y Refusal) → IfOk read Is → AcceptedIs Is (of_file file read)
+ok_is Is file (Ok y) is = is
+ok_is Is file (Err refusal) is = tt
 
 -- its specification has the table that means it
 spec_means : (text : Option (List ℕ)) (kind : SpecKind) (file : List ℕ) → AcceptedIs (λ c. Compiles c.spec c.table) (compiled_by text kind file)
 spec_means None kind file = tt
-spec_means (Some text) kind file = ok_is file (compiled_of kind text) (compiled_means kind text)
+spec_means (Some text) kind file = ok_is _ file (compiled_of kind text) (compiled_means kind text)
 
 -- ---- a rule
 
