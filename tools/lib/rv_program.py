@@ -4,6 +4,7 @@ import shutil
 import subprocess
 import sys
 
+from rv_terminal import Terminal
 from rv_tool import UNREADABLE, Trouble
 
 ROOT = os.path.dirname(os.path.dirname(os.path.dirname(os.path.realpath(__file__))))
@@ -32,6 +33,7 @@ class Program:
         given = None if sys.stdin is not None and os.path.isfile("/dev/stdin") else subprocess.DEVNULL
         if any("\0" in it for it in words):
             raise Trouble(UNREADABLE, f"no file has such a name: {' '.join(words)}")
+        Terminal.drop_passing()  # (a program may say something)
         try:
             done = subprocess.run([self.path, *words], cwd=folder, stdin=given, stdout=subprocess.PIPE, check=False)
         except OSError as error:

@@ -11,6 +11,7 @@ from operator import attrgetter
 
 import rv_tables
 import rv_texts
+from rv_progress import progress
 from rv_texts import CPUS
 from rv_tool import FINDINGS, UNREADABLE, Trouble
 
@@ -269,7 +270,7 @@ class Run:
     def replay(self):
         """The steps in the order of the trace, by the tables."""
         words, steps = {}, []
-        for delivery in self.deliveries:
+        for delivery in progress(self.deliveries, "replays the deliveries", len(self.deliveries)):
             monitor = delivery.monitor
             if not monitor.is_on:
                 continue
@@ -296,7 +297,7 @@ class Run:
         """The steps that a journal of `rv journal` has, in the order of the trace."""
         looks, left, steps = collections.Counter(), {}, []
         try:
-            for entry in entries:
+            for entry in progress(entries, "reads the entries of the journal"):
                 if entry.act == "look":
                     _, turn = self.turns[entry.seat - 2][looks[entry.seat]]
                     looks[entry.seat] += 1
@@ -332,7 +333,7 @@ class Run:
     def report_of(self, steps):
         """The report of the steps, in the words of rv."""
         said, counts = [], {it.number: [set(), 0, 0] for it in self.monitors}
-        for step in steps:
+        for step in progress(steps, "compares the steps with the report", len(steps)):
             delivery, answer = step.delivery, answer_of(step)
             counted = counts[delivery.monitor.number]
             if answer != "ended":

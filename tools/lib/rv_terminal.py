@@ -4,6 +4,7 @@ As a program, with a program and its words: runs it, shows the terminal what it 
 do it where their output is a terminal.
 """
 import codecs
+import contextlib
 import os
 import signal
 import sys
@@ -47,11 +48,29 @@ def cut(text, width):
 class Terminal:
     """A terminal in the place of an output: what is written is shown, and of line ends that one alone ends a line with which a text ends."""
 
+    _passing = None  # the terminal that has a line which is to go
+
     def __init__(self, stream, kept="\t"):
         self._stream, self._kept = stream, kept
         self.buffer = Bytes(self)
 
+    def show_passing(self, text):
+        """Shows a line, in place of such a line that is there, which goes before anything else is written. It is cut, so that it stays one."""
+        with contextlib.suppress(OSError, ValueError):
+            self._stream.write(f"\r{cut(shown(text), max(1, os.get_terminal_size(self.fileno()).columns - 1))}\x1b[K")
+            self._stream.flush()
+            Terminal._passing = self
+
+    @staticmethod
+    def drop_passing():
+        terminal, Terminal._passing = Terminal._passing, None
+        if terminal:
+            with contextlib.suppress(OSError, ValueError):
+                terminal._stream.write("\r\x1b[K")
+                terminal._stream.flush()
+
     def write(self, text):
+        self.drop_passing()
         body, end = (text[:-1], "\n") if text.endswith("\n") else (text, "")
         return self._stream.write(shown(body, self._kept) + end)
 
@@ -61,6 +80,7 @@ class Terminal:
 
     def write_own(self, text):
         """Writes a text of the tool's own making as it is, as with the colours around a text that is shown already."""
+        self.drop_passing()
         return self._stream.write(text)
 
     def __getattr__(self, name):

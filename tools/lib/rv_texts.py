@@ -10,6 +10,8 @@ import os
 import re
 import sys
 
+from rv_progress import lines_read
+from rv_terminal import Terminal
 from rv_tool import FINDINGS, UNREADABLE, WRONG_USE, Trouble
 
 HIGHEST_PID = 4294967295
@@ -67,7 +69,7 @@ def read_lines(path):
     """The lines of a file of any size, without their line ends, one after another."""
     try:
         with open(path, encoding="utf-8", errors="surrogateescape", newline="\n") as file:
-            for line in file:
+            for line in lines_read(file, path):
                 yield line.removesuffix("\n")
     except OSError as error:
         raise Trouble(UNREADABLE, f"cannot read {path}: {error.strerror}") from error
@@ -266,7 +268,8 @@ def is_loss_in_bytes(line):
 def input_lines_in_bytes(what):
     """The lines of standard input as bytes, with their line ends, one after another."""
     try:
-        yield from sys.stdin.buffer if sys.stdin is not None else ()
+        lines = sys.stdin.buffer if sys.stdin is not None else ()
+        yield from lines if isinstance(sys.stdout, Terminal) or not lines else lines_read(lines, what)
     except OSError as error:
         raise Trouble(UNREADABLE, f"cannot read {what}: {error.strerror}") from error
 

@@ -149,6 +149,7 @@ def run_tool(main, shown=lambda status: status):
     """Ends the process with what main returns, as a function shows it; trouble has one line on standard error."""
     keep_bytes()
     status, why = status_of(main)
+    Terminal.drop_passing()
     if why is not None:
         say(why)
     try:

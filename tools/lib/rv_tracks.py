@@ -3,6 +3,7 @@ import argparse
 import collections
 import re
 
+from rv_progress import progress
 from rv_run import STOPPED, WAITS, answer_of, levels_in, rows_in
 from rv_tables import bits_of
 from rv_tool import WRONG_USE, Trouble
@@ -46,7 +47,7 @@ class Track:
 def tracks_of(run, steps):
     """The instances of steps, by monitor, and by CPU or pid."""
     tracks = {}
-    for step in steps:
+    for step in progress(steps, "sorts the steps by instance", len(steps)):
         key = (step.delivery.monitor.number, step.delivery.instance)
         if key not in tracks:
             tracks[key] = Track(step.delivery.monitor, step.delivery.instance)
