@@ -6,7 +6,10 @@ differ from it.
 """
 import collections
 import gc
+import itertools
+import os
 import re
+import tempfile
 from operator import attrgetter
 
 import rv_tables
@@ -181,19 +184,38 @@ def refuse_more(counts, most):
         raise Trouble(FINDINGS, f"{count:,} deliveries, and at most {most:,} are shown: choose a part by --monitor ({names}) or by --lines")
 
 
-class Run:
-    """What a run reads, its deliveries in the order of the trace, and its report."""
+def write_front(trace, last, file):
+    """Writes the first lines of a trace to a file, and tells whether it has more."""
+    try:
+        with open(trace, "rb") as whole:
+            file.writelines(itertools.islice(whole, last))
+            file.flush()
+            return whole.read(1) != b""
+    except OSError as error:
+        raise Trouble(UNREADABLE, f"cannot copy the first {last:,} lines of {trace}: {error.strerror}") from error
 
-    def __init__(self, program, bindings, trace, most=None):
-        """Reads the files; of a run that has more deliveries than `most`, only the report, and then it is refused."""
+
+def violations_up_to(report, last):
+    """The violations of a report on lines up to one."""
+    return [line for line in rv_texts.lines_of(report) if (found := rv_texts.VIOLATION.fullmatch(line)) and int(found["line"]) <= last]
+
+
+class Run:
+    """What a run reads, its deliveries in the order of the trace, and its report; or of the front of a run, up to a line."""
+
+    def __init__(self, program, bindings, trace, most=None, last=None):
+        """Reads the files, the trace up to the last line that is wanted; of a run that has more deliveries than `most`, only the report, and
+        then it is refused."""
         gc.disable()  # what is made is kept to the end, and looking through it again and again takes half of the time
-        self.program, self.bindings, self.trace = program, bindings, trace
+        self.program, self.bindings, self.trace, self._last, self._judged = program, bindings, trace, last, trace
         for path in (bindings, trace):
             rv_texts.check_kept(path)
         self.report = program.text("replay", bindings, trace, statuses=(0, 1))
         if most is not None:
             counted = filter(None, map(rv_texts.SUMMARY.fullmatch, rv_texts.lines_of(self.report)))
             refuse_more(collections.Counter({found["monitor"]: int(found["deliveries"]) for found in counted}), most)
+        if last is not None:
+            self._judge_front(last)
         bound = rv_texts.Bindings(rv_texts.text_of(bindings))
         monitors = monitors_of(bound, program)
         self.monitors = list(monitors.values())
@@ -202,12 +224,27 @@ class Run:
         self.tasks = self._route([(rule, monitors[rule.monitor.name]) for rule in bound.rules])
         self._shape = [1 if it.scope == "global" else CPUS if it.scope == "cpu" else len(self.tasks) for it in self.monitors]
 
+    @property
+    def is_front(self):
+        """Whether the trace has lines behind those that were looked at."""
+        return self._judged != self.trace
+
+    def _judge_front(self, last):
+        """Takes the report of the lines up to the last one, where the trace has more; its violations are those of the whole up to there."""
+        front = tempfile.TemporaryFile()  # (it has no name, so that it goes with this process)
+        if not write_front(self.trace, last, front):
+            return
+        self._front, self._judged, whole = front, f"/proc/{os.getpid()}/fd/{front.fileno()}", self.report
+        self.report = self.program.text("replay", self.bindings, self._judged, statuses=(0, 1))
+        if violations_up_to(whole, last) != violations_up_to(self.report, last):
+            raise Trouble(FINDINGS, f"the first {last:,} lines of {self.trace} have other violations than the whole up to there: nothing is shown")
+
     def _route(self, rules):
         """Goes through the trace, and returns the tasks in the order of their first use."""
         by_event, tasks = collections.defaultdict(list), {}
         for rule, monitor in rules:
             by_event[rule.event].append((rule, monitor, monitor.what_of(rule)))
-        for line in rv_texts.events_of(self.trace):
+        for line in rv_texts.events_of(self.trace, self._last):
             time = line.time
             if time is None:
                 raise Trouble(UNREADABLE, f"{self.trace} line {line.number}: no clock counts so far as this line's stamp")
@@ -286,7 +323,7 @@ class Run:
 
     def journal(self):
         """The entries of a journal of the run, or None where words have no room for counts."""
-        status, text = self.program.run("journal", self.bindings, self.trace)
+        status, text = self.program.run("journal", self.bindings, self._judged)
         if status == 2 and text.startswith("rv: refused 34 "):
             return None
         if status not in (0, 1, 6):

@@ -6,6 +6,7 @@ What rv refuses has no form here: a line of no form is left out, or none.
 import collections
 import errno
 import functools
+import itertools
 import os
 import re
 import sys
@@ -274,9 +275,9 @@ def input_lines_in_bytes(what):
         raise Trouble(UNREADABLE, f"cannot read {what}: {error.strerror}") from error
 
 
-def events_of(path):
-    """The events of a trace that rv accepts."""
-    for number, line in enumerate(read_lines(path), 1):
+def events_of(path, last=None):
+    """The events of a trace that rv accepts, up to a line."""
+    for number, line in enumerate(itertools.islice(read_lines(path), last), 1):
         event = event_of(line, number)
         if event is not None:
             yield event

@@ -65,9 +65,14 @@ def state_name(monitor, word):
 
 
 def add_part_options(parser):
-    """The options that show a part of a run; the run is replayed whole."""
+    """The options that show a part of a run; it is replayed up to the part's end."""
     parser.add_argument("--monitor", metavar="NAME", action="append", help="show this monitor alone, by its shown name; may be given again")
     parser.add_argument("--lines", metavar="FROM-TO", type=_range, help="show the deliveries of these lines of the trace alone")
+
+
+def last_line(given):
+    """The last line of the trace that the options show, or None where all are."""
+    return given.lines[1] if given.lines else None
 
 
 def _range(text):
@@ -96,6 +101,7 @@ class Part:
         if given.lines and shown:
             times = [it.delivery.line.time for it in shown]
             self.begin, self.end = min(times), max(times)
+        self._open = self.end + run.is_front  # (what lasts at the end of a front lasts longer)
         keys = {(it.delivery.monitor.number, it.delivery.instance) for it in shown}
         self.tracks = tracks_of(run, [it for it in steps if (it.delivery.monitor.number, it.delivery.instance) in keys])
 
@@ -108,7 +114,7 @@ class Part:
 
     def spans(self, track):
         """The spans of a track that lie in the shown time, cut to it."""
-        for span in track.spans(self.end):
+        for span in track.spans(self._open):
             begin, end = max(span.begin, self.begin), min(span.end, self.end)
             if begin < end or begin == end and (span.begin, span.end) == (begin, end):
                 yield Span(span.word, span.step, begin, end)

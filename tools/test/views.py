@@ -1,8 +1,10 @@
 """What the tests of rv-steps, rv-perfetto and rv-timeline share: the runs, the tools, and stored outputs."""
 import difflib
 import os
+import random
 import subprocess
 import sys
+import tempfile
 
 ROOT = os.path.dirname(os.path.dirname(os.path.dirname(os.path.abspath(__file__))))
 sys.dont_write_bytecode = True
@@ -25,6 +27,31 @@ def runs(with_monitors=True):
         for line in open(f"{ROOT}/monitors/list", encoding="utf-8"):
             name, _, bindings, trace, *_ = line.split()
             yield f"{name} {trace}", f"{ROOT}/monitors/{name}", bindings, trace
+
+
+def ranges(folder, trace, count=3):
+    """Some parts of a trace, by their first and last lines."""
+    made = random.Random(trace)
+    with open(os.path.join(folder, trace), "rb") as file:
+        lines = sum(1 for _ in file)
+    for _ in range(count):
+        first = made.randrange(1, lines + 1)
+        yield first, min(lines, first + made.choice((0, 5, 50, lines)))
+
+
+def behind_the_part(test, bindings, trace, text_of):
+    """What is behind a part is not looked at, but by rv."""
+    with tempfile.TemporaryDirectory() as room:
+        with open(f"{ROOT}/{trace}", encoding="utf-8") as file:
+            lines = file.readlines()
+        far, words = os.path.join(room, "far.txt"), ("--lines", f"3-{len(lines)}", bindings)
+        with open(far, "w", encoding="utf-8") as file:
+            file.writelines([*lines, f"t-1 [000] {'9' * 40}.5: sched_waking: comm=t pid=1\n"])
+        test.same("a stamp that no clock counts", 3, test.run(bindings, far)[0])
+        test.same("the same behind a part", (0, "", text_of(test.run(*words, trace)[1])), (lambda status, out, err: (status, err, text_of(out)))(*test.run(*words, far)))
+        with open(far, "a", encoding="utf-8") as file:
+            file.write("no event\n")
+        test.same("a refusal behind a part", (3, "", f"{test.name}: rv: refused 24 in {far} line {len(lines) + 2}\n"), test.run(*words, far))
 
 
 class Test:
