@@ -7,6 +7,11 @@ RV_JSON ?= tools/rv-json
 BINDINGS ?= examples/wip/wip.rv
 TRACE ?= examples/wip/wip.txt
 
+# A variable's value as one word of the shell. What the command line or the environment gives is no text of make's: it may be the name
+# of a file of another's, as of a loop over traces. (For commands' environment make would read it as its text.)
+unexport BINDINGS TRACE
+rv-word = '$(subst ','\'',$(if $(filter command environment,$(firstword $(origin $(1)))),$(value $(1)),$($(1))))'
+
 # what a program ended with, where its text is not whole, ends the rule
 rv-whole = case $$status in \
 	0 | 1 | 2 | 3 | 6) ;; \
@@ -16,6 +21,6 @@ rv-whole = case $$status in \
 
 .PHONY: rv-test
 rv-test:
-	@status=0; $(RV) replay $(BINDINGS) $(TRACE) > report.txt || status=$$?; $(call rv-whole,rv)
-	@status=0; $(RV_COVERAGE) $(BINDINGS) $(TRACE) > watched.txt || status=$$?; $(call rv-whole,rv-coverage)
-	@cat report.txt watched.txt | $(RV_JSON) --trace $(TRACE) --ktap
+	@status=0; $(RV) replay $(call rv-word,BINDINGS) $(call rv-word,TRACE) > report.txt || status=$$?; $(call rv-whole,rv)
+	@status=0; $(RV_COVERAGE) $(call rv-word,BINDINGS) $(call rv-word,TRACE) > watched.txt || status=$$?; $(call rv-whole,rv-coverage)
+	@cat report.txt watched.txt | $(RV_JSON) --trace $(call rv-word,TRACE) --ktap
