@@ -18,6 +18,7 @@ from rv_tool import FINDINGS, UNREADABLE, WRONG_USE, Trouble
 HIGHEST_PID = 4294967295
 CPUS = 64
 MOST_BYTES, MOST_LINES = 134217728, 1000000
+MOST_OF_BINDINGS = 1048576
 
 
 # ---- files
@@ -381,6 +382,14 @@ class Bindings:
     def shown(self, name):
         """The monitor of a display name, or None."""
         return next((monitor for monitor in self.monitors.values() if monitor.shown == name), None)
+
+
+def bindings_of(path):
+    """The bindings of a file that rv reads to its end."""
+    text = text_of(path)
+    if len(text.encode("utf-8", "surrogateescape")) > MOST_OF_BINDINGS:
+        raise Trouble(UNREADABLE, f"{path} has more than {MOST_OF_BINDINGS:,} bytes, and no bindings have: rv refuses them with 18")
+    return Bindings(text)
 
 
 # ---- journals
