@@ -47,7 +47,7 @@ def check_kept(path):
 
 def read_text(path):
     """The text of a file, no more than what rv would read of a trace; an OSError where it cannot be read."""
-    if "\0" in path:
+    if "\0" in os.fspath(path):
         raise FileNotFoundError(errno.ENOENT, os.strerror(errno.ENOENT), path)
     with open(path, "rb") as file:
         return file.read(MOST_BYTES + 1).decode("utf-8", "surrogateescape")
