@@ -3,6 +3,7 @@
 # $crate, the crate of its program. Runs the program where the caller stands; proves and builds it first where it was not built
 # from the sources as they stand. Standard input and output, the words and the status are the program's own. Where no program can
 # be built the status is 125, which is none of the program's, and the last line on standard error says why. A build is logged.
+# With --unproved before the words the sources answer before any proof (tools/lib/rv_unproved.py); --help and --version build nothing.
 set -u
 
 made=crates/$crate/out/$crate
@@ -28,15 +29,64 @@ say() {
     fi
 }
 
+doing=build
 refuse() {
-    say "cannot build the program: $1"
+    say "cannot $doing the program: $1"
     exit 125
+}
+
+# The forms of the words, a line each.
+show_forms() {
+    if [ "$command" = rv ]; then
+        cat <<'END'
+usage: ./rv WORDS              runs the program, and proves and builds it first where it has to
+       ./rv --unproved WORDS   answers before any proof, in a minute or two
+       ./rv --help, --version
+
+WORDS are one of these:
+
+  replay BINDINGS TRACE                   prints the failures of a trace: take this for a verdict
+  feed BINDINGS TRACE [CONTROL]           runs a thread for each CPU, and beside them a control script
+  watch BINDINGS TRACE MONITOR INSTANCE   does as feed, and reads the word of one instance meanwhile
+  journal BINDINGS TRACE                  prints the history of such a run, a line for each step
+  check BINDINGS TRACE JOURNAL            says whether a text is such a history
+  control BINDINGS SCRIPT                 tries commands on the control files, without a trace
+  load N                                  runs feed on a generated input of N blocks of 64 lines
+  table da FILE, table ltl FILE           prints the table of an automaton, of a rule
+  header NAME FILE                        prints an automaton as C tables
+END
+    else
+        cat <<'END'
+usage: ./rv-coverage WORDS              runs the program, and proves and builds it first where it has to
+       ./rv-coverage --unproved WORDS   answers before any proof, in a minute or two
+       ./rv-coverage --help, --version
+
+WORDS are one of these:
+
+  BINDINGS TRACE         prints what `rv replay BINDINGS TRACE` has watched, and what it has not
+  BINDINGS TRACE edges   the same, where each edge that was not taken is a finding
+END
+    fi && cat <<'END'
+
+README.md says what a status means, docs/FORMATS.md has every text, limit and refusal.
+END
 }
 
 # The lines of the kits that the README names, each of which has proved the program.
 wanted_kits() {
     # shellcheck disable=SC2016
     grep -o '`rattle-kit-[^`]*`' "$top/README.md" 2>/dev/null | tr -d '`'
+}
+
+# The same on one line.
+shown_kits() {
+    wanted_kits | awk '{ printf "%s\047%s\047", (NR > 1 ? " or " : ""), $0 }'
+}
+
+# The version, which is the first heading of the changes, and the kit.
+show_version() {
+    version=$(sed -n 's/^## *//p' "$top/CHANGELOG.md" 2>/dev/null | head -n 1)
+    printf '%s %s\nkit %s\n' "$command" "${version:-of no known version}" "$(shown_kits)"
 }
 
 # The rows of crates.txt of the program's crate and of the crates below it.
@@ -244,6 +294,14 @@ show_failure() {
         }' "$log" >&2
 }
 
+# How many crates there are to prove, and about how many minutes that takes.
+measure() {
+    # shellcheck disable=SC2086
+    set -- $folders
+    all=$#
+    minutes=$(((all * seconds_of_a_crate + 30) / 60))
+}
+
 build() {
     mkdir -p "$top/out" "${program%/*}" 2>/dev/null
     rm -f "$log" 2>/dev/null
@@ -260,11 +318,9 @@ build() {
     [ -z "$free" ] || [ "$((free / 1024))" -ge "$wants" ] ||
         refuse "the disk of $top has $((free / 1024)) MB left, and this build wants $wants MB"
 
-    # shellcheck disable=SC2086
-    set -- $folders
-    all=$# builder='' shown=0 seconds=0 started=$(date +%s) lanes=$(lanes) before=$(sums | head -n 1)
-    minutes=$(((all * seconds_of_a_crate + 30) / 60))
-    say "building the program: $all crates to prove, $lanes at a time; about $minutes minutes on four processors where none is kept"
+    builder='' shown=0 seconds=0 started=$(date +%s) lanes=$(lanes) before=$(sums | head -n 1)
+    measure
+    say "building the program: $all crates to prove, $lanes at a time; about $minutes minutes on four processors where none is kept; meanwhile \`$called --unproved\` with the same words answers unproved"
     # (from here on nothing vouches for the program that is there, until a stamp is written again)
     rm -f "$stamp" "$program.by-rattle"
     # where this script is killed, rt ends too
@@ -290,23 +346,72 @@ build() {
     write_stamp "$found" "$second"
 }
 
-if ! is_current; then
-    wanted=$(wanted_kits | awk '{ printf "%s\047%s\047", (NR > 1 ? " or " : ""), $0 }')
+# Refuses where the kit of the sources, or their list, is not there.
+check_kit() {
+    wanted=$(shown_kits)
     [ -n "$wanted" ] || refuse "no README.md beside it names the kit"
     command -v rt >/dev/null || refuse "there is no rt on the PATH, the command of the kit $wanted"
     kit=$(rt version </dev/null 2>&1 | head -n 1)
     wanted_kits | grep -qxF -e "$kit" || refuse "the kit on the PATH is '$kit', and $wanted is wanted"
-    command -v flock >/dev/null || refuse "there is no flock on the PATH, a command of util-linux"
+    [ "$doing" != build ] || command -v flock >/dev/null || refuse "there is no flock on the PATH, a command of util-linux"
     if [ -z "$folders" ] || [ ! -d "$top/crates/$crate" ]; then
         refuse "crates.txt in $top names no crate $crate"
     fi
+}
+
+# run_program WORDS: becomes the program. A terminal is shown what is not seen in what it prints, since a name of a file may have any
+# bytes, and what to do about a refusal or a failed write. (-I and -S: nothing of the folder where one stands is read; where standard
+# input is a folder no Python begins, and its status, 1, is that of a failure)
+run_program() {
+    if { [ -t 1 ] || [ -t 2 ]; } && [ ! -d /dev/stdin ] && [ -r "$top/tools/lib/rv_terminal.py" ] && command -v python3 >/dev/null; then
+        exec python3 -I -S -B "$top/tools/lib/rv_terminal.py" --called "$command" "$called" "$program" "$@"
+    fi
+    exec "$program" "$@"
+}
+
+# answer_unproved WORDS: answers by rt try of the kit, which reads the sources and writes nothing here, so that it need not wait for
+# another call or for a gate. Where the program is proved already that answers.
+answer_unproved() {
+    if is_current; then
+        say "the program is proved already, and answers"
+        run_program "$@"
+    fi
+    doing=try
+    check_kit
+    command -v python3 >/dev/null || refuse "there is no python3 on the PATH"
+    [ -r "$top/tools/lib/rv_unproved.py" ] || refuse "there is no $top/tools/lib/rv_unproved.py"
+    [ ! -d /dev/stdin ] || exec </dev/null
+    measure
+    exec python3 -I -S -B "$top/tools/lib/rv_unproved.py" "$command" "$crate" "$called" "$all" "$minutes" "$@"
+}
+
+called=$0
+case $#:${1-} in
+1:--help | 1:-h)
+    show_forms || exit 4
+    exit 0
+    ;;
+1:--version)
+    show_version || exit 4
+    exit 0
+    ;;
+1:--unproved)
+    show_forms >&2
+    say "--unproved wants words behind it"
+    exit 2
+    ;;
+*:--unproved)
+    shift
+    answer_unproved "$@"
+    ;;
+0:)
+    [ ! -t 2 ] || show_forms >&2
+    ;;
+esac
+if ! is_current; then
+    check_kit
     take_turn
     is_current || build
     exec 8<&- 9<&-
 fi
-# A terminal is shown what is not seen in what the program prints, since a name of a file may have any bytes. (-I and -S: nothing of the
-# folder where one stands is read; where standard input is a folder no Python begins, and its status, 1, is that of a failure)
-if [ -t 1 ] && [ ! -d /dev/stdin ] && [ -r "$top/tools/lib/rv_terminal.py" ] && command -v python3 >/dev/null; then
-    exec python3 -I -S -B "$top/tools/lib/rv_terminal.py" "$program" "$@"
-fi
-exec "$program" "$@"
+run_program "$@"

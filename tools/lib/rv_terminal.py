@@ -1,11 +1,14 @@
 """What a terminal is shown of texts that come of files, and of their names: what is not seen of them is shown, and commands nothing.
 
-As a program, with a program and its words: runs it, shows the terminal what it prints so, and ends as it ends. ./rv and ./rv-coverage
-do it where their output is a terminal.
+As a program, `rv_terminal.py [--called COMMAND CALLED] PROGRAM WORD ..`: runs it, shows the terminal what it prints so, and ends as it
+ends. ./rv and ./rv-coverage, which are COMMAND and were called as CALLED, do it where an output is a terminal; then a line on standard
+error says what to do about a refusal, and that a write failed.
 """
 import codecs
 import contextlib
 import os
+import re
+import shlex
 import signal
 import sys
 import unicodedata
@@ -43,6 +46,34 @@ def cut(text, width):
     while text and width_of(text) > width - 2:
         text = text[:-1]
     return f"{text}.."[:width]
+
+
+REFUSAL = re.compile(rb"^rv: refused ([0-9]{1,3})(?: in .*)?$", re.MULTILINE)
+LONGEST = 1000  # letters of a command that is shown
+
+
+def hint(status, printed, command, called, words, again=True):
+    """What there is to say of a status on a terminal, else None. The command that explains a refusal runs the program again, or is given the
+    line that it printed."""
+    if status == 4:
+        return "a write failed: what was written is the front of the text"
+    found = REFUSAL.search(printed) if status == 2 else None
+    if not found:
+        return None
+    root = os.path.dirname(os.path.dirname(os.path.dirname(os.path.realpath(__file__))))
+    tool = "tools/rv-explain" if os.getcwd() == root else shlex.quote(f"{root}/tools/rv-explain")
+    number = found[1].decode()
+    given = shlex.join([*(["rv-coverage"] if command == "rv-coverage" else []), *words])
+    if any(it.startswith("-") for it in words):
+        given = f"-- {given}"
+    if number == "1":
+        line = f"{tool} 1 {given}".rstrip()
+    elif again:
+        line = f"{shlex.join([called, *words])} | {tool} {given}"
+    else:
+        line = f"echo {shlex.quote(os.fsdecode(found[0]))} | {tool} {given}"
+    # (what a terminal does not show cannot be pasted)
+    return f"`{line if line.isprintable() and len(line) <= LONGEST else f'{tool} {number}'}` says more"
 
 
 class Terminal:
@@ -124,13 +155,19 @@ def write_all(data):
         data = data[os.write(1, data):]
 
 
-def run(words):
-    """Runs a program; a signal is handed on to it, and its status, or the signal that ended it, is that of this process."""
+HEAD = 1 << 20  # bytes of what is printed in which a refusal is looked for
+
+
+def run(words, told=None):
+    """Runs a program; a signal is handed on to it, and its status, or the signal that ended it, is that of this process. `told` has the
+    command and how it was called, where hints are wanted."""
+    is_shown, head = os.isatty(1), b""
     reading, writing = os.pipe()
     child = os.fork()
     if not child:
         try:
-            os.dup2(writing, 1)
+            if is_shown:
+                os.dup2(writing, 1)
             for number in (signal.SIGPIPE, signal.SIGXFSZ):
                 signal.signal(number, signal.SIG_DFL)
             os.execv(words[0], words)
@@ -144,6 +181,7 @@ def run(words):
         data = True
         while data:
             data = os.read(reading, 1 << 16)
+            head += data[: HEAD - len(head)]
             write_all(output.take(data, final=not data))
     except OSError:  # the terminal is gone
         os.close(reading)
@@ -152,8 +190,15 @@ def run(words):
         if os.WTERMSIG(status) != signal.SIGKILL:
             signal.signal(os.WTERMSIG(status), signal.SIG_DFL)
         os.kill(os.getpid(), os.WTERMSIG(status))
-    return os.WEXITSTATUS(status)
+    status = os.WEXITSTATUS(status)
+    if told and (is_shown or os.isatty(2)):
+        text = hint(status, head, *told, words[1:])
+        if text:
+            with contextlib.suppress(OSError):
+                os.write(2, f"{told[0]}: {text}\n".encode("utf-8", "surrogateescape"))
+    return status
 
 
 if __name__ == "__main__":
-    os._exit(run(sys.argv[1:]))
+    given = sys.argv[1:]
+    os._exit(run(given[3:], given[1:3]) if given[:1] == ["--called"] else run(given))
