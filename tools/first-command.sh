@@ -380,7 +380,8 @@ answer_unproved() {
     check_kit
     command -v python3 >/dev/null || refuse "there is no python3 on the PATH"
     [ -r "$top/tools/lib/rv_unproved.py" ] || refuse "there is no $top/tools/lib/rv_unproved.py"
-    [ ! -d /dev/stdin ] || exec </dev/null
+    # (no Python begins with a folder as its input)
+    [ ! -d /dev/stdin ] || exec <&-
     measure
     exec python3 -I -S -B "$top/tools/lib/rv_unproved.py" "$command" "$crate" "$called" "$all" "$minutes" "$@"
 }
