@@ -39,15 +39,15 @@ refuse() {
 show_forms() {
     if [ "$command" = rv ]; then
         cat <<'END'
-usage: ./rv WORDS              runs the program, and proves and builds it first where it has to
+usage: ./rv WORDS              runs the program, and proves and builds it first if need be
        ./rv --unproved WORDS   answers before any proof, in a minute or two
        ./rv --help, --version
 
 WORDS are one of these:
 
   replay BINDINGS TRACE                   prints the failures of a trace: take this for a verdict
-  feed BINDINGS TRACE [CONTROL]           runs a thread for each CPU, and beside them a control script
-  watch BINDINGS TRACE MONITOR INSTANCE   does as feed, and reads the word of one instance meanwhile
+  feed BINDINGS TRACE [CONTROL]           runs a thread for each CPU, and a control script
+  watch BINDINGS TRACE MONITOR INSTANCE   does as feed, and reads one instance meanwhile
   journal BINDINGS TRACE                  prints the history of such a run, a line for each step
   check BINDINGS TRACE JOURNAL            says whether a text is such a history
   control BINDINGS SCRIPT                 tries commands on the control files, without a trace
@@ -57,7 +57,7 @@ WORDS are one of these:
 END
     else
         cat <<'END'
-usage: ./rv-coverage WORDS              runs the program, and proves and builds it first where it has to
+usage: ./rv-coverage WORDS              runs the program, and proves and builds it first if need be
        ./rv-coverage --unproved WORDS   answers before any proof, in a minute or two
        ./rv-coverage --help, --version
 

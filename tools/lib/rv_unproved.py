@@ -42,8 +42,8 @@ FORMS = {
     },
     "rv-coverage": {2: (0, 1), 3: (0, 1)},
 }
-# a name that rt try takes as it is, and that stands for no file of its own
-PLAIN = re.compile(rb"[A-Za-z0-9_+][A-Za-z0-9_.+-]*(?:/[A-Za-z0-9_+][A-Za-z0-9_.+-]*)*")
+# a name that rt try takes as it is; one of one byte keeps it, since a line would grow by another
+PLAIN = re.compile(rb"[A-Za-z0-9_+][A-Za-z0-9_.+-]*(?:/[A-Za-z0-9_+][A-Za-z0-9_.+-]*)*|[!-,0-<>-~-]")
 TAKEN = re.compile(rb"program|stdin|stdout|stderr|case")
 LETTERS = "abcdefghijklmnopqrstuvwxyzABCDEFGHIJKLMNOPQRSTUVWXYZ"
 # the lines that name a file, as docs/FORMATS.md and docs/COVERAGE.md have them
@@ -190,8 +190,8 @@ def try_program(crate, files):
 
 def why_of(said):
     """What ended a try."""
-    if re.search(rb"had not ended|no-answer|may loop forever", said):
-        return "the trace is too large to be tried so, or this machine too slow"
+    if b"did not end within the time limit" in said or b"may loop forever" in said:
+        return "its run takes longer than rt try allows, 120 seconds with all checks: try the front of the trace"
     return "rt try gave no answer"
 
 
