@@ -49,6 +49,11 @@ _@PROGRAM@() {
     done
     word=${words[${#words[@]} - 1]}
     COMPREPLY=()
+    # the script of a checkout, as ./rv, has words of its own
+    if [[ ${words[0]} == */* && -r ${words[0]%/*}/tools/first-command.sh ]]; then
+        [[ ${#words[@]} -gt 2 ]] || _@PROGRAM@_offer < <(printf '%s\n' --unproved --help --version)
+        [[ ${#words[@]} -lt 3 || ${words[1]} != --unproved ]] || words=("${words[0]}" "${words[@]:2}")
+    fi
     case $((${#words[@]} - 1)):${words[1]} in
     1:*) _@PROGRAM@_offer < <(printf '%s\n' replay feed watch journal check control load table header) ;;
     2:replay | 2:feed | 2:watch | 2:journal | 2:check | 2:control) _@PROGRAM@_files rv ;;

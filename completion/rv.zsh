@@ -25,6 +25,19 @@ _@PROGRAM@() {
         'table:the table of an automaton or of a rule'
         'header:an automaton as C tables'
     )
+    # the script of a checkout, as ./rv, has words of its own
+    if [[ $words[1] = */* && -r ${words[1]:h}/tools/first-command.sh ]]; then
+        if ((CURRENT == 2)); then
+            commands+=(
+                '--unproved:an answer before any proof'
+                '--help:the forms of the words'
+                '--version:the version and the kit'
+            )
+        elif [[ $words[2] = --unproved ]]; then
+            words[2]=()
+            ((CURRENT--))
+        fi
+    fi
     if ((CURRENT == 2)); then
         _describe command commands
         return
