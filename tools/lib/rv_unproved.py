@@ -254,7 +254,7 @@ def main(command, crate, called, crates, minutes, *words):
     except NotTried as why:
         for line in why.lines:
             speech.write(line)
-        speech.say(f"cannot try the program: {why}; `{quoted([called, *words])}` proves it, and takes what it takes")
+        speech.say(f"cannot try the program: {why}; `{quoted([called, *words])}` proves it first, and has no such limits")
         return NOT_TRIED
     except OSError as error:
         speech.say(f"cannot try the program: {error.filename or 'the folder for temporary files'}: {error.strerror}")
