@@ -10,7 +10,7 @@ _@PROGRAM@_monitors() {
     esac
     [ -f "$file" ] || file=${file//\\/}
     [ -f "$file" ] || return
-    LC_ALL=C awk '$1 == "monitor" { print ($6 == "in" ? $7 ":" : "") $2 }' <"$file" 2>/dev/null |
+    head -c 1048576 <"$file" 2>/dev/null | LC_ALL=C awk '$1 == "monitor" { print ($6 == "in" ? $7 ":" : "") $2 }' 2>/dev/null |
         LC_ALL=C grep -a -x -E '([a-z0-9_]{1,32}:)?[a-z0-9_]{1,32}'
 }
 

@@ -7,7 +7,7 @@ _@PROGRAM@_monitors() {
     local file=${(Q)words[3]}
     [[ $words[3] != \~/* ]] || file=$HOME/${file#\~/}
     [[ -f $file ]] || return 1
-    monitors=(${(f)"$(LC_ALL=C awk '$1 == "monitor" { print ($6 == "in" ? $7 ":" : "") $2 }' <$file 2>/dev/null |
+    monitors=(${(f)"$(head -c 1048576 <$file 2>/dev/null | LC_ALL=C awk '$1 == "monitor" { print ($6 == "in" ? $7 ":" : "") $2 }' 2>/dev/null |
         LC_ALL=C grep -a -x -E '([a-z0-9_]{1,32}:)?[a-z0-9_]{1,32}')"})
     compadd -a monitors
 }
