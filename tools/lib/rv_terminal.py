@@ -72,8 +72,9 @@ def hint(status, printed, command, called, words, again=True):
         line = f"{shlex.join([called, *words])} | {tool} {given}"
     else:
         line = f"echo {shlex.quote(os.fsdecode(found[0]))} | {tool} {given}"
-    # (what a terminal does not show cannot be pasted)
-    return f"`{line if line.isprintable() and len(line) <= LONGEST else f'{tool} {number}'}` says more"
+    # (what a terminal does not show cannot be pasted, and some shells' echo changes a backslash)
+    is_fit = line.isprintable() and len(line) <= LONGEST and (again or "\\" not in line)
+    return f"`{line if is_fit else f'{tool} {number}'}` says more"
 
 
 class Terminal:
