@@ -195,20 +195,11 @@ def why_of(said):
     return "rt try gave no answer"
 
 
-class Speech:
-    """Standard error: a line of the command, in which a terminal is shown what is not seen."""
-
-    def __init__(self, command):
-        self.command = command
-
-    def say(self, text):
-        self.write(f"{self.command}: {text}")
-
-    @staticmethod
-    def write(text):
-        if sys.stderr is not None:
-            with contextlib.suppress(OSError):
-                print(text, file=sys.stderr, flush=True)
+def say(text):
+    """A line on standard error, where there is one that takes it; a terminal is shown what is not seen."""
+    if sys.stderr is not None:
+        with contextlib.suppress(OSError):
+            print(text, file=sys.stderr, flush=True)
 
 
 def quoted(words):
@@ -216,7 +207,7 @@ def quoted(words):
     return cut(shown(shlex.join(words)), WIDEST)
 
 
-def answer(command, crate, called, words, folder, speech):
+def answer(command, crate, called, words, folder):
     """Tries the program on the words, prints what it prints, and returns its status."""
     try:
         files = Files(command, words, folder)
@@ -239,25 +230,24 @@ def answer(command, crate, called, words, folder, speech):
         refused = next((it for it in lines if it.startswith(b"rv: refused ")), b"")
         told = hint(status, files.put_back(refused), command, called, words, again=False)
         if told:
-            speech.say(told)
+            say(f"{command}: {told}")
     return status
 
 
 def main(command, crate, called, crates, minutes, *words):
-    speech = Speech(command)
     for number in SIGNALS:
         signal.signal(number, end)
-    speech.say(f"this answer is unproved, and comes in a minute or two; `{quoted([called, *words])}` proves the program first ({crates} crates, about {minutes} minutes)")
+    say(f"{command}: this answer is unproved, and comes in a minute or two; `{quoted([called, *words])}` proves the program first ({crates} crates, about {minutes} minutes)")
     try:
         with tempfile.TemporaryDirectory(prefix="rv-unproved-") as folder:
-            return answer(command, crate, called, list(words), folder, speech)
+            return answer(command, crate, called, list(words), folder)
     except NotTried as why:
         for line in why.lines:
-            speech.write(line)
-        speech.say(f"cannot try the program: {why}; `{quoted([called, *words])}` proves it first, and has no such limits")
+            say(line)
+        say(f"{command}: cannot try the program: {why}; `{quoted([called, *words])}` proves it first, and has no such limits")
         return NOT_TRIED
     except OSError as error:
-        speech.say(f"cannot try the program: {error.filename or 'the folder for temporary files'}: {error.strerror}")
+        say(f"{command}: cannot try the program: {error.filename or 'the folder for temporary files'}: {error.strerror}")
         return NOT_TRIED
 
 
